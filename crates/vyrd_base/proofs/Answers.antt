@@ -3,6 +3,8 @@ use Rattle.vyrd_base.proofs.Fronts.{front-push}
 use Rattle.vyrd_base.proofs.VerdictLaws.{verdict_lasts, verdict_lasts_whole}
 use Rattle.vyrd_base.proofs.VersionLaws.{old_so_far, old_whole}
 use Rattle.vyrd_base.proofs.NoStart.{state_at_start-none}
+use Rattle.vyrd_base.proofs.StructureLaws.{once_or_never}
+use Rattle.vyrd_base.proofs.CommittedLaws.{lacks_commit, returns_observed, fault_by_method}
 use Rattle.vyrd_base.proofs.ReadingLaws.{reading-log_text, text_verdict-log_text}
 use Rattle.vyrd_base.proofs.TextLasts.{text_verdict_lasts, text_verdict_stands}
 use Rattle.vyrd_base.proofs.WordLaws.{words_after-write}
@@ -15,6 +17,8 @@ pub ruleset front_laws = (front-push)
 pub ruleset verdict_laws = (verdict_lasts, verdict_lasts_whole)
 
 pub ruleset first_version_laws = (old_so_far, old_whole)
+
+pub ruleset commit_laws = (once_or_never, lacks_commit, returns_observed, fault_by_method)
 
 pub ruleset start_laws = (state_at_start-none)
 

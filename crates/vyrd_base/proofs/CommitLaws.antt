@@ -1,11 +1,11 @@
 -- Entries that commit.
-use Rattle.std.proofs.Common.{◌≡◌, inl, inr, ℕ, true, false, List, None, refl, subst, sym}
+use Rattle.std.proofs.Common.{◌≡◌, inl, inr, ℕ, true, false, List, Some, None, refl, subst, sym}
 use Rattle.std.specs.Prelude.{◌⊎◌}
 use Rattle.vyrd_base.specs.declared.log.Kind.{Kind}
 use Rattle.vyrd_base.specs.declared.log.Kind.TheVariants.{Commit, BlockCommit}
 use Rattle.vyrd_base.specs.declared.log.Entry.{Entry}
 use Rattle.vyrd_base.specs.declared.log.StartWord.{StartWord}
-use Rattle.vyrd_base.specs.Callers.{call_or_return, is_call}
+use Rattle.vyrd_base.specs.Callers.{call_or_return, commit_or_call, is_call}
 use Rattle.vyrd_base.specs.Amounts.{Amounts}
 use Rattle.vyrd_base.specs.Commits.{is_commit, returned}
 use Rattle.vyrd_base.specs.Faults.{fault_of_commit, fault_at}
@@ -37,6 +37,10 @@ commits_unreturned _ with_block = refl
 pub commits_uncalled : (kind : Kind) → Commits kind → is_call kind ≡ false
 commits_uncalled _ alone = refl
 commits_uncalled _ with_block = refl
+
+pub commits_called : (kind : Kind) → Commits kind → commit_or_call kind ≡ Some true
+commits_called _ alone = refl
+commits_called _ with_block = refl
 
 pub fault_of_commit_kind : (r : Rules) (starting : List StartWord) (states : List Amounts) (c : ℕ) (kind : Kind) (earlier later : List Entry)
     → Commits kind → fault_at r starting states (place_of (entry c kind) earlier later)

@@ -4,9 +4,9 @@ use Rattle.std.specs.Prelude.{nat_le}
 use Rattle.std.proofs.lemmas.Bool.Decides.{nat_tests}
 use Rattle.vyrd_base.specs.declared.header.Header.{Header}
 use Rattle.vyrd_base.specs.declared.subject.Subject.{Subject}
-use Rattle.vyrd_base.specs.declared.subject.Subject.TheVariants.{Multiset, Cache, Tree, Buffers}
 use Rattle.vyrd_base.specs.Limits.{is_known_version, is_sized}
 use Rattle.vyrd_base.specs.Layout.{plain_words_of, lock_words_of, plain_words, lock_words}
+use Rattle.vyrd_base.proofs.StructureLaws.{words_within}
 use Rattle.vyrd_base.proofs.TestLaws.{first_true, second_true, at_most_of}
 
 small_number : (n most : ℕ) → most < 2 ^ 32 → nat_le n most ≡ true → n < 2 ^ 32
@@ -44,12 +44,6 @@ pub few_callers : (h : Header) → h.callers ≤ 64
 few_callers h = at_most_of h.callers 64 (second_true (nat_le 1 h.size && nat_le h.size 1024 && nat_le 1 h.callers) _ (sized h))
 
 -- the words, plain and locks, have numbers of 16 bits
-words_within : (subject : Subject) (size : ℕ) → size ≤ 1024 → plain_words_of subject size + lock_words_of subject size < 2 ^ 16
-words_within Multiset size low = omega (arith, low)
-words_within Cache size low = omega (arith, low)
-words_within Tree size low = omega (arith, low)
-words_within Buffers size low = omega (arith, low)
-
 pub few_words : (h : Header) → plain_words h + lock_words h < 2 ^ 16
 few_words h = words_within h.subject h.size (low_size h)
 

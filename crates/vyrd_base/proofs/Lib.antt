@@ -36,6 +36,12 @@ pub mod TextLaws
 pub mod BufferLaws
 pub mod ListLaws
 pub mod TestLaws
+pub mod Spelled
+pub mod SpelledMultiset
+pub mod SpelledCache
+pub mod SpelledTree
+pub mod SpelledBuffers
+pub mod StructureLaws
 pub mod SubjectLaws
 pub mod StartLaws
 pub mod NoStart
@@ -47,6 +53,7 @@ pub mod FrontLaws
 pub mod KeptLaws
 pub mod CommitLaws
 pub mod StateLaws
+pub mod CommittedLaws
 pub mod VerdictParts
 pub mod CellLaws
 pub mod UpdateLaws

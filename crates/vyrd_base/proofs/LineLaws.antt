@@ -1,5 +1,5 @@
 -- What a line spells is read back from it.
-use Rattle.std.proofs.Common.{◌≡◌, ℕ, suc, zero, ◌<◌, ◌^◌, Bool, true, false, cond, not, ◌&&◌, ◌||◌, List, [], ◌∷◌, ◌++◌, map, take, Option, Some, None, refl, ap, ◌∙◌, sym, arith}
+use Rattle.std.proofs.Common.{◌≡◌, ℕ, suc, zero, ◌<◌, ◌≤◌, ◌^◌, Bool, true, false, cond, not, ◌&&◌, ◌||◌, List, [], ◌∷◌, ◌++◌, map, take, Option, Some, None, refl, ap, ◌∙◌, sym, arith}
 use Rattle.std.specs.Prelude.{◌==◌, nat_lt, codes, decimal}
 use Rattle.std.specs.Option.{option_map, option_and_then}
 use Rattle.std.specs.List.{list_all}
@@ -9,9 +9,7 @@ use Rattle.std.proofs.lemmas.Bool.{and_right}
 use Rattle.std.proofs.lemmas.Bool.Decides.{nat_tests}
 use Rattle.std.proofs.lemmas.Slice.Eq.{bytes_eq-Decides}
 use Rattle.vyrd_base.specs.declared.subject.Subject.{Subject}
-use Rattle.vyrd_base.specs.declared.subject.Subject.TheVariants.{Multiset, Cache, Tree, Buffers}
 use Rattle.vyrd_base.specs.declared.subject.Method.{Method}
-use Rattle.vyrd_base.specs.declared.subject.Method.TheVariants.{MsInsert, MsInsertPair, MsDelete, MsLookup, CaWrite, CaFlush, CaEvict, CaRead, TrInsert, TrDelete, TrLookup, BuAppend, BuAppendFrom, BuCut, BuLength, BuRead}
 use Rattle.vyrd_base.specs.declared.subject.Args.{Args}
 use Rattle.vyrd_base.specs.declared.log.Kind.{Kind}
 use Rattle.vyrd_base.specs.declared.log.Kind.TheVariants.{Call, Return, Write, Commit, BlockOpen, BlockClose, BlockCommit}
@@ -20,7 +18,8 @@ use Rattle.vyrd_base.specs.declared.log.StartWord.{StartWord}
 use Rattle.vyrd_base.specs.Subjects.{arity_of, are_padded, subject_of, same_subject}
 use Rattle.vyrd_base.specs.Spelling.{spaced, method_name, arg_fields, kind_fields, start_line, entry_line, end_line, is_kind_of, is_entry_of}
 use Rattle.vyrd_base.specs.Lines.{fields_of, number_of, args_from, guessed_kind, guessed_entry, entry_in, guessed_start, start_in}
-use Rattle.vyrd_base.proofs.SplitLaws.{lacks, all_lack, split-join, lacks-join, decimal_lacks, no_space, no_line_feed, number_of_decimal, bytes_same}
+use Rattle.vyrd_base.proofs.StructureLaws.{plain_method, some_arguments, few_arguments, method_found}
+use Rattle.vyrd_base.proofs.SplitLaws.{is_plain_field, lacks, all_lack, split-join, lacks-join, decimal_lacks, no_space, no_line_feed, number_of_decimal, bytes_same}
 use Rattle.vyrd_base.proofs.TestLaws.{both_true, first_true, second_true, same_of, is_same}
 
 pub below_32 : (n : ℕ) → nat_lt n (2 ^ 32) ≡ true → n < 2 ^ 64
@@ -70,26 +69,25 @@ module _ (same padded : Bool) (args : Args)
   padded_of : padded ≡ true
   padded_of = second_true same _ (first_true _ _ (first_true _ _ (first_true _ _ e)))
 
+-- as many arguments as there are, read from their fields
+args_guess : (n : ℕ) (args : Args) → 1 ≤ n → n ≤ 3 → are_padded n args ≡ true → Small args
+    → args_from (map decimal (take n (args.a ∷ args.b ∷ args.c ∷ []))) ≡ args
+args_guess zero args some few e small = absurd (omega (arith, some))
+args_guess (suc zero) args some few e small = args_1 args e small
+args_guess (suc (suc zero)) args some few e small = args_2 args e small
+args_guess (suc (suc (suc zero))) args some few e small = args_3 args small
+args_guess (suc (suc (suc (suc n)))) args some few e small = absurd (omega (arith, few))
+
 -- a call is guessed right
 pub call_guess : (subject : Subject) (method : Method) (args : Args) → is_kind_of subject (Call method args) ≡ true
     → guessed_kind subject (kind_fields (Call method args)) ≡ Some (Call method args)
-call_guess Multiset MsInsert args e = ap (λ x. Some (Call MsInsert x)) (args_1 args (padded_of true _ args e) (small_of true _ args e))
-call_guess Multiset MsInsertPair args e = ap (λ x. Some (Call MsInsertPair x)) (args_2 args (padded_of true _ args e) (small_of true _ args e))
-call_guess Multiset MsDelete args e = ap (λ x. Some (Call MsDelete x)) (args_1 args (padded_of true _ args e) (small_of true _ args e))
-call_guess Multiset MsLookup args e = ap (λ x. Some (Call MsLookup x)) (args_1 args (padded_of true _ args e) (small_of true _ args e))
-call_guess Cache CaWrite args e = ap (λ x. Some (Call CaWrite x)) (args_3 args (small_of true (are_padded 3 args) args e))
-call_guess Cache CaFlush args e = ap (λ x. Some (Call CaFlush x)) (args_1 args (padded_of true _ args e) (small_of true _ args e))
-call_guess Cache CaEvict args e = ap (λ x. Some (Call CaEvict x)) (args_1 args (padded_of true _ args e) (small_of true _ args e))
-call_guess Cache CaRead args e = ap (λ x. Some (Call CaRead x)) (args_1 args (padded_of true _ args e) (small_of true _ args e))
-call_guess Tree TrInsert args e = ap (λ x. Some (Call TrInsert x)) (args_2 args (padded_of true _ args e) (small_of true _ args e))
-call_guess Tree TrDelete args e = ap (λ x. Some (Call TrDelete x)) (args_1 args (padded_of true _ args e) (small_of true _ args e))
-call_guess Tree TrLookup args e = ap (λ x. Some (Call TrLookup x)) (args_1 args (padded_of true _ args e) (small_of true _ args e))
-call_guess Buffers BuAppend args e = ap (λ x. Some (Call BuAppend x)) (args_2 args (padded_of true _ args e) (small_of true _ args e))
-call_guess Buffers BuAppendFrom args e = ap (λ x. Some (Call BuAppendFrom x)) (args_2 args (padded_of true _ args e) (small_of true _ args e))
-call_guess Buffers BuCut args e = ap (λ x. Some (Call BuCut x)) (args_2 args (padded_of true _ args e) (small_of true _ args e))
-call_guess Buffers BuLength args e = ap (λ x. Some (Call BuLength x)) (args_1 args (padded_of true _ args e) (small_of true _ args e))
-call_guess Buffers BuRead args e = ap (λ x. Some (Call BuRead x)) (args_1 args (padded_of true _ args e) (small_of true _ args e))
-call_guess _ _ args e = cc
+call_guess subject method args e =
+    let same : same_subject (subject_of method) subject ≡ true = first_true _ _ (first_true _ _ (first_true _ _ (first_true _ _ e))) in
+    let read : args_from (arg_fields method args) ≡ args = args_guess (arity_of method) args (some_arguments method) (few_arguments method)
+    (padded_of (same_subject (subject_of method) subject) _ args e)
+    (small_of (same_subject (subject_of method) subject) (are_padded (arity_of method) args) args e) in
+    ap (option_map (λ m. Call m (args_from (arg_fields method args)))) (method_found subject method same)
+    ∙ ap (λ x. Some (Call method x)) read
 
 kind_guess : (subject : Subject) (kind : Kind) → is_kind_of subject kind ≡ true → guessed_kind subject (kind_fields kind) ≡ Some kind
 kind_guess subject (Call method args) e = call_guess subject method args e
@@ -103,10 +101,6 @@ kind_guess subject BlockOpen e = refl
 kind_guess subject BlockClose e = refl
 kind_guess subject BlockCommit e = refl
 
--- a field that has neither a space nor a line feed
-abbrev pub is_plain_field : List ℕ → Bool
-is_plain_field field = lacks 32 field && lacks 10 field
-
 pub plain_number : (n : ℕ) → n < 2 ^ 64 → is_plain_field (decimal n) ≡ true
 plain_number n small = both_true _ _ (decimal_lacks 32 n no_space small) (decimal_lacks 10 n no_line_feed small)
 
@@ -118,24 +112,6 @@ pub plain_line_feeds : (fields : List (List ℕ)) → list_all is_plain_field fi
 plain_line_feeds [] e = refl
 plain_line_feeds (field ∷ fields) e =
     both_true _ _ (second_true (lacks 32 field) _ (first_true _ _ e)) (plain_line_feeds fields (second_true (is_plain_field field) _ e))
-
-plain_name : (method : Method) → is_plain_field (method_name method) ≡ true
-plain_name MsInsert = refl
-plain_name MsInsertPair = refl
-plain_name MsDelete = refl
-plain_name MsLookup = refl
-plain_name CaWrite = refl
-plain_name CaFlush = refl
-plain_name CaEvict = refl
-plain_name CaRead = refl
-plain_name TrInsert = refl
-plain_name TrDelete = refl
-plain_name TrLookup = refl
-plain_name BuAppend = refl
-plain_name BuAppendFrom = refl
-plain_name BuCut = refl
-plain_name BuLength = refl
-plain_name BuRead = refl
 
 plain_take : (n : ℕ) (numbers : List ℕ) → list_all is_plain_field (map decimal numbers) ≡ true
     → list_all is_plain_field (map decimal (take n numbers)) ≡ true
@@ -149,7 +125,7 @@ plain_args method args small = plain_take (arity_of method) (args.a ∷ args.b �
 
 plain_kind : (subject : Subject) (kind : Kind) → is_kind_of subject kind ≡ true → list_all is_plain_field (kind_fields kind) ≡ true
 plain_kind subject (Call method args) e =
-    both_true _ _ (plain_name method)
+    both_true _ _ (plain_method method)
     (plain_args method args (small_of (same_subject (subject_of method) subject) (are_padded (arity_of method) args) args e))
 plain_kind subject (Return reply) e = both_true _ _ (plain_number reply (below_64 reply e)) refl
 plain_kind subject (Write word value) e =

@@ -8,20 +8,20 @@ use Rattle.std.proofs.lemmas.Fmt.{length-decimal-le}
 use Rattle.std.proofs.lemmas.Bool.Decides.{nat_tests}
 use Rattle.std.proofs.lemmas.Slice.Eq.{bytes_eq-Decides}
 use Rattle.vyrd_base.specs.declared.subject.Subject.{Subject}
-use Rattle.vyrd_base.specs.declared.subject.Method.TheVariants.{MsInsert, MsInsertPair, MsDelete, MsLookup, CaWrite, CaFlush, CaEvict, CaRead, TrInsert, TrDelete, TrLookup, BuAppend, BuAppendFrom, BuCut, BuLength, BuRead}
 use Rattle.vyrd_base.specs.declared.verdict.Rule.TheVariants.{BadHeader, UnknownVersion}
 use Rattle.vyrd_base.specs.declared.subject.Method.{Method}
 use Rattle.vyrd_base.specs.declared.log.Kind.{Kind}
 use Rattle.vyrd_base.specs.declared.log.Kind.TheVariants.{Call, Return, Write, Commit, BlockOpen, BlockClose, BlockCommit}
 use Rattle.vyrd_base.specs.declared.log.Entry.{Entry}
 use Rattle.vyrd_base.specs.declared.log.StartWord.{StartWord}
+use Rattle.vyrd_base.proofs.StructureLaws.{short_method}
 use Rattle.vyrd_base.specs.Limits.{is_sized}
 use Rattle.vyrd_base.specs.Subjects.{arity_of, are_padded, subject_of, same_subject}
 use Rattle.vyrd_base.specs.Spelling.{method_name, subject_name, header_line, kind_fields, start_line, entry_line, end_line, is_kind_of, is_entry_of}
 use Rattle.vyrd_base.specs.Lines.{fields_of, number_of, guessed_entry, entry_in, start_in, subject_called, header_of, header_spelled, header_from, header_in}
 use Rattle.vyrd_base.proofs.LineLaws.{is_start, start_numbers, start_in_sound}
 use Rattle.vyrd_base.proofs.TestLaws.{first_true, second_true, below_of}
-use Rattle.vyrd_base.proofs.SubjectLaws.{short_subject}
+use Rattle.vyrd_base.proofs.StructureLaws.{short_subject}
 
 -- how long fields are with the spaces after them
 abbrev pub spaced_length : List (List ℕ) → ℕ
@@ -48,24 +48,6 @@ short_32 n e = short_number n (below_of n (2 ^ 32) e)
 short_64 : (n : ℕ) → nat_lt n (2 ^ 64) ≡ true → length (decimal n) ≤ 20
 short_64 n e = short_value n (below_of n (2 ^ 64) e)
 
-short_name : (method : Method) → length (method_name method) ≤ 11
-short_name MsInsert = omega arith
-short_name MsInsertPair = omega arith
-short_name MsDelete = omega arith
-short_name MsLookup = omega arith
-short_name CaWrite = omega arith
-short_name CaFlush = omega arith
-short_name CaEvict = omega arith
-short_name CaRead = omega arith
-short_name TrInsert = omega arith
-short_name TrDelete = omega arith
-short_name TrLookup = omega arith
-short_name BuAppend = omega arith
-short_name BuAppendFrom = omega arith
-short_name BuCut = omega arith
-short_name BuLength = omega arith
-short_name BuRead = omega arith
-
 -- fewer arguments are no longer
 fewer : (n : ℕ) (numbers : List ℕ) → spaced_length (map decimal (take n numbers)) ≤ spaced_length (map decimal numbers)
 fewer zero numbers = omega arith
@@ -83,7 +65,7 @@ short_kind subject (Call method args) e =
     && nat_lt args.a (2 ^ 32)) _ (first_true _ _ e)) in
     let c = short_32 args.c (second_true (same_subject (subject_of method) subject && are_padded (arity_of method) args
     && nat_lt args.a (2 ^ 32) && nat_lt args.b (2 ^ 32)) _ e) in
-    omega (arith, short_name method, fewer (arity_of method) (args.a ∷ args.b ∷ args.c ∷ []), a, b, c)
+    omega (arith, short_method method, fewer (arity_of method) (args.a ∷ args.b ∷ args.c ∷ []), a, b, c)
 short_kind subject (Return reply) e = omega (arith, short_64 reply e)
 short_kind subject (Write word value) e =
     let w = short_32 word (first_true _ _ e) in

@@ -3,8 +3,9 @@ use Rattle.std.proofs.Common.{◌≡◌, ℕ, zero, suc, ◌+◌, ◌*◌, ◌^�
 use Rattle.std.specs.Prelude.{◌==◌, nat_lt, flat_map, map, slice_index}
 use Rattle.vyrd_base.specs.Places.{numbers_from, numbers_below}
 use Rattle.vyrd_base.specs.Amounts.{Amounts, amount_of, collected, given}
-use Rattle.vyrd_base.specs.Views.{slot_parts}
-use Rattle.vyrd_base.specs.TreeView.{node_word, count_of, right_of, entry_parts, node_parts, damage, chain_parts_from}
+use Rattle.vyrd_base.specs.Multiset.{slot_parts}
+use Rattle.vyrd_base.specs.Tree.{node_word, count_of, right_of, entry_parts, node_parts, damage}
+use Rattle.vyrd_base.specs.Tree.{chain_parts_from}
 use Rattle.vyrd_base.specs.Added.{added}
 use Rattle.vyrd_base.proofs.AddedLaws.{amount_of-added}
 use Rattle.vyrd_base.proofs.SumLaws.{given_at_most, amount_of-collected, one_at_most}

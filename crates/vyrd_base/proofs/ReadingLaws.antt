@@ -21,10 +21,12 @@ use Rattle.vyrd_base.specs.Reading.{Reading, Input, stopped, ended, after_end_ru
 use Rattle.vyrd_base.specs.Verdicts.{verdict_so_far, end_verdict, accepted, verdict}
 use Rattle.vyrd_base.specs.TextVerdicts.{known_verdict, text_verdict}
 use Rattle.vyrd_base.proofs.SplitLaws.{lacks, split_at, split-join, lacks-join, number_of_decimal, bytes_same}
-use Rattle.vyrd_base.proofs.LineLaws.{is_plain_field, plain_number, plain_spaces, plain_line_feeds, entry_line_whole, entry_in-entry_line, entry_line_isnt_end, is_start, start_line_whole, start_in-start_line, start_in-entry_line, start_in-end_line}
+use Rattle.vyrd_base.proofs.SplitLaws.{is_plain_field}
+use Rattle.vyrd_base.proofs.LineLaws.{plain_number, plain_spaces, plain_line_feeds, entry_line_whole, entry_in-entry_line, entry_line_isnt_end, is_start, start_line_whole, start_in-start_line, start_in-entry_line, start_in-end_line}
 use Rattle.vyrd_base.proofs.HeaderLaws.{sized, size_in_32_bits, callers_in_32_bits, few_words}
 use Rattle.vyrd_base.proofs.TestLaws.{both_true, first_true, second_true, neither_true, above_of, is_below}
-use Rattle.vyrd_base.proofs.SubjectLaws.{plain_subject, subject_read}
+use Rattle.vyrd_base.proofs.StructureLaws.{plain_subject}
+use Rattle.vyrd_base.proofs.SubjectLaws.{subject_read}
 use Rattle.vyrd_base.proofs.ListLaws.{or_none}
 use Rattle.vyrd_base.specs.Rules.{rules_of}
 

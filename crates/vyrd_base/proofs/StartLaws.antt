@@ -13,11 +13,18 @@ use Rattle.vyrd_base.specs.Places.{numbers_from, numbers_below}
 use Rattle.vyrd_base.specs.Layout.{plain_words, lock_words}
 use Rattle.vyrd_base.specs.Amounts.{plus_amount, collected}
 use Rattle.vyrd_base.specs.Specification.{start}
-use Rattle.vyrd_base.specs.TreeView.{entries_of, entry_parts, node_parts, right_of, damage, chain_parts_from}
+use Rattle.vyrd_base.specs.Tree.{entries_of, entry_parts, node_parts, right_of, damage}
+use Rattle.vyrd_base.specs.Tree.{chain_parts_from}
 use Rattle.vyrd_base.specs.Buffers.{buffer_at, is_buffer, buffer_parts}
-use Rattle.vyrd_base.specs.Views.{slot_parts, chunk_at, chunk_parts, parts_of, view_of_words}
-use Rattle.vyrd_base.specs.Trees.{nodes, left_of, low_of, is_linked, is_bounded, rises, keys_at, has_sound_keys, is_leaf_entry, begins_with, has_sound_entries, is_only_first, is_sound_node, is_tree}
-use Rattle.vyrd_base.specs.Represented.{is_sound_slot, is_sound_chunk, is_sound, state_of_words}
+use Rattle.vyrd_base.specs.Multiset.{slot_parts}
+use Rattle.vyrd_base.specs.Cache.{chunk_at, chunk_parts}
+use Rattle.vyrd_base.specs.Views.{parts_of, view_of_words}
+use Rattle.vyrd_base.specs.Tree.{nodes, left_of, low_of, is_linked, is_bounded, rises, keys_at}
+use Rattle.vyrd_base.specs.Tree.{has_sound_keys, is_leaf_entry, begins_with, has_sound_entries}
+use Rattle.vyrd_base.specs.Tree.{is_only_first, is_sound_node, is_tree}
+use Rattle.vyrd_base.specs.Multiset.{is_sound_slot}
+use Rattle.vyrd_base.specs.Cache.{is_sound_chunk}
+use Rattle.vyrd_base.specs.Represented.{is_sound, state_of_words}
 use Rattle.vyrd_base.proofs.ListLaws.{zeros}
 use Rattle.vyrd_base.proofs.HeaderLaws.{some_size}
 use Rattle.vyrd_base.proofs.TestLaws.{is_same, is_below}

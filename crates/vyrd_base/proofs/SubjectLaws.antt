@@ -9,7 +9,8 @@ use Rattle.vyrd_base.specs.Subjects.{same_subject}
 use Rattle.vyrd_base.specs.Spelling.{subject_name}
 use Rattle.vyrd_base.specs.Lines.{subject_called}
 use Rattle.vyrd_base.proofs.SplitLaws.{lacks, split_at}
-use Rattle.vyrd_base.proofs.LineLaws.{is_plain_field}
+use Rattle.vyrd_base.proofs.StructureLaws.{plain_subject}
+use Rattle.vyrd_base.proofs.TestLaws.{first_true}
 
 -- subjects that are found to be the same are
 pub same_subjects : (a b : Subject) → same_subject a b ≡ true → a ≡ b
@@ -30,19 +31,6 @@ same_subjects Buffers Multiset e = cc
 same_subjects Buffers Cache e = cc
 same_subjects Buffers Tree e = cc
 
--- a name is a field of its own, and short
-pub plain_subject : (subject : Subject) → is_plain_field (subject_name subject) ≡ true
-plain_subject Multiset = refl
-plain_subject Cache = refl
-plain_subject Tree = refl
-plain_subject Buffers = refl
-
-pub short_subject : (subject : Subject) → length (subject_name subject) ≤ 8
-short_subject Multiset = omega arith
-short_subject Cache = omega arith
-short_subject Tree = omega arith
-short_subject Buffers = omega arith
-
 -- a name is read as the subject that has it
 pub subject_read : (subject : Subject) → subject_called (subject_name subject) ≡ Some subject
 subject_read Multiset = refl
@@ -50,17 +38,11 @@ subject_read Cache = refl
 subject_read Tree = refl
 subject_read Buffers = refl
 
-plain_name : (subject : Subject) → lacks 32 (subject_name subject) ≡ true
-plain_name Multiset = refl
-plain_name Cache = refl
-plain_name Tree = refl
-plain_name Buffers = refl
-
 -- the name before a space is one
 pub one_name : (a b : Subject) (r s : List ℕ) → subject_name a ++ 32 ∷ r ≡ subject_name b ++ 32 ∷ s → r ≡ s
 one_name a b r s e =
     let parts : subject_name a ∷ slice_split (λ x. x == 32) r ≡ subject_name b ∷ slice_split (λ x. x == 32) s =
-    sym (split_at 32 (subject_name a) r (plain_name a)) ∙ ap (slice_split (λ x. x == 32)) e ∙ split_at 32 (subject_name b) s (plain_name b) in
+    sym (split_at 32 (subject_name a) r (first_true _ _ (plain_subject a))) ∙ ap (slice_split (λ x. x == 32)) e ∙ split_at 32 (subject_name b) s (first_true _ _ (plain_subject b)) in
     let same : subject_name a ≡ subject_name b = cc in
     let tails : 32 ∷ r ≡ 32 ∷ s = append_cancel_left (subject_name a) (32 ∷ r) (32 ∷ s) (e ∙ ap (λ t. t ++ 32 ∷ s) (sym same)) in
     cc

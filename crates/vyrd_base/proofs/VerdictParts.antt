@@ -1,6 +1,6 @@
 -- The verdict by its parts: a fault in the front, a break of shape, an open call at `end`, the
 -- text, and acceptance. The starting words stand for a state, so that nothing is wrong with them.
-use Rattle.std.proofs.Common.{◌≡◌, ◌&&◌, ℕ, ◌+◌, Bool, true, false, cond, List, [], ◌∷◌, length, Option, Some, None, refl, ap, ◌∙◌, sym, arith}
+use Rattle.std.proofs.Common.{◌≡◌, ℕ, ◌+◌, Bool, true, false, cond, List, [], ◌∷◌, length, Option, Some, None, refl, ap, ◌∙◌, sym, arith}
 use Rattle.std.specs.Prelude.{◌==◌, is_none, option_map, unwrap_or}
 use Rattle.std.specs.Option.{option_or}
 use Rattle.std.specs.Bool.{then_some}
@@ -12,12 +12,11 @@ use Rattle.vyrd_base.specs.declared.verdict.Stop.{Stop}
 use Rattle.vyrd_base.specs.declared.verdict.Stop.TheVariants.{End, Text}
 use Rattle.vyrd_base.specs.declared.verdict.Verdict.{Verdict}
 use Rattle.vyrd_base.specs.declared.verdict.Verdict.TheVariants.{Malformed}
-use Rattle.vyrd_base.specs.Places.{Place, newest_first}
-use Rattle.vyrd_base.specs.Shape.{is_observing}
+use Rattle.vyrd_base.specs.Places.{newest_first}
 use Rattle.vyrd_base.specs.Amounts.{Amounts}
 use Rattle.vyrd_base.specs.Starts.{state_at_start}
 use Rattle.vyrd_base.specs.Front.{front, first_break}
-use Rattle.vyrd_base.specs.Verdicts.{line_of, first_fault, shape_verdict, start_verdict, begun_verdict, verdict_so_far, is_return, is_call_open, end_verdict, accepted, verdict, verdict_at}
+use Rattle.vyrd_base.specs.Verdicts.{line_of, first_fault, shape_verdict, start_verdict, begun_verdict, verdict_so_far, is_call_open, end_verdict, accepted, verdict, verdict_at}
 use Rattle.vyrd_base.proofs.FrontLaws.{front_whole}
 use Rattle.vyrd_base.specs.Rules.{Rules}
 
@@ -212,7 +211,3 @@ at_text_closed r starting entries line rule sound none closed =
     either : (b : Bool) → Malformed line rule ≡ text_answer starting entries line rule None b false
     either true = refl
     either false = refl
-
--- whether an observer returns at a place
-abbrev pub observer_returns : Place Entry → Bool
-observer_returns place = is_return place.here.kind && is_observing place.here.caller place.earlier

@@ -1,6 +1,6 @@
 -- Amounts by key: the keys rise and no amount is 0, so a key that isn't there has the amount 0, and
 -- two lists of amounts are equal if each key has the same amount in both.
-use Rattle.std.specs.Prelude.{◌≢◌, ℕ, ◌+◌, ◌==◌, not, T, min, List, [], ◌∷◌, ◌++◌, map, filter}
+use Rattle.std.specs.Prelude.{◌≢◌, ℕ, Bool, ◌+◌, ◌==◌, not, T, min, List, [], ◌∷◌, ◌++◌, map, filter}
 use Rattle.std.specs.Prelude.{Option, Some, None, unwrap_or, if◌then◌else◌}
 use Rattle.std.specs.Option.{option_map_or}
 use Rattle.std.specs.Ordering.{nat_cmp}
@@ -19,6 +19,10 @@ pub record IsAmounts (amounts : Amounts) : Type 0 where
 -- the amount of a key
 abbrev pub amount_of : Amounts → ℕ → ℕ
 amount_of amounts key = unwrap_or (find nat_cmp key amounts) 0
+
+-- whether a key is there: its amount isn't 0
+abbrev pub is_present : Amounts → ℕ → Bool
+is_present amounts key = not (amount_of amounts key == 0)
 
 -- the amounts with this one for the key
 abbrev pub with_amount : Amounts → ℕ → ℕ → Amounts

@@ -1,9 +1,50 @@
--- String buffers: what the words of one hold, and its text as one number. Character i of a text,
--- from 0 on, counts (character + 1) * 256^i. So to the base 256 the digits of a text are its
--- characters, each plus 1; none of them is 0, and the empty text is 0.
-use Rattle.std.specs.Prelude.{ℕ, zero, suc, ◌+◌, ◌*◌, ◌^◌, ◌%◌, Bool, true, ◌&&◌, nat_le, nat_lt}
-use Rattle.std.specs.Prelude.{List, [], ◌∷◌, slice_index, Option, if◌then◌else◌}
+-- String buffers, as many as the size, of at most 7 characters each: what they do, what the words of
+-- one hold, and its text as one number. Character i of a text, from 0 on, counts (character + 1) *
+-- 256^i. So to the base 256 the digits of a text are its characters, each plus 1; none of them is 0,
+-- and the empty text is 0. The amount of a buffer is its text, so that an empty buffer isn't there.
+use Rattle.std.specs.Prelude.{ℕ, zero, suc, ◌+◌, ◌*◌, ◌^◌, ◌%◌, Bool, true, not, ◌&&◌, nat_le, nat_lt}
+use Rattle.std.specs.Prelude.{List, [], ◌∷◌, slice_index, flat_map, codes, Option, Some, None}
+use Rattle.std.specs.Prelude.{if◌then◌else◌}
 use Rattle.std.specs.Bool.{then_some}
+use Rattle.std.specs.List.{list_all}
+use Rattle.vyrd_base.specs.declared.buffers.BuffersMethod.{BuffersMethod}
+use Rattle.vyrd_base.specs.declared.buffers.BuffersMethod.TheVariants.{Append, AppendFrom, Cut}
+use Rattle.vyrd_base.specs.declared.buffers.BuffersMethod.TheVariants.{Length, Read}
+use Rattle.vyrd_base.specs.declared.subject.Args.{Args}
+use Rattle.vyrd_base.specs.declared.subject.Commits.{Commits}
+use Rattle.vyrd_base.specs.declared.subject.Commits.TheVariants.{Never, Once}
+use Rattle.vyrd_base.specs.Amounts.{Amounts, amount_of, with_amount}
+use Rattle.vyrd_base.specs.Places.{numbers_below}
+use Rattle.vyrd_base.specs.Structures.{Structure, by_reply}
+
+abbrev pub called : BuffersMethod → List ℕ
+called Append = codes "append"
+called AppendFrom = codes "append_from"
+called Cut = codes "cut"
+called Length = codes "length"
+called Read = codes "read"
+
+abbrev pub arity : BuffersMethod → ℕ
+arity Append = 2
+arity AppendFrom = 2
+arity Cut = 2
+arity Length = 1
+arity Read = 1
+
+-- The number of a buffer is below the size, and a character is below 255.
+abbrev pub takes : ℕ → BuffersMethod → Args → Bool
+takes size Append args = nat_lt args.a size && nat_lt args.b 255
+takes size AppendFrom args = nat_lt args.a size && nat_lt args.b size
+takes size Cut args = nat_lt args.a size
+takes size Length args = nat_lt args.a size
+takes size Read args = nat_lt args.a size
+
+abbrev pub commits : BuffersMethod → Commits
+commits Append = Once
+commits AppendFrom = Once
+commits Cut = Once
+commits Length = Never
+commits Read = Never
 
 -- the text of the first n characters
 abbrev pub text_of : (ℕ → ℕ) → ℕ → ℕ
@@ -30,6 +71,31 @@ joined text more = text + more * 256 ^ text_length text
 -- the first n characters of a text, or all if it has no more
 abbrev pub cut_to : ℕ → ℕ → ℕ
 cut_to n text = if nat_lt n (text_length text) then text % 256 ^ n else text
+
+-- The state after a text was appended to buffer b with this reply: 1 if the buffer has room for it,
+-- and 0 if it hasn't.
+abbrev pub after_append : ℕ → Amounts → ℕ → ℕ → Option Amounts
+after_append reply state b more = by_reply reply
+    (then_some (not (has_room (amount_of state b) more)) state)
+    (then_some (has_room (amount_of state b) more)
+    (with_amount state b (joined (amount_of state b) more)))
+    None
+
+abbrev pub next : BuffersMethod → Args → ℕ → Amounts → Option Amounts
+next Append args reply state = after_append reply state args.a (args.b + 1)
+next AppendFrom args reply state = after_append reply state args.a (amount_of state args.b)
+next Cut args reply state = by_reply reply None
+    (Some (with_amount state args.a (cut_to args.b (amount_of state args.a)))) None
+next Length args reply state = None
+next Read args reply state = None
+
+-- how many characters the buffer has, and its text
+abbrev pub answer : Amounts → BuffersMethod → Args → ℕ
+answer state Append args = 0
+answer state AppendFrom args = 0
+answer state Cut args = 0
+answer state Length args = text_length (amount_of state args.a)
+answer state Read args = amount_of state args.a
 
 -- what the words of a buffer hold: the count of its characters, and the characters, of which only
 -- those below the count matter
@@ -63,3 +129,21 @@ shown_text buffer = then_some (is_buffer buffer) (text_of buffer.character buffe
 abbrev pub buffer_parts : ℕ → ℕ → Buffer → List (ℕ × ℕ)
 buffer_parts size b buffer =
     if is_buffer buffer then (b, text_of buffer.character buffer.count) ∷ [] else (size + b, 1) ∷ []
+
+-- A buffer has 8 words, and a lock.
+abbrev pub buffers : Structure BuffersMethod
+buffers = record {
+  name = codes "buffers";
+  methods = Append ∷ AppendFrom ∷ Cut ∷ Length ∷ Read ∷ [];
+  called = called;
+  arity = arity;
+  takes = takes;
+  commits = commits;
+  next = next;
+  answer = answer;
+  plain_words = λ size. 8 * size;
+  locks = λ size. size;
+  parts = λ size words.
+      flat_map (λ b. buffer_parts size b (buffer_at words b)) (numbers_below size);
+  is_sound = λ size words. list_all (λ b. is_buffer (buffer_at words b)) (numbers_below size);
+}

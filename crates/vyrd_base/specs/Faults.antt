@@ -1,8 +1,9 @@
--- The faults of commits and of observers' returns, at a place of a front whose states are given. A
--- commit is judged once its execution has returned and the state before it is known. An observer's
--- return is judged once the state at it is known: its reply has to be the answer of some state from
+-- The faults of commits and of returns, at a place of a front whose states are given. An execution
+-- that commits is judged at its commit, once it has returned and the state before the commit is
+-- known. One that returns without a commit has only looked, whatever its method: it is judged at
+-- its return, once the state there is known, and its reply has to be the answer of some state from
 -- its call to its return.
-use Rattle.std.specs.Prelude.{ℕ, ◌+◌, ◌==◌, not, ◌||◌, List, Option, Some, None, option_map}
+use Rattle.std.specs.Prelude.{ℕ, Bool, ◌+◌, ◌==◌, ◌||◌, List, Option, Some, None, option_map}
 use Rattle.std.specs.Prelude.{option_and_then, slice_get, take, drop, if◌then◌else◌}
 use Rattle.std.specs.List.{list_any}
 use Rattle.std.specs.Option.{option_and}
@@ -13,8 +14,7 @@ use Rattle.vyrd_base.specs.declared.log.StartWord.{StartWord}
 use Rattle.vyrd_base.specs.declared.verdict.Why.{Why}
 use Rattle.vyrd_base.specs.declared.verdict.Why.TheVariants.{Reply, View, Observer}
 use Rattle.vyrd_base.specs.Places.{Place}
-use Rattle.vyrd_base.specs.Callers.{Called, open_call, entries_before_call}
-use Rattle.vyrd_base.specs.Subjects.{is_observer}
+use Rattle.vyrd_base.specs.Callers.{Called, open_call, has_committed, entries_before_call}
 use Rattle.vyrd_base.specs.Amounts.{Amounts, first_difference}
 use Rattle.vyrd_base.specs.Rules.{Rules}
 use Rattle.vyrd_base.specs.Words.{words_at}
@@ -38,17 +38,18 @@ abbrev pub states_since_call : List Amounts → ℕ → List Entry → List Amou
 states_since_call states c earlier =
     drop (commit_count (entries_before_call c earlier)) (take (commit_count earlier + 1) states)
 
--- an observer's reply that is the answer of none of the states
-abbrev pub observer_fault : Rules → List Amounts → ℕ → Called → Option Why
-observer_fault r window reply called =
-    if not (is_observer called.method)
+-- the reply of an execution without a commit that is the answer of none of the states
+abbrev pub observer_fault : Rules → List Amounts → Bool → ℕ → Called → Option Why
+observer_fault r window committed reply called =
+    if committed
     || list_any (λ state. r.answer state called.method called.args == reply) window
     then None else Some (Observer reply)
 
 -- the fault of a return, once the state here is known
 abbrev pub return_fault : Rules → List Amounts → ℕ → List Entry → ℕ → Option Why
 return_fault r states c earlier reply = option_and (slice_get states (commit_count earlier))
-    (option_and_then (observer_fault r (states_since_call states c earlier) reply)
+    (option_and_then
+    (observer_fault r (states_since_call states c earlier) (has_committed c earlier) reply)
     (open_call c earlier))
 
 -- the fault of the commit at a place, whose view is that of the words after all effects up to it

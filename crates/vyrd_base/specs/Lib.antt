@@ -1,6 +1,12 @@
 pub mod Devices
 pub mod Limits
 pub mod Places
+pub mod Amounts
+pub mod Structures
+pub mod Multiset
+pub mod Cache
+pub mod Tree
+pub mod Buffers
 pub mod Subjects
 pub mod Layout
 pub mod Callers
@@ -8,11 +14,8 @@ pub mod Entries
 pub mod Words
 pub mod Shape
 pub mod Front
-pub mod Amounts
 pub mod Formed
 pub mod Tables
-pub mod TreeView
-pub mod Buffers
 pub mod Views
 pub mod Specification
 pub mod Commits
@@ -27,7 +30,6 @@ pub mod VerdictText
 pub mod TextVerdicts
 pub mod Histories
 pub mod Parts
-pub mod Trees
 pub mod Represented
 pub mod Rules
 pub mod OwnSamples

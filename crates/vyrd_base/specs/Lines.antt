@@ -9,11 +9,6 @@ use Rattle.vyrd_base.specs.declared.header.Header.{Header}
 use Rattle.vyrd_base.specs.declared.subject.Subject.{Subject}
 use Rattle.vyrd_base.specs.declared.subject.Subject.TheVariants.{Multiset, Cache, Tree, Buffers}
 use Rattle.vyrd_base.specs.declared.subject.Method.{Method}
-use Rattle.vyrd_base.specs.declared.subject.Method.TheVariants.{MsInsert, MsInsertPair, MsDelete}
-use Rattle.vyrd_base.specs.declared.subject.Method.TheVariants.{MsLookup, CaWrite, CaFlush, CaEvict}
-use Rattle.vyrd_base.specs.declared.subject.Method.TheVariants.{CaRead, TrInsert, TrDelete}
-use Rattle.vyrd_base.specs.declared.subject.Method.TheVariants.{TrLookup, BuAppend, BuAppendFrom}
-use Rattle.vyrd_base.specs.declared.subject.Method.TheVariants.{BuCut, BuLength, BuRead}
 use Rattle.vyrd_base.specs.declared.subject.Args.{Args}
 use Rattle.vyrd_base.specs.declared.log.Kind.{Kind}
 use Rattle.vyrd_base.specs.declared.log.Kind.TheVariants.{Call, Return, Write, Commit, BlockOpen}
@@ -25,6 +20,7 @@ use Rattle.vyrd_base.specs.declared.verdict.Rule.TheVariants.{BadHeader, Unknown
 use Rattle.vyrd_base.specs.Limits.{is_sized, is_within}
 use Rattle.vyrd_base.specs.Spelling.{subject_name, method_name, header_line, start_line, entry_line}
 use Rattle.vyrd_base.specs.Spelling.{is_entry_of}
+use Rattle.vyrd_base.specs.Subjects.{methods_of}
 
 -- the parts between spaces
 abbrev pub fields_of : List ℕ → List (List ℕ)
@@ -33,13 +29,6 @@ fields_of line = slice_split (λ b. b == 32) line
 -- the number that a field of digits stands for
 abbrev pub number_of : List ℕ → ℕ
 number_of field = digits_value 10 field
-
--- the methods of a subject
-abbrev pub methods_of : Subject → List Method
-methods_of Multiset = MsInsert ∷ MsInsertPair ∷ MsDelete ∷ MsLookup ∷ []
-methods_of Cache = CaWrite ∷ CaFlush ∷ CaEvict ∷ CaRead ∷ []
-methods_of Tree = TrInsert ∷ TrDelete ∷ TrLookup ∷ []
-methods_of Buffers = BuAppend ∷ BuAppendFrom ∷ BuCut ∷ BuLength ∷ BuRead ∷ []
 
 -- the subject's method of that name
 abbrev pub method_called : Subject → List ℕ → Option Method

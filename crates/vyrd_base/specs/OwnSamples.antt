@@ -6,7 +6,8 @@ use Rattle.std.specs.Prelude.{ℕ, ◌+◌, ◌-◌, ◌^◌, ◌==◌, ◌&&◌
 use Rattle.std.specs.Prelude.{Option, Some, None}
 use Rattle.std.specs.Bool.{then_some}
 use Rattle.vyrd_base.specs.declared.subject.Method.{Method}
-use Rattle.vyrd_base.specs.declared.subject.Method.TheVariants.{MsInsert, MsDelete}
+use Rattle.vyrd_base.specs.declared.subject.Method.TheVariants.{Multiset as OfMultiset}
+use Rattle.vyrd_base.specs.declared.multiset.MultisetMethod.TheVariants.{Insert, Delete}
 use Rattle.vyrd_base.specs.declared.subject.Args.{Args}
 use Rattle.vyrd_base.specs.declared.log.Entry.{Entry}
 use Rattle.vyrd_base.specs.Amounts.{Amounts, amount_of, with_amount}
@@ -24,9 +25,9 @@ abbrev pub went : ℕ
 went = 2 ^ 65 + 1
 
 abbrev pub queue_next : Method → Args → ℕ → Amounts → Option Amounts
-queue_next MsInsert args reply s = then_some (reply == 1)
+queue_next (OfMultiset Insert) args reply s = then_some (reply == 1)
     (with_amount (with_amount s (value_at (amount_of s came)) args.a) came (amount_of s came + 1))
-queue_next MsDelete args reply s = then_some
+queue_next (OfMultiset Delete) args reply s = then_some
     (nat_lt (amount_of s went) (amount_of s came)
     && (reply == amount_of s (value_at (amount_of s went)) + 1))
     (with_amount s went (amount_of s went + 1))

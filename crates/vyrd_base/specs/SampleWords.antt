@@ -2,7 +2,8 @@
 use Rattle.std.specs.Prelude.{ℕ, List, [], ◌∷◌, ◌++◌, replicate, refl}
 use Rattle.vyrd_base.specs.declared.header.Header.{Header}
 use Rattle.vyrd_base.specs.declared.subject.Subject.TheVariants.{Multiset, Cache, Tree, Buffers}
-use Rattle.vyrd_base.specs.declared.subject.Method.TheVariants.{MsLookup}
+use Rattle.vyrd_base.specs.declared.subject.Method.TheVariants.{Multiset as OfMultiset}
+use Rattle.vyrd_base.specs.declared.multiset.MultisetMethod.TheVariants.{Lookup}
 use Rattle.vyrd_base.specs.declared.log.Kind.TheVariants.{Call, Return}
 use Rattle.vyrd_base.specs.declared.history.Did.{Did}
 use Rattle.vyrd_base.specs.declared.history.Did.TheVariants.{Read, Took, Gave, Marked}
@@ -36,7 +37,7 @@ event number caller did = record { number = number; caller = caller; did = did }
 
 -- a lookup that finds nothing in a bucket of one, under its lock
 abbrev pub lookup_events : List Stamped
-lookup_events = event 0 0 (Marked (Call MsLookup (args 5 0 0))) ∷ event 1 0 (Took 8)
+lookup_events = event 0 0 (Marked (Call (OfMultiset Lookup) (args 5 0 0))) ∷ event 1 0 (Took 8)
     ∷ event 2 0 (Read 0 0) ∷ event 3 0 (Read 2 0)
     ∷ event 4 0 (Read 4 0) ∷ event 5 0 (Read 6 0) ∷ event 6 0 (Gave 8)
     ∷ event 7 0 (Marked (Return 0)) ∷ []

@@ -2,8 +2,10 @@
 use Rattle.std.specs.Prelude.{ℕ, List, [], ◌∷◌, refl}
 use Rattle.vyrd_base.specs.declared.header.Header.{Header}
 use Rattle.vyrd_base.specs.declared.subject.Subject.TheVariants.{Multiset, Cache}
-use Rattle.vyrd_base.specs.declared.subject.Method.TheVariants.{MsInsert, MsDelete, MsLookup}
-use Rattle.vyrd_base.specs.declared.subject.Method.TheVariants.{CaWrite, CaFlush}
+use Rattle.vyrd_base.specs.declared.subject.Method.TheVariants.{Multiset as OfMultiset}
+use Rattle.vyrd_base.specs.declared.subject.Method.TheVariants.{Cache as OfCache}
+use Rattle.vyrd_base.specs.declared.multiset.MultisetMethod.TheVariants.{Insert, Delete, Lookup}
+use Rattle.vyrd_base.specs.declared.cache.CacheMethod.TheVariants.{Write as CaWrite, Flush}
 use Rattle.vyrd_base.specs.declared.subject.Args.{Args}
 use Rattle.vyrd_base.specs.declared.log.Kind.{Kind}
 use Rattle.vyrd_base.specs.declared.log.Kind.TheVariants.{Call, Return, Write, Commit, BlockOpen}
@@ -31,13 +33,13 @@ args a b c = record { a = a; b = b; c = c }
 
 -- the entries of a multiset's caller, a line each
 abbrev pub insert : ℕ → ℕ → Entry
-insert c x = by c (Call MsInsert (args x 0 0))
+insert c x = by c (Call (OfMultiset Insert) (args x 0 0))
 
 abbrev pub delete : ℕ → ℕ → Entry
-delete c x = by c (Call MsDelete (args x 0 0))
+delete c x = by c (Call (OfMultiset Delete) (args x 0 0))
 
 abbrev pub lookup : ℕ → ℕ → Entry
-lookup c x = by c (Call MsLookup (args x 0 0))
+lookup c x = by c (Call (OfMultiset Lookup) (args x 0 0))
 
 abbrev pub write : ℕ → ℕ → ℕ → Entry
 write c word value = by c (Write word value)
@@ -105,9 +107,9 @@ stray word value = delete 0 5 ∷ write 0 word value ∷ commit 0 ∷ return 0 0
 
 -- a write to the cache outside a block, with a flush in its middle
 abbrev pub torn : List Entry
-torn = by 0 (Call CaWrite (args 0 1 2)) ∷ begin 0 ∷ write 0 1 1 ∷ write 0 2 2 ∷ write 0 0 2
+torn = by 0 (Call (OfCache CaWrite) (args 0 1 2)) ∷ begin 0 ∷ write 0 1 1 ∷ write 0 2 2 ∷ write 0 0 2
     ∷ end_commit 0 ∷ return 0 1
-    ∷ by 0 (Call CaWrite (args 0 3 4)) ∷ write 0 1 3
-    ∷ by 1 (Call CaFlush (args 0 0 0)) ∷ begin 1 ∷ write 1 3 3 ∷ write 1 4 2 ∷ write 1 0 1
+    ∷ by 0 (Call (OfCache CaWrite) (args 0 3 4)) ∷ write 0 1 3
+    ∷ by 1 (Call (OfCache Flush) (args 0 0 0)) ∷ begin 1 ∷ write 1 3 3 ∷ write 1 4 2 ∷ write 1 0 1
     ∷ end_commit 1 ∷ return 1 1
     ∷ write 0 2 4 ∷ commit 0 ∷ return 0 1 ∷ []

@@ -21,7 +21,7 @@ use Rattle.vyrd_base.specs.Places.{numbers_below}
 use Rattle.vyrd_base.specs.Callers.{open_call, has_block, has_committed, holds_word}
 use Rattle.vyrd_base.specs.Layout.{plain_words}
 use Rattle.vyrd_base.specs.Words.{is_passed}
-use Rattle.vyrd_base.specs.Subjects.{is_observer, same_subject, subject_of, are_args}
+use Rattle.vyrd_base.specs.Subjects.{is_observer, must_commit, same_subject, subject_of, are_args}
 
 -- a rule with whether it is broken
 pub record Check : Type 0 where
@@ -41,6 +41,11 @@ first_broken (check ∷ checks) = cond check.broken (Some check.rule) (first_bro
 abbrev pub is_observing : ℕ → List Entry → Bool
 is_observing c earlier =
     option_map_or (λ called. is_observer called.method) (open_call c earlier) false
+
+-- whether the caller's open execution has to commit
+abbrev pub owes_commit : ℕ → List Entry → Bool
+owes_commit c earlier =
+    option_map_or (λ called. must_commit called.method) (open_call c earlier) false
 
 -- whether another caller's open block has written the word
 abbrev pub is_held_by_other : Header → ℕ → ℕ → List Entry → Bool
@@ -62,7 +67,7 @@ checks_of h earlier c (Call method args) =
 checks_of h earlier c (Return reply) =
     (is_none (open_call c earlier) breaks NoCall)
     ∷ (has_block c earlier breaks ReturnInBlock)
-    ∷ (not (is_observing c earlier || has_committed c earlier) breaks NoCommit) ∷ []
+    ∷ (owes_commit c earlier && not (has_committed c earlier) breaks NoCommit) ∷ []
 checks_of h earlier c (Write word value) =
     (is_none (open_call c earlier) breaks NoCall)
     ∷ (nat_le (plain_words h) word breaks WordRange)

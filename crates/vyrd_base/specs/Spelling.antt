@@ -6,20 +6,15 @@ use Rattle.std.specs.Prelude.{codes, decimal, flat_map}
 use Rattle.std.specs.List.{join_with_byte}
 use Rattle.vyrd_base.specs.declared.header.Header.{Header}
 use Rattle.vyrd_base.specs.declared.subject.Subject.{Subject}
-use Rattle.vyrd_base.specs.declared.subject.Subject.TheVariants.{Multiset, Cache, Tree, Buffers}
 use Rattle.vyrd_base.specs.declared.subject.Method.{Method}
-use Rattle.vyrd_base.specs.declared.subject.Method.TheVariants.{MsInsert, MsInsertPair, MsDelete}
-use Rattle.vyrd_base.specs.declared.subject.Method.TheVariants.{MsLookup, CaWrite, CaFlush, CaEvict}
-use Rattle.vyrd_base.specs.declared.subject.Method.TheVariants.{CaRead, TrInsert, TrDelete}
-use Rattle.vyrd_base.specs.declared.subject.Method.TheVariants.{TrLookup, BuAppend, BuAppendFrom}
-use Rattle.vyrd_base.specs.declared.subject.Method.TheVariants.{BuCut, BuLength, BuRead}
 use Rattle.vyrd_base.specs.declared.subject.Args.{Args}
 use Rattle.vyrd_base.specs.declared.log.Kind.{Kind}
 use Rattle.vyrd_base.specs.declared.log.Kind.TheVariants.{Call, Return, Write, Commit, BlockOpen}
 use Rattle.vyrd_base.specs.declared.log.Kind.TheVariants.{BlockClose, BlockCommit}
 use Rattle.vyrd_base.specs.declared.log.Entry.{Entry}
 use Rattle.vyrd_base.specs.declared.log.StartWord.{StartWord}
-use Rattle.vyrd_base.specs.Subjects.{arity_of, are_padded, subject_of, same_subject}
+use Rattle.vyrd_base.specs.Subjects.{by_subject, by_method, arity_of, are_padded, subject_of}
+use Rattle.vyrd_base.specs.Subjects.{same_subject}
 
 -- fields with a space between each two
 abbrev pub spaced : List (List ℕ) → List ℕ
@@ -31,29 +26,11 @@ ended_line line = line ++ 10 ∷ []
 
 -- the name of a subject
 abbrev pub subject_name : Subject → List ℕ
-subject_name Multiset = codes "multiset"
-subject_name Cache = codes "cache"
-subject_name Tree = codes "tree"
-subject_name Buffers = codes "buffers"
+subject_name = by_subject (λ M s. s.name)
 
 -- the name of a method, which identifies it only together with its subject
 abbrev pub method_name : Method → List ℕ
-method_name MsInsert = codes "insert"
-method_name MsInsertPair = codes "insert_pair"
-method_name MsDelete = codes "delete"
-method_name MsLookup = codes "lookup"
-method_name CaWrite = codes "write"
-method_name CaFlush = codes "flush"
-method_name CaEvict = codes "evict"
-method_name CaRead = codes "read"
-method_name TrInsert = codes "insert"
-method_name TrDelete = codes "delete"
-method_name TrLookup = codes "lookup"
-method_name BuAppend = codes "append"
-method_name BuAppendFrom = codes "append_from"
-method_name BuCut = codes "cut"
-method_name BuLength = codes "length"
-method_name BuRead = codes "read"
+method_name = by_method (λ M s. s.called)
 
 -- line 1: `vyrd`, the version, the subject, the size and the number of callers
 abbrev pub header_line : ℕ → Subject → ℕ → ℕ → List ℕ

@@ -1,33 +1,49 @@
--- The subjects, their methods, and the arguments that a method takes.
-use Rattle.std.specs.Prelude.{ℕ, Bool, true, false, ◌&&◌, ◌||◌, ◌==◌, nat_lt}
+-- The structures that are built in, and their methods. Each subject and each method belongs to one
+-- structure: whatever is said of it is said by that structure's value.
+use Rattle.std.specs.Prelude.{ℕ, Bool, true, false, ◌&&◌, ◌||◌, ◌==◌, nat_lt, List, map}
 use Rattle.vyrd_base.specs.declared.subject.Subject.{Subject}
 use Rattle.vyrd_base.specs.declared.subject.Subject.TheVariants.{Multiset, Cache, Tree, Buffers}
 use Rattle.vyrd_base.specs.declared.subject.Method.{Method}
-use Rattle.vyrd_base.specs.declared.subject.Method.TheVariants.{MsInsert, MsInsertPair, MsDelete}
-use Rattle.vyrd_base.specs.declared.subject.Method.TheVariants.{MsLookup, CaWrite, CaFlush, CaEvict}
-use Rattle.vyrd_base.specs.declared.subject.Method.TheVariants.{CaRead, TrInsert, TrDelete}
-use Rattle.vyrd_base.specs.declared.subject.Method.TheVariants.{TrLookup, BuAppend, BuAppendFrom}
-use Rattle.vyrd_base.specs.declared.subject.Method.TheVariants.{BuCut, BuLength, BuRead}
+use Rattle.vyrd_base.specs.declared.subject.Method.TheVariants.{Multiset as OfMultiset}
+use Rattle.vyrd_base.specs.declared.subject.Method.TheVariants.{Cache as OfCache, Tree as OfTree}
+use Rattle.vyrd_base.specs.declared.subject.Method.TheVariants.{Buffers as OfBuffers}
+use Rattle.vyrd_base.specs.declared.multiset.MultisetMethod.TheVariants.{Insert}
 use Rattle.vyrd_base.specs.declared.subject.Args.{Args}
+use Rattle.vyrd_base.specs.declared.subject.Commits.{Commits}
+use Rattle.vyrd_base.specs.declared.subject.Commits.TheVariants.{Never, AtMostOnce, Once}
+use Rattle.vyrd_base.specs.Structures.{Structure}
+use Rattle.vyrd_base.specs.Multiset.{multiset}
+use Rattle.vyrd_base.specs.Cache.{cache}
+use Rattle.vyrd_base.specs.Tree.{tree}
+use Rattle.vyrd_base.specs.Buffers.{buffers}
+
+-- what the subject's structure says
+abbrev pub by_subject : {A : Type 0} → ((M : Type 0) → Structure M → A) → Subject → A
+by_subject say Multiset = say _ multiset
+by_subject say Cache = say _ cache
+by_subject say Tree = say _ tree
+by_subject say Buffers = say _ buffers
+
+-- what the method's structure says of it
+abbrev pub by_method : {A : Type 0} → ((M : Type 0) → Structure M → M → A) → Method → A
+by_method say (OfMultiset method) = say _ multiset method
+by_method say (OfCache method) = say _ cache method
+by_method say (OfTree method) = say _ tree method
+by_method say (OfBuffers method) = say _ buffers method
 
 -- the subject whose method it is
 abbrev pub subject_of : Method → Subject
-subject_of MsInsert = Multiset
-subject_of MsInsertPair = Multiset
-subject_of MsDelete = Multiset
-subject_of MsLookup = Multiset
-subject_of CaWrite = Cache
-subject_of CaFlush = Cache
-subject_of CaEvict = Cache
-subject_of CaRead = Cache
-subject_of TrInsert = Tree
-subject_of TrDelete = Tree
-subject_of TrLookup = Tree
-subject_of BuAppend = Buffers
-subject_of BuAppendFrom = Buffers
-subject_of BuCut = Buffers
-subject_of BuLength = Buffers
-subject_of BuRead = Buffers
+subject_of (OfMultiset method) = Multiset
+subject_of (OfCache method) = Cache
+subject_of (OfTree method) = Tree
+subject_of (OfBuffers method) = Buffers
+
+-- the methods of a subject
+abbrev pub methods_of : Subject → List Method
+methods_of Multiset = map OfMultiset multiset.methods
+methods_of Cache = map OfCache cache.methods
+methods_of Tree = map OfTree tree.methods
+methods_of Buffers = map OfBuffers buffers.methods
 
 -- whether two subjects are the same
 abbrev pub same_subject : Subject → Subject → Bool
@@ -37,42 +53,46 @@ same_subject Tree Tree = true
 same_subject Buffers Buffers = true
 same_subject _ _ = false
 
--- the methods that only look; all others are mutators
+-- some method, to stand where none is called
+abbrev pub some_method : Method
+some_method = OfMultiset Insert
+
+-- how often an execution of the method commits
+abbrev pub commits_of : Method → Commits
+commits_of = by_method (λ M s. s.commits)
+
+-- whether no execution commits
+abbrev pub never_commits : Commits → Bool
+never_commits Never = true
+never_commits AtMostOnce = false
+never_commits Once = false
+
+-- whether each execution commits
+abbrev pub always_commits : Commits → Bool
+always_commits Never = false
+always_commits AtMostOnce = false
+always_commits Once = true
+
+-- the methods that only look, since none of their executions commits; all others are mutators
 abbrev pub is_observer : Method → Bool
-is_observer MsLookup = true
-is_observer CaRead = true
-is_observer TrLookup = true
-is_observer BuLength = true
-is_observer BuRead = true
-is_observer _ = false
+is_observer method = never_commits (commits_of method)
+
+-- the methods each of whose executions has to commit; one of any other may return without a commit,
+-- and then it has only looked
+abbrev pub must_commit : Method → Bool
+must_commit method = always_commits (commits_of method)
 
 -- how many arguments the method has
 abbrev pub arity_of : Method → ℕ
-arity_of MsInsertPair = 2
-arity_of TrInsert = 2
-arity_of BuAppend = 2
-arity_of BuAppendFrom = 2
-arity_of BuCut = 2
-arity_of CaWrite = 3
-arity_of _ = 1
+arity_of = by_method (λ M s. s.arity)
 
 -- whether arguments past the method's own are 0
 abbrev pub are_padded : ℕ → Args → Bool
 are_padded arity args = (args.b == 0 || nat_lt 1 arity) && (args.c == 0 || nat_lt 2 arity)
 
--- whether the arguments are in their ranges: the number of a chunk or of a buffer is below the
--- size, and a character is below 255
+-- whether the arguments are in their ranges
 abbrev pub are_ranged : ℕ → Method → Args → Bool
-are_ranged size CaWrite args = nat_lt args.a size
-are_ranged size CaFlush args = nat_lt args.a size
-are_ranged size CaEvict args = nat_lt args.a size
-are_ranged size CaRead args = nat_lt args.a size
-are_ranged size BuAppend args = nat_lt args.a size && nat_lt args.b 255
-are_ranged size BuAppendFrom args = nat_lt args.a size && nat_lt args.b size
-are_ranged size BuCut args = nat_lt args.a size
-are_ranged size BuLength args = nat_lt args.a size
-are_ranged size BuRead args = nat_lt args.a size
-are_ranged size _ args = true
+are_ranged size = by_method (λ M s. s.takes size)
 
 -- whether the arguments are in their ranges, and those that the method doesn't have are 0
 abbrev pub are_args : ℕ → Method → Args → Bool

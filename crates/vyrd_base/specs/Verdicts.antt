@@ -1,8 +1,8 @@
 -- The verdict about a log, and what is known of it so far. The first that applies is the verdict:
 -- starting words that stand for no state, the first fault of the well-formed front, the first entry
 -- that isn't well formed, an execution that is open at the end; otherwise the log is accepted.
-use Rattle.std.specs.Prelude.{ℕ, Bool, true, false, ◌+◌, ◌&&◌, ◌==◌, None, if◌then◌else◌, List, []}
-use Rattle.std.specs.Prelude.{◌∷◌, length, Option, is_some, is_none, option_map, unwrap_or}
+use Rattle.std.specs.Prelude.{ℕ, Bool, true, false, not, ◌+◌, ◌&&◌, ◌==◌, None, if◌then◌else◌, List}
+use Rattle.std.specs.Prelude.{[], ◌∷◌, length, Option, is_some, is_none, option_map, unwrap_or}
 use Rattle.std.specs.Prelude.{count_by}
 use Rattle.std.specs.Option.{option_or}
 use Rattle.std.specs.Bool.{then_some}
@@ -19,8 +19,7 @@ use Rattle.vyrd_base.specs.declared.verdict.Verdict.{Verdict}
 use Rattle.vyrd_base.specs.declared.verdict.Verdict.TheVariants.{Accepted, Violation, Malformed}
 use Rattle.vyrd_base.specs.Places.{Place, places, position_of, newest_first, first_answer}
 use Rattle.vyrd_base.specs.Places.{numbers_below}
-use Rattle.vyrd_base.specs.Callers.{open_call}
-use Rattle.vyrd_base.specs.Shape.{is_observing}
+use Rattle.vyrd_base.specs.Callers.{open_call, has_committed}
 use Rattle.vyrd_base.specs.Front.{front, first_break}
 use Rattle.vyrd_base.specs.Amounts.{Amounts}
 use Rattle.vyrd_base.specs.Starts.{state_at_start}
@@ -83,14 +82,17 @@ abbrev pub is_return : Kind → Bool
 is_return (Return reply) = true
 is_return _ = false
 
--- how many observers have returned
-abbrev pub observer_count : List Entry → ℕ
-observer_count entries =
-    count_by (λ place. is_return place.here.kind && is_observing place.here.caller place.earlier)
-    (places entries)
+-- whether an execution returns at a place that has no commit, and so has only looked
+abbrev pub observer_returns : Place Entry → Bool
+observer_returns place =
+    is_return place.here.kind && not (has_committed place.here.caller place.earlier)
 
--- the verdict about a log in which nothing is wrong: its entries, its commits and its observers'
--- returns are counted
+-- how many executions have returned without a commit
+abbrev pub observer_count : List Entry → ℕ
+observer_count entries = count_by observer_returns (places entries)
+
+-- the verdict about a log in which nothing is wrong: its entries, its commits and its returns
+-- without a commit are counted
 unfoldable pub accepted : List Entry → Verdict
 accepted entries = Accepted (length entries) (commit_count entries) (observer_count entries)
 

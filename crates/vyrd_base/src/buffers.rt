@@ -1,7 +1,81 @@
-//! The words of string buffers.
+//! The methods of string buffers, and their words.
 
-ghost use Rattle.std.specs.Prelude.{◌≡◌, ◌+◌, ◌*◌, ◌<◌, length};
-ghost use Rattle.vyrd_base.specs.Buffers.{buffer_at, shown_text};
+ghost use Rattle.std.specs.Prelude.{◌≡◌, ◌+◌, ◌*◌, ◌<◌, ◌≤◌, length};
+ghost use Rattle.vyrd_base.specs.Buffers.{called, arity, commits, takes, buffer_at, shown_text};
+
+use crate::subject::{Args, Commits};
+
+/// A method of string buffers.
+#[derive(Clone, Copy, Debug, PartialEq, Eq)]
+pub enum BuffersMethod {
+    /// `append b x` puts the character x at the end of buffer b and replies 1, or replies 0 if the
+    /// buffer is full.
+    Append,
+    /// `append_from b s` puts the characters of buffer s at the end of buffer b and replies 1, or
+    /// replies 0 if b has no room for them.
+    AppendFrom,
+    /// `cut b n` keeps the first n characters of buffer b, if there are more, and replies 1.
+    Cut,
+    /// `length b` observes how many characters buffer b has.
+    Length,
+    /// `read b` observes the text of buffer b, as the sum of (character i + 1) * 256^i.
+    Read,
+}
+
+impl BuffersMethod {
+    /// Its name in the line of a call.
+    pub(crate) fn name(self) -> &'static [u8]
+        ensures text { result.now ≡ called self }
+        ensures len { length result.now ≤ 11 }
+    {
+        match self {
+            BuffersMethod::Append => b"append",
+            BuffersMethod::AppendFrom => b"append_from",
+            BuffersMethod::Cut => b"cut",
+            BuffersMethod::Length => b"length",
+            BuffersMethod::Read => b"read",
+        }
+    }
+
+    /// How many arguments the method has.
+    pub(crate) fn arity(self) -> u32
+        ensures { result ≡ arity self }
+    {
+        match self {
+            BuffersMethod::Append => 2,
+            BuffersMethod::AppendFrom => 2,
+            BuffersMethod::Cut => 2,
+            BuffersMethod::Length => 1,
+            BuffersMethod::Read => 1,
+        }
+    }
+
+    /// How often each of its executions commits.
+    pub(crate) fn commits(self) -> Commits
+        ensures { result ≡ commits self }
+    {
+        match self {
+            BuffersMethod::Append => Commits::Once,
+            BuffersMethod::AppendFrom => Commits::Once,
+            BuffersMethod::Cut => Commits::Once,
+            BuffersMethod::Length => Commits::Never,
+            BuffersMethod::Read => Commits::Never,
+        }
+    }
+
+    /// Whether the arguments are in their ranges, given that there are `size` buffers.
+    pub(crate) fn takes(self, size: u32, args: Args) -> bool
+        ensures { result ≡ takes size self args }
+    {
+        match self {
+            BuffersMethod::Append => args.a < size && args.b < 255,
+            BuffersMethod::AppendFrom => args.a < size && args.b < size,
+            BuffersMethod::Cut => args.a < size,
+            BuffersMethod::Length => args.a < size,
+            BuffersMethod::Read => args.a < size,
+        }
+    }
+}
 
 /// How many words a buffer has: the count of its characters, and then the characters.
 pub const BUFFER_WORDS: usize = 8;

@@ -2,21 +2,24 @@
 
 ghost use Rattle.std.specs.Prelude.{◌≢◌, ◌≡◌, ◌+◌, ◌≤◌, ◌<◌, ℕ, true, length, ◌==◌, min};
 ghost use Rattle.std.specs.Prelude.{if◌then◌else◌, List, [], ◌∷◌, ◌++◌, Some, None, false};
-ghost use Rattle.std.specs.Prelude.{slice_set};
+ghost use Rattle.std.specs.Prelude.{slice_set, not, ◌&&◌, ◌||◌};
 ghost use Rattle.std.specs.Option.{option_or};
 ghost use Rattle.vyrd_base.specs.declared.header.Header.{Header};
 ghost use Rattle.vyrd_base.specs.declared.log.Entry.{Entry};
 ghost use Rattle.vyrd_base.specs.declared.log.StartWord.{StartWord};
-ghost use Rattle.vyrd_base.specs.declared.log.Kind.TheVariants.{Write};
+ghost use Rattle.vyrd_base.specs.declared.log.Kind.TheVariants.{Return, Write};
+ghost use Rattle.vyrd_base.specs.declared.subject.Method.{Method};
+ghost use Rattle.vyrd_base.specs.Subjects.{is_observer, must_commit};
+ghost use Rattle.vyrd_base.specs.declared.verdict.Why.TheVariants.{Observer};
 ghost use Rattle.vyrd_base.specs.declared.verdict.Verdict.{Verdict};
 ghost use Rattle.vyrd_base.specs.declared.verdict.Verdict.TheVariants.{Malformed};
 ghost use Rattle.vyrd_base.specs.Places.{newest_first};
-ghost use Rattle.vyrd_base.specs.Callers.{has_block};
-ghost use Rattle.vyrd_base.specs.Shape.{broken_rule};
+ghost use Rattle.vyrd_base.specs.Callers.{Called, open_call, has_block, has_committed};
+ghost use Rattle.vyrd_base.specs.Shape.{broken_rule, is_observing, owes_commit};
 ghost use Rattle.vyrd_base.specs.Front.{front, first_break, unless_broken};
 ghost use Rattle.vyrd_base.specs.Layout.{plain_words};
 ghost use Rattle.vyrd_base.specs.Words.{words_after};
-ghost use Rattle.std.specs.List.{AllByRecursion};
+ghost use Rattle.std.specs.List.{AllByRecursion, list_any};
 ghost use Rattle.vyrd_base.specs.Spelling.{log_text, is_entry_of};
 ghost use Rattle.vyrd_base.specs.Reading.{Input, TextFault, reading};
 ghost use Rattle.vyrd_base.specs.Histories.{cells_of, is_legal, log_of, words_of_history};
@@ -24,6 +27,7 @@ ghost use Rattle.vyrd_base.specs.Amounts.{Amounts, IsAmounts, amount_of, with_am
 ghost use Rattle.vyrd_base.specs.Amounts.{first_difference};
 ghost use Rattle.vyrd_base.specs.declared.history.Stamped.{Stamped};
 ghost use Rattle.vyrd_base.specs.TextVerdicts.{text_verdict, text_verdict_so_far, stop_of};
+ghost use Rattle.vyrd_base.specs.Faults.{observer_fault};
 ghost use Rattle.vyrd_base.specs.Rules.{Rules, rules_of};
 ghost use Rattle.vyrd_base.specs.Verdicts.{verdict_so_far, verdict, verdict_at, is_call_open};
 ghost use Rattle.vyrd_base.specs.Buffers.{text_of, text_length, joined, cut_to, are_characters};
@@ -55,6 +59,30 @@ pub fn first_version_keeps_its_verdicts()
         → verdict_so_far (rules_of h) [] es ≡ old_verdict_so_far h es }
     ensures whole { (h : Header) (es : List Entry) → h.version ≡ 1
         → verdict (rules_of h) [] es ≡ old_verdict h es }
+{}
+
+/// Each method of the built-in subjects commits once or never. So a log of theirs has the verdict
+/// that it has where observers and mutators are told apart by the method: a return lacks a commit
+/// if its execution has none and isn't an observer's, and it is counted and judged as an observer's
+/// if its method is one.
+#[tactic(auto, using(crate::proofs::Answers::commit_laws))]
+pub fn methods_commit_once_or_never()
+    ensures methods { (method : Method) → must_commit method ≡ not (is_observer method) }
+    ensures no_commit { (c : ℕ) (earlier : List Entry) (called : Called)
+        → open_call c earlier ≡ Some called
+        → (owes_commit c earlier && not (has_committed c earlier))
+        ≡ not (is_observing c earlier || has_committed c earlier) }
+    ensures counted { (h : Header) (es : List Entry) (c reply : ℕ)
+        → first_break h (es ++ record { caller = c; kind = Return reply } ∷ []) ≡ None
+        → not (has_committed c (newest_first es)) ≡ is_observing c (newest_first es) }
+    ensures fault { (r : Rules) (window : List Amounts) (es : List Entry) (c reply : ℕ)
+        (called : Called)
+        → first_break r.header (es ++ record { caller = c; kind = Return reply } ∷ []) ≡ None
+        → open_call c (newest_first es) ≡ Some called
+        → observer_fault r window (has_committed c (newest_first es)) reply called
+        ≡ (if not (is_observer called.method)
+        || list_any (λ state. r.answer state called.method called.args == reply) window
+        then None else Some (Observer reply)) }
 {}
 
 /// Without starting words the specification starts empty.

@@ -10,7 +10,8 @@
 //!
 //! What stands in `src/`:
 //!
-//! - `Header`, `Subject`, `Method`, `Args`: what is watched, and what may be called;
+//! - `Header`, `Subject`, `Method` with the methods of each structure, `Args`: what is watched, and
+//!   what may be called;
 //! - `Entry`, `Kind`, `StartWord`: the lines of a log; `Stamped`, `Did`: the events of a run, of
 //!   which a log shows a part;
 //! - `Verdict`, `Rule`, `Why`, `Stop`: the answer, and how a text stops;
@@ -20,18 +21,19 @@
 //! - `Source`, `Sink`, `Gate`: where bytes come from and go to, and what a live run asks. Each has
 //!   a device in memory whose calls can be made to fail, or one over std's readers and writers.
 //!
-//! What stands in `specs/`, one file for each notion: the limits of a header (`Limits`, `Subjects`,
-//! `Layout`), the places of a list (`Places`), what a caller is in the middle of (`Callers`), the
-//! rules of shape and the well-formed front (`Shape`, `Front`), the words (`Words`), what they show
-//! (`Views`, `TreeView`, `Buffers`, `Amounts`), amounts in a table (`Tables`), the specification of
-//! the four subjects (`Specification`), rules, which are a specification as a value, and those of a
-//! header (`Rules`), the words and the state at the start (`Starts`), commit order and its states
-//! (`Commits`), the faults (`Faults`), the verdict (`Verdicts`), the verdict as it was while
-//! version 1 was the only one (`FirstVersion`), the text of a log and what its bytes say
-//! (`Spelling`, `Lines`, `Reading`), the verdict about bytes and its line (`TextVerdicts`,
-//! `VerdictText`), histories (`Histories`), words that represent a state (`Represented`, `Trees`),
-//! and devices (`Devices`). States, faults and the verdict are those of any rules, and name no
-//! subject.
+//! What stands in `specs/`, one file for each notion: the limits of a header (`Limits`, `Layout`),
+//! the structures that are built in, each a value with a file of its own (`Structures`, `Multiset`,
+//! `Cache`, `Tree`, `Buffers`), and to which of them a subject and a method belong (`Subjects`),
+//! the places of a list (`Places`), what a caller is in the middle of (`Callers`), the rules of
+//! shape and the well-formed front (`Shape`, `Front`), the words (`Words`), what they show
+//! (`Views`, `Amounts`), amounts in a table (`Tables`), the specification of the structures
+//! (`Specification`), rules, which are a specification as a value, and those of a header (`Rules`),
+//! the words and the state at the start (`Starts`), commit order and its states (`Commits`), the
+//! faults (`Faults`), the verdict (`Verdicts`), the verdict as it was while version 1 was the only
+//! one (`FirstVersion`), the text of a log and what its bytes say (`Spelling`, `Lines`, `Reading`),
+//! the verdict about bytes and its line (`TextVerdicts`, `VerdictText`), histories (`Histories`),
+//! words that represent a state (`Represented`), and devices (`Devices`). Shape, words, states,
+//! faults and the verdict are those of any rules, and name no structure.
 //!
 //! A definition alone claims nothing. So each law of the definitions is a clause of an empty
 //! function in `laws`, and small cases are worked out: in `worked`, as lists of entries; in
@@ -42,6 +44,7 @@
 mod amount_map;
 mod amount_table;
 mod buffers;
+mod cache;
 mod calls;
 mod device;
 mod header;
@@ -50,8 +53,10 @@ pub mod laws;
 mod log;
 mod memory_sink;
 mod memory_source;
+mod multiset;
 mod streams;
 mod subject;
+mod tree;
 mod verdict;
 mod view;
 pub mod worked;
@@ -61,14 +66,17 @@ pub mod worked_text;
 
 pub use amount_map::AmountMap;
 pub use amount_table::AmountTable;
-pub use buffers::{BUFFER_WORDS, MOST_CHARACTERS, TEXT_BASE, buffer_text};
+pub use buffers::{BUFFER_WORDS, BuffersMethod, MOST_CHARACTERS, TEXT_BASE, buffer_text};
+pub use cache::CacheMethod;
 pub use device::{Failed, Gate, OpenGate, Sink, Source};
 pub use header::Header;
 pub use history::{Did, Stamped};
 pub use log::{Entry, Kind, StartWord};
 pub use memory_sink::MemorySink;
 pub use memory_source::MemorySource;
+pub use multiset::MultisetMethod;
 pub use streams::{StdSink, StdSource};
-pub use subject::{Args, Method, Subject};
+pub use subject::{Args, Commits, Method, Subject};
+pub use tree::TreeMethod;
 pub use verdict::{Rule, Stop, Verdict, Why};
 pub use view::View;

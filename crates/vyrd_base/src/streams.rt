@@ -110,12 +110,8 @@ fn read_again<R: Read>(reader: &mut R, buf: &mut [u8]) -> io::Result<usize>
 {
     for _ in 0..u64::MAX {
         match reader.read(buf) {
-            Ok(n) => return Ok(n),
-            Err(error) => {
-                if error.kind() != ErrorKind::Interrupted {
-                    return Err(error);
-                }
-            }
+            Err(error) if error.kind() == ErrorKind::Interrupted => {}
+            result => return result,
         }
     }
     reader.read(buf)
@@ -129,12 +125,8 @@ fn write_again<W: Write>(writer: &mut W, piece: &[u8]) -> io::Result<usize>
 {
     for _ in 0..u64::MAX {
         match writer.write(piece) {
-            Ok(n) => return Ok(n),
-            Err(error) => {
-                if error.kind() != ErrorKind::Interrupted {
-                    return Err(error);
-                }
-            }
+            Err(error) if error.kind() == ErrorKind::Interrupted => {}
+            result => return result,
         }
     }
     writer.write(piece)

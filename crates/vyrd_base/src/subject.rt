@@ -1,8 +1,14 @@
 //! The subjects that can be watched, their methods, and the arguments of a call.
 
-ghost use Rattle.std.specs.Prelude.{◌≡◌};
+ghost use Rattle.std.specs.Prelude.{◌≡◌, ◌≤◌, length};
+ghost use Rattle.vyrd_base.specs.Spelling.{subject_name, method_name};
 ghost use Rattle.vyrd_base.specs.Subjects.{subject_of, is_observer, arity_of, are_padded};
-ghost use Rattle.vyrd_base.specs.Subjects.{are_ranged};
+ghost use Rattle.vyrd_base.specs.Subjects.{are_ranged, commits_of, must_commit, methods_of, some_method};
+
+use crate::buffers::BuffersMethod;
+use crate::cache::CacheMethod;
+use crate::multiset::MultisetMethod;
+use crate::tree::TreeMethod;
 
 /// The data structure that is watched.
 #[derive(Clone, Copy, Debug, PartialEq, Eq)]
@@ -19,62 +25,108 @@ pub enum Subject {
     Buffers,
 }
 
-/// A method of a subject. Observers only look; all others are mutators, which commit.
+impl Subject {
+    /// Its name in the first line of a log.
+    pub fn name(self) -> &'static [u8]
+        ensures text { result.now ≡ subject_name self }
+        ensures len { length result.now ≤ 8 }
+    {
+        match self {
+            Subject::Multiset => b"multiset",
+            Subject::Cache => b"cache",
+            Subject::Tree => b"tree",
+            Subject::Buffers => b"buffers",
+        }
+    }
+
+    /// Its methods.
+    pub fn methods(self) -> &'static [Method]
+        ensures { result.now ≡ methods_of self }
+    {
+        match self {
+            Subject::Multiset => &[
+                Method::Multiset(MultisetMethod::Insert),
+                Method::Multiset(MultisetMethod::InsertPair),
+                Method::Multiset(MultisetMethod::Delete),
+                Method::Multiset(MultisetMethod::Lookup),
+            ],
+            Subject::Cache => &[
+                Method::Cache(CacheMethod::Write),
+                Method::Cache(CacheMethod::Flush),
+                Method::Cache(CacheMethod::Evict),
+                Method::Cache(CacheMethod::Read),
+            ],
+            Subject::Tree => &[
+                Method::Tree(TreeMethod::Insert),
+                Method::Tree(TreeMethod::Delete),
+                Method::Tree(TreeMethod::Lookup),
+            ],
+            Subject::Buffers => &[
+                Method::Buffers(BuffersMethod::Append),
+                Method::Buffers(BuffersMethod::AppendFrom),
+                Method::Buffers(BuffersMethod::Cut),
+                Method::Buffers(BuffersMethod::Length),
+                Method::Buffers(BuffersMethod::Read),
+            ],
+        }
+    }
+}
+
+/// A method of a subject. Observers only look, and never commit; all others are mutators.
 #[derive(Clone, Copy, Debug, PartialEq, Eq)]
 pub enum Method {
-    /// `insert x` adds one x to the multiset and replies 1, or changes nothing and replies 0.
-    MsInsert,
-    /// `insert_pair x y` adds one x and one y and replies 1, or changes nothing and replies 0.
-    MsInsertPair,
-    /// `delete x` removes one x and replies 1, or replies 0 if there is none.
-    MsDelete,
-    /// `lookup x` observes whether x is there: 1 if it is, and 0 otherwise.
-    MsLookup,
-    /// `write h lo hi` gives the chunk h its pair and replies 1.
-    CaWrite,
-    /// `flush h` stores the chunk if it is dirty, changes no pair, and replies 1.
-    CaFlush,
-    /// `evict h` drops the chunk from the cache, changes no pair, and replies 1.
-    CaEvict,
-    /// `read h` observes the chunk's pair, as hi * 2^32 + lo.
-    CaRead,
-    /// `insert k v` gives the key k the value v and replies 1 if the key is new, and 2 if it was
-    /// there; or it changes nothing and replies 0.
-    TrInsert,
-    /// `delete k` removes the key and replies 1, or replies 0 if it isn't there.
-    TrDelete,
-    /// `lookup k` observes the key's value plus 1, or 0 if the key isn't there.
-    TrLookup,
-    /// `append b x` puts the character x at the end of buffer b and replies 1, or replies 0 if the
-    /// buffer is full.
-    BuAppend,
-    /// `append_from b s` puts the characters of buffer s at the end of buffer b and replies 1, or
-    /// replies 0 if b has no room for them.
-    BuAppendFrom,
-    /// `cut b n` keeps the first n characters of buffer b, if there are more, and replies 1.
-    BuCut,
-    /// `length b` observes how many characters buffer b has.
-    BuLength,
-    /// `read b` observes the text of buffer b, as the sum of (character i + 1) * 256^i.
-    BuRead,
+    /// One of the multiset's.
+    Multiset(MultisetMethod),
+    /// One of the cache's.
+    Cache(CacheMethod),
+    /// One of the tree's.
+    Tree(TreeMethod),
+    /// One of the string buffers'.
+    Buffers(BuffersMethod),
+}
+
+/// How often an execution of a method commits.
+#[derive(Clone, Copy, Debug, PartialEq, Eq)]
+pub enum Commits {
+    /// Never: it only looks.
+    Never,
+    /// At most once. One that returns without a commit has only looked, and is judged as an
+    /// observer is.
+    AtMostOnce,
+    /// Exactly once.
+    Once,
 }
 
 impl Method {
+    /// Some method, to stand where none is called.
+    pub fn some() -> Method
+        ensures { result ≡ some_method }
+    {
+        Method::Multiset(MultisetMethod::Insert)
+    }
+
+    /// Its name in the line of a call. It identifies the method only together with its subject.
+    pub fn name(self) -> &'static [u8]
+        ensures text { result.now ≡ method_name self }
+        ensures len { length result.now ≤ 11 }
+    {
+        match self {
+            Method::Multiset(method) => method.name(),
+            Method::Cache(method) => method.name(),
+            Method::Tree(method) => method.name(),
+            Method::Buffers(method) => method.name(),
+        }
+    }
+
     /// The subject whose method it is.
     pub fn subject(self) -> Subject
         ensures { result ≡ subject_of self }
     {
         match self {
-            Method::MsInsert | Method::MsInsertPair | Method::MsDelete | Method::MsLookup => {
-                Subject::Multiset
-            }
-            Method::CaWrite | Method::CaFlush | Method::CaEvict | Method::CaRead => Subject::Cache,
-            Method::TrInsert | Method::TrDelete | Method::TrLookup => Subject::Tree,
-            Method::BuAppend
-            | Method::BuAppendFrom
-            | Method::BuCut
-            | Method::BuLength
-            | Method::BuRead => Subject::Buffers,
+            Method::Multiset(_) => Subject::Multiset,
+            Method::Cache(_) => Subject::Cache,
+            Method::Tree(_) => Subject::Tree,
+            Method::Buffers(_) => Subject::Buffers,
         }
     }
 
@@ -83,13 +135,10 @@ impl Method {
         ensures { result ≡ arity_of self }
     {
         match self {
-            Method::CaWrite => 3,
-            Method::MsInsertPair
-            | Method::TrInsert
-            | Method::BuAppend
-            | Method::BuAppendFrom
-            | Method::BuCut => 2,
-            _ => 1,
+            Method::Multiset(method) => method.arity(),
+            Method::Cache(method) => method.arity(),
+            Method::Tree(method) => method.arity(),
+            Method::Buffers(method) => method.arity(),
         }
     }
 
@@ -98,22 +147,37 @@ impl Method {
         ensures { result ≡ are_ranged size self args }
     {
         match self {
-            Method::CaWrite | Method::CaFlush | Method::CaEvict | Method::CaRead => args.a < size,
-            Method::BuAppend => args.a < size && args.b < 255,
-            Method::BuAppendFrom => args.a < size && args.b < size,
-            Method::BuCut | Method::BuLength | Method::BuRead => args.a < size,
-            _ => true,
+            Method::Multiset(method) => method.takes(size, args),
+            Method::Cache(method) => method.takes(size, args),
+            Method::Tree(method) => method.takes(size, args),
+            Method::Buffers(method) => method.takes(size, args),
         }
     }
 
-    /// Whether the method only looks.
+    /// How often each of its executions commits.
+    pub fn commits(self) -> Commits
+        ensures { result ≡ commits_of self }
+    {
+        match self {
+            Method::Multiset(method) => method.commits(),
+            Method::Cache(method) => method.commits(),
+            Method::Tree(method) => method.commits(),
+            Method::Buffers(method) => method.commits(),
+        }
+    }
+
+    /// Whether the method only looks: none of its executions commits.
     pub fn is_observer(self) -> bool
         ensures { result ≡ is_observer self }
     {
-        matches!(
-            self,
-            Method::MsLookup | Method::CaRead | Method::TrLookup | Method::BuLength | Method::BuRead
-        )
+        matches!(self.commits(), Commits::Never)
+    }
+
+    /// Whether each of its executions has to commit. One of any other may return without a commit.
+    pub fn must_commit(self) -> bool
+        ensures { result ≡ must_commit self }
+    {
+        matches!(self.commits(), Commits::Once)
     }
 }
 

@@ -42,7 +42,7 @@ pub enum Rule {
     NoCall,
     /// A return while the caller has an open block.
     ReturnInBlock,
-    /// A mutator returns without a commit.
+    /// An execution that has to commit returns without a commit.
     NoCommit,
     /// A written word isn't below the number of plain words.
     WordRange,
@@ -73,7 +73,8 @@ pub enum Why {
     /// The view of the words and that of the state after the commit differ at this key, and at no
     /// lesser one.
     View(u64),
-    /// This reply, of an observer, is the answer of no state from the call to the return.
+    /// This reply, of an execution without a commit, is the answer of no state from the call to the
+    /// return.
     Observer(u64),
 }
 
@@ -87,10 +88,12 @@ pub enum Verdict {
         entries: u64,
         /// The commits, lone ones and those of blocks.
         commits: u64,
-        /// The returns of observers.
+        /// The returns without a commit, which are those of observers if no method may commit at
+        /// most once.
         observers: u64,
     },
-    /// The commit or the observer's return on this line does what the specification doesn't allow.
+    /// The commit on this line, or the return without a commit, does what the specification doesn't
+    /// allow.
     Violation {
         /// The line of the commit or of the return.
         line: u64,

@@ -22,8 +22,10 @@ ghost use Rattle.vyrd_base.specs.declared.verdict.Rule.TheVariants.{ValueRange, 
 ghost use Rattle.vyrd_base.specs.declared.verdict.Rule.TheVariants.{CallerRange, SecondCommit};
 ghost use Rattle.vyrd_base.specs.declared.verdict.Rule.TheVariants.{ReturnInBlock, NoCommit};
 ghost use Rattle.vyrd_base.specs.declared.log.Kind.TheVariants.{Write};
-ghost use Rattle.vyrd_base.specs.declared.subject.Method.TheVariants.{BuAppend, BuAppendFrom};
-ghost use Rattle.vyrd_base.specs.declared.subject.Method.TheVariants.{BuCut, BuLength, BuRead};
+ghost use Rattle.vyrd_base.specs.declared.subject.Method.TheVariants.{Buffers as OfBuffers};
+ghost use Rattle.vyrd_base.specs.declared.buffers.BuffersMethod.TheVariants.{Append, AppendFrom};
+ghost use Rattle.vyrd_base.specs.declared.buffers.BuffersMethod.TheVariants.{Cut, Length};
+ghost use Rattle.vyrd_base.specs.declared.buffers.BuffersMethod.TheVariants.{Read as BuRead};
 
 /// Logs that keep the rules and refine the specification.
 #[tactic(auto, unfolding(crate::proofs::Opened::opened))]
@@ -95,24 +97,24 @@ pub fn standing_words()
 /// and that of 7 zeros 282578800148737.
 #[tactic(auto, unfolding(crate::proofs::Opened::opened))]
 pub fn texts()
-    ensures appended { next_state BuAppend (args 0 66 0) 1 ((0, 66) ∷ []) ≡ Some ((0, 17218) ∷ []) }
-    ensures not_appended { next_state BuAppend (args 0 66 0) 0 ((0, 66) ∷ []) ≡ None }
-    ensures full { next_state BuAppend (args 0 66 0) 0 ((0, 282578800148737) ∷ [])
+    ensures appended { next_state (OfBuffers Append) (args 0 66 0) 1 ((0, 66) ∷ []) ≡ Some ((0, 17218) ∷ []) }
+    ensures not_appended { next_state (OfBuffers Append) (args 0 66 0) 0 ((0, 66) ∷ []) ≡ None }
+    ensures full { next_state (OfBuffers Append) (args 0 66 0) 0 ((0, 282578800148737) ∷ [])
         ≡ Some ((0, 282578800148737) ∷ []) }
-    ensures past_full { next_state BuAppend (args 0 66 0) 1 ((0, 282578800148737) ∷ []) ≡ None }
-    ensures doubled { next_state BuAppendFrom (args 0 0 0) 1 ((0, 66) ∷ [])
+    ensures past_full { next_state (OfBuffers Append) (args 0 66 0) 1 ((0, 282578800148737) ∷ []) ≡ None }
+    ensures doubled { next_state (OfBuffers AppendFrom) (args 0 0 0) 1 ((0, 66) ∷ [])
         ≡ Some ((0, 16962) ∷ []) }
-    ensures from_empty { next_state BuAppendFrom (args 0 1 0) 1 ((0, 282578800148737) ∷ [])
+    ensures from_empty { next_state (OfBuffers AppendFrom) (args 0 1 0) 1 ((0, 282578800148737) ∷ [])
         ≡ Some ((0, 282578800148737) ∷ []) }
-    ensures too_long { next_state BuAppendFrom (args 0 1 0) 1 ((0, 282578800148737) ∷ (1, 1) ∷ [])
+    ensures too_long { next_state (OfBuffers AppendFrom) (args 0 1 0) 1 ((0, 282578800148737) ∷ (1, 1) ∷ [])
         ≡ None }
-    ensures cut { next_state BuCut (args 0 1 0) 1 ((0, 17218) ∷ []) ≡ Some ((0, 66) ∷ []) }
-    ensures cut_whole { next_state BuCut (args 0 0 0) 1 ((0, 17218) ∷ []) ≡ Some [] }
-    ensures cut_nothing { next_state BuCut (args 0 9 0) 1 ((0, 17218) ∷ [])
+    ensures cut { next_state (OfBuffers Cut) (args 0 1 0) 1 ((0, 17218) ∷ []) ≡ Some ((0, 66) ∷ []) }
+    ensures cut_whole { next_state (OfBuffers Cut) (args 0 0 0) 1 ((0, 17218) ∷ []) ≡ Some [] }
+    ensures cut_nothing { next_state (OfBuffers Cut) (args 0 9 0) 1 ((0, 17218) ∷ [])
         ≡ Some ((0, 17218) ∷ []) }
-    ensures length { answer_in ((0, 17218) ∷ []) BuLength (args 0 0 0) ≡ 2 }
-    ensures read { answer_in ((0, 17218) ∷ []) BuRead (args 0 0 0) ≡ 17218 }
-    ensures empty { answer_in [] BuLength (args 0 0 0) ≡ 0 }
+    ensures length { answer_in ((0, 17218) ∷ []) (OfBuffers Length) (args 0 0 0) ≡ 2 }
+    ensures read { answer_in ((0, 17218) ∷ []) (OfBuffers BuRead) (args 0 0 0) ≡ 17218 }
+    ensures empty { answer_in [] (OfBuffers Length) (args 0 0 0) ≡ 0 }
 {}
 
 /// A legal history and its log.

@@ -5,10 +5,11 @@ use Rattle.std.specs.Bool.{then_some}
 use Rattle.std.proofs.lemmas.Bool.Decides.{nat_tests}
 use Rattle.vyrd_base.specs.declared.header.Header.{Header}
 use Rattle.vyrd_base.specs.declared.subject.Subject.TheVariants.{Buffers}
-use Rattle.vyrd_base.specs.declared.subject.Method.TheVariants.{BuAppend, BuAppendFrom, BuCut}
+use Rattle.vyrd_base.specs.declared.subject.Method.TheVariants.{Buffers as OfBuffers}
+use Rattle.vyrd_base.specs.declared.buffers.BuffersMethod.TheVariants.{Append, AppendFrom, Cut}
 use Rattle.vyrd_base.specs.Amounts.{Amounts, amount_of, with_amount}
 use Rattle.vyrd_base.specs.Buffers.{text_length, has_room, joined}
-use Rattle.vyrd_base.specs.Specification.{after_append}
+use Rattle.vyrd_base.specs.Buffers.{after_append}
 use Rattle.vyrd_base.proofs.TextLaws.{length_at_most, one_character}
 use Rattle.vyrd_base.proofs.ListLaws.{none_isnt_some}
 use Rattle.vyrd_memory.specs.declared.op.Op.{Op}
@@ -65,7 +66,7 @@ append_gives_up h memory state c b x is low small e =
     (λ all. full_length (amount_of state b) x small ∙ ap (λ n. nat_le (n + 1) 7) all)
   where
     op : Op
-    op = record { method = BuAppend; args = record { a = b; b = x; c = 0 } }
+    op = record { method = OfBuffers Append; args = record { a = b; b = x; c = 0 } }
 
     seven : (n : ℕ) → n ≤ 7 → nat_le (n + 1) 7 ≡ false → n ≡ 7
     seven n most full = grind (arith, nat_tests)
@@ -79,14 +80,14 @@ append_from_gives_up h memory state c b s is low low_s e =
     (has_room (amount_of state b) (amount_of state s) ≡ false) (λ full. full) (λ full. full)
   where
     op : Op
-    op = record { method = BuAppendFrom; args = record { a = b; b = s; c = 0 } }
+    op = record { method = OfBuffers AppendFrom; args = record { a = b; b = s; c = 0 } }
 
 pub cut_never_gives_up : (h : Header) (memory : Memory) (state : Amounts) (c b n : ℕ)
     → h.subject ≡ Buffers → b < h.size → state_in h memory ≡ Some state → GivesUpWhere ⊥ (alone c (cut h b n) memory)
 cut_never_gives_up h memory state c b n is low e = subst (GivesUpWhere ⊥) (sym m.ends) (refuses, λ none. absurd none)
   where
     op : Op
-    op = record { method = BuCut; args = record { a = b; b = n; c = 0 } }
+    op = record { method = OfBuffers Cut; args = record { a = b; b = n; c = 0 } }
 
     m : MeetsSpecification h op (cut h b n) c memory state
     m = cut_alone h op c b n memory state is (represents h memory state e) low refl

@@ -4,8 +4,9 @@ use Rattle.std.specs.Prelude.{◌++◌, if◌then◌else◌}
 use Rattle.vyrd_base.specs.declared.header.Header.{Header}
 use Rattle.vyrd_base.specs.declared.log.Kind.TheVariants.{Commit, BlockOpen, BlockCommit}
 use Rattle.vyrd_base.specs.declared.subject.Method.{Method}
-use Rattle.vyrd_base.specs.declared.subject.Method.TheVariants.{BuAppend, BuAppendFrom, BuCut}
-use Rattle.vyrd_base.specs.declared.subject.Method.TheVariants.{BuLength, BuRead}
+use Rattle.vyrd_base.specs.declared.subject.Method.TheVariants.{Buffers as OfBuffers}
+use Rattle.vyrd_base.specs.declared.buffers.BuffersMethod.TheVariants.{Append, AppendFrom, Cut}
+use Rattle.vyrd_base.specs.declared.buffers.BuffersMethod.TheVariants.{Length, Read}
 use Rattle.vyrd_base.specs.declared.subject.Args.{Args}
 use Rattle.vyrd_memory.specs.declared.act.Act.TheVariants.{Load, Store, Mark}
 use Rattle.vyrd_memory.specs.declared.op.Op.{Op}
@@ -98,11 +99,11 @@ read h b = lock h b (step (Load (count_cell b)) (λ count. read_from h (min coun
 
 -- the procedure of a method's call with these arguments; that of another subject's method is empty
 abbrev pub procedure_of : Header → Variant → Method → Args → Script
-procedure_of h variant BuAppend args = append h args.a args.b
-procedure_of h variant BuAppendFrom args = append_from h variant args.a args.b
-procedure_of h variant BuCut args = cut h args.a args.b
-procedure_of h variant BuLength args = length_of h args.a
-procedure_of h variant BuRead args = read h args.a
+procedure_of h variant (OfBuffers Append) args = append h args.a args.b
+procedure_of h variant (OfBuffers AppendFrom) args = append_from h variant args.a args.b
+procedure_of h variant (OfBuffers Cut) args = cut h args.a args.b
+procedure_of h variant (OfBuffers Length) args = length_of h args.a
+procedure_of h variant (OfBuffers Read) args = read h args.a
 procedure_of h variant _ args = stop
 
 -- the procedure of an operation

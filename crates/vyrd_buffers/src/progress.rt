@@ -7,7 +7,7 @@ ghost use Rattle.vyrd_buffers.specs.Laws.{buffers_are_right_alone};
 
 use crate::place::{Counting, Looking, Place, Purpose};
 use crate::task::Task;
-use vyrd_base::{Header, Method};
+use vyrd_base::{BuffersMethod, Header, Method};
 use vyrd_memory::{Act, Op, Progress, Variant};
 
 /// How far an operation on string buffers has come: the numbers of its call, and a place in its
@@ -35,14 +35,14 @@ impl Progress for BufferProgress {
             x: op.args.b,
         };
         let place = match op.method {
-            Method::BuAppend => Place::Look(Purpose::Append, Looking::Lock),
-            Method::BuAppendFrom => Place::Count(match variant {
+            Method::Buffers(BuffersMethod::Append) => Place::Look(Purpose::Append, Looking::Lock),
+            Method::Buffers(BuffersMethod::AppendFrom) => Place::Count(match variant {
                 Variant::Correct => Counting::LockFirst,
                 Variant::Broken => Counting::LockMore,
             }),
-            Method::BuCut => Place::Look(Purpose::Cut, Looking::Lock),
-            Method::BuLength => Place::Look(Purpose::Length, Looking::Lock),
-            Method::BuRead => Place::Look(Purpose::Read, Looking::Lock),
+            Method::Buffers(BuffersMethod::Cut) => Place::Look(Purpose::Cut, Looking::Lock),
+            Method::Buffers(BuffersMethod::Length) => Place::Look(Purpose::Length, Looking::Lock),
+            Method::Buffers(BuffersMethod::Read) => Place::Look(Purpose::Read, Looking::Lock),
             _ => Place::Over,
         };
         BufferProgress { task, place }

@@ -3,9 +3,10 @@ use Rattle.std.proofs.Common.{◌≡◌, ℕ, true, false, None, Some, refl, ap,
 use Rattle.vyrd_base.specs.declared.header.Header.{Header}
 use Rattle.vyrd_base.specs.declared.subject.Subject.TheVariants.{Cache}
 use Rattle.vyrd_base.specs.declared.subject.Method.{Method}
-use Rattle.vyrd_base.specs.declared.subject.Method.TheVariants.{MsInsert, MsInsertPair, MsDelete}
-use Rattle.vyrd_base.specs.declared.subject.Method.TheVariants.{MsLookup, CaWrite, CaFlush, CaEvict}
-use Rattle.vyrd_base.specs.declared.subject.Method.TheVariants.{CaRead, TrInsert, TrDelete, TrLookup, BuAppend, BuAppendFrom, BuCut, BuLength, BuRead}
+use Rattle.vyrd_base.specs.declared.subject.Method.TheVariants.{Multiset as OfMultiset}
+use Rattle.vyrd_base.specs.declared.subject.Method.TheVariants.{Cache as OfCache, Tree as OfTree}
+use Rattle.vyrd_base.specs.declared.subject.Method.TheVariants.{Buffers as OfBuffers}
+use Rattle.vyrd_base.specs.declared.cache.CacheMethod.TheVariants.{Write, Flush, Evict, Read}
 use Rattle.vyrd_base.specs.declared.subject.Args.{Args}
 use Rattle.vyrd_base.specs.Amounts.{Amounts}
 use Rattle.vyrd_base.specs.Specification.{next_state}
@@ -21,22 +22,13 @@ use Rattle.vyrd_cache.specs.Laws.{cache_is_right_alone}
 
 refused : (method : Method) (args : Args) (state : Amounts) → subject_of method ≡ Cache
     → is_observer method ≡ false → next_state method args 0 state ≡ None
-refused CaWrite args state of changes = refl
-refused CaFlush args state of changes = refl
-refused CaEvict args state of changes = refl
-refused CaRead args state of changes = cc
-refused MsInsert args state of changes = cc
-refused MsInsertPair args state of changes = cc
-refused MsDelete args state of changes = cc
-refused MsLookup args state of changes = cc
-refused TrInsert args state of changes = cc
-refused TrDelete args state of changes = cc
-refused TrLookup args state of changes = cc
-refused BuAppend args state of changes = cc
-refused BuAppendFrom args state of changes = cc
-refused BuCut args state of changes = cc
-refused BuLength args state of changes = cc
-refused BuRead args state of changes = cc
+refused (OfCache Write) args state of changes = refl
+refused (OfCache Flush) args state of changes = refl
+refused (OfCache Evict) args state of changes = refl
+refused (OfCache Read) args state of changes = cc
+refused (OfMultiset other) args state of changes = cc
+refused (OfTree other) args state of changes = cc
+refused (OfBuffers other) args state of changes = cc
 
 pub never_gives_up : (h : Header) (memory : Memory) (state : Amounts) (c : ℕ) (op : Op)
     → h.subject ≡ Cache → subject_of op.method ≡ Cache → is_observer op.method ≡ false

@@ -4,8 +4,11 @@ use Rattle.std.specs.Prelude.{◌≢◌}
 use Rattle.vyrd_base.specs.declared.header.Header.{Header}
 use Rattle.vyrd_base.specs.declared.subject.Subject.TheVariants.{Cache}
 use Rattle.vyrd_base.specs.declared.subject.Method.{Method}
-use Rattle.vyrd_base.specs.declared.subject.Method.TheVariants.{MsInsert, MsInsertPair, MsDelete, MsLookup, CaWrite, CaFlush, CaEvict, CaRead, TrInsert, TrDelete}
-use Rattle.vyrd_base.specs.declared.subject.Method.TheVariants.{TrLookup, BuAppend, BuAppendFrom, BuCut, BuLength, BuRead}
+use Rattle.vyrd_base.specs.declared.subject.Method.TheVariants.{Cache as OfCache}
+use Rattle.vyrd_base.specs.declared.cache.CacheMethod.{CacheMethod}
+use Rattle.vyrd_base.specs.declared.cache.CacheMethod.TheVariants.{Write as CaWrite}
+use Rattle.vyrd_base.specs.declared.cache.CacheMethod.TheVariants.{Flush as CaFlush}
+use Rattle.vyrd_base.specs.declared.cache.CacheMethod.TheVariants.{Evict as CaEvict, Read as CaRead}
 use Rattle.vyrd_base.specs.declared.subject.Args.{Args}
 use Rattle.vyrd_base.specs.Subjects.{subject_of}
 use Rattle.vyrd_base.proofs.TestLaws.{isnt_same}
@@ -19,7 +22,7 @@ use Rattle.vyrd_cache.specs.declared.place.Place.{Place}
 use Rattle.vyrd_cache.specs.declared.place.Place.TheVariants.{Lock, LoadState, LoadLow, LoadHigh, Open, StoreHigh, Commit, Unlock}
 use Rattle.vyrd_cache.specs.declared.task.Task.{Task}
 use Rattle.vyrd_cache.specs.Procedures.{in_order, procedure_of}
-use Rattle.vyrd_cache.specs.Rests.Actions.{place_after}
+use Rattle.vyrd_cache.specs.Rests.Actions.{action_of, place_after}
 use Rattle.vyrd_cache.specs.Rests.{rest_at, after_loads, after_state}
 
 -- an action that is known
@@ -120,59 +123,16 @@ after_other h t place next answer state low high is =
     by_action BareWrite Unlock state low high = refl
     by_action _ _ state low high = refl
 
--- the beginning of an operation whose method is known
-begun : (h : Header) (variant : Variant) (method known : Method) (args : Args) (action first : Action) (low high : ℕ) → method ≡ known → action ≡ first
-    → rest_at h (record { action = first; chunk = args.a; low = low; high = high }) Lock ≡ procedure_of h variant known args
-    → rest_at h (record { action = action; chunk = args.a; low = low; high = high }) Lock ≡ procedure_of h variant method args
-begun h variant method known args action first low high called is e =
-    ap (λ t. rest_at h (record { action = t; chunk = args.a; low = low; high = high }) Lock) is
-    ∙ e ∙ ap (λ m. procedure_of h variant m args) (sym called)
-
-pub begun_flush : (h : Header) (variant : Variant) (method : Method) (args : Args) (action : Action) (low high : ℕ) → method ≡ CaFlush → action ≡ Flush
-    → rest_at h (record { action = action; chunk = args.a; low = low; high = high }) Lock ≡ procedure_of h variant method args
-begun_flush h variant method args action low high called is = begun h variant method CaFlush args action Flush low high called is refl
-
-pub begun_evict : (h : Header) (variant : Variant) (method : Method) (args : Args) (action : Action) (low high : ℕ) → method ≡ CaEvict → action ≡ Evict
-    → rest_at h (record { action = action; chunk = args.a; low = low; high = high }) Lock ≡ procedure_of h variant method args
-begun_evict h variant method args action low high called is = begun h variant method CaEvict args action Evict low high called is refl
-
-pub begun_read : (h : Header) (variant : Variant) (method : Method) (args : Args) (action : Action) (low high : ℕ) → method ≡ CaRead → action ≡ Read
-    → rest_at h (record { action = action; chunk = args.a; low = low; high = high }) Lock ≡ procedure_of h variant method args
-begun_read h variant method args action low high called is = begun h variant method CaRead args action Read low high called is refl
-
--- of a cache's methods only the write is none of the three
-is_write : (method : Method) → subject_of method ≡ Cache → method ≢ CaFlush → method ≢ CaEvict → method ≢ CaRead → method ≡ CaWrite
-is_write CaWrite of_cache flush evict read = refl
-is_write CaFlush of_cache flush evict read = absurd (flush refl)
-is_write CaEvict of_cache flush evict read = absurd (evict refl)
-is_write CaRead of_cache flush evict read = absurd (read refl)
-is_write MsInsert of_cache flush evict read = cc
-is_write MsInsertPair of_cache flush evict read = cc
-is_write MsDelete of_cache flush evict read = cc
-is_write MsLookup of_cache flush evict read = cc
-is_write TrInsert of_cache flush evict read = cc
-is_write TrDelete of_cache flush evict read = cc
-is_write TrLookup of_cache flush evict read = cc
-is_write BuAppend of_cache flush evict read = cc
-is_write BuAppendFrom of_cache flush evict read = cc
-is_write BuCut of_cache flush evict read = cc
-is_write BuLength of_cache flush evict read = cc
-is_write BuRead of_cache flush evict read = cc
-
-pub begun_write : (h : Header) (variant : Variant) (method : Method) (args : Args) (action : Action) (low high : ℕ) → subject_of method ≡ Cache
-    → method ≢ CaFlush → method ≢ CaEvict → method ≢ CaRead → variant ≡ Correct → action ≡ Write → low ≡ args.b → high ≡ args.c
-    → rest_at h (record { action = action; chunk = args.a; low = low; high = high }) Lock ≡ procedure_of h variant method args
-begun_write h variant method args action low high of_cache flush evict read which is b c =
-    begun h variant method CaWrite args action Write low high (is_write method of_cache flush evict read) is
-    (ap (λ x. rest_at h (record { action = Write; chunk = args.a; low = x; high = high }) Lock) b
+-- the beginning of an operation
+pub begun : (h : Header) (variant : Variant) (method : CacheMethod) (args : Args) (low high : ℕ) → low ≡ args.b → high ≡ args.c
+    → rest_at h (record { action = action_of method variant; chunk = args.a; low = low; high = high }) Lock
+    ≡ procedure_of h variant (OfCache method) args
+begun h variant CaFlush args low high b c = refl
+begun h variant CaEvict args low high b c = refl
+begun h variant CaRead args low high b c = refl
+begun h Correct CaWrite args low high b c =
+    ap (λ x. rest_at h (record { action = Write; chunk = args.a; low = x; high = high }) Lock) b
     ∙ ap (λ x. rest_at h (record { action = Write; chunk = args.a; low = args.b; high = x }) Lock) c
-    ∙ ap (λ v. procedure_of h v CaWrite args) (sym which))
-
-pub begun_broken_write : (h : Header) (variant : Variant) (method : Method) (args : Args) (action : Action) (low high : ℕ) → subject_of method ≡ Cache
-    → method ≢ CaFlush → method ≢ CaEvict → method ≢ CaRead → variant ≡ Broken → action ≡ LookAndWrite → low ≡ args.b → high ≡ args.c
-    → rest_at h (record { action = action; chunk = args.a; low = low; high = high }) Lock ≡ procedure_of h variant method args
-begun_broken_write h variant method args action low high of_cache flush evict read which is b c =
-    begun h variant method CaWrite args action LookAndWrite low high (is_write method of_cache flush evict read) is
-    (ap (λ x. rest_at h (record { action = LookAndWrite; chunk = args.a; low = x; high = high }) Lock) b
+begun h Broken CaWrite args low high b c =
+    ap (λ x. rest_at h (record { action = LookAndWrite; chunk = args.a; low = x; high = high }) Lock) b
     ∙ ap (λ x. rest_at h (record { action = LookAndWrite; chunk = args.a; low = args.b; high = x }) Lock) c
-    ∙ ap (λ v. procedure_of h v CaWrite args) (sym which))

@@ -1,6 +1,6 @@
 -- What a memory of a cache holds: its chunks, and what they show.
 use Rattle.std.specs.Prelude.{ℕ, ◌+◌, ◌*◌, ◌==◌, if◌then◌else◌}
-use Rattle.vyrd_base.specs.Views.{Chunk, cached_pair, stored_pair}
+use Rattle.vyrd_base.specs.Cache.{Chunk, cached_pair, stored_pair}
 use Rattle.vyrd_memory.specs.Alone.{Memory}
 
 -- a chunk of a memory

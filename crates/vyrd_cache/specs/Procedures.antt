@@ -4,7 +4,8 @@ use Rattle.vyrd_base.specs.declared.header.Header.{Header}
 use Rattle.vyrd_base.specs.declared.log.Kind.TheVariants.{Return, Commit, BlockOpen, BlockClose}
 use Rattle.vyrd_base.specs.declared.log.Kind.TheVariants.{BlockCommit}
 use Rattle.vyrd_base.specs.declared.subject.Method.{Method}
-use Rattle.vyrd_base.specs.declared.subject.Method.TheVariants.{CaWrite, CaFlush, CaEvict, CaRead}
+use Rattle.vyrd_base.specs.declared.subject.Method.TheVariants.{Cache as OfCache}
+use Rattle.vyrd_base.specs.declared.cache.CacheMethod.TheVariants.{Write, Flush, Evict, Read}
 use Rattle.vyrd_base.specs.declared.subject.Args.{Args}
 use Rattle.vyrd_memory.specs.declared.act.Act.{Act}
 use Rattle.vyrd_memory.specs.declared.act.Act.TheVariants.{Load, Store, Give, Mark}
@@ -103,10 +104,10 @@ read h chunk = lock h chunk (step (Load (state_cell chunk)) (λ state.
 
 -- the procedure of a method's call with these arguments; that of another subject's method is empty
 abbrev pub procedure_of : Header → Variant → Method → Args → Script
-procedure_of h variant CaWrite args = write h variant args.a args.b args.c
-procedure_of h variant CaFlush args = flush h args.a
-procedure_of h variant CaEvict args = evict h args.a
-procedure_of h variant CaRead args = read h args.a
+procedure_of h variant (OfCache Write) args = write h variant args.a args.b args.c
+procedure_of h variant (OfCache Flush) args = flush h args.a
+procedure_of h variant (OfCache Evict) args = evict h args.a
+procedure_of h variant (OfCache Read) args = read h args.a
 procedure_of h variant _ args = stop
 
 -- the procedure of an operation

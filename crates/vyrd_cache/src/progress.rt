@@ -28,13 +28,8 @@ impl Progress for CacheProgress {
 
     fn begin(_header: &Header, variant: Variant, op: Op) -> Self {
         let action = match op.method {
-            Method::CaFlush => Action::Flush,
-            Method::CaEvict => Action::Evict,
-            Method::CaRead => Action::Read,
-            _ => match variant {
-                Variant::Correct => Action::Write,
-                Variant::Broken => Action::LookAndWrite,
-            },
+            Method::Cache(method) => Action::new(method, variant),
+            _ => unreachable!(),
         };
         let task = Task {
             action,

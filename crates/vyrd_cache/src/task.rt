@@ -7,13 +7,13 @@ ghost use Rattle.vyrd_memory.specs.Scripts.{next_act, after_answer};
 ghost use Rattle.vyrd_memory.specs.Soundness.{IsSoundSomewhere};
 ghost use Rattle.vyrd_cache.specs.Procedures.{joined, in_order};
 ghost use Rattle.vyrd_cache.specs.Rests.Actions.{source_low, target_low, state_left, close_of};
-ghost use Rattle.vyrd_cache.specs.Rests.Actions.{reply_of, place_after};
+ghost use Rattle.vyrd_cache.specs.Rests.Actions.{reply_of, place_after, action_of};
 ghost use Rattle.vyrd_cache.specs.Rests.{after_loads, after_state, rest_at};
 
 use crate::cells::{ABSENT, CLEAN, DIRTY, cached_low, lock_of, state_cell, stored_low};
 use crate::place::Place;
-use vyrd_base::{Header, Kind};
-use vyrd_memory::Act;
+use vyrd_base::{CacheMethod, Header, Kind};
+use vyrd_memory::{Act, Variant};
 
 /// What an operation does, as far as it is decided. The chunk's state, once it is loaded, may
 /// decide more.
@@ -38,6 +38,21 @@ pub(crate) enum Action {
 }
 
 impl Action {
+    /// What an operation of the method does at first.
+    pub(crate) fn new(method: CacheMethod, variant: Variant) -> Action
+        ensures { result ≡ action_of method variant }
+    {
+        match method {
+            CacheMethod::Write => match variant {
+                Variant::Correct => Action::Write,
+                Variant::Broken => Action::LookAndWrite,
+            },
+            CacheMethod::Flush => Action::Flush,
+            CacheMethod::Evict => Action::Evict,
+            CacheMethod::Read => Action::Read,
+        }
+    }
+
     /// The state that the chunk gets.
     fn state_left(self) -> u64
         ensures { result ≡ state_left self }

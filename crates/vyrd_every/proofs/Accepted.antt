@@ -110,7 +110,7 @@ event_place h one c (Marked (Return reply)) passed state next log logs rest wf m
     place_adds h (passed ++ states_from (rules_of h) state (commits_after log (entry c (Return reply) ∷ logs)))
     (record { earlier = log; here = entry c (Return reply); later = logs }) (places_after (entry c (Return reply) ∷ log) logs)
     (ap (λ states. return_fault (rules_of h) (passed ++ states) c log reply) (states_begin h state (commits_after log (entry c (Return reply) ∷ logs)))
-    ∙ return_is_right h passed (later_states h state (commits_after log (entry c (Return reply) ∷ logs))) state c log reply count returning)
+    ∙ return_is_right h passed (later_states h state (commits_after log (entry c (Return reply) ∷ logs))) state c log reply count wf.0 returning)
     (subst (λ s. FaultFrom h passed s (entry c (Return reply) ∷ log) logs) leading later)
 event_place h one c (Marked (Write word value)) passed state next log logs rest wf m count coming leading returning later =
     plain_place h passed state next log logs (entry c (Write word value)) (λ states. refl) refl leading later

@@ -3,13 +3,16 @@ use Rattle.std.proofs.Common.{◌≡◌, ℕ, ◌+◌, Bool, true, false, cond, 
 use Rattle.std.specs.Prelude.{◌==◌, filter, slice_get, take, drop, option_and_then}
 use Rattle.std.specs.Option.{option_and}
 use Rattle.std.specs.List.{list_any}
+use Rattle.std.proofs.lemmas.Bool.{not-false}
 use Rattle.std.proofs.lemmas.List.{append_assoc}
 use Rattle.std.proofs.Math.Seq.{take-append-add}
 use Rattle.vyrd_base.specs.declared.header.Header.{Header}
 use Rattle.vyrd_base.specs.declared.log.Entry.{Entry}
+use Rattle.vyrd_base.specs.declared.log.Kind.TheVariants.{Return}
 use Rattle.vyrd_base.specs.declared.verdict.Why.TheVariants.{View, Reply, Observer}
 use Rattle.vyrd_base.specs.Places.{Place}
-use Rattle.vyrd_base.specs.Callers.{Called, open_call, entries_before_call}
+use Rattle.vyrd_base.specs.Callers.{Called, open_call, has_committed, entries_before_call}
+use Rattle.vyrd_base.specs.Shape.{broken_rule}
 use Rattle.vyrd_base.specs.Subjects.{is_observer}
 use Rattle.vyrd_base.specs.Amounts.{Amounts, amount_of, keys_of, least, first_difference}
 use Rattle.vyrd_base.specs.Specification.{next_state, answer_in}
@@ -20,6 +23,9 @@ use Rattle.vyrd_base.proofs.VersionWords.{first_words_at}
 use Rattle.vyrd_base.specs.Views.{view_of_words}
 use Rattle.vyrd_base.specs.Commits.{Committed, next_reply, committed_at, once_returned, state_after, states_from, commit_count}
 use Rattle.vyrd_base.specs.Faults.{commit_fault, states_since_call, observer_fault, return_fault, fault_of_commit}
+use Rattle.vyrd_base.proofs.BlockLaws.{entry}
+use Rattle.vyrd_base.proofs.StructureLaws.{once_or_never}
+use Rattle.vyrd_base.proofs.CommittedLaws.{return_free}
 use Rattle.vyrd_base.proofs.Lasting.{slice_get_seam}
 use Rattle.vyrd_base.proofs.TestLaws.{same_number}
 use Rattle.vyrd_every.specs.Between.{has_answer}
@@ -83,10 +89,11 @@ and_none None = refl
 and_none (Some x) = refl
 
 pub return_is_right : (h : Header) (passed later : List Amounts) (state : Amounts) (c : ℕ) (log : List Entry) (reply : ℕ) → length passed ≡ commit_count log
+    → broken_rule h log (entry c (Return reply)) ≡ None
     → ((called : Called) → open_call c log ≡ Some called → is_observer called.method ≡ true
     → has_answer (passed ++ state ∷ []) (commit_count (entries_before_call c log)) called reply ≡ true)
     → return_fault (rules_of h) (passed ++ state ∷ later) c log reply ≡ None
-return_is_right h passed later state c log reply count seen =
+return_is_right h passed later state c log reply count kept seen =
     ap (option_and (slice_get (passed ++ state ∷ later) (commit_count log))) (by_call (open_call c log) refl)
     ∙ and_none (slice_get (passed ++ state ∷ later) (commit_count log))
   where
@@ -97,13 +104,19 @@ return_is_right h passed later state c log reply count seen =
     window = ap (λ n. drop (commit_count (entries_before_call c log)) (take (n + 1) states)) (sym count)
         ∙ ap (drop (commit_count (entries_before_call c log))) (take-append-add passed (state ∷ later) 1)
 
-    by_method : (called : Called) → open_call c log ≡ Some called → (b : Bool) → is_observer called.method ≡ b
-        → cond (not b || list_any (λ s. answer_in s called.method called.args == reply) (states_since_call states c log)) None (Some (Observer reply)) ≡ None
-    by_method called e true observes =
-        ap (λ xs. cond (list_any (λ s. answer_in s called.method called.args == reply) xs) None (Some (Observer reply))) window
-        ∙ ap (λ b. cond b None (Some (Observer reply))) (seen called e observes)
-    by_method called e false mutates = refl
+    -- an execution without a commit is an observer's
+    observes : (called : Called) → open_call c log ≡ Some called → has_committed c log ≡ false → is_observer called.method ≡ true
+    observes called e none = not-false (is_observer called.method)
+        (sym (once_or_never called.method) ∙ return_free h c reply log called kept e none)
 
-    by_call : (o : Option Called) → open_call c log ≡ o → option_and_then (observer_fault (rules_of h) (states_since_call states c log) reply) o ≡ None
+    by_commit : (called : Called) → open_call c log ≡ Some called → (b : Bool) → has_committed c log ≡ b
+        → cond (b || list_any (λ s. answer_in s called.method called.args == reply) (states_since_call states c log)) None (Some (Observer reply)) ≡ None
+    by_commit called e false none =
+        ap (λ xs. cond (list_any (λ s. answer_in s called.method called.args == reply) xs) None (Some (Observer reply))) window
+        ∙ ap (λ b. cond b None (Some (Observer reply))) (seen called e (observes called e none))
+    by_commit called e true committed = refl
+
+    by_call : (o : Option Called) → open_call c log ≡ o
+        → option_and_then (observer_fault (rules_of h) (states_since_call states c log) (has_committed c log) reply) o ≡ None
     by_call None e = refl
-    by_call (Some called) e = by_method called e (is_observer called.method) refl
+    by_call (Some called) e = by_commit called e (has_committed c log) refl

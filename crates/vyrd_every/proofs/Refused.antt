@@ -5,7 +5,12 @@ use Rattle.std.specs.List.{list_any}
 use Rattle.vyrd_base.specs.declared.header.Header.{Header}
 use Rattle.vyrd_base.specs.declared.subject.Args.{Args}
 use Rattle.vyrd_base.specs.declared.subject.Method.{Method}
-use Rattle.vyrd_base.specs.declared.subject.Method.TheVariants.{MsInsert, CaWrite, BuAppendFrom}
+use Rattle.vyrd_base.specs.declared.subject.Method.TheVariants.{Multiset as OfMultiset}
+use Rattle.vyrd_base.specs.declared.subject.Method.TheVariants.{Cache as OfCache}
+use Rattle.vyrd_base.specs.declared.subject.Method.TheVariants.{Buffers as OfBuffers}
+use Rattle.vyrd_base.specs.declared.multiset.MultisetMethod.TheVariants.{Insert}
+use Rattle.vyrd_base.specs.declared.cache.CacheMethod.TheVariants.{Write}
+use Rattle.vyrd_base.specs.declared.buffers.BuffersMethod.TheVariants.{AppendFrom}
 use Rattle.vyrd_base.proofs.TestLaws.{isnt_same}
 use Rattle.vyrd_memory.specs.declared.act.Act.TheVariants.{Load, Store, Take, Give}
 use Rattle.vyrd_memory.specs.declared.op.Variant.TheVariants.{Broken}
@@ -34,24 +39,24 @@ use Rattle.vyrd_every.proofs.Acts.{never}
 abbrev calling : Method → Args → Locals
 calling method args = record { owned = λ slot. false; pending = []; called = Some (record { method = method; args = args }); answered = None }
 
-pub no_lock : (h : Header) (args : Args) → IsRight (multiset h) (multiset_procedure h Broken) (record { method = MsInsert; args = args }) → ⊥
-no_lock h args right = never refl (right (calling MsInsert args) (λ w. 0) (λ slot. refl) refl).1.reaches.0.held
+pub no_lock : (h : Header) (args : Args) → IsRight (multiset h) (multiset_procedure h Broken) (record { method = OfMultiset Insert; args = args }) → ⊥
+no_lock h args right = never refl (right (calling (OfMultiset Insert) args) (λ w. 0) (λ slot. refl) refl).1.reaches.0.held
 
 -- the memory in which all chunks are dirty
 abbrev all_dirty : Memory
 all_dirty = λ w. 2
 
 -- lock, load, unlock, and then the store
-pub lock_too_early : (h : Header) (args : Args) → IsRight (cache h) (cache_procedure h Broken) (record { method = CaWrite; args = args }) → ⊥
+pub lock_too_early : (h : Header) (args : Args) → IsRight (cache h) (cache_procedure h Broken) (record { method = OfCache Write; args = args }) → ⊥
 lock_too_early h args right =
-    let begun = right (calling CaWrite args) all_dirty (λ slot. refl) refl in
+    let begun = right (calling (OfCache Write) args) all_dirty (λ slot. refl) refl in
     let taken = begun.2 all_dirty (rely_same (cache h) locked begun.0 all_dirty) in
     let loaded = taken.2 all_dirty (rely_same (cache h) locked taken.0 all_dirty) in
     let given = loaded.2 all_dirty (rely_same (cache h) (after_act locked (Give (lock_of h args.a))) loaded.0 all_dirty) in
     never (ap (λ locks. list_any (λ held. held == lock_of h ((5 * args.a + 1) / 5)) locks) (gone (lock_of h args.a) [])) given.1.reaches.held
   where
     locked : Situation
-    locked = after_act (just_called CaWrite) (Take (lock_of h args.a))
+    locked = after_act (just_called (OfCache Write)) (Take (lock_of h args.a))
 
 -- the memory in which all buffers have one character
 abbrev all_short : Memory
@@ -59,9 +64,9 @@ all_short = λ w. 1
 
 -- the first lock was given back when the characters are loaded
 pub no_source_lock : (h : Header) (args : Args) → args.a ≢ args.b
-    → IsRight (buffers h) (buffers_procedure h Broken) (record { method = BuAppendFrom; args = args }) → ⊥
+    → IsRight (buffers h) (buffers_procedure h Broken) (record { method = OfBuffers AppendFrom; args = args }) → ⊥
 no_source_lock h args apart right =
-    let begun = right (calling BuAppendFrom args) all_short (λ slot. refl) refl in
+    let begun = right (calling (OfBuffers AppendFrom) args) all_short (λ slot. refl) refl in
     let taken = begun.2 all_short (rely_same (buffers h) first begun.0 all_short) in
     let counted = taken.2 all_short (rely_same (buffers h) first taken.0 all_short) in
     let given = counted.2 all_short (rely_same (buffers h) between counted.0 all_short) in
@@ -76,7 +81,7 @@ no_source_lock h args apart right =
     source = texts.lock_of h ((8 * args.b + (1 + 0)) / 8)
 
     first : Situation
-    first = after_act (just_called BuAppendFrom) (Take (texts.lock_of h args.b))
+    first = after_act (just_called (OfBuffers AppendFrom)) (Take (texts.lock_of h args.b))
 
     between : Situation
     between = after_act first (Give (texts.lock_of h args.b))

@@ -4,8 +4,12 @@
 ghost use Rattle.std.specs.Prelude.{◌≡◌, ◌≢◌, ◌≤◌, ℕ, ◌<◌, true, false, None};
 ghost use Rattle.vyrd_base.specs.declared.header.Header.{Header};
 ghost use Rattle.vyrd_base.specs.declared.subject.Args.{Args};
-ghost use Rattle.vyrd_base.specs.declared.subject.Method.TheVariants.{MsInsert, CaWrite};
-ghost use Rattle.vyrd_base.specs.declared.subject.Method.TheVariants.{BuAppendFrom};
+ghost use Rattle.vyrd_base.specs.declared.subject.Method.TheVariants.{Multiset as OfMultiset};
+ghost use Rattle.vyrd_base.specs.declared.subject.Method.TheVariants.{Cache as OfCache};
+ghost use Rattle.vyrd_base.specs.declared.subject.Method.TheVariants.{Buffers as OfBuffers};
+ghost use Rattle.vyrd_base.specs.declared.multiset.MultisetMethod.TheVariants.{Insert};
+ghost use Rattle.vyrd_base.specs.declared.cache.CacheMethod.TheVariants.{Write};
+ghost use Rattle.vyrd_base.specs.declared.buffers.BuffersMethod.TheVariants.{AppendFrom};
 ghost use Rattle.vyrd_memory.specs.declared.act.Act.TheVariants.{Load, Store, Take};
 ghost use Rattle.vyrd_memory.specs.declared.op.Variant.TheVariants.{Broken};
 ghost use Rattle.vyrd_memory.specs.Alone.{Memory};
@@ -26,14 +30,14 @@ ghost use Rattle.vyrd_every.specs.Trees.RightScripts.{TreeRight};
 pub fn slot_looked_for_without_the_lock()
     ensures { (h : Header) (args : Args)
         → IsRight (multiset h) (multiset_procedure h Broken)
-        (record { method = MsInsert; args = args })
+        (record { method = OfMultiset Insert; args = args })
         → ⊥ }
 {}
 
 /// A lock that is given back before the words are written: the broken write doesn't do right.
 pub fn lock_given_back_before_the_writes()
     ensures { (h : Header) (args : Args)
-        → IsRight (cache h) (cache_procedure h Broken) (record { method = CaWrite; args = args })
+        → IsRight (cache h) (cache_procedure h Broken) (record { method = OfCache Write; args = args })
         → ⊥ }
 {}
 
@@ -42,7 +46,7 @@ pub fn lock_given_back_before_the_writes()
 pub fn characters_loaded_without_the_lock()
     ensures { (h : Header) (args : Args) → args.a ≢ args.b
         → IsRight (buffers h) (buffers_procedure h Broken)
-        (record { method = BuAppendFrom; args = args })
+        (record { method = OfBuffers AppendFrom; args = args })
         → ⊥ }
 {}
 

@@ -1,6 +1,6 @@
 -- How all that is kept goes on with one more entry, and with one more that is judged.
 use Rattle.std.proofs.Common.{◌≡◌, ℕ, suc, ◌+◌, ◌<◌, ◌≤◌, ◌^◌, Bool, true, false, cond, ◌&&◌, List, [], ◌∷◌, ◌++◌, map, length, Option, Some, None, refl, ap, subst, ◌∙◌, sym, arith}
-use Rattle.std.specs.Prelude.{count_by, option_map, Result, Ok, Err}
+use Rattle.std.specs.Prelude.{count_by, not, option_map, Result, Ok, Err}
 use Rattle.std.specs.Result.{MatchResult, is_err}
 use Rattle.std.specs.List.{cons_option}
 use Rattle.std.proofs.lemmas.List.{length_push}
@@ -16,14 +16,14 @@ use Rattle.vyrd_base.specs.declared.verdict.Verdict.{Verdict}
 use Rattle.vyrd_base.specs.declared.verdict.Verdict.TheVariants.{Malformed, Accepted}
 use Rattle.vyrd_base.specs.declared.verdict.Rule.TheVariants.{CallOpen}
 use Rattle.vyrd_base.specs.Places.{Place, places_after, places, newest_first_onto, newest_first}
-use Rattle.vyrd_base.specs.Callers.{Called}
-use Rattle.vyrd_base.specs.Shape.{broken_rule, is_observing}
+use Rattle.vyrd_base.specs.Callers.{Called, has_committed}
+use Rattle.vyrd_base.specs.Shape.{broken_rule}
 use Rattle.vyrd_base.specs.Front.{first_break}
 use Rattle.vyrd_base.specs.Rules.{Rules, rules_by}
 use Rattle.vyrd_base.specs.Amounts.{Amounts}
 use Rattle.vyrd_base.specs.Starts.{words_at_start, state_at_start}
 use Rattle.vyrd_base.specs.Commits.{commits, is_commit, commit_count, states_of}
-use Rattle.vyrd_base.specs.Verdicts.{is_return, first_fault, start_verdict, verdict_so_far, verdict_at, verdict, accepted, is_call_open}
+use Rattle.vyrd_base.specs.Verdicts.{is_return, observer_returns, first_fault, start_verdict, verdict_so_far, verdict_at, verdict, accepted, is_call_open}
 use Rattle.vyrd_base.proofs.PlaceLaws.{length-newest_first_onto, newest_first-push}
 use Rattle.vyrd_base.proofs.Lasting.{commit_count-cons}
 use Rattle.vyrd_base.proofs.ShadowLaws.{caller_kept, well_formed-first_break}
@@ -33,7 +33,6 @@ use Rattle.vyrd_judge.specs.declared.waiting.Waiting.{Waiting}
 use Rattle.vyrd_words.specs.HasWords.{HasWords, HasTaken, Keeps, MayFollow}
 use Rattle.vyrd_base.specs.Entries.{place_of}
 use Rattle.vyrd_observers.specs.Watching.{Seen}
-use Rattle.vyrd_base.proofs.VerdictParts.{observer_returns}
 use Rattle.vyrd_judge.specs.declared.waiting.Event.{Event}
 use Rattle.vyrd_words.specs.Cuts.{first_with}
 use Rattle.vyrd_words.specs.Effects.{parts_behind}
@@ -64,7 +63,7 @@ judged_nothing r starting state watches first begins words current = record {
   reached = λ more. record {
     going = ap (λ o. states_of r o more) begins;
     allowed = λ c called is. absurd (no_some is);
-    watched = λ c called low is observes. absurd (no_some is);
+    watched = λ c called low is free none. absurd (no_some is);
   };
   clean = λ more. refl;
   few = omega arith;
@@ -152,10 +151,10 @@ count_more f (y ∷ xs) x =
     omega (arith, rest, first, whole)
 
 observers_more : (earlier xs : List Entry) (e : Entry) → count_by observer_returns (places_after earlier (xs ++ e ∷ []))
-    ≡ count_by observer_returns (places_after earlier xs) + cond (is_return e.kind && is_observing e.caller (newest_first_onto earlier xs)) 1 0
+    ≡ count_by observer_returns (places_after earlier xs) + cond (is_return e.kind && not (has_committed e.caller (newest_first_onto earlier xs))) 1 0
 observers_more earlier [] e = sum_by-cons (λ p. cond (observer_returns p) 1 0) (place_of e earlier []) [] ∙ omega arith
 observers_more earlier (x ∷ xs) e =
-    let one : ℕ = cond (is_return x.kind && is_observing x.caller earlier) 1 0 in
+    let one : ℕ = cond (is_return x.kind && not (has_committed x.caller earlier)) 1 0 in
     let rest = observers_more (x ∷ earlier) xs e in
     let first : count_by observer_returns (places_after earlier (x ∷ xs ++ e ∷ [])) ≡ one + count_by observer_returns (places_after (x ∷ earlier) (xs ++ e ∷ [])) =
     sum_by-cons (λ p. cond (observer_returns p) 1 0) (place_of x earlier (xs ++ e ∷ [])) (places_after (x ∷ earlier) (xs ++ e ∷ [])) in
@@ -171,7 +170,7 @@ pub taken_more : (k n : Kept) (starting : List StartWord) (log : List Entry) (e 
     → HasTakenUp (rules_by k.charter).header k.waiting n.waiting n.taken n.callers e (newest_first log)
     → n.charter ≡ k.charter → n.started ≡ k.started → n.state ≡ k.state → n.made ≡ k.made → n.watches ≡ k.watches
     → n.entries ≡ k.entries + 1 → n.commits ≡ k.commits + cond (is_commit e.kind) 1 0
-    → n.observers ≡ k.observers + cond (is_return e.kind && is_observing e.caller (newest_first log)) 1 0
+    → n.observers ≡ k.observers + cond (is_return e.kind && not (has_committed e.caller (newest_first log))) 1 0
     → (n.views.specified ≡ k.views.specified) × (n.views.refused ≡ false)
     → HasTakenIn n starting (log ++ e ∷ [])
 taken_more k n starting log e t keeps shape shape_header words shadow_header views_header queued header started state made watches entries commits_more observers known = record {
@@ -199,7 +198,7 @@ taken_more k n starting log e t keeps shape shape_header words shadow_header vie
   sound = known.1;
   entries = entries ∙ ap (λ m. m + 1) t.entries ∙ sym (length_push log e);
   commits = commits_more ∙ ap (λ m. m + cond (is_commit e.kind) 1 0) t.commits ∙ sym (count_more (λ x. is_commit x.kind) log e);
-  observers = observers ∙ ap (λ m. m + cond (is_return e.kind && is_observing e.caller (newest_first log)) 1 0) t.observers
+  observers = observers ∙ ap (λ m. m + cond (is_return e.kind && not (has_committed e.caller (newest_first log))) 1 0) t.observers
       ∙ sym (observers_more [] log e);
 }
   where
@@ -348,7 +347,7 @@ pub taken_all : (k n : Kept) (e : Entry) (queue_header : Header) (commits_here o
     → n.charter ≡ k.charter → n.started ≡ k.started → n.state ≡ k.state → n.made ≡ k.made → n.watches ≡ k.watches
     → commits_here ≡ is_commit e.kind → n.commits ≡ k.commits + cond commits_here 1 0
     → ((earlier : List Entry) → HasQueued queue_header k.waiting k.taken k.callers earlier → Keeps queue_header earlier e
-    → observes ≡ (is_return e.kind && is_observing e.caller earlier))
+    → observes ≡ (is_return e.kind && not (has_committed e.caller earlier)))
     → n.observers ≡ k.observers + cond observes 1 0 → n.entries ≡ k.entries + 1
     → (n.views.specified ≡ k.views.specified) × (n.views.refused ≡ false)
     → (starting : List StartWord) (log : List Entry) → HasTakenIn k starting log → HasTakenIn n starting (log ++ e ∷ [])

@@ -1,7 +1,7 @@
 -- What the entry that waits first leads to, by its event.
 use Rattle.std.proofs.Common.{◌≡◌, ℕ, ◌+◌, ◌<◌, ◌≤◌, Bool, true, false, cond, List, [], ◌∷◌, ◌++◌, length, Option, Some, None, slice_get, refl, ap, subst, ◌∙◌, sym, arith, append-nil}
 use Rattle.std.specs.Prelude.{option_map}
-use Rattle.std.specs.Option.{option_or, option_map_or}
+use Rattle.std.specs.Option.{option_or}
 use Rattle.std.proofs.lemmas.Option.{same_Some}
 use Rattle.vyrd_base.proofs.PlaceLaws.{length-newest_first_onto}
 use Rattle.vyrd_base.specs.declared.header.Header.{Header}
@@ -16,7 +16,7 @@ use Rattle.vyrd_base.specs.declared.verdict.Why.TheVariants.{Observer}
 use Rattle.vyrd_base.specs.declared.verdict.Verdict.TheVariants.{Violation}
 use Rattle.vyrd_base.specs.Places.{places_after, first_answer}
 use Rattle.vyrd_base.specs.Callers.{Called, open_call}
-use Rattle.vyrd_base.specs.Subjects.{is_observer}
+use Rattle.vyrd_base.specs.Subjects.{is_observer, must_commit}
 use Rattle.vyrd_base.specs.Shape.{broken_rule}
 use Rattle.vyrd_base.specs.Words.{words_at, effects}
 use Rattle.vyrd_base.specs.Amounts.{Amounts, first_difference}
@@ -38,7 +38,8 @@ use Rattle.vyrd_judge.specs.Reached.{Reached}
 use Rattle.vyrd_observers.specs.Watching.{AreCurrent, AllSee}
 use Rattle.vyrd_judge.specs.Judged.{Judged}
 use Rattle.vyrd_judge.proofs.AlikeLaws.{Split, has_parts_next}
-use Rattle.vyrd_base.proofs.KeptLaws.{call_kept, commit_kept, block_commit_runs}
+use Rattle.vyrd_base.proofs.KeptLaws.{call_kept, commit_kept, block_commit_runs, return_kept}
+use Rattle.vyrd_base.proofs.CommittedLaws.{return_free}
 use Rattle.vyrd_base.proofs.CommitLaws.{Commits as Committing, alone, with_block, commits_is}
 use Rattle.vyrd_judge.proofs.Reaching.{OthersStay, reached_begins, reached_return}
 use Rattle.vyrd_judge.proofs.ReachedFaults.{commit_fault_at, commit_right, commit_waits, observer_at}
@@ -61,7 +62,7 @@ no_return c kind later isnt commits = absurd (apart isnt commits)
     apart : {b : Bool} → b ≡ false → b ≡ true → ⊥
     apart p q = cc
 
--- an observer begins
+-- an execution begins that may return without a commit
 pub head_begins : {r : Rules} {starting : List StartWord} {log : List Entry} {state : Amounts} {made : ℕ} {watches : List Seen} (new : List Seen) {x : Waiting}
     {xs : List Waiting} {first : List ℕ} {since : List (List (ℕ × ℕ))} {method : Method} {args : Args} (at : AtHead r starting log state made watches x xs first since)
     → IsBegin at.here at.earlier x method args → OthersStay x.caller watches new
@@ -96,36 +97,25 @@ pub head_caller : {r : Rules} {starting : List StartWord} {log : List Entry} {st
     {first : List ℕ} {since : List (List (ℕ × ℕ))} (at : AtHead r starting log state made watches x xs first since) → x.caller ≡ at.here.caller → x.caller < r.header.callers
 head_caller {r} at same = subst (λ c. c < r.header.callers) (sym same) (caller_kept r.header at.earlier at.here at.keeps)
 
--- an observer returns: what was called, and what is kept of it
-pub record Returning (h : Header) (log : List Entry) (c : ℕ) (earlier : List Entry) (watches : List Seen) : Type 0 where
-  pub called : Called
-  pub opened : open_call c earlier ≡ Some called
-  pub observes : is_observer called.method ≡ true
-  pub seen : Seen
-  pub here : slice_get watches c ≡ Some seen
-
+-- what was called in an execution that returns without a commit
 returning : {r : Rules} {starting : List StartWord} {log : List Entry} {state : Amounts} {made : ℕ} {watches : List Seen} {x : Waiting}
     {xs : List Waiting} {first : List ℕ} {since : List (List (ℕ × ℕ))} {reply : ℕ} (at : AtHead r starting log state made watches x xs first since)
     → IsReturn at.here at.earlier x reply
-    → (called : Called) × (open_call at.here.caller at.earlier ≡ Some called) × (is_observer called.method ≡ true)
-returning at is = observing (open_call at.here.caller at.earlier) is.observes
-  where
-    observing : (o : Option Called) → option_map_or (λ called. is_observer called.method) o false ≡ true
-        → (called : Called) × (o ≡ Some called) × (is_observer called.method ≡ true)
-    observing None b = absurd (apart b)
-      where
-        apart : false ≡ true → ⊥
-        apart e = cc
-    observing (Some called) b = (called, refl, b)
+    → (called : Called) × (open_call at.here.caller at.earlier ≡ Some called) × (must_commit called.method ≡ false)
+returning {r} {reply = reply} at is =
+    let keeps : broken_rule r.header at.earlier (entry at.here.caller (Return reply)) ≡ None =
+    subst (λ e. broken_rule r.header at.earlier e ≡ None) (sym (named at.here (Return reply) is.kind)) at.keeps in
+    let called = return_kept r.header at.here.caller reply at.earlier keeps in
+    (called.0, called.1, return_free r.header at.here.caller reply at.earlier called.0 keeps called.1 is.none)
 
--- the watch of an observer that returns, however the log goes on
+-- the watch of an execution that returns without a commit, however the log goes on
 watch_of : {r : Rules} {starting : List StartWord} {log : List Entry} {state : Amounts} {made : ℕ} {watches : List Seen} {x : Waiting}
     {xs : List Waiting} {first : List ℕ} {since : List (List (ℕ × ℕ))} {reply : ℕ} (seen : Seen) (at : AtHead r starting log state made watches x xs first since)
     (is : IsReturn at.here at.earlier x reply) → slice_get watches x.caller ≡ Some seen → (more : List Entry)
     → IsWatched r (states_along r starting (log ++ more)) at.here.caller at.earlier (returning at is).0 seen
 watch_of {r} {starting} {log} {watches = watches} {x} seen at is here more =
     let call = returning at is in
-    let kept = (at.judged.reached more).watched at.here.caller call.0 (caller_kept r.header at.earlier at.here at.keeps) call.1 call.2 in
+    let kept = (at.judged.reached more).watched at.here.caller call.0 (caller_kept r.header at.earlier at.here at.keeps) call.1 call.2 is.none in
     subst (λ s. IsWatched r (states_along r starting (log ++ more)) at.here.caller at.earlier call.0 s)
     (same_Some _ _ (sym kept.1 ∙ ap (slice_get watches) (sym is.caller) ∙ here)) kept.2
 
@@ -136,7 +126,7 @@ return_fault : {r : Rules} {starting : List StartWord} {log : List Entry} {state
     ≡ cond (has_answer seen.answers reply) None (Some (Observer reply))
 return_fault {r} {starting} {log} {state} {watches = watches} {reply = reply} seen at is here more =
     let call = returning at is in
-    observer_at r starting (states_along r starting (log ++ more)) at.here.caller reply at.earlier (at.later ++ more) state watches call.0 seen call.1 call.2
+    observer_at r starting (states_along r starting (log ++ more)) at.here.caller reply at.earlier (at.later ++ more) state watches call.0 seen call.1 is.none
     (watch_of seen at is here more)
     (subst (λ e. Reached r (states_along r starting (log ++ more)) at.earlier (e ∷ at.later ++ more) state watches) (sym (named at.here (Return reply) is.kind))
     (at.judged.reached more))
@@ -242,13 +232,14 @@ head_faults {r} {starting} {log} {state} {watches = watches} {method = method} {
     ∙ faulty)
 
 -- a commit that is right
-pub head_right : {r : Rules} {starting : List StartWord} {log : List Entry} {state : Amounts} {made : ℕ} {watches : List Seen} (new : List Seen) {x : Waiting} {xs : List Waiting}
+pub head_right : {r : Rules} {starting : List StartWord} {log : List Entry} {state : Amounts} {made : ℕ} {watches : List Seen} (closed new : List Seen) {x : Waiting} {xs : List Waiting}
     {first : List ℕ} {since : List (List (ℕ × ℕ))} {method : Method} {args : Args} {reply : ℕ} (next : Amounts) (more : ℕ)
     (at : AtHead r starting log state made watches x xs first since)
     (is : IsCommit at.here at.earlier at.later x method args (Some reply)) → r.next method args reply state ≡ Some next
-    → first_difference (r.view first) (r.shown next) ≡ None → more ≤ made + 1 → AllSee (r.answer next) watches new → AreCurrent (r.answer next) new
+    → first_difference (r.view first) (r.shown next) ≡ None → more ≤ made + 1
+    → OthersStay x.caller watches closed → AllSee (r.answer next) closed new → AreCurrent (r.answer next) new
     → Judged r starting log next more new xs (with_writes first (split_here at is).part) (split_here at is).rest
-head_right {r} {starting} {log} {state} {made} {watches} new {x} {xs} {first} {since} {method} {args} {reply} next more at is after same count see current =
+head_right {r} {starting} {log} {state} {made} {watches} closed new {x} {xs} {first} {since} {method} {args} {reply} next more at is after same count others see current =
     let split = split_here at is in
     judged_next r starting log state next made more watches new x xs first (with_writes first split.part) since split.rest at
     (λ commits. (reply, is.replies)) split.has count current
@@ -256,9 +247,9 @@ head_right {r} {starting} {log} {state} {made} {watches} new {x} {xs} {first} {s
   where
     right : (es : List Entry) → (fault_at r starting (states_along r starting (log ++ es)) (place_of at.here at.earlier (at.later ++ es)) ≡ None)
         × Reached r (states_along r starting (log ++ es)) (at.here ∷ at.earlier) (at.later ++ es) next new
-    right es = commit_right r starting (states_along r starting (log ++ es)) at.here.caller at.here.kind at.earlier (at.later ++ es) state next watches new
+    right es = commit_right r starting (states_along r starting (log ++ es)) at.here.caller at.here.kind at.earlier (at.later ++ es) state next watches closed new
         (record { method = method; args = args }) reply is.commits is.opened (next_reply_stays at.here.caller at.later es reply is.replies) after
-        (ap (λ ws. first_difference (r.view ws) (r.shown next)) (words_stay at is es) ∙ same) see (at.judged.reached es)
+        (ap (λ ws. first_difference (r.view ws) (r.shown next)) (words_stay at is es) ∙ same) (subst (λ c. OthersStay c watches closed) is.caller others) see (at.judged.reached es)
 
 -- a commit whose execution hasn't returned
 pub head_waits : {r : Rules} {starting : List StartWord} {log : List Entry} {state : Amounts} {made : ℕ} {watches : List Seen} {x : Waiting} {xs : List Waiting}

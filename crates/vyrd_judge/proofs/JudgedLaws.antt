@@ -1,7 +1,8 @@
 -- How what is judged of a log goes on: with one more entry of the log, and with one more entry that is judged.
 use Rattle.std.proofs.Common.{◌≡◌, ℕ, ◌+◌, ◌≤◌, Bool, true, false, cond, List, [], ◌∷◌, ◌++◌, map, length, Option, Some, None, refl, ap, subst, ◌∙◌, sym, arith, append_assoc, append-nil}
 use Rattle.std.specs.Prelude.{option_map}
-use Rattle.std.specs.Option.{option_or, option_map_or}
+use Rattle.std.specs.Option.{option_or}
+use Rattle.std.proofs.lemmas.Bool.{not-false}
 use Rattle.std.specs.List.{cons_option}
 use Rattle.vyrd_base.proofs.TestLaws.{then_some_false}
 use Rattle.vyrd_base.proofs.ListLaws.{both_none}
@@ -13,9 +14,9 @@ use Rattle.vyrd_base.specs.declared.log.StartWord.{StartWord}
 use Rattle.vyrd_base.specs.declared.verdict.Why.{Why}
 use Rattle.vyrd_base.specs.declared.verdict.Verdict.TheVariants.{Violation}
 use Rattle.vyrd_base.specs.Places.{Place, places_after, newest_first_onto, newest_first, first_answer}
-use Rattle.vyrd_base.specs.Callers.{Called, open_call}
-use Rattle.vyrd_base.specs.Subjects.{is_observer}
-use Rattle.vyrd_base.specs.Shape.{broken_rule, is_observing}
+use Rattle.vyrd_base.specs.Callers.{Called, open_call, has_committed}
+use Rattle.vyrd_base.specs.Subjects.{is_observer, must_commit}
+use Rattle.vyrd_base.specs.Shape.{broken_rule}
 use Rattle.vyrd_base.specs.Words.{effects_at, effects, words_with}
 use Rattle.vyrd_base.specs.FirstVersion.{old_effects_at}
 use Rattle.vyrd_base.specs.Amounts.{Amounts}
@@ -41,8 +42,8 @@ use Rattle.vyrd_judge.proofs.AlikeLaws.{has_parts_more}
 use Rattle.vyrd_judge.proofs.EndingLaws.{AllEnd, end_next, end_more}
 use Rattle.vyrd_base.proofs.KeptLaws.{call_kept, commit_kept, block_commit_runs, return_kept}
 use Rattle.vyrd_judge.proofs.PartLaws.{parts_more}
-use Rattle.vyrd_judge.proofs.Reaching.{reached_inside, reached_mutates, reached_return}
-use Rattle.vyrd_judge.proofs.ReachedFaults.{mutator_at}
+use Rattle.vyrd_judge.proofs.Reaching.{reached_inside, reached_owes, reached_return}
+use Rattle.vyrd_judge.proofs.ReachedFaults.{return_committed_at}
 use Rattle.vyrd_judge.proofs.WaitingLaws.{listed, waiting_more}
 use Rattle.vyrd_base.specs.Rules.{Rules}
 
@@ -147,29 +148,29 @@ quiet_on r starting log e earlier later state watches keeps quiet val = by_kind 
         → IsReached r starting log earlier (entry c kind ∷ later) state watches → Goal kind
     by_kind (Call method args) keeps' none r' = record {
       fault = λ more. refl;
-      reached = λ more. reached_mutates r (states_along r starting (log ++ more)) c method args earlier (later ++ more) state watches
-          (then_some_false (is_observer method) _ (unwaiting (place (Call method args)) _ none)) (call_kept r.header c method args earlier keeps') (r' more);
+      reached = λ more. reached_owes r (states_along r starting (log ++ more)) c method args earlier (later ++ more) state watches
+          (not-false (must_commit method) (then_some_false _ _ (unwaiting (place (Call method args)) _ none))) (call_kept r.header c method args earlier keeps') (r' more);
     }
     by_kind (Return reply) keeps' none r' =
         let called = return_kept r.header c reply earlier keeps' in
-        let mutates : is_observer called.0.method ≡ false =
-        ap (λ o. option_map_or (λ k. is_observer k.method) o false) (sym called.1)
-        ∙ then_some_false (is_observing c earlier) _ (unwaiting (place (Return reply)) _ none) in
+        let committed : has_committed c earlier ≡ true =
+        not-false (has_committed c earlier) (then_some_false _ _ (unwaiting (place (Return reply)) _ none)) in
         record {
-          fault = λ more. mutator_at r starting (states_along r starting (log ++ more)) c reply earlier (later ++ more) state watches called.0 called.1 mutates (r' more);
+          fault = λ more. return_committed_at r starting (states_along r starting (log ++ more)) c reply earlier (later ++ more) state watches called.0 called.1 committed
+              (r' more);
           reached = λ more. reached_return r (states_along r starting (log ++ more)) c reply earlier (later ++ more) state watches watches (λ d other. refl) (r' more);
         }
     by_kind (Write word value) keeps' none r' = record {
       fault = λ more. refl;
-      reached = λ more. reached_inside r (states_along r starting (log ++ more)) c (Write word value) earlier (later ++ more) state watches refl refl refl (r' more);
+      reached = λ more. reached_inside r (states_along r starting (log ++ more)) c (Write word value) earlier (later ++ more) state watches refl refl refl refl (r' more);
     }
     by_kind BlockOpen keeps' none r' = record {
       fault = λ more. refl;
-      reached = λ more. reached_inside r (states_along r starting (log ++ more)) c BlockOpen earlier (later ++ more) state watches refl refl refl (r' more);
+      reached = λ more. reached_inside r (states_along r starting (log ++ more)) c BlockOpen earlier (later ++ more) state watches refl refl refl refl (r' more);
     }
     by_kind BlockClose keeps' none r' = record {
       fault = λ more. refl;
-      reached = λ more. reached_inside r (states_along r starting (log ++ more)) c BlockClose earlier (later ++ more) state watches refl refl refl (r' more);
+      reached = λ more. reached_inside r (states_along r starting (log ++ more)) c BlockClose earlier (later ++ more) state watches refl refl refl refl (r' more);
     }
     by_kind Commit keeps' none r' = at_commit (open_call c earlier) _ (commit_kept r.header c earlier keeps') (unwaiting (place Commit) _ none)
     by_kind BlockCommit keeps' none r' = at_commit (open_call c earlier) _ (block_commit_runs r.header c earlier keeps') (unwaiting (place BlockCommit) _ none)

@@ -11,7 +11,7 @@ use Rattle.vyrd_base.specs.declared.log.Entry.{Entry}
 use Rattle.vyrd_base.specs.declared.log.StartWord.{StartWord}
 use Rattle.vyrd_base.specs.declared.verdict.Why.TheVariants.{Observer}
 use Rattle.vyrd_base.specs.declared.verdict.Verdict.TheVariants.{Violation}
-use Rattle.vyrd_base.specs.Subjects.{is_observer}
+use Rattle.vyrd_base.specs.Subjects.{is_observer, must_commit}
 use Rattle.vyrd_base.specs.Amounts.{Amounts}
 use Rattle.vyrd_base.specs.Verdicts.{line_of, first_fault}
 use Rattle.vyrd_base.proofs.BlockLaws.{by_same}
@@ -104,9 +104,14 @@ pub begins_may : {r : Rules} {state : Amounts} {made : ℕ} {watches : List Seen
     → x.event ≡ Begins method args → MayJudge r state made watches x first since → has_method r.header method args ≡ true
 begins_may event may = ∥∥₁_elim may (Bool-set _ _) (λ s. let found = begins_at event s.3 in begin_fits found.0 found.1)
 
-pub begins_observes : {r : Rules} {state : Amounts} {made : ℕ} {watches : List Seen} {x : Waiting} {first : List ℕ} {since : List (List (ℕ × ℕ))} {method : Method} {args : Args}
-    → x.event ≡ Begins method args → MayJudge r state made watches x first since → is_observer method ≡ true
-begins_observes event may = ∥∥₁_elim may (Bool-set _ _) (λ s. (begins_at event s.3).1.observes)
+pub begins_free : {r : Rules} {state : Amounts} {made : ℕ} {watches : List Seen} {x : Waiting} {first : List ℕ} {since : List (List (ℕ × ℕ))} {method : Method} {args : Args}
+    → x.event ≡ Begins method args → MayJudge r state made watches x first since → must_commit method ≡ false
+begins_free event may = ∥∥₁_elim may (Bool-set _ _) (λ s. (begins_at event s.3).1.free)
+
+pub commits_caller : {r : Rules} {state : Amounts} {made : ℕ} {watches : List Seen} {x : Waiting} {first : List ℕ} {since : List (List (ℕ × ℕ))} {method : Method} {args : Args}
+    {o : Option ℕ} → x.event ≡ Commits method args o → MayJudge r state made watches x first since → x.caller < r.header.callers
+commits_caller event may = below_of _ _ (∥∥₁_elim may (Bool-set _ _) (λ s.
+    let found = commits_at event s.3 in is_below _ _ (head_caller found.0 found.1.caller)))
 
 pub commits_may : {r : Rules} {state : Amounts} {made : ℕ} {watches : List Seen} {x : Waiting} {first : List ℕ} {since : List (List (ℕ × ℕ))} {method : Method} {args : Args}
     {o : Option ℕ} → x.event ≡ Commits method args o → MayJudge r state made watches x first since → has_method r.header method args ≡ true
@@ -145,7 +150,14 @@ current_set r state c watches seen low all own = λ d other here is_open. by_sam
     ap (λ s. has_answer s.answers (r.answer state s.method s.args)) (sym it) ∙ own (ap (λ s. s.is_open) it ∙ is_open))
     (λ apart. all d other (sym (slice_get-set_other watches c d seen (apart_of c d apart)) ∙ here) is_open)
 
--- an observer begins
+pub current_closed : (r : Rules) (state : Amounts) (c : ℕ) (watches : List Seen) → c < length watches → AreCurrent (r.answer state) watches
+    → AreCurrent (r.answer state) (set watches c unwatched)
+current_closed r state c watches low all = current_set r state c watches unwatched low all (λ is_open. absurd (apart is_open))
+  where
+    apart : false ≡ true → ⊥
+    apart e = cc
+
+-- an execution begins that may return without a commit
 pub judged_begins : {r : Rules} {starting : List StartWord} {log : List Entry} {state : Amounts} {made : ℕ} {watches : List Seen} {x : Waiting} {xs : List Waiting}
     {first : List ℕ} {since : List (List (ℕ × ℕ))} {method : Method} {args : Args} → x.event ≡ Begins method args → length watches ≡ r.header.callers
     → Judged r starting log state made watches (x ∷ xs) first since
@@ -164,7 +176,7 @@ there [] c low = absurd (omega (arith, low))
 there (x ∷ xs) zero low = (x, refl)
 there (x ∷ xs) (suc c) low = there xs c (omega (arith, low))
 
--- an observer returns
+-- an execution without a commit returns
 pub watch_there : {r : Rules} {starting : List StartWord} {log : List Entry} {state : Amounts} {made : ℕ} {watches : List Seen} {x : Waiting} {xs : List Waiting}
     {first : List ℕ} {since : List (List (ℕ × ℕ))} {reply : ℕ} → x.event ≡ Returns reply → length watches ≡ r.header.callers
     → Judged r starting log state made watches (x ∷ xs) first since → (seen : Seen) × (slice_get watches x.caller ≡ Some seen)
@@ -178,10 +190,7 @@ pub judged_answered : {r : Rules} {starting : List StartWord} {log : List Entry}
 judged_answered {r} {state = state} {watches = watches} {x} seen event here answered j =
     let found = returns_at event j in
     head_answered (set watches x.caller unwatched) seen found.0 found.1 here answered (others_stay x.caller watches unwatched)
-    (current_set r state x.caller watches unwatched (slice_get_within watches x.caller seen here) j.current (λ is_open. absurd (apart is_open)))
-  where
-    apart : false ≡ true → ⊥
-    apart e = cc
+    (current_closed r state x.caller watches (slice_get_within watches x.caller seen here) j.current)
 
 pub judged_unanswered : {r : Rules} {starting : List StartWord} {log : List Entry} {state : Amounts} {made : ℕ} {watches : List Seen} {x : Waiting} {xs : List Waiting}
     {first : List ℕ} {since : List (List (ℕ × ℕ))} {reply : ℕ} (seen : Seen) → x.event ≡ Returns reply → slice_get watches x.caller ≡ Some seen
@@ -202,7 +211,7 @@ pub judged_commits : {E : Type 0} {r : Rules} {starting : List StartWord} {log :
     (new : List Seen) (next_first : List ℕ) (next_since : List (List (ℕ × ℕ))) (val : Result Outcome E) → x.event ≡ Commits method args (Some reply)
     → Judged r starting log state made watches (x ∷ xs) first since
     → ((part : List (ℕ × ℕ)) (rest : List (List (ℕ × ℕ))) → since ≡ part ∷ rest
-    → IfOk val (CommitLeads r first part rest (record { method = method; args = args }) reply state made watches after more new next_first next_since))
+    → IfOk val (CommitLeads r first part rest x.caller (record { method = method; args = args }) reply state made watches after more new next_first next_since))
     → IfOk val (HeadGives r starting log after more new x xs next_first next_since)
 judged_commits {E} {r} {starting} {log} {state} {made} {watches} {x} {xs} {first} {since} {method} {args} {reply} after more new next_first next_since val event j leads =
     let found = commits_at event j in
@@ -210,7 +219,7 @@ judged_commits {E} {r} {starting} {log} {state} {made} {watches} {x} {xs} {first
     by_result found.0 found.1 val (leads split.part split.rest split.is)
   where
     Leads : (at : AtHead r starting log state made watches x xs first since) → IsCommit at.here at.earlier at.later x method args (Some reply) → Outcome → Type 0
-    Leads at is o = CommitLeads r first (split_here at is).part (split_here at is).rest (record { method = method; args = args }) reply state made watches
+    Leads at is o = CommitLeads r first (split_here at is).part (split_here at is).rest x.caller (record { method = method; args = args }) reply state made watches
         after more new next_first next_since o
 
     by_outcome : (at : AtHead r starting log state made watches x xs first since) (is : IsCommit at.here at.earlier at.later x method args (Some reply))
@@ -218,7 +227,8 @@ judged_commits {E} {r} {starting} {log} {state} {made} {watches} {x} {xs} {first
     by_outcome at is Goes right =
         subst (λ ws. Judged r starting log after more new xs ws next_since) (sym right.words)
         (subst (λ ps. Judged r starting log after more new xs (with_writes first (split_here at is).part) ps) (sym right.since)
-        (head_right new after more at is right.next right.same right.count right.seen right.current))
+        (head_right (set watches x.caller unwatched) new after more at is right.next right.same right.count (others_stay x.caller watches unwatched)
+        right.seen right.current))
     by_outcome at is (Faults why) faulty = head_faults why at is faulty
     by_outcome at is Ends never = absurd never
 

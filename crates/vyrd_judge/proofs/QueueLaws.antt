@@ -1,7 +1,7 @@
 -- How the queue goes on with one more entry, and how entries leave it.
 use Rattle.std.proofs.Common.{◌≡◌, ℕ, zero, suc, ◌+◌, ◌-◌, ◌<◌, ◌≤◌, ◌^◌, Bool, true, false, cond, List, [], ◌∷◌, ◌++◌, map, length, set, get_or, ◌&&◌, Option, Some, None, Result, Ok, Err, slice_get, refl, ap, subst, ◌∙◌, sym, arith, length-append, length-set}
-use Rattle.std.specs.Prelude.{◌==◌, ◌≢◌, ◌||◌, not, option_map, is_some, unwrap_or, OnOk}
-use Rattle.std.specs.Option.{option_or, option_flatten, option_map_or}
+use Rattle.std.specs.Prelude.{◌==◌, ◌≢◌, not, option_map, is_some, OnOk}
+use Rattle.std.specs.Option.{option_or, option_flatten}
 use Rattle.std.specs.Bool.{then_some}
 use Rattle.std.specs.List.{cons_option}
 use Rattle.std.proofs.lemmas.Option.{slice_get_within, get_or_from_slice_get, none-some}
@@ -17,13 +17,13 @@ use Rattle.vyrd_base.specs.declared.log.Kind.TheVariants.{Call, Return, Write, C
 use Rattle.vyrd_base.specs.declared.log.Entry.{Entry}
 use Rattle.vyrd_base.specs.Places.{first_answer}
 use Rattle.vyrd_base.specs.Callers.{Called, by_caller, open_call, call_or_return, has_committed, commit_or_call}
-use Rattle.vyrd_base.specs.Subjects.{is_observer}
-use Rattle.vyrd_base.specs.Shape.{checks_at, is_observing}
+use Rattle.vyrd_base.specs.Subjects.{is_observer, must_commit}
+use Rattle.vyrd_base.specs.Shape.{checks_at}
 use Rattle.vyrd_base.specs.Verdicts.{is_return}
 use Rattle.vyrd_base.specs.Commits.{returned}
-use Rattle.vyrd_base.proofs.BlockLaws.{entry, by_same, own_answer, other_answer, no_answer, open_call-quiet}
+use Rattle.vyrd_base.proofs.BlockLaws.{entry, by_same, own_answer, open_call-quiet}
 use Rattle.vyrd_base.proofs.ShadowLaws.{all_kept, caller_kept}
-use Rattle.vyrd_base.proofs.TestLaws.{below_of, is_below, at_most_of, is_at_most, same_of, is_same, apart_of}
+use Rattle.vyrd_base.proofs.TestLaws.{below_of, is_below, same_of, is_same, isnt_same, apart_of}
 use Rattle.vyrd_words.proofs.WordsLaws.{keeps_as}
 use Rattle.vyrd_judge.specs.declared.caller.Caller.{Caller}
 use Rattle.vyrd_judge.specs.declared.waiting.Event.{Event}
@@ -34,8 +34,9 @@ use Rattle.vyrd_base.specs.Entries.{place_of}
 use Rattle.vyrd_judge.specs.Queued.{IsCaller, IsPending, IsUnreturned, HasQueued, HasTakenUp, MayQueue, CanLeave}
 use Rattle.vyrd_judge.specs.Waiting.{commit_of, waiting_of, waiting_at, replied_event, replied}
 use Rattle.vyrd_base.proofs.StateLaws.{open_call-other}
-use Rattle.vyrd_base.proofs.CommitLaws.{Commits as Committing, alone, with_block, commits_inside, commits_unreturned}
+use Rattle.vyrd_base.proofs.CommitLaws.{Commits as Committing, alone, with_block, commits_called, commits_inside, commits_unreturned}
 use Rattle.vyrd_base.proofs.KeptLaws.{commit_kept, block_commit_runs, return_kept}
+use Rattle.vyrd_base.proofs.CommittedLaws.{committed-other, committed-quiet, committed-own}
 use Rattle.vyrd_base.proofs.ListLaws.{slice_get-set_same, slice_get-set_other, slice_get-last}
 
 apart : false ≡ true → ⊥
@@ -51,19 +52,6 @@ call_is_free {h} {c} {method} {args} {earlier} keeps = free (open_call c earlier
     free None e = refl
     free (Some k) e = cc
 
--- a mutator that returns has committed
-return_committed : {h : Header} {c reply : ℕ} {earlier : List Entry} {called : Called} → Keeps h earlier (entry c (Return reply))
-    → open_call c earlier ≡ Some called → is_observer called.method ≡ false → has_committed c earlier ≡ true
-return_committed {h} {c} {reply} {earlier} {called} keeps opened mutates =
-    committed (is_observing c earlier) (has_committed c earlier)
-    (ap (λ o. option_map_or (λ k. is_observer k.method) o false) opened ∙ mutates)
-    (all_kept (checks_at h earlier (entry c (Return reply))) keeps.rules).1.1.1.0
-  where
-    committed : (a b : Bool) → a ≡ false → not (a || b) ≡ false → b ≡ true
-    committed true b e f = cc
-    committed false true e f = refl
-    committed false false e f = cc
-
 commit_is_first : {h : Header} {c : ℕ} {earlier : List Entry} (kind : Kind) → Committing kind → Keeps h earlier (entry c kind) → has_committed c earlier ≡ false
 commit_is_first {h} {c} {earlier} _ alone keeps = (all_kept (checks_at h earlier (entry c Commit)) keeps.rules).1.1.1.0
 commit_is_first {h} {c} {earlier} _ with_block keeps = (all_kept (checks_at h earlier (entry c BlockCommit)) keeps.rules).1.1.1.1.0
@@ -73,24 +61,10 @@ commit_opened : {h : Header} {c : ℕ} {earlier : List Entry} (kind : Kind) → 
 commit_opened {h} {c} {earlier} _ alone keeps = commit_kept h c earlier keeps.rules
 commit_opened {h} {c} {earlier} _ with_block keeps = block_commit_runs h c earlier keeps.rules
 
--- whether a caller has committed, after another's entry, after one that is neither, and after its own
-committed-other : (c d : ℕ) (kind : Kind) (earlier : List Entry) → (d == c) ≡ false → has_committed c (entry d kind ∷ earlier) ≡ has_committed c earlier
-committed-other c d kind earlier other = ap (λ o. unwrap_or o false) (other_answer c d commit_or_call kind earlier other)
-
-committed-quiet : (c d : ℕ) (kind : Kind) (earlier : List Entry) → commit_or_call kind ≡ None → has_committed c (entry d kind ∷ earlier) ≡ has_committed c earlier
-committed-quiet c d kind earlier quiet = ap (λ o. unwrap_or o false) (no_answer c d commit_or_call kind earlier quiet)
-
-committed-own : (c : ℕ) (kind : Kind) (earlier : List Entry) (b : Bool) → commit_or_call kind ≡ Some b → has_committed c (entry c kind ∷ earlier) ≡ b
-committed-own c kind earlier b is = ap (λ o. unwrap_or o false) (own_answer c commit_or_call kind earlier
-    ∙ ap (λ o. option_or o (first_answer (by_caller c commit_or_call) earlier)) is)
-
+-- what is open of a caller after its own call or return
 open_call-own : (c : ℕ) (kind : Kind) (earlier : List Entry) (o : Option Called) → call_or_return kind ≡ Some o → open_call c (entry c kind ∷ earlier) ≡ o
 open_call-own c kind earlier o is = ap option_flatten (own_answer c call_or_return kind earlier
     ∙ ap (λ p. option_or p (first_answer (by_caller c call_or_return) earlier)) is)
-
-commits_called : (kind : Kind) → Committing kind → commit_or_call kind ≡ Some true
-commits_called _ alone = refl
-commits_called _ with_block = refl
 
 -- an entry that isn't a return leaves replies as they are
 unreplied : (e : Entry) → returned e.kind ≡ None → (xs : List Waiting) → map (replied e) xs ≡ xs
@@ -177,9 +151,10 @@ quiet_up {h} {waiting} {taken} {callers} {earlier} c kind inside quiet silent no
     called = λ d k low is. q.called d k low (sym (open_call-quiet d c kind earlier inside) ∙ is);
     pending = λ d k caller low is committed at. q.pending d k caller low (sym (open_call-quiet d c kind earlier inside) ∙ is)
         (sym (committed-quiet d c kind earlier quiet) ∙ committed) at;
+    uncommitted = λ d k caller low is none at. q.uncommitted d k caller low (sym (open_call-quiet d c kind earlier inside) ∙ is)
+        (sym (committed-quiet d c kind earlier quiet) ∙ none) at;
     unreturned = λ i commit k at event. let u = q.unreturned i commit k at event in record {
       opened = open_call-quiet commit.caller c kind earlier inside ∙ u.opened;
-      mutates = u.mutates;
       committed = committed-quiet commit.caller c kind earlier quiet ∙ u.committed;
       number = u.number;
     };
@@ -203,9 +178,9 @@ close_up c q = quiet_up c BlockClose refl refl refl refl q
 
 -- a call: what was called is known, and nothing of the caller waits unreturned
 call_queued : {h : Header} {waiting : List Waiting} {taken : ℕ} {callers : List Caller} {earlier : List Entry} {c : ℕ} {method : Method} {args : Args}
-    (caller : Caller) → caller.method ≡ method → caller.args ≡ args → c < length callers → Keeps h earlier (entry c (Call method args))
+    (caller : Caller) → caller.method ≡ method → caller.args ≡ args → caller.commit ≡ 0 → c < length callers → Keeps h earlier (entry c (Call method args))
     → HasQueued h waiting taken callers earlier → HasQueued h waiting taken (set callers c caller) (entry c (Call method args) ∷ earlier)
-call_queued {h} {waiting} {taken} {callers} {earlier} {c} {method} {args} caller of_method of_args low keeps q = record {
+call_queued {h} {waiting} {taken} {callers} {earlier} {c} {method} {args} caller of_method of_args uncommitted low keeps q = record {
   called = λ d k low_d is. by_same c d
       (λ same. record {
         caller = caller;
@@ -225,11 +200,16 @@ call_queued {h} {waiting} {taken} {callers} {earlier} {c} {method} {args} caller
       (λ other. q.pending d k x low_d (sym (open_call-other d c (Call method args) earlier other) ∙ is)
       (sym (committed-other d c (Call method args) earlier other) ∙ committed)
       (sym (slice_get-set_other callers c d caller (apart_of c d other)) ∙ at));
+  uncommitted = λ d k x low_d is none at. by_same c d
+      (λ same. ap (λ y. y.commit) (sym (same_Some _ _ (sym (slice_get-set_same callers c caller low)
+      ∙ ap (slice_get (set callers c caller)) same ∙ at))) ∙ uncommitted)
+      (λ other. q.uncommitted d k x low_d (sym (open_call-other d c (Call method args) earlier other) ∙ is)
+      (sym (committed-other d c (Call method args) earlier other) ∙ none)
+      (sym (slice_get-set_other callers c d caller (apart_of c d other)) ∙ at));
   unreturned = λ i commit k at event. let u = q.unreturned i commit k at event in by_same c commit.caller
       (λ same. absurd (none-some _ (sym (call_is_free keeps) ∙ ap (λ x. open_call x earlier) same ∙ u.opened)))
       (λ other. record {
         opened = open_call-other commit.caller c (Call method args) earlier other ∙ u.opened;
-        mutates = u.mutates;
         committed = committed-other commit.caller c (Call method args) earlier other ∙ u.committed;
         number = λ x is. u.number x (sym (slice_get-set_other callers c commit.caller caller (apart_of c commit.caller other)) ∙ is);
       });
@@ -249,10 +229,11 @@ pushed {h} {waiting} {taken} {callers} {e} {earlier} x isnt few q = record {
   pending = λ d k caller low is committed at. let p = q.pending d k caller low is committed at in record {
     commit = p.commit;
     since = p.since;
-    here = slice_get-front waiting x (caller.commit - taken) (slice_get_within waiting (caller.commit - taken) p.commit p.here) ∙ p.here;
+    here = slice_get-front waiting x (caller.commit - 1 - taken) (slice_get_within waiting (caller.commit - 1 - taken) p.commit p.here) ∙ p.here;
     caller_is = p.caller_is;
     event = p.event;
   };
+  uncommitted = q.uncommitted;
   unreturned = λ i commit k at event. by_place waiting x i commit at
       (λ before. q.unreturned i commit k before event)
       (λ last same. absurd (isnt k (ap (λ w. w.event) same ∙ event)));
@@ -262,11 +243,11 @@ pushed {h} {waiting} {taken} {callers} {e} {earlier} x isnt few q = record {
 pub call_up : {h : Header} {old new : List Waiting} {taken taken' : ℕ} {callers callers' : List Caller} {earlier : List Entry} (c position : ℕ) (method : Method)
     (args : Args) → c < length callers → position ≡ length earlier → Keeps h earlier (entry c (Call method args)) → HasQueued h old taken callers earlier
     → callers' ≡ set callers c (record { method = method; args = args; commit = 0 })
-    → new ≡ old ++ cons_option (then_some (is_observer method) (record { caller = c; position = position; event = Begins method args })) []
+    → new ≡ old ++ cons_option (then_some (not (must_commit method)) (record { caller = c; position = position; event = Begins method args })) []
     → taken' ≡ taken
     → HasTakenUp h old new taken' callers' (entry c (Call method args)) earlier
 call_up {h} {old} {new} {taken} {taken'} {callers} {callers'} {earlier} c position method args low at keeps q callers_are new_is same =
-    by_method (is_observer method) refl
+    by_method (must_commit method) refl
   where
     x : Waiting
     x = record { caller = c; position = position; event = Begins method args }
@@ -278,31 +259,31 @@ call_up {h} {old} {new} {taken} {taken'} {callers} {callers'} {earlier} c positi
     e = entry c (Call method args)
 
     queued : HasQueued h old taken (set callers c caller) (e ∷ earlier)
-    queued = call_queued caller refl refl low keeps q
+    queued = call_queued caller refl refl refl low keeps q
 
     as_named : {xs : List Waiting} → new ≡ xs → HasQueued h xs taken (set callers c caller) (e ∷ earlier) → HasQueued h new taken' callers' (e ∷ earlier)
     as_named {xs} is has = subst (λ ws. HasQueued h ws taken' callers' (e ∷ earlier)) (sym is)
         (subst (λ n. HasQueued h xs n callers' (e ∷ earlier)) (sym same) (subst (λ cs. HasQueued h xs taken cs (e ∷ earlier)) (sym callers_are) has))
 
-    waiting_is : new ≡ map (replied e) old ++ cons_option (option_map (waiting_of (place_of e earlier [])) (then_some (is_observer method) (Begins method args))) []
-    waiting_is = new_is ∙ ap (λ ws. ws ++ cons_option (then_some (is_observer method) x) []) (sym (unreplied e refl old))
-        ∙ ap (λ o. map (replied e) old ++ cons_option o []) (either (is_observer method))
+    waiting_is : new ≡ map (replied e) old ++ cons_option (option_map (waiting_of (place_of e earlier [])) (then_some (not (must_commit method)) (Begins method args))) []
+    waiting_is = new_is ∙ ap (λ ws. ws ++ cons_option (then_some (not (must_commit method)) x) []) (sym (unreplied e refl old))
+        ∙ ap (λ o. map (replied e) old ++ cons_option o []) (either (not (must_commit method)))
       where
         either : (b : Bool) → then_some b x ≡ option_map (waiting_of (place_of e earlier [])) (then_some b (Begins method args))
         either true = ap (λ n. Some (record { caller = c; position = n; event = Begins method args })) at
         either false = refl
 
-    by_method : (b : Bool) → is_observer method ≡ b → HasTakenUp h old new taken' callers' e earlier
-    by_method true observes = record {
-      queued = as_named (new_is ∙ ap (λ b. old ++ cons_option (then_some b x) []) observes)
+    by_method : (b : Bool) → must_commit method ≡ b → HasTakenUp h old new taken' callers' e earlier
+    by_method false free = record {
+      queued = as_named (new_is ∙ ap (λ b. old ++ cons_option (then_some (not b) x) []) free)
           (pushed x (λ k event. absurd (begins_isnt event)) q.count queued);
       waiting = waiting_is;
     }
       where
         begins_isnt : {m : Method} {a : Args} → Begins method args ≡ Commits m a None → ⊥
         begins_isnt p = cc
-    by_method false mutates = record {
-      queued = as_named (new_is ∙ ap (λ b. old ++ cons_option (then_some b x) []) mutates ∙ append-nil old) queued;
+    by_method true owes = record {
+      queued = as_named (new_is ∙ ap (λ b. old ++ cons_option (then_some (not b) x) []) owes ∙ append-nil old) queued;
       waiting = waiting_is;
     }
 
@@ -311,11 +292,13 @@ return_queued : {h : Header} {waiting : List Waiting} {taken : ℕ} {callers : L
     → ((i : ℕ) (commit : Waiting) (k : Called) → slice_get waiting i ≡ Some commit → commit.event ≡ Commits k.method k.args None → commit.caller ≢ c)
     → ((d : ℕ) (k : Called) (caller : Caller) → d < h.callers → (c == d) ≡ false → open_call d earlier ≡ Some k → has_committed d earlier ≡ true
     → slice_get callers d ≡ Some caller → IsPending waiting taken d k caller)
+    → ((d : ℕ) (k : Called) (caller : Caller) → d < h.callers → open_call d earlier ≡ Some k → has_committed d earlier ≡ false
+    → slice_get callers d ≡ Some caller → caller.commit ≡ 0)
     → ((i : ℕ) (commit : Waiting) (k : Called) → slice_get waiting i ≡ Some commit → commit.event ≡ Commits k.method k.args None
     → IsUnreturned callers taken earlier i commit k)
     → ((d : ℕ) (k : Called) → d < h.callers → open_call d earlier ≡ Some k → IsCaller callers d k) → taken + length waiting ≤ length earlier + 1
     → HasQueued h waiting taken callers (entry c (Return reply) ∷ earlier)
-return_queued {h} {waiting} {taken} {callers} {earlier} c reply none pending unreturned called few = record {
+return_queued {h} {waiting} {taken} {callers} {earlier} c reply none pending uncommitted unreturned called few = record {
   called = λ d k low is. by_same c d
       (λ same. absurd (none-some _ (sym (open_call-own c (Return reply) earlier None refl) ∙ ap (λ x. open_call x (entry c (Return reply) ∷ earlier)) same ∙ is)))
       (λ other. called d k low (sym (open_call-other d c (Return reply) earlier other) ∙ is));
@@ -323,28 +306,31 @@ return_queued {h} {waiting} {taken} {callers} {earlier} c reply none pending unr
       (λ same. absurd (none-some _ (sym (open_call-own c (Return reply) earlier None refl) ∙ ap (λ x. open_call x (entry c (Return reply) ∷ earlier)) same ∙ is)))
       (λ other. pending d k caller low other (sym (open_call-other d c (Return reply) earlier other) ∙ is)
       (sym (committed-other d c (Return reply) earlier other) ∙ committed) at);
+  uncommitted = λ d k caller low is no_commit at. by_same c d
+      (λ same. absurd (none-some _ (sym (open_call-own c (Return reply) earlier None refl) ∙ ap (λ x. open_call x (entry c (Return reply) ∷ earlier)) same ∙ is)))
+      (λ other. uncommitted d k caller low (sym (open_call-other d c (Return reply) earlier other) ∙ is)
+      (sym (committed-other d c (Return reply) earlier other) ∙ no_commit) at);
   unreturned = λ i commit k at event. let u = unreturned i commit k at event in by_same c commit.caller
       (λ same. absurd (none i commit k at event (sym same)))
       (λ other. record {
         opened = open_call-other commit.caller c (Return reply) earlier other ∙ u.opened;
-        mutates = u.mutates;
         committed = committed-other commit.caller c (Return reply) earlier other ∙ u.committed;
         number = u.number;
       });
   count = omega (arith, few);
 }
 
--- an observer's return
-pub observer_up : {h : Header} {old new : List Waiting} {taken taken' : ℕ} {callers callers' : List Caller} {earlier : List Entry} (c position reply : ℕ)
-    (called : Called) → open_call c earlier ≡ Some called → is_observer called.method ≡ true → position ≡ length earlier
+-- a return without a commit
+pub uncommitted_up : {h : Header} {old new : List Waiting} {taken taken' : ℕ} {callers callers' : List Caller} {earlier : List Entry} (c position reply : ℕ)
+    → has_committed c earlier ≡ false → position ≡ length earlier
     → HasQueued h old taken callers earlier → callers' ≡ callers → new ≡ old ++ record { caller = c; position = position; event = Returns reply } ∷ []
     → taken' ≡ taken → HasTakenUp h old new taken' callers' (entry c (Return reply)) earlier
-observer_up {h} {old} {new} {taken} {taken'} {callers} {callers'} {earlier} c position reply called opened observes at q same_callers new_is same = record {
+uncommitted_up {h} {old} {new} {taken} {taken'} {callers} {callers'} {earlier} c position reply none at q same_callers new_is same = record {
   queued = subst (λ ws. HasQueued h ws taken' callers' (e ∷ earlier)) (sym new_is)
       (subst (λ n. HasQueued h (old ++ x ∷ []) n callers' (e ∷ earlier)) (sym same)
       (subst (λ cs. HasQueued h (old ++ x ∷ []) taken cs (e ∷ earlier)) (sym same_callers)
       (pushed x (λ k event. returns_isnt event) q.count
-      (return_queued c reply no_own (λ d k caller low other is committed here. q.pending d k caller low is committed here) q.unreturned q.called
+      (return_queued c reply no_own (λ d k caller low other is committed here. q.pending d k caller low is committed here) q.uncommitted q.unreturned q.called
       (omega (arith, q.count))))));
   waiting = new_is ∙ ap (λ ws. ws ++ x ∷ []) (sym (all_same old (λ i w here. reply_other c reply w (λ m a event. no_own i w (record { method = m; args = a }) here event))))
       ∙ ap (λ n. map (replied e) old ++ record { caller = c; position = n; event = Returns reply } ∷ []) at
@@ -360,35 +346,35 @@ observer_up {h} {old} {new} {taken} {taken'} {callers} {callers'} {earlier} c po
     returns_isnt : {m : Method} {a : Args} → Returns reply ≡ Commits m a None → ⊥
     returns_isnt p = cc
 
-    observing : is_observing c earlier ≡ true
-    observing = ap (λ o. option_map_or (λ k. is_observer k.method) o false) opened ∙ observes
+    observing : not (has_committed c earlier) ≡ true
+    observing = ap not none
 
     no_own : (i : ℕ) (commit : Waiting) (k : Called) → slice_get old i ≡ Some commit → commit.event ≡ Commits k.method k.args None → commit.caller ≢ c
     no_own i commit k here event same = let u = q.unreturned i commit k here event in
-        apart (sym u.mutates ∙ ap (λ j. is_observer j.method) (same_Some _ _ (sym u.opened ∙ ap (λ d. open_call d earlier) same ∙ opened)) ∙ observes)
+        apart (sym none ∙ ap (λ d. has_committed d earlier) (sym same) ∙ u.committed)
 
     all_same : (xs : List Waiting) → ((i : ℕ) (w : Waiting) → slice_get xs i ≡ Some w → replied e w ≡ w) → map (replied e) xs ≡ xs
     all_same [] so = refl
     all_same (w ∷ ws) so = ap (λ y. y ∷ map (replied e) ws) (so 0 w refl) ∙ ap (λ ys. w ∷ ys) (all_same ws (λ i y here. so (suc i) y here))
 
--- a mutator's return, whose commit waits
+-- the return of an execution whose commit waits
 pub found_commit : {h : Header} {waiting : List Waiting} {taken : ℕ} {callers : List Caller} {earlier : List Entry} {c reply : ℕ} {called : Called}
-    (caller : Caller) → slice_get callers c ≡ Some caller → open_call c earlier ≡ Some called → is_observer called.method ≡ false
+    (caller : Caller) → slice_get callers c ≡ Some caller → open_call c earlier ≡ Some called → has_committed c earlier ≡ true
     → Keeps h earlier (entry c (Return reply)) → HasQueued h waiting taken callers earlier → IsPending waiting taken c called caller
-found_commit {h} {earlier = earlier} {c} {reply} {called} caller here opened mutates keeps q =
-    q.pending c called caller (caller_kept h earlier (entry c (Return reply)) keeps.rules) opened (return_committed keeps opened mutates) here
+found_commit {h} {earlier = earlier} {c} {reply} {called} caller here opened committed keeps q =
+    q.pending c called caller (caller_kept h earlier (entry c (Return reply)) keeps.rules) opened committed here
 
-pub mutator_up : {h : Header} {old new : List Waiting} {taken taken' : ℕ} {callers callers' : List Caller} {earlier : List Entry} (c reply : ℕ)
-    (called : Called) (caller : Caller) → slice_get callers c ≡ Some caller → open_call c earlier ≡ Some called → is_observer called.method ≡ false
-    → Keeps h earlier (entry c (Return reply)) → HasQueued h old taken callers earlier → caller.method ≡ called.method → caller.args ≡ called.args
+pub committed_up : {h : Header} {old new : List Waiting} {taken taken' : ℕ} {callers callers' : List Caller} {earlier : List Entry} (c reply : ℕ)
+    (called : Called) (caller : Caller) → slice_get callers c ≡ Some caller → has_committed c earlier ≡ true
+    → HasQueued h old taken callers earlier → caller.method ≡ called.method → caller.args ≡ called.args
     → (p : IsPending old taken c called caller)
-    → callers' ≡ callers → new ≡ set old (caller.commit - taken) (record { caller = p.commit.caller; position = p.commit.position; event = Commits caller.method caller.args (Some reply) })
+    → callers' ≡ callers → new ≡ set old (caller.commit - 1 - taken) (record { caller = p.commit.caller; position = p.commit.position; event = Commits caller.method caller.args (Some reply) })
     → taken' ≡ taken → HasTakenUp h old new taken' callers' (entry c (Return reply)) earlier
-mutator_up {h} {old} {new} {taken} {taken'} {callers} {callers'} {earlier} c reply called caller here opened mutates keeps q of_method of_args p same_callers new_is same = record {
+committed_up {h} {old} {new} {taken} {taken'} {callers} {callers'} {earlier} c reply called caller here committed q of_method of_args p same_callers new_is same = record {
   queued = subst (λ ws. HasQueued h ws taken' callers' (e ∷ earlier)) (sym new_is)
       (subst (λ n. HasQueued h (set old i x) n callers' (e ∷ earlier)) (sym same)
       (subst (λ cs. HasQueued h (set old i x) taken cs (e ∷ earlier)) (sym same_callers)
-      (return_queued c reply others_own others_pending others_unreturned q.called (omega (arith, q.count, length-set old i x)))));
+      (return_queued c reply others_own others_pending q.uncommitted others_unreturned q.called (omega (arith, q.count, length-set old i x)))));
   waiting = new_is ∙ sym (map_one (replied e) old i x low
       (λ w at. let it : p.commit ≡ w = same_Some _ _ (sym p.here ∙ at) in ap (replied e) (sym it) ∙ replied_here)
       (λ j w far at. reply_other c reply w (λ m a event own. far (only j w (record { method = m; args = a }) at event own))))
@@ -400,7 +386,7 @@ mutator_up {h} {old} {new} {taken} {taken'} {callers} {callers'} {earlier} c rep
     e = entry c (Return reply)
 
     i : ℕ
-    i = caller.commit - taken
+    i = caller.commit - 1 - taken
 
     x : Waiting
     x = record { caller = p.commit.caller; position = p.commit.position; event = Commits caller.method caller.args (Some reply) }
@@ -408,8 +394,8 @@ mutator_up {h} {old} {new} {taken} {taken'} {callers} {callers'} {earlier} c rep
     low : i < length old
     low = slice_get_within old i p.commit p.here
 
-    observing : is_observing c earlier ≡ false
-    observing = ap (λ o. option_map_or (λ k. is_observer k.method) o false) opened ∙ mutates
+    observing : not (has_committed c earlier) ≡ false
+    observing = ap not committed
 
     replied_here : replied e p.commit ≡ x
     replied_here =
@@ -423,7 +409,7 @@ mutator_up {h} {old} {new} {taken} {taken'} {callers} {callers'} {earlier} c rep
     only : (j : ℕ) (w : Waiting) (k : Called) → slice_get old j ≡ Some w → w.event ≡ Commits k.method k.args None → w.caller ≡ c → j ≡ i
     only j w k at event own =
         let u = q.unreturned j w k at event in
-        let number : caller.commit ≡ taken + j = u.number caller (ap (slice_get callers) own ∙ here) in
+        let number : caller.commit ≡ taken + j + 1 = u.number caller (ap (slice_get callers) own ∙ here) in
         omega (arith, number)
 
     by_index : {P : Type 0} (j : ℕ) (w : Waiting) → slice_get (set old i x) j ≡ Some w → (slice_get old j ≡ Some w → j ≢ i → P) → (x ≡ w → P) → P
@@ -446,7 +432,7 @@ mutator_up {h} {old} {new} {taken} {taken'} {callers} {callers'} {earlier} c rep
         let r = q.pending d k x' low_d is committed at in record {
           commit = r.commit;
           since = r.since;
-          here = slice_get-set_other old i (x'.commit - taken) x
+          here = slice_get-set_other old i (x'.commit - 1 - taken) x
               (λ same_index. apart_of c d other (sym p.caller_is ∙ ap (λ w. w.caller) (same_Some _ _ (sym p.here ∙ ap (slice_get old) same_index ∙ r.here)) ∙ r.caller_is))
               ∙ r.here;
           caller_is = r.caller_is;
@@ -462,7 +448,7 @@ pub commit_up : {h : Header} {old new : List Waiting} {taken taken' : ℕ} {call
     (called : Called) (caller : Caller) → Committing kind → slice_get callers c ≡ Some caller → open_call c earlier ≡ Some called
     → caller.method ≡ called.method → caller.args ≡ called.args → position ≡ length earlier
     → Keeps h earlier (entry c kind) → HasQueued h old taken callers earlier
-    → callers' ≡ set callers c (record caller { commit = taken + length old })
+    → callers' ≡ set callers c (record caller { commit = taken + length old + 1 })
     → new ≡ old ++ record { caller = c; position = position; event = Commits caller.method caller.args None } ∷ []
     → taken' ≡ taken → HasTakenUp h old new taken' callers' (entry c kind) earlier
 commit_up {h} {old} {new} {taken} {taken'} {callers} {callers'} {earlier} c position kind called caller commits here opened of_method of_args at keeps q callers_are new_is same = record {
@@ -483,7 +469,7 @@ commit_up {h} {old} {new} {taken} {taken'} {callers} {callers'} {earlier} c posi
     x = record { caller = c; position = position; event = Commits caller.method caller.args None }
 
     y : Caller
-    y = record caller { commit = taken + length old }
+    y = record caller { commit = taken + length old + 1 }
 
     low : c < length callers
     low = slice_get_within callers c caller here
@@ -517,8 +503,8 @@ commit_up {h} {old} {new} {taken} {taken'} {callers} {callers'} {earlier} c posi
       pending = λ d k z low_d is committed z_at. by_same c d
           (λ same_caller.
           let it : y ≡ z = same_Some _ _ (sym (slice_get-set_same callers c y low) ∙ ap (slice_get (set callers c y)) same_caller ∙ z_at) in
-          let number : taken + length old ≡ z.commit = ap (λ w. w.commit) it in
-          let place : z.commit - taken ≡ length old = omega (arith, number) in
+          let number : taken + length old + 1 ≡ z.commit = ap (λ w. w.commit) it in
+          let place : z.commit - 1 - taken ≡ length old = omega (arith, number) in
           let mine : called ≡ k = same_Some _ _ (sym opened ∙ ap (λ w. open_call w earlier) same_caller ∙ sym (inside d) ∙ is) in
           record {
             commit = x;
@@ -531,28 +517,29 @@ commit_up {h} {old} {new} {taken} {taken'} {callers} {callers'} {earlier} c posi
           (sym (slice_get-set_other callers c d y (apart_of c d other)) ∙ z_at) in record {
             commit = r.commit;
             since = r.since;
-            here = slice_get-front old x (z.commit - taken) (slice_get_within old (z.commit - taken) r.commit r.here) ∙ r.here;
+            here = slice_get-front old x (z.commit - 1 - taken) (slice_get_within old (z.commit - 1 - taken) r.commit r.here) ∙ r.here;
             caller_is = r.caller_is;
             event = r.event;
           });
+      uncommitted = λ d k z low_d is none z_at. by_same c d
+          (λ same_caller. absurd (apart (sym none ∙ ap (λ w. has_committed w (e ∷ earlier)) (sym same_caller)
+          ∙ committed-own c kind earlier true (commits_called kind commits))))
+          (λ other. q.uncommitted d k z low_d (sym (inside d) ∙ is) (sym (committed-other d c kind earlier other) ∙ none)
+          (sym (slice_get-set_other callers c d y (apart_of c d other)) ∙ z_at));
       unreturned = λ j w k w_at event. by_place old x j w w_at
           (λ before. let u = q.unreturned j w k before event in by_same c w.caller
           (λ same_caller. absurd (apart (sym (commit_is_first kind commits keeps) ∙ ap (λ d. has_committed d earlier) same_caller ∙ u.committed)))
           (λ other. record {
             opened = inside w.caller ∙ u.opened;
-            mutates = u.mutates;
             committed = committed-other w.caller c kind earlier other ∙ u.committed;
             number = λ z z_at. u.number z (sym (slice_get-set_other callers c w.caller y (apart_of c w.caller other)) ∙ z_at);
           }))
           (λ last is. let own : c ≡ w.caller = ap (λ v. v.caller) is in record {
             opened = ap (λ d. open_call d (e ∷ earlier)) (sym own) ∙ inside c ∙ opened ∙ ap Some (same_call (sym of_method) (sym of_args) (ap (λ v. v.event) is ∙ event));
-            mutates = let runs = commit_opened kind commits keeps in
-                ap is_observer (sym (same_method (ap (λ v. v.event) is ∙ event)) ∙ of_method)
-                ∙ ap (λ k'. is_observer k'.method) (same_Some _ _ (sym opened ∙ runs.1)) ∙ runs.2;
             committed = ap (λ d. has_committed d (e ∷ earlier)) (sym own) ∙ committed-own c kind earlier true (commits_called kind commits);
             number = λ z z_at.
                 let it : y ≡ z = same_Some _ _ (sym (slice_get-set_same callers c y low) ∙ ap (slice_get (set callers c y)) own ∙ z_at) in
-                ap (λ v. v.commit) (sym it) ∙ ap (λ n. taken + n) (sym last);
+                ap (λ v. v.commit) (sym it) ∙ ap (λ n. taken + n + 1) (sym last);
           });
       count = omega (arith, q.count, length-append old (x ∷ []));
     }
@@ -573,21 +560,21 @@ pub queue_left : {h : Header} {waiting : List Waiting} {taken : ℕ} {callers : 
 queue_left {h} {waiting} {taken} {callers} {earlier} x xs is can q = record {
   called = q.called;
   pending = λ d k caller low opened committed at. let p = q.pending d k caller low opened committed at in
-      step k caller p (caller.commit - taken) refl;
+      step k caller p (caller.commit - 1 - taken) refl;
+  uncommitted = q.uncommitted;
   unreturned = λ i commit k at event. let u = q.unreturned (suc i) commit k (ap (λ ws. slice_get ws (suc i)) is ∙ at) event in record {
     opened = u.opened;
-    mutates = u.mutates;
     committed = u.committed;
-    number = λ caller here. let number : caller.commit ≡ taken + suc i = u.number caller here in omega (arith, number);
+    number = λ caller here. let number : caller.commit ≡ taken + suc i + 1 = u.number caller here in omega (arith, number);
   };
   count = omega (arith, q.count, ap length is);
 }
   where
-    step : {d : ℕ} (k : Called) (caller : Caller) (p : IsPending waiting taken d k caller) (n : ℕ) → caller.commit - taken ≡ n → IsPending xs (taken + 1) d k caller
+    step : {d : ℕ} (k : Called) (caller : Caller) (p : IsPending waiting taken d k caller) (n : ℕ) → caller.commit - 1 - taken ≡ n → IsPending xs (taken + 1) d k caller
     step k caller p zero place =
         absurd (can k.method k.args (ap (λ w. w.event) (same_Some _ _ (sym (ap (λ ws. slice_get ws 0) is) ∙ ap (slice_get waiting) (sym place) ∙ p.here)) ∙ p.event))
     step k caller p (suc n) place =
-        let next : caller.commit - (taken + 1) ≡ n = omega (arith, place) in record {
+        let next : caller.commit - 1 - (taken + 1) ≡ n = omega (arith, place) in record {
           commit = p.commit;
           since = omega (arith, place);
           here = ap (slice_get xs) next ∙ sym (ap (λ ws. slice_get ws (suc n)) is) ∙ ap (slice_get waiting) (sym place) ∙ p.here;
@@ -606,10 +593,10 @@ queue_few {h} {waiting} {taken} {callers} {e} {position} few may = below_of _ _ 
     let low : taken + length waiting < 2 ^ 62 = omega (arith, few, s.1.count, s.3) in is_below (taken + length waiting) (2 ^ 62) low))
 
 pub queue_pending : {h : Header} {waiting : List Waiting} {taken : ℕ} {callers : List Caller} {e : Entry} {position reply : ℕ} (caller : Caller)
-    → e.kind ≡ Return reply → slice_get callers e.caller ≡ Some caller → is_observer caller.method ≡ false
-    → MayQueue h waiting taken callers e position → (taken ≤ caller.commit) × (caller.commit - taken < length waiting)
-queue_pending {h} {waiting} {taken} {callers} {e} {position} {reply} caller is here mutates may = (
-  at_most_of _ _ (∥∥₁_elim may (Bool-set _ _) (λ s. is_at_most _ _ (pending s.0 s.1 s.2).since)),
+    → e.kind ≡ Return reply → slice_get callers e.caller ≡ Some caller → caller.commit ≢ 0
+    → MayQueue h waiting taken callers e position → (taken < caller.commit) × (caller.commit - 1 - taken < length waiting)
+queue_pending {h} {waiting} {taken} {callers} {e} {position} {reply} caller is here has may = (
+  below_of _ _ (∥∥₁_elim may (Bool-set _ _) (λ s. is_below _ _ (pending s.0 s.1 s.2).since)),
   below_of _ _ (∥∥₁_elim may (Bool-set _ _) (λ s. is_below _ _ (slice_get_within waiting _ (pending s.0 s.1 s.2).commit (pending s.0 s.1 s.2).here))),
 )
   where
@@ -617,9 +604,14 @@ queue_pending {h} {waiting} {taken} {callers} {e} {position} {reply} caller is h
         → IsPending waiting taken e.caller (return_kept h e.caller reply earlier (keeps_as is keeps).rules).0 caller
     pending earlier q keeps =
         let called = return_kept h e.caller reply earlier (keeps_as is keeps).rules in
-        let known = q.called e.caller called.0 (caller_kept h earlier e keeps.rules) called.1 in
-        let it : caller ≡ known.caller = same_Some _ _ (sym here ∙ known.here) in
-        found_commit caller here called.1 (ap is_observer (sym known.method ∙ ap (λ z. z.method) (sym it)) ∙ mutates) (keeps_as is keeps) q
+        by_commit (has_committed e.caller earlier) refl
+        (λ committed. q.pending e.caller called.0 caller (caller_kept h earlier e keeps.rules) called.1 committed here)
+        (λ none. has (q.uncommitted e.caller called.0 caller (caller_kept h earlier e keeps.rules) called.1 none here))
+      where
+        by_commit : {P : Type 0} (b : Bool) → has_committed e.caller earlier ≡ b → (has_committed e.caller earlier ≡ true → P)
+            → (has_committed e.caller earlier ≡ false → ⊥) → P
+        by_commit true b has_one none = has_one b
+        by_commit false b has_one none = absurd (none b)
 
 -- what was called in an execution that returns or commits
 pub returning_called : {h : Header} {earlier : List Entry} {e : Entry} {reply : ℕ} → e.kind ≡ Return reply → Keeps h earlier e
@@ -641,14 +633,14 @@ taken_kind {h} {old} {new} {taken} {callers} {earlier} e is up = subst (λ k. Ha
 -- a return is taken in, whichever it is
 pub return_up : {T E : Type 0} {h : Header} {old : List Waiting} {taken : ℕ} {callers : List Caller} {earlier : List Entry} (r : Result T E)
     (new : List Waiting) (taken' : ℕ) (callers' : List Caller) (c position reply : ℕ) → position ≡ length earlier → Keeps h earlier (entry c (Return reply)) → HasQueued h old taken callers earlier
-    → ((caller : Caller) → slice_get callers c ≡ Some caller → is_observer caller.method ≡ true
+    → ((caller : Caller) → slice_get callers c ≡ Some caller → caller.commit ≡ 0
     → OnOk r (new ≡ old ++ record { caller = c; position = position; event = Returns reply } ∷ []))
-    → ((caller : Caller) → slice_get callers c ≡ Some caller → is_observer caller.method ≡ false → (commit : Waiting)
-    → slice_get old (caller.commit - taken) ≡ Some commit
-    → OnOk r (new ≡ set old (caller.commit - taken) (record { caller = commit.caller; position = commit.position; event = Commits caller.method caller.args (Some reply) })))
+    → ((caller : Caller) → slice_get callers c ≡ Some caller → caller.commit ≢ 0 → (commit : Waiting)
+    → slice_get old (caller.commit - 1 - taken) ≡ Some commit
+    → OnOk r (new ≡ set old (caller.commit - 1 - taken) (record { caller = commit.caller; position = commit.position; event = Commits caller.method caller.args (Some reply) })))
     → OnOk r (callers' ≡ callers) → OnOk r (taken' ≡ taken) → OnOk r (HasTakenUp h old new taken' callers' (entry c (Return reply)) earlier)
-return_up {h = h} {old} {taken} {callers} {earlier} r new taken' callers' c position reply at keeps q observer mutator same_callers same =
-    by_method (is_observer called.0.method) refl
+return_up {h = h} {old} {taken} {callers} {earlier} r new taken' callers' c position reply at keeps q uncommitted committed same_callers same =
+    by_commit (has_committed c earlier) refl
   where
     called : (k : Called) × (open_call c earlier ≡ Some k)
     called = return_kept h c reply earlier keeps.rules
@@ -660,22 +652,32 @@ return_up {h = h} {old} {taken} {callers} {earlier} r new taken' callers' c posi
     all_ok (Ok x) p q' u f = f p q' u
     all_ok (Err x) p q' u f = tt
 
-    by_method : (b : Bool) → is_observer called.0.method ≡ b → OnOk r (HasTakenUp h old new taken' callers' (entry c (Return reply)) earlier)
-    by_method true observes = all_ok r (observer known.caller known.here (ap is_observer known.method ∙ observes)) same_callers same (λ new_is of_callers of_taken.
-        observer_up c position reply called.0 called.1 observes at q of_callers new_is of_taken)
-    by_method false mutates =
-        let p = found_commit known.caller known.here called.1 mutates keeps q in
-        all_ok r (mutator known.caller known.here (ap is_observer known.method ∙ mutates) p.commit p.here) same_callers same (λ new_is of_callers of_taken.
-        mutator_up c reply called.0 known.caller known.here called.1 mutates keeps q known.method known.args p of_callers new_is of_taken)
+    by_commit : (b : Bool) → has_committed c earlier ≡ b → OnOk r (HasTakenUp h old new taken' callers' (entry c (Return reply)) earlier)
+    by_commit false none =
+        let zero_there = q.uncommitted c called.0 known.caller (caller_kept h earlier (entry c (Return reply)) keeps.rules) called.1 none known.here in
+        all_ok r (uncommitted known.caller known.here zero_there) same_callers same (λ new_is of_callers of_taken.
+        uncommitted_up c position reply none at q of_callers new_is of_taken)
+    by_commit true has =
+        let p = found_commit known.caller known.here called.1 has keeps q in
+        all_ok r (committed known.caller known.here (λ zero_there. omega (arith, p.since, zero_there)) p.commit p.here) same_callers same (λ new_is of_callers of_taken.
+        committed_up c reply called.0 known.caller known.here has q known.method known.args p of_callers new_is of_taken)
 
--- an observer returns exactly when what is known of the caller says so
+-- an execution without a commit returns exactly when what is known of the caller says so
 pub observer_is : {h : Header} {waiting : List Waiting} {taken : ℕ} {callers : List Caller} {earlier : List Entry} {e : Entry} {reply : ℕ} (caller : Caller)
     → e.kind ≡ Return reply → caller ≡ get_or callers e.caller caller → Keeps h earlier e → HasQueued h waiting taken callers earlier
-    → is_observer caller.method ≡ (is_return e.kind && is_observing e.caller earlier)
+    → (caller.commit == 0) ≡ (is_return e.kind && not (has_committed e.caller earlier))
 observer_is {h} {callers = callers} {earlier} {e} {reply} caller is here keeps q =
     let called = returning_called is keeps in
     let known = known_caller keeps called.1 q in
     let it : known.caller ≡ caller = sym (get_or_from_slice_get callers e.caller known.caller caller known.here) ∙ sym here in
-    ap (λ z. is_observer z.method) (sym it) ∙ ap is_observer known.method
-    ∙ ap (λ o. option_map_or (λ k. is_observer k.method) o false) (sym called.1)
-    ∙ ap (λ k. is_return k && is_observing e.caller earlier) (sym is)
+    let low = caller_kept h earlier e keeps.rules in
+    ap (λ z. z.commit == 0) (sym it)
+    ∙ by_commit (has_committed e.caller earlier) refl
+    (λ committed. λ zero_there. let p = q.pending e.caller called.0 known.caller low called.1 committed known.here in omega (arith, p.since, zero_there))
+    (λ none. q.uncommitted e.caller called.0 known.caller low called.1 none known.here)
+    ∙ ap (λ k. is_return k && not (has_committed e.caller earlier)) (sym is)
+  where
+    by_commit : {n : ℕ} (b : Bool) → has_committed e.caller earlier ≡ b → (has_committed e.caller earlier ≡ true → n ≢ 0)
+        → (has_committed e.caller earlier ≡ false → n ≡ 0) → (n == 0) ≡ not (has_committed e.caller earlier)
+    by_commit {n} true b has none = isnt_same n 0 (has b) ∙ ap not (sym b)
+    by_commit {n} false b has none = is_same n 0 (none b) ∙ ap not (sym b)

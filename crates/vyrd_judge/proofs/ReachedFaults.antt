@@ -1,5 +1,5 @@
 -- The fault at a place that is reached, and what is reached after it.
-use Rattle.std.proofs.Common.{◌≡◌, ℕ, ◌≤◌, true, false, cond, ◌||◌, not, List, ◌∷◌, length, Option, Some, None, ap, ◌∙◌, sym}
+use Rattle.std.proofs.Common.{◌≡◌, ℕ, ◌≤◌, true, false, cond, ◌||◌, List, ◌∷◌, length, Option, Some, None, ap, ◌∙◌, sym}
 use Rattle.std.specs.Prelude.{◌==◌, option_map, option_and_then}
 use Rattle.std.specs.Option.{option_and}
 use Rattle.std.specs.List.{list_any}
@@ -9,8 +9,7 @@ use Rattle.vyrd_base.specs.declared.log.Entry.{Entry}
 use Rattle.vyrd_base.specs.declared.log.StartWord.{StartWord}
 use Rattle.vyrd_base.specs.declared.verdict.Why.{Why}
 use Rattle.vyrd_base.specs.declared.verdict.Why.TheVariants.{Reply, View, Observer}
-use Rattle.vyrd_base.specs.Callers.{Called, open_call}
-use Rattle.vyrd_base.specs.Subjects.{is_observer}
+use Rattle.vyrd_base.specs.Callers.{Called, open_call, has_committed}
 use Rattle.vyrd_base.specs.Amounts.{Amounts, first_difference}
 use Rattle.vyrd_base.specs.Words.{words_at}
 use Rattle.vyrd_base.specs.Commits.{next_reply, committed_at, commits_after, commit_count, once_returned, state_after}
@@ -21,9 +20,9 @@ use Rattle.vyrd_observers.specs.Watching.{Seen, has_answer}
 use Rattle.vyrd_judge.specs.Reached.{IsWatched}
 use Rattle.vyrd_judge.specs.Reached.{Reached}
 use Rattle.vyrd_observers.specs.Watching.{AllSee}
-use Rattle.vyrd_base.proofs.CommitLaws.{Commits, commits_is, commits_inside, commits_uncalled, fault_of_commit_kind}
+use Rattle.vyrd_base.proofs.CommitLaws.{Commits, commits_is, commits_called, commits_inside, commits_uncalled, fault_of_commit_kind}
 use Rattle.vyrd_base.proofs.StateLaws.{state_here, ending-commit}
-use Rattle.vyrd_judge.proofs.Reaching.{reached_commit}
+use Rattle.vyrd_judge.proofs.Reaching.{OthersStay, reached_commit}
 use Rattle.vyrd_base.specs.Rules.{Rules}
 
 -- what the words show at a commit
@@ -63,15 +62,16 @@ by_next r shown reply o = elim o as (λ _. Option Why) [ None ↦ Some (Reply re
 
 -- a commit that is right
 pub commit_right : (r : Rules) (starting : List StartWord) (states : List Amounts) (c : ℕ) (kind : Kind) (earlier later : List Entry) (state next : Amounts)
-    (watches new : List Seen) (called : Called) (reply : ℕ) → Commits kind → open_call c earlier ≡ Some called → next_reply c later ≡ Some reply
+    (watches closed new : List Seen) (called : Called) (reply : ℕ) → Commits kind → open_call c earlier ≡ Some called → next_reply c later ≡ Some reply
     → r.next called.method called.args reply state ≡ Some next → first_difference (shown_there r starting c kind earlier later) (r.shown next) ≡ None
-    → AllSee (r.answer next) watches new → Reached r states earlier (entry c kind ∷ later) state watches
+    → OthersStay c watches closed → AllSee (r.answer next) closed new → Reached r states earlier (entry c kind ∷ later) state watches
     → (fault_at r starting states (place_of (entry c kind) earlier later) ≡ None) × Reached r states (entry c kind ∷ earlier) later next new
-commit_right r starting states c kind earlier later state next watches new called reply commits opened replied after same see val = (
+commit_right r starting states c kind earlier later state next watches closed new called reply commits opened replied after same others see val = (
   commit_fault_at r starting states c kind earlier later state watches called (Some reply) commits opened replied val
       ∙ ap (by_next r (shown_there r starting c kind earlier later) reply) after ∙ ap (option_map View) same,
-  reached_commit r states c kind earlier later state next watches new (commits_inside kind commits) (commits_uncalled kind commits)
-      (commits_is kind commits) (state_after_at r c kind earlier later state called (Some reply) opened replied ∙ after) see val,
+  reached_commit r states c kind earlier later state next watches closed new (commits_inside kind commits) (commits_uncalled kind commits)
+      (commits_is kind commits) (commits_called kind commits) (state_after_at r c kind earlier later state called (Some reply) opened replied ∙ after)
+      others see val,
 )
 
 -- a commit whose execution hasn't returned
@@ -88,29 +88,29 @@ commit_waits r starting states c kind earlier later state watches called commits
 -- the fault of a return that is reached
 return_fault_at : (r : Rules) (starting : List StartWord) (states : List Amounts) (c reply : ℕ) (earlier later : List Entry) (state : Amounts) (watches : List Seen)
     (called : Called) → open_call c earlier ≡ Some called → Reached r states earlier (entry c (Return reply) ∷ later) state watches
-    → fault_at r starting states (place_of (entry c (Return reply)) earlier later) ≡ observer_fault r (states_since_call states c earlier) reply called
+    → fault_at r starting states (place_of (entry c (Return reply)) earlier later) ≡ observer_fault r (states_since_call states c earlier) (has_committed c earlier) reply called
 unfolding fault_at
 return_fault_at r starting states c reply earlier later state watches called opened val =
-    ap (λ o. option_and o (option_and_then (observer_fault r (states_since_call states c earlier) reply) (open_call c earlier)))
+    ap (λ o. option_and o (option_and_then (observer_fault r (states_since_call states c earlier) (has_committed c earlier) reply) (open_call c earlier)))
     (state_here r states earlier state (commits_after earlier (entry c (Return reply) ∷ later)) val.going)
-    ∙ ap (option_and_then (observer_fault r (states_since_call states c earlier) reply)) opened
+    ∙ ap (option_and_then (observer_fault r (states_since_call states c earlier) (has_committed c earlier) reply)) opened
 
--- an observer's return, by what is kept of the observer
+-- a return without a commit, by what is kept of its execution
 pub observer_at : (r : Rules) (starting : List StartWord) (states : List Amounts) (c reply : ℕ) (earlier later : List Entry) (state : Amounts) (watches : List Seen)
-    (called : Called) (seen : Seen) → open_call c earlier ≡ Some called → is_observer called.method ≡ true
+    (called : Called) (seen : Seen) → open_call c earlier ≡ Some called → has_committed c earlier ≡ false
     → IsWatched r states c earlier called seen
     → Reached r states earlier (entry c (Return reply) ∷ later) state watches
     → fault_at r starting states (place_of (entry c (Return reply)) earlier later) ≡ cond (has_answer seen.answers reply) None (Some (Observer reply))
-observer_at r starting states c reply earlier later state watches called seen opened observes is val =
+observer_at r starting states c reply earlier later state watches called seen opened none is val =
     return_fault_at r starting states c reply earlier later state watches called opened val
-    ∙ ap (λ b. cond (not b || list_any (λ s. r.answer s called.method called.args == reply) (states_since_call states c earlier)) None (Some (Observer reply))) observes
+    ∙ ap (λ b. cond (b || list_any (λ s. r.answer s called.method called.args == reply) (states_since_call states c earlier)) None (Some (Observer reply))) none
     ∙ ap (λ b. cond b None (Some (Observer reply))) (sym (is.answers reply))
 
--- a return of no observer
-pub mutator_at : (r : Rules) (starting : List StartWord) (states : List Amounts) (c reply : ℕ) (earlier later : List Entry) (state : Amounts) (watches : List Seen)
-    (called : Called) → open_call c earlier ≡ Some called → is_observer called.method ≡ false
+-- a return of an execution that has a commit
+pub return_committed_at : (r : Rules) (starting : List StartWord) (states : List Amounts) (c reply : ℕ) (earlier later : List Entry) (state : Amounts) (watches : List Seen)
+    (called : Called) → open_call c earlier ≡ Some called → has_committed c earlier ≡ true
     → Reached r states earlier (entry c (Return reply) ∷ later) state watches
     → fault_at r starting states (place_of (entry c (Return reply)) earlier later) ≡ None
-mutator_at r starting states c reply earlier later state watches called opened mutates val =
+return_committed_at r starting states c reply earlier later state watches called opened committed val =
     return_fault_at r starting states c reply earlier later state watches called opened val
-    ∙ ap (λ b. cond (not b || list_any (λ s. r.answer s called.method called.args == reply) (states_since_call states c earlier)) None (Some (Observer reply))) mutates
+    ∙ ap (λ b. cond (b || list_any (λ s. r.answer s called.method called.args == reply) (states_since_call states c earlier)) None (Some (Observer reply))) committed

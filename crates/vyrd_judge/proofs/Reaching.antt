@@ -11,8 +11,8 @@ use Rattle.vyrd_base.specs.declared.subject.Args.{Args}
 use Rattle.vyrd_base.specs.declared.log.Kind.{Kind}
 use Rattle.vyrd_base.specs.declared.log.Kind.TheVariants.{Call, Return}
 use Rattle.vyrd_base.specs.declared.log.Entry.{Entry}
-use Rattle.vyrd_base.specs.Callers.{Called, open_call, call_or_return, is_call, entries_before_call}
-use Rattle.vyrd_base.specs.Subjects.{is_observer}
+use Rattle.vyrd_base.specs.Callers.{Called, open_call, call_or_return, commit_or_call, has_committed, is_call, entries_before_call}
+use Rattle.vyrd_base.specs.Subjects.{must_commit}
 use Rattle.vyrd_base.specs.Amounts.{Amounts}
 use Rattle.vyrd_base.specs.Commits.{is_commit, Committed, committed_at, commits_after, state_after, states_from, commit_count}
 use Rattle.vyrd_base.specs.Faults.{states_since_call}
@@ -24,9 +24,10 @@ use Rattle.vyrd_judge.specs.Reached.{IsWatched}
 use Rattle.vyrd_judge.specs.Reached.{Reached}
 use Rattle.vyrd_observers.specs.Watching.{AllSee}
 use Rattle.vyrd_base.proofs.StateLaws.{open_call-other, before_call-other, before_call-quiet, count-commit, window-quiet, window-commit, window-call, state_here, going-quiet, going-commit}
+use Rattle.vyrd_base.proofs.CommittedLaws.{committed-other, committed-quiet, committed-own}
 use Rattle.vyrd_base.specs.Rules.{Rules}
 
--- an open observer is watched on where the entry leaves its window
+-- an open execution is watched on where the entry leaves its window
 watched_on : (r : Rules) {states : List Amounts} {c : ℕ} {e : Entry} {earlier : List Entry} {called : Called} {seen : Seen}
     → states_since_call states c (e ∷ earlier) ≡ states_since_call states c earlier → IsWatched r states c earlier called seen
     → IsWatched r states c (e ∷ earlier) called seen
@@ -39,13 +40,14 @@ watched_on r {called = called} window is = record {
 
 -- an entry that is neither a call nor a return nor a commit
 pub reached_inside : (r : Rules) (states : List Amounts) (c : ℕ) (kind : Kind) (earlier later : List Entry) (state : Amounts)
-    (watches : List Seen) → call_or_return kind ≡ None → is_call kind ≡ false → is_commit kind ≡ false
+    (watches : List Seen) → call_or_return kind ≡ None → is_call kind ≡ false → is_commit kind ≡ false → commit_or_call kind ≡ None
     → Reached r states earlier (entry c kind ∷ later) state watches → Reached r states (entry c kind ∷ earlier) later state watches
-reached_inside r states c kind earlier later state watches inside uncalled quiet val = record {
+reached_inside r states c kind earlier later state watches inside uncalled quiet uncommitted val = record {
   going = going-quiet r states (entry c kind) earlier later state quiet val.going;
   allowed = λ d called is. val.allowed d called (sym (open_call-quiet d c kind earlier inside) ∙ is);
-  watched = λ d called within is observes.
-      let old = val.watched d called within (sym (open_call-quiet d c kind earlier inside) ∙ is) observes in (
+  watched = λ d called within is free none.
+      let old = val.watched d called within (sym (open_call-quiet d c kind earlier inside) ∙ is) free
+      (sym (committed-quiet d c kind earlier uncommitted) ∙ none) in (
         old.0,
         old.1,
         watched_on r (window-quiet states d (entry c kind) earlier quiet (before_call-quiet d c kind earlier uncalled)) old.2,
@@ -63,7 +65,7 @@ opened c kind earlier = open_call c (entry c kind ∷ earlier)
 reached_changed : (r : Rules) (states : List Amounts) (c : ℕ) (kind : Kind) (earlier later : List Entry) (state : Amounts)
     (watches new : List Seen) → is_commit kind ≡ false → OthersStay c watches new
     → ((called : Called) → opened c kind earlier ≡ Some called → has_method r.header called.method called.args ≡ true)
-    → ((called : Called) → opened c kind earlier ≡ Some called → is_observer called.method ≡ true
+    → ((called : Called) → opened c kind earlier ≡ Some called → must_commit called.method ≡ false
     → (seen : Seen) × (slice_get new c ≡ Some seen) × IsWatched r states c (entry c kind ∷ earlier) called seen)
     → Reached r states earlier (entry c kind ∷ later) state watches → Reached r states (entry c kind ∷ earlier) later state new
 reached_changed r states c kind earlier later state watches new quiet others may own val = record {
@@ -71,10 +73,11 @@ reached_changed r states c kind earlier later state watches new quiet others may
   allowed = λ d called is. by_same c d
       (λ same. may called (subst (λ k. open_call k (entry c kind ∷ earlier) ≡ Some called) (sym same) is))
       (λ other. val.allowed d called (sym (open_call-other d c kind earlier other) ∙ is));
-  watched = λ d called within is observes. by_same c d
+  watched = λ d called within is free none. by_same c d
       (λ same. subst (λ k. (seen : Seen) × (slice_get new k ≡ Some seen) × IsWatched r states k (entry c kind ∷ earlier) called seen) same
-      (own called (subst (λ k. open_call k (entry c kind ∷ earlier) ≡ Some called) (sym same) is) observes))
-      (λ other. let old = val.watched d called within (sym (open_call-other d c kind earlier other) ∙ is) observes in (
+      (own called (subst (λ k. open_call k (entry c kind ∷ earlier) ≡ Some called) (sym same) is) free))
+      (λ other. let old = val.watched d called within (sym (open_call-other d c kind earlier other) ∙ is) free
+      (sym (committed-other d c kind earlier other) ∙ none) in (
         old.0,
         others d other ∙ old.1,
         watched_on r (window-quiet states d (entry c kind) earlier quiet (before_call-other d c kind earlier other)) old.2,
@@ -88,23 +91,23 @@ opened_call c method args earlier = ap option_flatten (own_answer c call_or_retu
 opened_return : (c reply : ℕ) (earlier : List Entry) → opened c (Return reply) earlier ≡ None
 opened_return c reply earlier = ap option_flatten (own_answer c call_or_return (Return reply) earlier)
 
--- a mutator's call
-pub reached_mutates : (r : Rules) (states : List Amounts) (c : ℕ) (method : Method) (args : Args) (earlier later : List Entry) (state : Amounts)
-    (watches : List Seen) → is_observer method ≡ false → has_method r.header method args ≡ true
+-- a call of a method that has to commit
+pub reached_owes : (r : Rules) (states : List Amounts) (c : ℕ) (method : Method) (args : Args) (earlier later : List Entry) (state : Amounts)
+    (watches : List Seen) → must_commit method ≡ true → has_method r.header method args ≡ true
     → Reached r states earlier (entry c (Call method args) ∷ later) state watches
     → Reached r states (entry c (Call method args) ∷ earlier) later state watches
-reached_mutates r states c method args earlier later state watches mutates may val =
+reached_owes r states c method args earlier later state watches owes may val =
     reached_changed r states c (Call method args) earlier later state watches watches refl (λ d other. refl)
     (λ called is. let same : record { method = method; args = args } ≡ called = same_Some _ _ (sym (opened_call c method args earlier) ∙ is) in
     subst (λ k. has_method r.header k.method k.args ≡ true) same may)
-    (λ called is observes. let same : record { method = method; args = args } ≡ called = same_Some _ _ (sym (opened_call c method args earlier) ∙ is) in
-    absurd (apart (sym mutates ∙ ap (λ k. is_observer k.method) same ∙ observes)))
+    (λ called is free. let same : record { method = method; args = args } ≡ called = same_Some _ _ (sym (opened_call c method args earlier) ∙ is) in
+    absurd (apart (sym owes ∙ ap (λ k. must_commit k.method) same ∙ free)))
     val
   where
-    apart : false ≡ true → ⊥
+    apart : true ≡ false → ⊥
     apart e = cc
 
--- an observer's call, which the state here answers
+-- a call of another method, which the state here answers
 pub reached_begins : (r : Rules) (states : List Amounts) (c : ℕ) (method : Method) (args : Args) (earlier later : List Entry) (state : Amounts)
     (watches new : List Seen) → has_method r.header method args ≡ true → OthersStay c watches new
     → slice_get new c ≡ Some (record { is_open = true; method = method; args = args; answers = r.answer state method args ∷ [] })
@@ -114,7 +117,7 @@ reached_begins r states c method args earlier later state watches new may others
     reached_changed r states c (Call method args) earlier later state watches new refl others
     (λ called is. let same : call ≡ called = same_Some _ _ (sym (opened_call c method args earlier) ∙ is) in
     subst (λ k. has_method r.header k.method k.args ≡ true) same may)
-    (λ called is observes. let same : call ≡ called = same_Some _ _ (sym (opened_call c method args earlier) ∙ is) in
+    (λ called is free. let same : call ≡ called = same_Some _ _ (sym (opened_call c method args earlier) ∙ is) in
     (seen, here, subst (λ k. IsWatched r states c (e ∷ earlier) k seen) same watched))
     val
   where
@@ -151,19 +154,19 @@ pub reached_return : (r : Rules) (states : List Amounts) (c reply : ℕ) (earlie
 reached_return r states c reply earlier later state watches new others val =
     reached_changed r states c (Return reply) earlier later state watches new refl others
     (λ called is. absurd (none (sym (opened_return c reply earlier) ∙ is)))
-    (λ called is observes. absurd (none (sym (opened_return c reply earlier) ∙ is)))
+    (λ called is free. absurd (none (sym (opened_return c reply earlier) ∙ is)))
     val
   where
     none : {called : Called} → None ≡ Some called → ⊥
     none e = cc
 
--- a commit leads to the next state, which all open observers see
+-- a commit leads to the next state, which all see that are watched: its own execution isn't any more
 pub reached_commit : (r : Rules) (states : List Amounts) (c : ℕ) (kind : Kind) (earlier later : List Entry) (state next : Amounts)
-    (watches new : List Seen) → call_or_return kind ≡ None → is_call kind ≡ false → is_commit kind ≡ true
+    (watches closed new : List Seen) → call_or_return kind ≡ None → is_call kind ≡ false → is_commit kind ≡ true → commit_or_call kind ≡ Some true
     → state_after r state (committed_at (record { earlier = earlier; here = entry c kind; later = later })) ≡ Some next
-    → AllSee (r.answer next) watches new
+    → OthersStay c watches closed → AllSee (r.answer next) closed new
     → Reached r states earlier (entry c kind ∷ later) state watches → Reached r states (entry c kind ∷ earlier) later next new
-reached_commit r states c kind earlier later state next watches new inside uncalled commits after see val =
+reached_commit r states c kind earlier later state next watches closed new inside uncalled commits committed after others see val =
     let going = going-commit r states (entry c kind) earlier later state next commits after val.going in
     let here : slice_get states (commit_count earlier + 1) ≡ Some next =
     ap (slice_get states) (sym (count-commit (entry c kind) earlier commits))
@@ -171,15 +174,22 @@ reached_commit r states c kind earlier later state next watches new inside uncal
     record {
       going = going;
       allowed = λ d called is. val.allowed d called (sym (open_call-quiet d c kind earlier inside) ∙ is);
-      watched = λ d called within is observes.
-          let old = val.watched d called within (sym (open_call-quiet d c kind earlier inside) ∙ is) observes in
-          let more = see d old.0 old.1 old.2.is_open in (
+      watched = λ d called within is free none. by_same c d
+          (λ same. absurd (apart (sym (committed-own c kind earlier true committed)
+          ∙ ap (λ k. has_committed k (entry c kind ∷ earlier)) same ∙ none)))
+          (λ other.
+          let old = val.watched d called within (sym (open_call-quiet d c kind earlier inside) ∙ is) free
+          (sym (committed-other d c kind earlier other) ∙ none) in
+          let more = see d old.0 (others d other ∙ old.1) old.2.is_open in (
             more.0,
             more.1,
             sees (window-commit states d (entry c kind) earlier next commits (before_call-quiet d c kind earlier uncalled) here) old.2 more.2,
-          );
+          ));
     }
   where
+    apart : true ≡ false → ⊥
+    apart e = cc
+
     sees : {d : ℕ} {called : Called} {seen more : Seen}
         → states_since_call states d (entry c kind ∷ earlier) ≡ states_since_call states d earlier ++ next ∷ []
         → IsWatched r states d earlier called seen → SeesAnswer (r.answer next seen.method seen.args) seen more

@@ -1,6 +1,6 @@
 -- What waits as the log grows by one entry, and what an entry that waits is.
 use Rattle.std.proofs.Common.{◌≡◌, ℕ, Bool, true, false, List, [], ◌∷◌, ◌++◌, map, length, Option, Some, None, refl, ap, subst, ◌∙◌, sym}
-use Rattle.std.specs.Prelude.{option_map, filter_map}
+use Rattle.std.specs.Prelude.{not, option_map, filter_map}
 use Rattle.std.specs.Option.{option_or}
 use Rattle.std.specs.Bool.{then_some}
 use Rattle.std.specs.List.{cons_option}
@@ -10,9 +10,8 @@ use Rattle.vyrd_base.specs.declared.log.Kind.{Kind}
 use Rattle.vyrd_base.specs.declared.log.Kind.TheVariants.{Call, Return, Write, Commit, BlockOpen, BlockClose, BlockCommit}
 use Rattle.vyrd_base.specs.declared.log.Entry.{Entry}
 use Rattle.vyrd_base.specs.Places.{Place, places_after, newest_first_onto}
-use Rattle.vyrd_base.specs.Callers.{Called, open_call, by_caller}
-use Rattle.vyrd_base.specs.Subjects.{is_observer}
-use Rattle.vyrd_base.specs.Shape.{is_observing}
+use Rattle.vyrd_base.specs.Callers.{Called, open_call, has_committed, by_caller}
+use Rattle.vyrd_base.specs.Subjects.{must_commit}
 use Rattle.vyrd_base.specs.Commits.{returned, next_reply}
 use Rattle.vyrd_base.proofs.PlaceLaws.{with_later, places_after-append, first_answer-append}
 use Rattle.vyrd_base.proofs.ListLaws.{or_none}
@@ -69,9 +68,9 @@ kind_replied : (e : Entry) (place : Place Entry) (kind : Kind)
     ≡ option_map (replied e) (option_map (waiting_of place) (event_of place kind))
 kind_replied e place Commit = commit_replied e place Commit alone
 kind_replied e place BlockCommit = commit_replied e place BlockCommit with_block
-kind_replied e place (Call method args) = elim (is_observer method) as (λ b. option_map (waiting_of (with_later (e ∷ []) place)) (then_some b (Begins method args))
+kind_replied e place (Call method args) = elim (not (must_commit method)) as (λ b. option_map (waiting_of (with_later (e ∷ []) place)) (then_some b (Begins method args))
     ≡ option_map (replied e) (option_map (waiting_of place) (then_some b (Begins method args)))) [ true ↦ refl | false ↦ refl ]
-kind_replied e place (Return reply) = elim (is_observing place.here.caller place.earlier) as (λ b. option_map (waiting_of (with_later (e ∷ []) place)) (then_some b (Returns reply))
+kind_replied e place (Return reply) = elim (not (has_committed place.here.caller place.earlier)) as (λ b. option_map (waiting_of (with_later (e ∷ []) place)) (then_some b (Returns reply))
     ≡ option_map (replied e) (option_map (waiting_of place) (then_some b (Returns reply)))) [ true ↦ refl | false ↦ refl ]
 kind_replied e place (Write word value) = refl
 kind_replied e place BlockOpen = refl
@@ -94,13 +93,13 @@ waiting_more earlier later e =
 -- What an entry that waits is.
 pub record IsBegin (e : Entry) (earlier : List Entry) (x : Waiting) (method : Method) (args : Args) : Type 0 where
   pub kind : e.kind ≡ Call method args
-  pub observes : is_observer method ≡ true
+  pub free : must_commit method ≡ false
   pub caller : x.caller ≡ e.caller
   pub position : x.position ≡ length earlier
 
 pub record IsReturn (e : Entry) (earlier : List Entry) (x : Waiting) (reply : ℕ) : Type 0 where
   pub kind : e.kind ≡ Return reply
-  pub observes : is_observing e.caller earlier ≡ true
+  pub none : has_committed e.caller earlier ≡ false
   pub caller : x.caller ≡ e.caller
   pub position : x.position ≡ length earlier
 
@@ -135,17 +134,17 @@ waits e earlier later x is = by_kind e.kind refl is
     none : {A : Type 0} → None ≡ Some x → A
     none p = cc
 
-    at_call : (method : Method) (args : Args) (b : Bool) → e.kind ≡ Call method args → is_observer method ≡ b
-        → option_map (waiting_of place) (then_some b (Begins method args)) ≡ Some x → Waits e earlier later x
-    at_call method args false named observes p = none p
-    at_call method args true named observes p = begins method args (the_event p)
-        (record { kind = named; observes = observes; caller = the_caller p; position = the_position p })
+    at_call : (method : Method) (args : Args) (b : Bool) → e.kind ≡ Call method args → must_commit method ≡ b
+        → option_map (waiting_of place) (then_some (not b) (Begins method args)) ≡ Some x → Waits e earlier later x
+    at_call method args true named free p = none p
+    at_call method args false named free p = begins method args (the_event p)
+        (record { kind = named; free = free; caller = the_caller p; position = the_position p })
 
-    at_return : (reply : ℕ) (b : Bool) → e.kind ≡ Return reply → is_observing e.caller earlier ≡ b
-        → option_map (waiting_of place) (then_some b (Returns reply)) ≡ Some x → Waits e earlier later x
-    at_return reply false named observes p = none p
-    at_return reply true named observes p = returns reply (the_event p)
-        (record { kind = named; observes = observes; caller = the_caller p; position = the_position p })
+    at_return : (reply : ℕ) (b : Bool) → e.kind ≡ Return reply → has_committed e.caller earlier ≡ b
+        → option_map (waiting_of place) (then_some (not b) (Returns reply)) ≡ Some x → Waits e earlier later x
+    at_return reply true named uncommitted p = none p
+    at_return reply false named uncommitted p = returns reply (the_event p)
+        (record { kind = named; none = uncommitted; caller = the_caller p; position = the_position p })
 
     at_commit : (o : Option Called) → Committing e.kind → open_call e.caller earlier ≡ o
         → option_map (waiting_of place) (option_map (commit_of (next_reply e.caller later)) o) ≡ Some x → Waits e earlier later x
@@ -157,8 +156,8 @@ waits e earlier later x is = by_kind e.kind refl is
     committing_as named c = subst Committing (sym named) c
 
     by_kind : (kind : Kind) → e.kind ≡ kind → option_map (waiting_of place) (event_of place kind) ≡ Some x → Waits e earlier later x
-    by_kind (Call method args) named p = at_call method args (is_observer method) named refl p
-    by_kind (Return reply) named p = at_return reply (is_observing e.caller earlier) named refl p
+    by_kind (Call method args) named p = at_call method args (must_commit method) named refl p
+    by_kind (Return reply) named p = at_return reply (has_committed e.caller earlier) named refl p
     by_kind Commit named p = at_commit (open_call e.caller earlier) (committing_as named alone) refl p
     by_kind BlockCommit named p = at_commit (open_call e.caller earlier) (committing_as named with_block) refl p
     by_kind (Write word value) named p = none p

@@ -1,6 +1,6 @@
 -- What is judged of a log so far, and what waits.
 use Rattle.std.specs.Prelude.{◌≡◌, ◌≤◌, ◌+◌, ◌^◌, ℕ, true, false, List, ◌∷◌, ◌++◌, Some, None}
-use Rattle.std.specs.Prelude.{length}
+use Rattle.std.specs.Prelude.{length, slice_set}
 use Rattle.vyrd_base.specs.declared.log.Entry.{Entry}
 use Rattle.vyrd_base.specs.declared.log.StartWord.{StartWord}
 use Rattle.vyrd_base.specs.Places.{places_after, newest_first_onto, newest_first, first_answer}
@@ -17,7 +17,7 @@ use Rattle.vyrd_judge.specs.declared.outcome.Outcome.TheVariants.{Goes, Faults, 
 use Rattle.vyrd_judge.specs.declared.waiting.Waiting.{Waiting}
 use Rattle.vyrd_words.specs.Cuts.{Cuts}
 use Rattle.vyrd_words.specs.Effects.{effect_parts, HasParts, is_ended}
-use Rattle.vyrd_observers.specs.Watching.{Seen}
+use Rattle.vyrd_observers.specs.Watching.{Seen, unwatched}
 use Rattle.vyrd_judge.specs.Waiting.{waiting_after}
 use Rattle.vyrd_judge.specs.Reached.{Reached}
 use Rattle.vyrd_observers.specs.Watching.{AreCurrent, AllSee}
@@ -69,31 +69,33 @@ MayJudge r state made watches x first since =
     ∥ ((starting : List StartWord) × (log : List Entry) × (xs : List Waiting)
     × Judged r starting log state made watches (x ∷ xs) first since × (length log ≤ 2 ^ 62)) ∥₁
 
--- A commit that is right: its reply is allowed, its view is the state after it, which each open
--- observer has seen, and the words go on to the next commit that waits.
+-- A commit that is right: its reply is allowed, its view is the state after it, all but its caller
+-- that are watched have seen that state, and the words go on to the next commit that waits.
 pub record CommitRight (r : Rules) (first : List ℕ) (part : List (ℕ × ℕ))
-    (rest : List (List (ℕ × ℕ))) (called : Called) (reply : ℕ) (before : Amounts) (made : ℕ)
-    (old : List Seen) (after : Amounts) (more : ℕ) (new : List Seen) (next_first : List ℕ)
-    (next_since : List (List (ℕ × ℕ))) : Type 0 where
+    (rest : List (List (ℕ × ℕ))) (caller : ℕ) (called : Called) (reply : ℕ) (before : Amounts)
+    (made : ℕ) (old : List Seen) (after : Amounts) (more : ℕ) (new : List Seen)
+    (next_first : List ℕ) (next_since : List (List (ℕ × ℕ))) : Type 0 where
   pub next : r.next called.method called.args reply before ≡ Some after
   pub same : first_difference (r.view first) (r.shown after) ≡ None
   pub count : more ≤ made + 1
-  pub seen : AllSee (r.answer after) old new
+  pub seen : AllSee (r.answer after) (slice_set old caller unwatched) new
   pub current : AreCurrent (r.answer after) new
   pub words : next_first ≡ with_writes first part
   pub since : next_since ≡ rest
 
 -- what a commit leads to, if these are the words there
-abbrev pub CommitLeads : Rules → List ℕ → List (ℕ × ℕ) → List (List (ℕ × ℕ)) → Called → ℕ → Amounts
-    → ℕ → List Seen → Amounts → ℕ → List Seen → List ℕ → List (List (ℕ × ℕ)) → Outcome → Type 0
-CommitLeads r first part rest called reply before made old after more new next_first next_since
-    Goes =
-    CommitRight r first part rest called reply before made old after more new next_first next_since
-CommitLeads r first part rest called reply before made old after more new next_first next_since
-    (Faults why) =
+abbrev pub CommitLeads : Rules → List ℕ → List (ℕ × ℕ) → List (List (ℕ × ℕ)) → ℕ → Called → ℕ
+    → Amounts → ℕ → List Seen → Amounts → ℕ → List Seen → List ℕ → List (List (ℕ × ℕ)) → Outcome
+    → Type 0
+CommitLeads r first part rest caller called reply before made old after more new next_first
+    next_since Goes =
+    CommitRight r first part rest caller called reply before made old after more new next_first
+    next_since
+CommitLeads r first part rest caller called reply before made old after more new next_first
+    next_since (Faults why) =
     step_fault r (r.view first) called reply before ≡ Some why
-CommitLeads r first part rest called reply before made old after more new next_first next_since
-    Ends =
+CommitLeads r first part rest caller called reply before made old after more new next_first
+    next_since Ends =
     ⊥
 
 -- unless there was a fault, the views know the state that was compared last

@@ -7,7 +7,6 @@ use Rattle.vyrd_base.specs.declared.subject.Method.{Method}
 use Rattle.vyrd_base.specs.declared.subject.Args.{Args}
 use Rattle.vyrd_base.specs.declared.log.Entry.{Entry}
 use Rattle.vyrd_base.specs.Callers.{Called, open_call, has_committed}
-use Rattle.vyrd_base.specs.Subjects.{is_observer}
 use Rattle.vyrd_judge.specs.declared.caller.Caller.{Caller}
 use Rattle.vyrd_judge.specs.declared.waiting.Event.TheVariants.{Commits}
 use Rattle.vyrd_judge.specs.declared.waiting.Waiting.{Waiting}
@@ -22,23 +21,22 @@ pub record IsCaller (callers : List Caller) (c : ℕ) (called : Called) : Type 0
   pub method : caller.method ≡ called.method
   pub args : caller.args ≡ called.args
 
--- its commit waits without a reply, in the place that its number says
+-- its commit waits without a reply, in the place that its number says, counted from 1
 pub record IsPending (waiting : List Waiting) (taken : ℕ) (c : ℕ) (called : Called)
     (caller : Caller) : Type 0 where
   pub commit : Waiting
-  pub since : taken ≤ caller.commit
-  pub here : slice_get waiting (caller.commit - taken) ≡ Some commit
+  pub since : taken < caller.commit
+  pub here : slice_get waiting (caller.commit - 1 - taken) ≡ Some commit
   pub caller_is : commit.caller ≡ c
   pub event : commit.event ≡ Commits called.method called.args None
 
--- a commit that waits without a reply is the open mutator's of its caller, and has its number
+-- a commit that waits without a reply is the open execution's of its caller, and has its number
 pub record IsUnreturned (callers : List Caller) (taken : ℕ) (earlier : List Entry) (i : ℕ)
     (commit : Waiting) (called : Called) : Type 0 where
   pub opened : open_call commit.caller earlier ≡ Some called
-  pub mutates : is_observer called.method ≡ false
   pub committed : has_committed commit.caller earlier ≡ true
   pub number : (caller : Caller) → slice_get callers commit.caller ≡ Some caller
-      → caller.commit ≡ taken + i
+      → caller.commit ≡ taken + i + 1
 
 -- What is kept of callers and their commits stands for these entries, given the newest first.
 -- `taken` of them no longer wait.
@@ -50,6 +48,10 @@ pub record HasQueued (h : Header) (waiting : List Waiting) (taken : ℕ) (caller
       → open_call c earlier ≡ Some k → has_committed c earlier ≡ true
       → slice_get callers c ≡ Some caller
       → IsPending waiting taken c k caller
+  pub uncommitted : (c : ℕ) (k : Called) (caller : Caller) → c < h.callers
+      → open_call c earlier ≡ Some k → has_committed c earlier ≡ false
+      → slice_get callers c ≡ Some caller
+      → caller.commit ≡ 0
   pub unreturned : (i : ℕ) (commit : Waiting) (k : Called) → slice_get waiting i ≡ Some commit
       → commit.event ≡ Commits k.method k.args None → IsUnreturned callers taken earlier i commit k
   pub count : taken + length waiting ≤ length earlier

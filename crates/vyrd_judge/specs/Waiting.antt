@@ -1,14 +1,13 @@
 -- Which entries wait to be judged.
-use Rattle.std.specs.Prelude.{ℕ, List, Option, None, option_map, filter_map}
+use Rattle.std.specs.Prelude.{ℕ, not, List, Option, None, option_map, filter_map}
 use Rattle.std.specs.Bool.{then_some}
 use Rattle.std.specs.Option.{option_or}
 use Rattle.vyrd_base.specs.declared.log.Kind.{Kind}
 use Rattle.vyrd_base.specs.declared.log.Kind.TheVariants.{Call, Return, Commit, BlockCommit}
 use Rattle.vyrd_base.specs.declared.log.Entry.{Entry}
 use Rattle.vyrd_base.specs.Places.{Place, places_after, position_of}
-use Rattle.vyrd_base.specs.Callers.{Called, open_call, by_caller}
-use Rattle.vyrd_base.specs.Subjects.{is_observer}
-use Rattle.vyrd_base.specs.Shape.{is_observing}
+use Rattle.vyrd_base.specs.Callers.{Called, open_call, has_committed, by_caller}
+use Rattle.vyrd_base.specs.Subjects.{must_commit}
 use Rattle.vyrd_base.specs.Commits.{returned, next_reply}
 use Rattle.vyrd_judge.specs.declared.waiting.Event.{Event}
 use Rattle.vyrd_judge.specs.declared.waiting.Event.TheVariants.{Begins, Commits, Returns}
@@ -18,11 +17,12 @@ use Rattle.vyrd_judge.specs.declared.waiting.Waiting.{Waiting}
 abbrev pub commit_of : Option ℕ → Called → Event
 commit_of reply called = Commits called.method called.args reply
 
--- the event of an entry of this kind, if it is one that is judged
+-- The event of an entry of this kind, if it is one that is judged: a commit; a return of an
+-- execution without a commit; and a call of a method whose executions may return so.
 abbrev pub event_of : Place Entry → Kind → Option Event
-event_of place (Call method args) = then_some (is_observer method) (Begins method args)
+event_of place (Call method args) = then_some (not (must_commit method)) (Begins method args)
 event_of place (Return reply) =
-    then_some (is_observing place.here.caller place.earlier) (Returns reply)
+    then_some (not (has_committed place.here.caller place.earlier)) (Returns reply)
 event_of place Commit = option_map (commit_of (next_reply place.here.caller place.later))
     (open_call place.here.caller place.earlier)
 event_of place BlockCommit = option_map (commit_of (next_reply place.here.caller place.later))

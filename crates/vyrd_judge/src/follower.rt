@@ -30,12 +30,12 @@ pub(crate) struct Follower<S: Spec> {
     /// How many starting words stand before the first entry.
     started: u64,
     shape: Shape,
-    words: Words,
+    words: Words<S::Compared>,
     queue: Queue,
     replay: Replay<S>,
     entries: u64,
     commits: u64,
-    /// How many observers have returned.
+    /// How many executions have returned without a commit.
     observers: u64,
 }
 
@@ -43,6 +43,7 @@ impl<S: Spec> Model for Follower<S> {
     ghost use Rattle.std.specs.Prelude.{◌≡◌, ◌≤◌, ◌^◌};
     ghost use Rattle.vyrd_base.specs.Rules.{rules_by};
     ghost use Rattle.vyrd_judge.specs.Following.{Kept};
+    ghost use Rattle.vyrd_view.specs.Known.{view_by};
 
     ghost Value = { Kept };
 
@@ -68,7 +69,8 @@ impl<S: Spec> Model for Follower<S> {
         × (f.words.shadow.header ≡ (rules_by (S.charter f.replay.spec)).header)
         × (f.queue.header ≡ (rules_by (S.charter f.replay.spec)).header)
         × (f.started ≤ 2 ^ 32) × (f.entries ≤ 2 ^ 62)
-        × (f.words.views.header ≡ (rules_by (S.charter f.replay.spec)).header) };
+        × (f.words.views.header ≡ (rules_by (S.charter f.replay.spec)).header)
+        × (view_by f.words.views.shows ≡ (rules_by (S.charter f.replay.spec)).view) };
 }
 
 impl<S: Spec> Follower<S> {
@@ -93,10 +95,11 @@ impl<S: Spec> Follower<S> {
     {
         let changed = words_of(alloc, start)?;
         let state = spec.view(alloc)?;
+        let compared = spec.compared(alloc)?;
         Ok(Follower {
             started: start.len() as u64,
             shape: Shape::new(alloc, header)?,
-            words: Words::new(alloc, header, words, changed, &state)?,
+            words: Words::new(alloc, header, words, changed, &state, compared)?,
             queue: Queue::new(alloc, header)?,
             replay: Replay::new(alloc, header, spec)?,
             entries: 0,

@@ -1,12 +1,12 @@
 //! The queue of the entries that wait.
 
-ghost use Rattle.std.specs.Prelude.{◌≡◌, ◌<◌, ◌≤◌, ◌+◌, ◌-◌, ◌^◌, ◌∷◌, ◌++◌, ◌&&◌, true, false};
+ghost use Rattle.std.specs.Prelude.{◌≡◌, ◌<◌, ◌+◌, ◌-◌, ◌^◌, ◌∷◌, ◌++◌, ◌&&◌};
 ghost use Rattle.std.specs.Prelude.{List, [], length, Some, None, IfOk, OnOk, slice_get, slice_set};
-ghost use Rattle.std.specs.Prelude.{vec_len};
+ghost use Rattle.std.specs.Prelude.{vec_len, not, ◌≢◌};
 ghost use Rattle.std.specs.Bool.{then_some};
 ghost use Rattle.std.specs.List.{cons_option};
-ghost use Rattle.vyrd_base.specs.Shape.{is_observing};
-ghost use Rattle.vyrd_base.specs.Subjects.{is_observer};
+ghost use Rattle.vyrd_base.specs.Callers.{has_committed};
+ghost use Rattle.vyrd_base.specs.Subjects.{must_commit};
 ghost use Rattle.vyrd_base.specs.Verdicts.{is_return};
 ghost use Rattle.vyrd_judge.specs.declared.caller.Caller.{Caller};
 ghost use Rattle.vyrd_judge.specs.declared.waiting.Event.TheVariants.{Begins, Commits, Returns};
@@ -43,7 +43,7 @@ impl Queue {
         ensures header { IfOk result (λ q. q.header ≡ header) }
     {
         let nobody = Caller {
-            method: Method::MsInsert,
+            method: Method::some(),
             args: Args { a: 0, b: 0, c: 0 },
             commit: 0,
         };
@@ -56,7 +56,7 @@ impl Queue {
     }
 
     /// Takes in the entry at a position, which keeps the rules. It waits from then on, if it is one
-    /// that is judged; and if it is a mutator's return, its commit has the reply.
+    /// that is judged; and if it is the return of an execution with a commit, that has the reply.
     #[inline(always)]
     pub fn follow(&mut self, entry: Entry, position: u64) -> Result<(), AllocError>
         requires may { MayQueue self.old.header self.old.waiting.items self.old.taken
@@ -82,7 +82,7 @@ impl Queue {
         }
     }
 
-    /// A call is remembered, and waits if it is an observer's.
+    /// A call is remembered, and waits if its execution may return without a commit.
     #[inline(always)]
     #[tactic(auto, using(vyrd_base::proofs::HeaderLaws::few_callers))]
     fn call(
@@ -96,7 +96,7 @@ impl Queue {
         ensures callers { OnOk result (self.new.callers.items ≡ slice_set self.old.callers.items
             caller (record { method = method; args = args; commit = 0 })) }
         ensures waiting { OnOk result (self.new.waiting.items
-            ≡ self.old.waiting.items ++ cons_option (then_some (is_observer method)
+            ≡ self.old.waiting.items ++ cons_option (then_some (not (must_commit method))
             (record { caller = caller; position = position; event = Begins method args })) []) }
         ensures taken { OnOk result (self.new.taken ≡ self.old.taken) }
         ensures header { self.new.header ≡ self.old.header }
@@ -106,7 +106,7 @@ impl Queue {
             args,
             commit: 0,
         };
-        if method.is_observer() {
+        if !method.must_commit() {
             self.waiting.push_back(Waiting::new(caller, position, Event::Begins(method, args)))?;
         }
         Ok(())
@@ -120,7 +120,7 @@ impl Queue {
         requires few { self.old.taken + length self.old.waiting.items < 2 ^ 62 }
         ensures callers { (called : Caller) → slice_get self.old.callers.items caller ≡ Some called
             → OnOk result (self.new.callers.items ≡ slice_set self.old.callers.items caller
-            (record called { commit = self.old.taken + length self.old.waiting.items })) }
+            (record called { commit = self.old.taken + length self.old.waiting.items + 1 })) }
         ensures waiting { (called : Caller) → slice_get self.old.callers.items caller ≡ Some called
             → OnOk result (self.new.waiting.items ≡ self.old.waiting.items
             ++ record {
@@ -132,7 +132,7 @@ impl Queue {
         ensures taken { OnOk result (self.new.taken ≡ self.old.taken) }
         ensures header { self.new.header ≡ self.old.header }
     {
-        let number = self.taken + self.waiting.len() as u64;
+        let number = self.taken + self.waiting.len() as u64 + 1;
         let called = self.callers[caller as usize];
         let event = Event::Commits(called.method, called.args, None);
         self.waiting
@@ -145,35 +145,37 @@ impl Queue {
         Ok(())
     }
 
-    /// An observer's return waits. A mutator's goes to its commit.
+    /// A return goes to its execution's commit, and waits if there is none.
     #[inline(always)]
     #[tactic(auto, using(vyrd_base::proofs::HeaderLaws::few_callers))]
     fn give_back(&mut self, caller: u32, position: u64, reply: u64) -> Result<(), AllocError>
         requires caller { caller < self.old.header.callers }
         requires pending { (called : Caller) → slice_get self.old.callers.items caller ≡ Some called
-            → is_observer called.method ≡ false
-            → (self.old.taken ≤ called.commit)
-            × (called.commit - self.old.taken < length self.old.waiting.items) }
-        ensures observer { (called : Caller) → slice_get self.old.callers.items caller ≡ Some called
-            → is_observer called.method ≡ true
+            → called.commit ≢ 0
+            → (self.old.taken < called.commit)
+            × (called.commit - 1 - self.old.taken < length self.old.waiting.items) }
+        ensures uncommitted { (called : Caller)
+            → slice_get self.old.callers.items caller ≡ Some called
+            → called.commit ≡ 0
             → OnOk result (self.new.waiting.items ≡ self.old.waiting.items
             ++ record { caller = caller; position = position; event = Returns reply } ∷ []) }
-        ensures mutator { (called : Caller) → slice_get self.old.callers.items caller ≡ Some called
-            → is_observer called.method ≡ false → (commit : Waiting)
-            → slice_get self.old.waiting.items (called.commit - self.old.taken) ≡ Some commit
+        ensures committed { (called : Caller)
+            → slice_get self.old.callers.items caller ≡ Some called
+            → called.commit ≢ 0 → (commit : Waiting)
+            → slice_get self.old.waiting.items (called.commit - 1 - self.old.taken) ≡ Some commit
             → OnOk result (self.new.waiting.items
-            ≡ slice_set self.old.waiting.items (called.commit - self.old.taken)
+            ≡ slice_set self.old.waiting.items (called.commit - 1 - self.old.taken)
             (record commit { event = Commits called.method called.args (Some reply) })) }
         ensures callers { OnOk result (self.new.callers.items ≡ self.old.callers.items) }
         ensures taken { OnOk result (self.new.taken ≡ self.old.taken) }
         ensures header { self.new.header ≡ self.old.header }
     {
         let called = self.callers[caller as usize];
-        if called.method.is_observer() {
+        if called.commit == 0 {
             self.waiting
                 .push_back(Waiting::new(caller, position, Event::Returns(reply)))?;
         } else {
-            let at = (called.commit - self.taken) as usize;
+            let at = (called.commit - 1 - self.taken) as usize;
             let commit = self.waiting[at];
             let event = Event::Commits(called.method, called.args, Some(reply));
             self.waiting[at] = Waiting::new(commit.caller(), commit.position(), event);
@@ -191,7 +193,7 @@ impl Queue {
         self.waiting.front().copied()
     }
 
-    /// Whether an observer returns with the entry, which keeps the rules.
+    /// Whether an execution without a commit returns with the entry, which keeps the rules.
     #[inline(always)]
     pub fn observer_returns(&self, entry: Entry) -> bool
         requires { entry.caller < self.now.header.callers }
@@ -199,11 +201,11 @@ impl Queue {
             → HasQueued self.now.header self.now.waiting.items self.now.taken self.now.callers.items
             earlier
             → Keeps self.now.header earlier entry
-            → result ≡ (is_return entry.kind && is_observing entry.caller earlier) }
+            → result ≡ (is_return entry.kind && not (has_committed entry.caller earlier)) }
     {
         let called = self.callers[entry.caller as usize];
         match entry.kind {
-            Kind::Return(_) => called.method.is_observer(),
+            Kind::Return(_) => called.commit == 0,
             _ => false,
         }
     }

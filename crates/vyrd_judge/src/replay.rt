@@ -5,7 +5,7 @@ ghost use Rattle.std.specs.Prelude.{IfOk, OnOk, slice_get, slice_set, length};
 ghost use Rattle.vyrd_base.specs.Rules.{rules_by};
 ghost use Rattle.vyrd_base.specs.declared.log.Entry.{Entry};
 ghost use Rattle.vyrd_base.specs.declared.log.StartWord.{StartWord};
-ghost use Rattle.vyrd_base.specs.Subjects.{is_observer};
+ghost use Rattle.vyrd_base.specs.Subjects.{is_observer, must_commit};
 ghost use Rattle.vyrd_judge.specs.declared.outcome.Outcome.TheVariants.{Goes};
 ghost use Rattle.vyrd_judge.specs.declared.waiting.Waiting.{Waiting};
 ghost use Rattle.vyrd_base.specs.Entries.{has_method};
@@ -13,6 +13,7 @@ ghost use Rattle.vyrd_judge.specs.Judged.{Judged, HeadGives, MayJudge, CommitLea
 ghost use Rattle.vyrd_judge.specs.Queued.{CanLeave};
 ghost use Rattle.vyrd_observers.specs.Watching.{AreCurrent};
 ghost use Rattle.vyrd_observers.specs.Watching.{Seen, unwatched, has_answer};
+ghost use Rattle.vyrd_view.specs.Known.{view_by};
 
 use crate::outcome::Outcome;
 use crate::waiting::{Event, Waiting};
@@ -23,7 +24,7 @@ use vyrd_spec::Spec;
 use vyrd_words::Words;
 
 /// What is known when all entries before some place are judged: the state of the specification
-/// there, and each caller's open observer.
+/// there, and for each caller whose open execution may return without a commit what it may answer.
 #[derive(Drop)]
 pub(crate) struct Replay<S: Spec> {
     pub spec: S,
@@ -47,13 +48,13 @@ impl<S: Spec> Replay<S> {
         })
     }
 
-    /// An observer begins, in the state here.
+    /// An execution that may return without a commit begins, in the state here.
     #[inline(never)]
     fn begin(&mut self, caller: u32, method: Method, args: Args) -> Result<(), AllocError>
         requires caller { caller < (rules_by (S.charter self.old.spec)).header.callers }
         requires allowed { has_method (rules_by (S.charter self.old.spec)).header method args
             ≡ true }
-        requires observer { is_observer method ≡ true }
+        requires may_answer { must_commit method ≡ false }
         ensures watches { OnOk result (self.new.watches.by_caller
             ≡ slice_set self.old.watches.by_caller caller (record {
               is_open = true;
@@ -68,7 +69,8 @@ impl<S: Spec> Replay<S> {
         self.watches.begin(caller, method, args, answer)
     }
 
-    /// An observer returns. It says whether some state since its call answers the reply.
+    /// An execution without a commit returns. It says whether some state since its call answers the
+    /// reply.
     #[inline(never)]
     fn end(&mut self, caller: u32, reply: u64) -> bool
         requires caller { caller < (rules_by (S.charter self.old.spec)).header.callers }
@@ -81,17 +83,20 @@ impl<S: Spec> Replay<S> {
         self.watches.end(caller, reply)
     }
 
-    /// A commit is judged by its reply and by the words there, which wait first. What is open sees
-    /// the state after it.
+    /// A commit is judged by its reply and by the words there, which wait first. Its execution is
+    /// watched no more, since it is judged by its commit. What is watched sees the state after it.
     #[inline(never)]
     fn commit(
         &mut self,
-        words: &mut Words,
+        words: &mut Words<S::Compared>,
+        caller: u32,
         method: Method,
         args: Args,
         reply: u64,
     ) -> Result<Outcome, AllocError>
-        requires header { words.old.views.header ≡ (rules_by (S.charter self.old.spec)).header }
+        requires caller { caller < (rules_by (S.charter self.old.spec)).header.callers }
+        requires shows { view_by words.old.views.shows
+            ≡ (rules_by (S.charter self.old.spec)).view }
         requires may { has_method (rules_by (S.charter self.old.spec)).header method args ≡ true }
         requires mutates { is_observer method ≡ false }
         requires few { S.made self.old.spec < 2 ^ 62 }
@@ -105,7 +110,7 @@ impl<S: Spec> Replay<S> {
             ≡ (rules_by (S.charter self.old.spec)).shown (S.state self.old.spec)
             → IfOk result
             (CommitLeads (rules_by (S.charter self.old.spec)) words.old.views.first part rest
-            (record { method = method; args = args }) reply (S.state self.old.spec)
+            caller (record { method = method; args = args }) reply (S.state self.old.spec)
             (S.made self.old.spec) self.old.watches.by_caller (S.state self.new.spec)
             (S.made self.new.spec) self.new.watches.by_caller words.new.views.first
             words.new.views.since) }
@@ -116,17 +121,18 @@ impl<S: Spec> Replay<S> {
             (S.state self.new.spec)) }
         ensures charter { S.charter self.new.spec ≡ S.charter self.old.spec }
         ensures views_header { words.new.views.header ≡ words.old.views.header }
+        ensures shows { words.new.views.shows ≡ words.old.views.shows }
         ensures shadow { words.new.shadow ≡ words.old.shadow }
         ensures inner { words.new.inner ≡ words.old.inner }
     {
         if !self.spec.step(method, args, reply)? {
             return Ok(Outcome::Faults(Why::Reply(reply)));
         }
-        let touched = self.spec.touched(method, args);
-        if let Some(key) = words.difference(&self.spec, touched)? {
+        if let Some(key) = words.difference(&self.spec)? {
             return Ok(Outcome::Faults(Why::View(key)));
         }
-        self.watches.see_all(&self.spec, touched)?;
+        self.watches.close(caller);
+        self.watches.see_all(&self.spec)?;
         Ok(Outcome::Goes)
     }
 
@@ -135,8 +141,13 @@ impl<S: Spec> Replay<S> {
     /// of open observers, the most that there were at one time, besides that of the specification's
     /// step and of the comparison.
     #[inline(always)]
-    pub fn judge(&mut self, words: &mut Words, x: Waiting) -> Result<Outcome, AllocError>
-        requires header { words.old.views.header ≡ (rules_by (S.charter self.old.spec)).header }
+    pub fn judge(
+        &mut self,
+        words: &mut Words<S::Compared>,
+        x: Waiting,
+    ) -> Result<Outcome, AllocError>
+        requires shows { view_by words.old.views.shows
+            ≡ (rules_by (S.charter self.old.spec)).view }
         requires may { MayJudge (rules_by (S.charter self.old.spec)) (S.state self.old.spec)
             (S.made self.old.spec)
             self.old.watches.by_caller x words.old.views.first words.old.views.since }
@@ -159,6 +170,7 @@ impl<S: Spec> Replay<S> {
             (S.state self.new.spec)) }
         ensures charter { S.charter self.new.spec ≡ S.charter self.old.spec }
         ensures views_header { words.new.views.header ≡ words.old.views.header }
+        ensures shows { words.new.views.shows ≡ words.old.views.shows }
         ensures shadow { words.new.shadow ≡ words.old.shadow }
         ensures inner { words.new.inner ≡ words.old.inner }
     {
@@ -168,7 +180,7 @@ impl<S: Spec> Replay<S> {
                 Ok(Outcome::Goes)
             }
             Event::Commits(method, args, reply) => match reply {
-                Some(reply) => self.commit(words, method, args, reply),
+                Some(reply) => self.commit(words, x.caller(), method, args, reply),
                 None => Ok(Outcome::Ends),
             },
             Event::Returns(reply) => {

@@ -8,11 +8,11 @@ use vyrd_base::{Args, Method};
 /// What an entry that waits does.
 #[derive(Clone, Copy)]
 pub(crate) enum Event {
-    /// An observer's execution begins.
+    /// An execution begins that may return without a commit, as an observer's does.
     Begins(Method, Args),
-    /// A mutator's execution commits. Its reply is `None` if it hasn't returned yet.
+    /// An execution commits. Its reply is `None` if it hasn't returned yet.
     Commits(Method, Args, Option<u64>),
-    /// An observer returns with this reply.
+    /// An execution without a commit returns with this reply.
     Returns(u64),
 }
 
@@ -28,13 +28,13 @@ pub(crate) struct Waiting {
 /// has no reply yet is a variant of its own.
 #[derive(Clone, Copy)]
 enum Held {
-    /// An observer's call.
+    /// The call of an execution that may return without a commit.
     Call(u8, Method, Args),
     /// The commit of an execution that hasn't returned yet.
     Unreturned(u8, Method, Args),
     /// The commit of an execution that has returned with this reply.
     Returned(u8, Method, Args, u64),
-    /// An observer's return.
+    /// The return of an execution without a commit.
     Return(u8, u64),
 }
 

@@ -7,8 +7,9 @@ use std::io;
 use std::io::Cursor;
 use std::test::Fail;
 use vyrd_base::{
-    AmountMap, AmountTable, Args, Failed, Gate, Header, MemorySink, MemorySource, Method, OpenGate,
-    Sink, Source, StdSink, StdSource, Subject, View,
+    AmountMap, AmountTable, Args, BuffersMethod, CacheMethod, Failed, Gate, Header, MemorySink,
+    MemorySource, Method, MultisetMethod, OpenGate, Sink, Source, StdSink, StdSource, Subject,
+    TreeMethod, View,
 };
 
 #[test]
@@ -82,24 +83,114 @@ fn keys_of_a_small_table(rt: HostRuntime) -> Result<(), Fail> {
 #[test]
 fn methods_that_fit(rt: HostRuntime) -> Result<(), Fail> {
     let table = [
-        (Subject::Multiset, Method::MsInsert, (9, 0, 0), true),
-        (Subject::Multiset, Method::MsInsertPair, (9, 8, 0), true),
-        (Subject::Multiset, Method::MsInsert, (9, 8, 0), false),
-        (Subject::Multiset, Method::TrInsert, (9, 8, 0), false),
-        (Subject::Cache, Method::CaWrite, (2, 8, 7), true),
-        (Subject::Cache, Method::CaWrite, (3, 8, 7), false),
-        (Subject::Cache, Method::CaRead, (2, 0, 1), false),
-        (Subject::Tree, Method::TrInsert, (9, 8, 0), true),
-        (Subject::Tree, Method::TrInsert, (9, 8, 7), false),
-        (Subject::Tree, Method::TrLookup, (9, 0, 0), true),
-        (Subject::Buffers, Method::BuAppend, (2, 254, 0), true),
-        (Subject::Buffers, Method::BuAppend, (2, 255, 0), false),
-        (Subject::Buffers, Method::BuAppend, (3, 254, 0), false),
-        (Subject::Buffers, Method::BuAppendFrom, (2, 2, 0), true),
-        (Subject::Buffers, Method::BuAppendFrom, (0, 3, 0), false),
-        (Subject::Buffers, Method::BuCut, (2, 4294967295, 0), true),
-        (Subject::Buffers, Method::BuLength, (2, 1, 0), false),
-        (Subject::Buffers, Method::BuRead, (3, 0, 0), false),
+        (
+            Subject::Multiset,
+            Method::Multiset(MultisetMethod::Insert),
+            (9, 0, 0),
+            true,
+        ),
+        (
+            Subject::Multiset,
+            Method::Multiset(MultisetMethod::InsertPair),
+            (9, 8, 0),
+            true,
+        ),
+        (
+            Subject::Multiset,
+            Method::Multiset(MultisetMethod::Insert),
+            (9, 8, 0),
+            false,
+        ),
+        (
+            Subject::Multiset,
+            Method::Tree(TreeMethod::Insert),
+            (9, 8, 0),
+            false,
+        ),
+        (
+            Subject::Cache,
+            Method::Cache(CacheMethod::Write),
+            (2, 8, 7),
+            true,
+        ),
+        (
+            Subject::Cache,
+            Method::Cache(CacheMethod::Write),
+            (3, 8, 7),
+            false,
+        ),
+        (
+            Subject::Cache,
+            Method::Cache(CacheMethod::Read),
+            (2, 0, 1),
+            false,
+        ),
+        (
+            Subject::Tree,
+            Method::Tree(TreeMethod::Insert),
+            (9, 8, 0),
+            true,
+        ),
+        (
+            Subject::Tree,
+            Method::Tree(TreeMethod::Insert),
+            (9, 8, 7),
+            false,
+        ),
+        (
+            Subject::Tree,
+            Method::Tree(TreeMethod::Lookup),
+            (9, 0, 0),
+            true,
+        ),
+        (
+            Subject::Buffers,
+            Method::Buffers(BuffersMethod::Append),
+            (2, 254, 0),
+            true,
+        ),
+        (
+            Subject::Buffers,
+            Method::Buffers(BuffersMethod::Append),
+            (2, 255, 0),
+            false,
+        ),
+        (
+            Subject::Buffers,
+            Method::Buffers(BuffersMethod::Append),
+            (3, 254, 0),
+            false,
+        ),
+        (
+            Subject::Buffers,
+            Method::Buffers(BuffersMethod::AppendFrom),
+            (2, 2, 0),
+            true,
+        ),
+        (
+            Subject::Buffers,
+            Method::Buffers(BuffersMethod::AppendFrom),
+            (0, 3, 0),
+            false,
+        ),
+        (
+            Subject::Buffers,
+            Method::Buffers(BuffersMethod::Cut),
+            (2, 4294967295, 0),
+            true,
+        ),
+        (
+            Subject::Buffers,
+            Method::Buffers(BuffersMethod::Length),
+            (2, 1, 0),
+            false,
+        ),
+        (
+            Subject::Buffers,
+            Method::Buffers(BuffersMethod::Read),
+            (3, 0, 0),
+            false,
+        ),
     ];
     for (subject, method, (a, b, c), want) in table {
         let header = Header::new(1, subject, 3, 2).ok_or("a header")?;

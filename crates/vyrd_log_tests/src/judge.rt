@@ -8,30 +8,49 @@ use std::alloc::{AllocError, Global};
 use std::test::Fail;
 use vyrd_base::Kind::{BlockClose, BlockCommit, BlockOpen, Call, Commit, Return, Write};
 use vyrd_base::{
-    Args, Did, Entry, Header, Kind, Method, Rule, Stamped, StartWord, Stop, Subject, Verdict,
+    Args, BuffersMethod, CacheMethod, Did, Entry, Header, Kind, Method, MultisetMethod, Rule,
+    Stamped, StartWord, Stop, Subject, TreeMethod, Verdict,
 };
 use vyrd_judge::{AnyJudge, Judge, entry_of, judge_history, judge_log, log_of};
 use vyrd_spec::{BufferSpec, BuiltIn, CacheSpec, MultisetSpec, TreeSpec};
 
-const INSERT: Kind = Call(Method::MsInsert, Args { a: 5, b: 0, c: 0 });
+const INSERT: Kind = Call(
+    Method::Multiset(MultisetMethod::Insert),
+    Args { a: 5, b: 0, c: 0 },
+);
 
-const INSERT_SIX: Kind = Call(Method::MsInsert, Args { a: 6, b: 0, c: 0 });
+const INSERT_SIX: Kind = Call(
+    Method::Multiset(MultisetMethod::Insert),
+    Args { a: 6, b: 0, c: 0 },
+);
 
-const DELETE: Kind = Call(Method::MsDelete, Args { a: 5, b: 0, c: 0 });
+const DELETE: Kind = Call(
+    Method::Multiset(MultisetMethod::Delete),
+    Args { a: 5, b: 0, c: 0 },
+);
 
-const LOOKUP: Kind = Call(Method::MsLookup, Args { a: 5, b: 0, c: 0 });
+const LOOKUP: Kind = Call(
+    Method::Multiset(MultisetMethod::Lookup),
+    Args { a: 5, b: 0, c: 0 },
+);
 
-const WRITE_EARLY: Kind = Call(Method::CaWrite, Args { a: 0, b: 1, c: 2 });
+const WRITE_EARLY: Kind = Call(Method::Cache(CacheMethod::Write), Args { a: 0, b: 1, c: 2 });
 
-const WRITE_LATE: Kind = Call(Method::CaWrite, Args { a: 0, b: 3, c: 4 });
+const WRITE_LATE: Kind = Call(Method::Cache(CacheMethod::Write), Args { a: 0, b: 3, c: 4 });
 
-const FLUSH: Kind = Call(Method::CaFlush, Args { a: 0, b: 0, c: 0 });
+const FLUSH: Kind = Call(Method::Cache(CacheMethod::Flush), Args { a: 0, b: 0, c: 0 });
 
-const INSERT_KEY: Kind = Call(Method::TrInsert, Args { a: 5, b: 9, c: 0 });
+const INSERT_KEY: Kind = Call(Method::Tree(TreeMethod::Insert), Args { a: 5, b: 9, c: 0 });
 
-const APPEND: Kind = Call(Method::BuAppend, Args { a: 1, b: 65, c: 0 });
+const APPEND: Kind = Call(
+    Method::Buffers(BuffersMethod::Append),
+    Args { a: 1, b: 65, c: 0 },
+);
 
-const LENGTH: Kind = Call(Method::BuLength, Args { a: 1, b: 0, c: 0 });
+const LENGTH: Kind = Call(
+    Method::Buffers(BuffersMethod::Length),
+    Args { a: 1, b: 0, c: 0 },
+);
 
 /// The entries of a log: each a caller and what it does.
 macro_rules! logged {
@@ -296,7 +315,10 @@ fn insert(judge: &mut Judge<MultisetSpec>, x: u32) -> Result<(), AllocError>
     requires few { judge.old.kept.entries + 7 ≤ 2 ^ 62 }
     ensures counted { judge.new.kept.entries ≤ judge.old.kept.entries + 7 }
 {
-    let insert = Call(Method::MsInsert, Args { a: x, b: 0, c: 0 });
+    let insert = Call(
+        Method::Multiset(MultisetMethod::Insert),
+        Args { a: x, b: 0, c: 0 },
+    );
     let state = 2 * (4 * (x % 1024) + x / 1024);
     judge.follow(&logged![
         0 insert, 0 Write(state + 1, u64::from(x)), 0 Write(state, 1),
@@ -311,7 +333,7 @@ fn delete_the_last(judge: &mut Judge<MultisetSpec>) -> Result<(), AllocError>
     ensures counted { judge.new.kept.entries ≤ judge.old.kept.entries + 5 }
 {
     let delete = Call(
-        Method::MsDelete,
+        Method::Multiset(MultisetMethod::Delete),
         Args {
             a: 4095,
             b: 0,

@@ -17,8 +17,6 @@ mod judge;
 #[cfg(test)]
 mod mover;
 #[cfg(test)]
-mod observers;
-#[cfg(test)]
 mod plain;
 #[cfg(test)]
 mod shadow;

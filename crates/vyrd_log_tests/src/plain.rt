@@ -5,7 +5,10 @@ ghost use Rattle.std.specs.Prelude.{◌≡◌, ◌≤◌, length};
 use std::alloc::{AllocError, Global};
 use std::test::Fail;
 use vyrd_base::Kind::{BlockCommit, BlockOpen, Call, Return, Write};
-use vyrd_base::{Args, Entry, Header, Kind, Method, Stop, Subject, Verdict};
+use vyrd_base::{
+    Args, BuffersMethod, CacheMethod, Entry, Header, Kind, Method, MultisetMethod, Stop, Subject,
+    TreeMethod, Verdict,
+};
 use vyrd_plain::judge_log;
 use vyrd_spec::{BufferSpec, BuiltIn, CacheSpec, MultisetSpec, TreeSpec};
 
@@ -54,7 +57,10 @@ fn accepted(entries: u64, commits: u64, observers: u64) -> Verdict {
 
 /// A multiset gets 5.
 fn insert() -> [Entry; 7] {
-    let insert = Call(Method::MsInsert, Args { a: 5, b: 0, c: 0 });
+    let insert = Call(
+        Method::Multiset(MultisetMethod::Insert),
+        Args { a: 5, b: 0, c: 0 },
+    );
     logged![
         0 insert, 0 Write(1, 5), 0 Write(0, 1), 0 BlockOpen, 0 Write(0, 2), 0 BlockCommit,
         0 Return(1)
@@ -63,7 +69,7 @@ fn insert() -> [Entry; 7] {
 
 /// Chunk 0 of a cache becomes 1 and 2, and is dirty.
 fn write() -> [Entry; 7] {
-    let write = Call(Method::CaWrite, Args { a: 0, b: 1, c: 2 });
+    let write = Call(Method::Cache(CacheMethod::Write), Args { a: 0, b: 1, c: 2 });
     logged![
         0 write, 0 BlockOpen, 0 Write(1, 1), 0 Write(2, 2), 0 Write(0, 2), 0 BlockCommit,
         0 Return(1)
@@ -72,14 +78,20 @@ fn write() -> [Entry; 7] {
 
 /// An empty tree has no key 5.
 fn lookup() -> [Entry; 2] {
-    let lookup = Call(Method::TrLookup, Args { a: 5, b: 0, c: 0 });
+    let lookup = Call(Method::Tree(TreeMethod::Lookup), Args { a: 5, b: 0, c: 0 });
     logged![0 lookup, 0 Return(0)]
 }
 
 /// The character 65 alone is the text 66.
 fn append_and_read() -> [Entry; 8] {
-    let append = Call(Method::BuAppend, Args { a: 0, b: 65, c: 0 });
-    let read = Call(Method::BuRead, Args { a: 0, b: 0, c: 0 });
+    let append = Call(
+        Method::Buffers(BuffersMethod::Append),
+        Args { a: 0, b: 65, c: 0 },
+    );
+    let read = Call(
+        Method::Buffers(BuffersMethod::Read),
+        Args { a: 0, b: 0, c: 0 },
+    );
     logged![
         0 append, 0 BlockOpen, 0 Write(1, 65), 0 Write(0, 1), 0 BlockCommit, 0 Return(1),
         1 read, 1 Return(66)

@@ -2,14 +2,14 @@
 
 use std::alloc::Global;
 use std::test::Fail;
-use vyrd_base::{Args, Entry, Header, Kind, Method, Rule, Subject};
+use vyrd_base::{Args, Entry, Header, Kind, Method, MultisetMethod, Rule, Subject, TreeMethod};
 use vyrd_shape::Shape;
 
 const KEY: Args = Args { a: 7, b: 0, c: 0 };
 
-const INSERT: Kind = Kind::Call(Method::MsInsert, KEY);
+const INSERT: Kind = Kind::Call(Method::Multiset(MultisetMethod::Insert), KEY);
 
-const LOOKUP: Kind = Kind::Call(Method::MsLookup, KEY);
+const LOOKUP: Kind = Kind::Call(Method::Multiset(MultisetMethod::Lookup), KEY);
 
 fn of(caller: u32, kind: Kind) -> Entry {
     Entry { caller, kind }
@@ -49,11 +49,17 @@ fn each_rule_is_named(rt: HostRuntime) -> Result<(), Fail> {
         ),
         (&[of(2, INSERT)], Some(Rule::CallerRange)),
         (
-            &[of(0, Kind::Call(Method::TrLookup, KEY))],
+            &[of(0, Kind::Call(Method::Tree(TreeMethod::Lookup), KEY))],
             Some(Rule::MethodOther),
         ),
         (
-            &[of(0, Kind::Call(Method::MsLookup, Args { a: 7, b: 1, c: 0 }))],
+            &[of(
+                0,
+                Kind::Call(
+                    Method::Multiset(MultisetMethod::Lookup),
+                    Args { a: 7, b: 1, c: 0 },
+                ),
+            )],
             Some(Rule::ArgumentRange),
         ),
         (&[of(1, INSERT), of(1, LOOKUP)], Some(Rule::CallInCall)),

@@ -9,7 +9,9 @@ ghost use Rattle.vyrd_base.specs.Subjects.{subject_of, is_observer, are_args};
 use Asked::{Amount, Answer, Step};
 use std::alloc::{AllocError, Global};
 use std::process::Abort;
-use vyrd_base::{Args, Header, Method, Subject, View};
+use vyrd_base::{
+    Args, BuffersMethod, CacheMethod, Header, Method, MultisetMethod, Subject, TreeMethod, View,
+};
 use vyrd_spec::{BufferSpec, BuiltIn, CacheSpec, MultisetSpec, Spec, TreeSpec};
 
 /// What is asked of a state, a call with its arguments first, and what the state answers.
@@ -41,10 +43,20 @@ const MULTISETS: &[Case] = &[
         size: 1,
         words: &[],
         asked: &[
-            Step(Method::MsInsert, (5, 0, 0), 1, true),
-            Step(Method::MsDelete, (6, 0, 0), 1, false),
-            Answer(Method::MsLookup, (5, 0, 0), 1),
-            Step(Method::MsInsertPair, (5, 5, 0), 1, true),
+            Step(Method::Multiset(MultisetMethod::Insert), (5, 0, 0), 1, true),
+            Step(
+                Method::Multiset(MultisetMethod::Delete),
+                (6, 0, 0),
+                1,
+                false,
+            ),
+            Answer(Method::Multiset(MultisetMethod::Lookup), (5, 0, 0), 1),
+            Step(
+                Method::Multiset(MultisetMethod::InsertPair),
+                (5, 5, 0),
+                1,
+                true,
+            ),
             Amount(5, 3),
         ],
         pairs: &[(5, 3)],
@@ -66,16 +78,16 @@ const CACHES: &[Case] = &[
     Case {
         size: 1,
         words: &[],
-        asked: &[Step(Method::CaWrite, (0, 1, 2), 1, true)],
+        asked: &[Step(Method::Cache(CacheMethod::Write), (0, 1, 2), 1, true)],
         pairs: &[(0, 8589934593)],
     },
     Case {
         size: 1,
         words: &[],
         asked: &[
-            Step(Method::CaWrite, (0, 1, 2), 1, true),
-            Step(Method::CaFlush, (0, 0, 0), 0, false),
-            Answer(Method::CaRead, (0, 0, 0), 8589934593),
+            Step(Method::Cache(CacheMethod::Write), (0, 1, 2), 1, true),
+            Step(Method::Cache(CacheMethod::Flush), (0, 0, 0), 0, false),
+            Answer(Method::Cache(CacheMethod::Read), (0, 0, 0), 8589934593),
         ],
         pairs: &[(0, 8589934593)],
     },
@@ -103,13 +115,13 @@ const TREES: &[Case] = &[
         size: 1,
         words: &[],
         asked: &[
-            Step(Method::TrInsert, (5, 9, 0), 1, true),
-            Step(Method::TrInsert, (5, 8, 0), 1, false),
-            Step(Method::TrInsert, (5, 8, 0), 2, true),
-            Answer(Method::TrLookup, (5, 0, 0), 9),
-            Step(Method::TrDelete, (5, 0, 0), 1, true),
-            Answer(Method::TrLookup, (5, 0, 0), 0),
-            Step(Method::TrDelete, (5, 0, 0), 1, false),
+            Step(Method::Tree(TreeMethod::Insert), (5, 9, 0), 1, true),
+            Step(Method::Tree(TreeMethod::Insert), (5, 8, 0), 1, false),
+            Step(Method::Tree(TreeMethod::Insert), (5, 8, 0), 2, true),
+            Answer(Method::Tree(TreeMethod::Lookup), (5, 0, 0), 9),
+            Step(Method::Tree(TreeMethod::Delete), (5, 0, 0), 1, true),
+            Answer(Method::Tree(TreeMethod::Lookup), (5, 0, 0), 0),
+            Step(Method::Tree(TreeMethod::Delete), (5, 0, 0), 1, false),
         ],
         pairs: &[],
     },
@@ -151,12 +163,12 @@ const BUFFERS: &[Case] = &[
         size: 2,
         words: &[],
         asked: &[
-            Step(Method::BuAppend, (1, 65, 0), 1, true),
-            Step(Method::BuAppend, (1, 66, 0), 0, false),
-            Step(Method::BuAppend, (1, 66, 0), 1, true),
-            Answer(Method::BuLength, (1, 0, 0), 2),
-            Answer(Method::BuRead, (1, 0, 0), 17218), // 66 + 67 * 256
-            Answer(Method::BuRead, (0, 0, 0), 0),
+            Step(Method::Buffers(BuffersMethod::Append), (1, 65, 0), 1, true),
+            Step(Method::Buffers(BuffersMethod::Append), (1, 66, 0), 0, false),
+            Step(Method::Buffers(BuffersMethod::Append), (1, 66, 0), 1, true),
+            Answer(Method::Buffers(BuffersMethod::Length), (1, 0, 0), 2),
+            Answer(Method::Buffers(BuffersMethod::Read), (1, 0, 0), 17218), // 66 + 67 * 256
+            Answer(Method::Buffers(BuffersMethod::Read), (0, 0, 0), 0),
         ],
         pairs: &[(1, 17218)],
     },
@@ -164,38 +176,48 @@ const BUFFERS: &[Case] = &[
     Case {
         size: 2,
         words: &TWO_BUFFERS,
-        asked: &[Step(Method::BuAppend, (1, 254, 0), 1, true)],
+        asked: &[Step(Method::Buffers(BuffersMethod::Append), (1, 254, 0), 1, true)],
         pairs: &[(0, 17218), (1, 71777222884655361)], // 1103823438081 + 255 * 256^6
     },
     Case {
         size: 2,
         words: &TWO_BUFFERS,
-        asked: &[Step(Method::BuAppendFrom, (0, 0, 0), 1, true)],
+        asked: &[Step(
+            Method::Buffers(BuffersMethod::AppendFrom),
+            (0, 0, 0),
+            1,
+            true,
+        )],
         pairs: &[(0, 1128416066), (1, 1103823438081)], // 17218 + 17218 * 256^2
     },
     Case {
         size: 2,
         words: &TWO_BUFFERS,
-        asked: &[Step(Method::BuAppendFrom, (0, 1, 0), 0, true)],
+        asked: &[Step(
+            Method::Buffers(BuffersMethod::AppendFrom),
+            (0, 1, 0),
+            0,
+            true,
+        )],
         pairs: &[(0, 17218), (1, 1103823438081)],
     },
     // A text is cut to as many characters as the call says.
     Case {
         size: 2,
         words: &TWO_BUFFERS,
-        asked: &[Step(Method::BuCut, (0, 1, 0), 1, true)],
+        asked: &[Step(Method::Buffers(BuffersMethod::Cut), (0, 1, 0), 1, true)],
         pairs: &[(0, 66), (1, 1103823438081)],
     },
     Case {
         size: 2,
         words: &TWO_BUFFERS,
-        asked: &[Step(Method::BuCut, (0, 2, 0), 1, true)],
+        asked: &[Step(Method::Buffers(BuffersMethod::Cut), (0, 2, 0), 1, true)],
         pairs: &[(0, 17218), (1, 1103823438081)],
     },
     Case {
         size: 2,
         words: &TWO_BUFFERS,
-        asked: &[Step(Method::BuCut, (1, 0, 0), 1, true)],
+        asked: &[Step(Method::Buffers(BuffersMethod::Cut), (1, 0, 0), 1, true)],
         pairs: &[(0, 17218)],
     },
     // Other replies are refused.
@@ -203,11 +225,21 @@ const BUFFERS: &[Case] = &[
         size: 2,
         words: &TWO_BUFFERS,
         asked: &[
-            Step(Method::BuAppend, (1, 0, 0), 0, false),
-            Step(Method::BuAppend, (1, 0, 0), 2, false),
-            Step(Method::BuAppendFrom, (0, 0, 0), 0, false),
-            Step(Method::BuAppendFrom, (0, 1, 0), 1, false),
-            Step(Method::BuCut, (0, 1, 0), 0, false),
+            Step(Method::Buffers(BuffersMethod::Append), (1, 0, 0), 0, false),
+            Step(Method::Buffers(BuffersMethod::Append), (1, 0, 0), 2, false),
+            Step(
+                Method::Buffers(BuffersMethod::AppendFrom),
+                (0, 0, 0),
+                0,
+                false,
+            ),
+            Step(
+                Method::Buffers(BuffersMethod::AppendFrom),
+                (0, 1, 0),
+                1,
+                false,
+            ),
+            Step(Method::Buffers(BuffersMethod::Cut), (0, 1, 0), 0, false),
         ],
         pairs: &[(0, 17218), (1, 1103823438081)],
     },
@@ -337,11 +369,11 @@ fn step<S: Spec>(
     spec.step(method, args, reply).ok()
 }
 
-/// The answer, if this is an observer's call.
+/// The answer, if this is the call of an execution that may return without a commit.
 fn answered<S: Spec>(spec: &S, header: Header, method: Method, args: Args) -> Option<u64>
     requires header { (rules_by (S.charter spec.now)).header ≡ header }
 {
-    if !header.fits(method, args) || !method.is_observer() {
+    if !header.fits(method, args) || method.must_commit() {
         return None;
     }
     Some(spec.answer(method, args))
@@ -381,25 +413,39 @@ fn first_step<S: BuiltIn>(
 fn absent_key_is_not_deleted(rt: HostRuntime) {
     let header = Header::new(1, Subject::Tree, 1, 1).unwrap();
     let five = Args { a: 5, b: 0, c: 0 };
-    let refused = first_step::<TreeSpec>(rt.alloc(), header, Method::TrDelete, five, 1);
+    let refused = first_step::<TreeSpec>(
+        rt.alloc(),
+        header,
+        Method::Tree(TreeMethod::Delete),
+        five,
+        1,
+    );
     assert!(rt; matches!(refused, Ok(None)));
 }
 
-/// The keys that a call may change, as the empty state says: the first, the second, and whether
-/// this key is one of them.
+/// The keys that a call touches in the empty state, if it may reply 1 there: the first, the second,
+/// and whether this observer of a key may answer anew.
 fn touched<S: BuiltIn>(
     alloc: Global,
     header: Header,
     method: Method,
     args: Args,
-    key: u64,
+    observer: Method,
+    key: u32,
 ) -> Option<(Option<u64>, Option<u64>, bool)>
     requires serves { S.serves header.subject }
     requires subject { subject_of method ≡ header.subject }
     requires args { are_args header.size method args ≡ true }
+    requires mutator { is_observer method ≡ false }
 {
-    let touched = S::start(alloc, header).ok()?.touched(method, args);
-    Some((touched.first, touched.second, touched.has(key)))
+    let mut spec = S::start(alloc, header).ok()?;
+    if !spec.step(method, args, 1).ok()? {
+        return None;
+    }
+    let asked = Args { a: key, b: 0, c: 0 };
+    let keys = spec.touched();
+    let (first, second) = (keys.first().copied(), keys.get(1).copied());
+    Some((first, second, spec.affects(observer, asked)))
 }
 
 #[test]
@@ -407,8 +453,12 @@ fn pairs_touch_two_keys(rt: HostRuntime) {
     let alloc = rt.alloc();
     let header = Header::new(1, Subject::Multiset, 1, 1).unwrap();
     let pair = Args { a: 5, b: 7, c: 0 };
-    let seven = touched::<MultisetSpec>(alloc, header, Method::MsInsertPair, pair, 7);
-    let six = touched::<MultisetSpec>(alloc, header, Method::MsInsertPair, pair, 6);
+    let (insert, lookup) = (
+        Method::Multiset(MultisetMethod::InsertPair),
+        Method::Multiset(MultisetMethod::Lookup),
+    );
+    let seven = touched::<MultisetSpec>(alloc, header, insert, pair, lookup, 7);
+    let six = touched::<MultisetSpec>(alloc, header, insert, pair, lookup, 6);
     assert!(rt; seven == Some((Some(5), Some(7), true)));
     assert!(rt; six == Some((Some(5), Some(7), false)));
 }
@@ -422,9 +472,14 @@ fn calls_touch_the_buffer_that_they_may_change(rt: HostRuntime) {
         Args { a: 1, b: 6, c: 0 },
         Args { a: 1, b: 7, c: 0 },
     );
-    let copied = touched::<BufferSpec>(alloc, header, Method::BuAppendFrom, from, 1);
-    let cut = touched::<BufferSpec>(alloc, header, Method::BuCut, six, 1);
-    let whole = touched::<BufferSpec>(alloc, header, Method::BuCut, seven, 1);
+    let (copy, shorten, length) = (
+        Method::Buffers(BuffersMethod::AppendFrom),
+        Method::Buffers(BuffersMethod::Cut),
+        Method::Buffers(BuffersMethod::Length),
+    );
+    let copied = touched::<BufferSpec>(alloc, header, copy, from, length, 1);
+    let cut = touched::<BufferSpec>(alloc, header, shorten, six, length, 1);
+    let whole = touched::<BufferSpec>(alloc, header, shorten, seven, length, 1);
     assert!(rt; copied == Some((Some(0), None, false)));
     assert!(rt; cut == Some((Some(1), None, true)));
     assert!(rt; whole == Some((None, None, false)));

@@ -8,7 +8,10 @@ ghost use Rattle.vyrd_text.specs.Written.{is_padded, is_writable};
 use std::alloc::{AllocError, Global};
 use std::process::Abort;
 use std::test::Fail;
-use vyrd_base::{Args, Entry, Header, Kind, Method, Rule, StartWord, Subject, Verdict, Why};
+use vyrd_base::{
+    Args, BuffersMethod, Entry, Header, Kind, Method, MultisetMethod, Rule, StartWord, Subject,
+    Verdict, Why,
+};
 use vyrd_text::{
     LogReader, TextFault, read_line, read_start, write_line, write_log, write_started,
     write_verdict,
@@ -160,7 +163,7 @@ fn deleted() -> [Entry; 3]
     [
         Entry {
             caller: 0,
-            kind: Kind::Call(Method::MsDelete, args),
+            kind: Kind::Call(Method::Multiset(MultisetMethod::Delete), args),
         },
         Entry {
             caller: 0,
@@ -268,19 +271,51 @@ fn one_line(rt: HostRuntime) {
 #[test]
 fn lines_of_string_buffers(rt: HostRuntime) {
     let alloc = rt.alloc();
-    assert!(rt; is_call(alloc, b"0 call append 1 254", Method::BuAppend, 1, 254));
-    assert!(rt; is_call(alloc, b"0 call append_from 1 0", Method::BuAppendFrom, 1, 0));
+    assert!(rt;
+        is_call(
+            alloc,
+            b"0 call append 1 254",
+            Method::Buffers(BuffersMethod::Append),
+            1,
+            254
+        )
+    );
+    assert!(rt;
+        is_call(
+            alloc,
+            b"0 call append_from 1 0",
+            Method::Buffers(BuffersMethod::AppendFrom),
+            1,
+            0
+        )
+    );
     assert!(rt;
         is_call(
             alloc,
             b"0 call cut 1 4294967295",
-            Method::BuCut,
+            Method::Buffers(BuffersMethod::Cut),
             1,
             4_294_967_295
         )
     );
-    assert!(rt; is_call(alloc, b"0 call length 1", Method::BuLength, 1, 0));
-    assert!(rt; is_call(alloc, b"0 call read 1", Method::BuRead, 1, 0));
+    assert!(rt;
+        is_call(
+            alloc,
+            b"0 call length 1",
+            Method::Buffers(BuffersMethod::Length),
+            1,
+            0
+        )
+    );
+    assert!(rt;
+        is_call(
+            alloc,
+            b"0 call read 1",
+            Method::Buffers(BuffersMethod::Read),
+            1,
+            0
+        )
+    );
     assert!(rt; read_line(Subject::Cache, b"0 call append 1 254").is_none());
     assert!(rt; read_line(Subject::Buffers, b"0 call insert 1").is_none());
 }

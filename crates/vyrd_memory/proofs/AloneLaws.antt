@@ -4,7 +4,7 @@ use Rattle.std.specs.Prelude.{◌==◌, IsSome}
 use Rattle.vyrd_base.specs.declared.header.Header.{Header}
 use Rattle.vyrd_base.specs.Subjects.{is_observer}
 use Rattle.vyrd_base.specs.Amounts.{Amounts, amount_of}
-use Rattle.vyrd_base.specs.Specification.{is_present}
+use Rattle.vyrd_base.specs.Amounts.{is_present}
 use Rattle.vyrd_base.proofs.TestLaws.{same_of, apart_of, isnt_same}
 use Rattle.vyrd_memory.specs.declared.act.Act.TheVariants.{Take}
 use Rattle.vyrd_memory.specs.declared.op.Op.{Op}

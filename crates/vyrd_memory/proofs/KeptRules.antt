@@ -15,9 +15,10 @@ use Rattle.vyrd_base.specs.declared.verdict.Rule.TheVariants.{ValueRange, BlockR
 use Rattle.vyrd_base.specs.Layout.{plain_words}
 use Rattle.vyrd_base.specs.Subjects.{is_observer, same_subject, subject_of, are_args}
 use Rattle.vyrd_base.specs.Callers.{Called, open_call, has_block, has_committed}
-use Rattle.vyrd_base.specs.Shape.{first_broken, checks_of, is_observing, is_raced, broken_rule}
+use Rattle.vyrd_base.specs.Shape.{first_broken, checks_of, is_observing, owes_commit, is_raced, broken_rule}
 use Rattle.vyrd_base.specs.Histories.{cells_of, is_plain}
 use Rattle.vyrd_base.proofs.BlockLaws.{entry}
+use Rattle.vyrd_base.proofs.CommittedLaws.{lacks_commit}
 use Rattle.vyrd_base.proofs.TestLaws.{first_true, second_true, isnt_at_most, above_then}
 use Rattle.vyrd_memory.specs.declared.act.Act.TheVariants.{Store}
 use Rattle.vyrd_memory.specs.Soundness.{Situation, observes, may_act, may_mark}
@@ -95,7 +96,14 @@ checks_kept h c (Return reply) s log may a =
     ap (λ b. b || has_committed c log) (watches c s log a) ∙ ap (λ b. observes s || b) a.committed ∙ parts.2 in
     passed (is_none (open_call c log)) NoCall _ (is_open c s log a parts.0)
     (passed (has_block c log) ReturnInBlock _ (a.in_block ∙ parts.1)
-    (passed (not (is_observing c log || has_committed c log)) NoCommit None (not_false _ done) none_broken))
+    (passed (owes_commit c log && not (has_committed c log)) NoCommit None
+    (nothing_owed (open_call c log) refl (is_open c s log a parts.0) (not_false _ done)) none_broken))
+  where
+    nothing_owed : (o : Option Called) → open_call c log ≡ o → is_none (open_call c log) ≡ false
+        → not (is_observing c log || has_committed c log) ≡ false
+        → (owes_commit c log && not (has_committed c log)) ≡ false
+    nothing_owed None e some done = let no : true ≡ false = ap is_none (sym e) ∙ some in cc
+    nothing_owed (Some called) e some done = lacks_commit c log called e ∙ done
 checks_kept h c (Write word value) s log may a = cc
 checks_kept h c Commit s log may a =
     let parts = four_true (is_some s.called) (not (observes s)) (not s.committed) (not s.in_block) may in

@@ -4,7 +4,8 @@ use Rattle.vyrd_base.specs.declared.header.Header.{Header}
 use Rattle.vyrd_base.specs.declared.subject.Subject.{Subject}
 use Rattle.vyrd_base.specs.declared.subject.Subject.TheVariants.{Multiset, Cache, Tree, Buffers}
 use Rattle.vyrd_base.specs.declared.subject.Method.{Method}
-use Rattle.vyrd_base.specs.declared.subject.Method.TheVariants.{TrInsert}
+use Rattle.vyrd_base.specs.declared.subject.Method.TheVariants.{Tree as OfTree}
+use Rattle.vyrd_base.specs.declared.tree.TreeMethod.TheVariants.{Insert}
 use Rattle.vyrd_base.specs.declared.log.Kind.TheVariants.{Call, Return}
 use Rattle.vyrd_memory.specs.declared.act.Act.{Act}
 use Rattle.vyrd_memory.specs.declared.act.Act.TheVariants.{Mark}
@@ -27,7 +28,7 @@ most_ahead = (most_ops + 1) * most_op_events
 -- A walk through a tree of n nodes visits each node once at most. An insert walks once, and once
 -- more in each of the 16 rounds in which the tree may grow upwards.
 abbrev pub tree_bound : ℕ → Method → ℕ
-tree_bound n TrInsert = 17 * (16 * n + 40)
+tree_bound n (OfTree Insert) = 17 * (16 * n + 40)
 tree_bound n _ = 16 * n + 40
 
 -- the bound by the subject and the size

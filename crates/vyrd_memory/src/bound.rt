@@ -3,7 +3,7 @@
 ghost use Rattle.std.specs.Prelude.{◌≡◌, ◌≤◌};
 ghost use Rattle.vyrd_memory.specs.Bounds.{bound_of, most_op_events};
 
-use vyrd_base::{Header, Method, Subject};
+use vyrd_base::{Header, Method, Subject, TreeMethod};
 
 /// The most events of a multiset's operation.
 const MULTISET: u64 = 32;
@@ -31,7 +31,7 @@ pub(crate) fn bound(header: &Header, method: Method) -> u64
         Subject::Buffers => BUFFERS,
         Subject::Tree => {
             let walk = 16 * u64::from(header.size()) + 40;
-            if method == Method::TrInsert {
+            if method == Method::Tree(TreeMethod::Insert) {
                 INSERT_WALKS * walk
             } else {
                 walk

@@ -16,7 +16,8 @@ use Rattle.vyrd_base.specs.Spelling.{entry_line, is_entry_of, is_kind_of}
 use Rattle.vyrd_base.specs.Lines.{fields_of, number_of, entry_in}
 use Rattle.vyrd_base.specs.Histories.{is_write}
 use Rattle.vyrd_base.proofs.SplitLaws.{split-join, number_of_decimal, bytes_same}
-use Rattle.vyrd_base.proofs.LineLaws.{is_plain_field, plain_number, plain_spaces, below_32, entry_in-entry_line}
+use Rattle.vyrd_base.proofs.SplitLaws.{is_plain_field}
+use Rattle.vyrd_base.proofs.LineLaws.{plain_number, plain_spaces, below_32, entry_in-entry_line}
 use Rattle.vyrd_base.proofs.ReadingSound.{entry_in_sound}
 use Rattle.vyrd_base.proofs.TestLaws.{both_true, first_true, second_true, below_of, is_below}
 use Rattle.vyrd_text.specs.Spelled.{kind_text}

@@ -12,9 +12,11 @@ use Rattle.vyrd_base.specs.Spelling.{subject_name}
 use Rattle.vyrd_base.specs.Lines.{fields_of, number_of, subject_called, header_if, header_of}
 use Rattle.vyrd_base.proofs.HeaderLaws.{size_in_32_bits, callers_in_32_bits}
 use Rattle.vyrd_base.proofs.SplitLaws.{lacks, split-join, lacks-join, number_of_decimal, bytes_same}
-use Rattle.vyrd_base.proofs.LineLaws.{is_plain_field, plain_number, plain_spaces, plain_line_feeds}
+use Rattle.vyrd_base.proofs.SplitLaws.{is_plain_field}
+use Rattle.vyrd_base.proofs.LineLaws.{plain_number, plain_spaces, plain_line_feeds}
 use Rattle.vyrd_base.proofs.TestLaws.{both_true}
-use Rattle.vyrd_base.proofs.SubjectLaws.{plain_subject, subject_read, one_name}
+use Rattle.vyrd_base.proofs.StructureLaws.{plain_subject}
+use Rattle.vyrd_base.proofs.SubjectLaws.{subject_read, one_name}
 use Rattle.vyrd_text.proofs.PartLaws.{one_before_space}
 use Rattle.vyrd_text.proofs.HeaderLaws.{made, not_made}
 use Rattle.vyrd_mover.specs.HistoryText.{history_header_line}

@@ -12,7 +12,7 @@ use Rattle.vyrd_base.specs.Histories.{is_write}
 use Rattle.vyrd_base.proofs.HeaderLaws.{size_in_32_bits, callers_in_32_bits}
 use Rattle.vyrd_base.proofs.LongLines.{short_entry, short_number, short_value}
 use Rattle.vyrd_base.proofs.TestLaws.{both_true, first_true, second_true, below_of}
-use Rattle.vyrd_base.proofs.SubjectLaws.{short_subject}
+use Rattle.vyrd_base.proofs.StructureLaws.{short_subject}
 use Rattle.vyrd_mover.specs.HistoryText.{Recorded, history_header_line, did_line, event_line, history_lines}
 use Rattle.vyrd_mover.specs.HistoryLines.{is_did_of, is_event_of}
 use Rattle.vyrd_mover.specs.HistoryLimits.{KeepsLimits}

@@ -2,7 +2,8 @@
 use Rattle.std.specs.Prelude.{ℕ, List, [], ◌∷◌, ◌++◌, codes}
 use Rattle.vyrd_base.specs.declared.log.Kind.TheVariants.{Call, Return, BlockOpen, BlockClose}
 use Rattle.vyrd_base.specs.declared.log.Kind.TheVariants.{BlockCommit}
-use Rattle.vyrd_base.specs.declared.subject.Method.TheVariants.{MsInsert}
+use Rattle.vyrd_base.specs.declared.subject.Method.TheVariants.{Multiset as OfMultiset}
+use Rattle.vyrd_base.specs.declared.multiset.MultisetMethod.TheVariants.{Insert}
 use Rattle.vyrd_base.specs.declared.history.Did.{Did}
 use Rattle.vyrd_base.specs.declared.history.Did.TheVariants.{Read, Wrote, Took, Gave, Marked}
 use Rattle.vyrd_base.specs.declared.history.Stamped.{Stamped}
@@ -17,7 +18,7 @@ by caller did = event 0 caller did
 -- the insert of 5 into a bucket of one, under its lock
 abbrev pub insert_alone : List Stamped
 insert_alone =
-    numbered (by 0 (Marked (Call MsInsert (args 5 0 0))) ∷ by 0 (Took 8) ∷ by 0 (Read 0 0)
+    numbered (by 0 (Marked (Call (OfMultiset Insert) (args 5 0 0))) ∷ by 0 (Took 8) ∷ by 0 (Read 0 0)
     ∷ by 0 (Wrote 1 5) ∷ by 0 (Wrote 0 1) ∷ by 0 (Gave 8) ∷ by 0 (Took 8) ∷ by 0 (Marked BlockOpen)
     ∷ by 0 (Wrote 0 2) ∷ by 0 (Marked BlockCommit) ∷ by 0 (Gave 8) ∷ by 0 (Marked (Return 1)) ∷ [])
 
@@ -51,7 +52,7 @@ taken_again_text =
 -- later under the same lock
 abbrev pub beside_another : List Stamped
 beside_another = numbered (by 0 (Took 8) ∷ by 0 (Marked BlockOpen) ∷ by 0 (Wrote 0 1)
-    ∷ by 1 (Marked (Call MsInsert (args 6 0 0))) ∷ by 0 (Wrote 1 5) ∷ by 0 (Marked BlockClose)
+    ∷ by 1 (Marked (Call (OfMultiset Insert) (args 6 0 0))) ∷ by 0 (Wrote 1 5) ∷ by 0 (Marked BlockClose)
     ∷ by 0 (Gave 8) ∷ by 1 (Took 8) ∷ by 1 (Wrote 0 0) ∷ by 1 (Gave 8) ∷ [])
 
 -- the first of two blocks that aren't reducible ends last, and a third block doesn't end

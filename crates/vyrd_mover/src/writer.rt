@@ -9,7 +9,7 @@ ghost use Rattle.vyrd_mover.specs.Writable.{is_padded_did};
 
 use std::alloc::AllocError;
 use vyrd_base::{Did, Entry, Header, Stamped};
-use vyrd_text::{LineBuffer, name_of_subject, write_entry};
+use vyrd_text::{LineBuffer, write_entry};
 
 /// Appends the text of the history. A refusal leaves `out` unchanged.
 ///
@@ -55,7 +55,7 @@ pub fn write_history_header(header: Header, out: &mut Vec<u8>) -> Result<(), All
 {
     let mut line = LineBuffer::new();
     line.push(b"history ");
-    line.push(name_of_subject(header.subject()));
+    line.push(header.subject().name());
     line.push(b" ");
     line.push_number(u64::from(header.size()));
     line.push(b" ");

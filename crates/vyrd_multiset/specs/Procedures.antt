@@ -4,8 +4,9 @@ use Rattle.std.specs.Prelude.{if◌then◌else◌}
 use Rattle.vyrd_base.specs.declared.header.Header.{Header}
 use Rattle.vyrd_base.specs.declared.subject.Args.{Args}
 use Rattle.vyrd_base.specs.declared.subject.Method.{Method}
-use Rattle.vyrd_base.specs.declared.subject.Method.TheVariants.{MsInsert, MsInsertPair, MsDelete}
-use Rattle.vyrd_base.specs.declared.subject.Method.TheVariants.{MsLookup}
+use Rattle.vyrd_base.specs.declared.subject.Method.TheVariants.{Multiset as OfMultiset}
+use Rattle.vyrd_base.specs.declared.multiset.MultisetMethod.TheVariants.{Insert, InsertPair, Delete}
+use Rattle.vyrd_base.specs.declared.multiset.MultisetMethod.TheVariants.{Lookup}
 use Rattle.vyrd_base.specs.declared.log.Kind.TheVariants.{Commit, BlockOpen, BlockCommit}
 use Rattle.vyrd_memory.specs.declared.act.Act.TheVariants.{Load, Store, Mark}
 use Rattle.vyrd_memory.specs.declared.op.Op.{Op}
@@ -145,10 +146,10 @@ lookup h x = search_in h x (looked_up h x)
 
 -- the procedure of a method's call with these arguments; that of another subject's method is empty
 abbrev pub procedure_of : Header → Variant → Method → Args → Script
-procedure_of h variant MsInsert args = insert h variant args.a
-procedure_of h variant MsInsertPair args = insert_pair h variant args.a args.b
-procedure_of h variant MsDelete args = delete h args.a
-procedure_of h variant MsLookup args = lookup h args.a
+procedure_of h variant (OfMultiset Insert) args = insert h variant args.a
+procedure_of h variant (OfMultiset InsertPair) args = insert_pair h variant args.a args.b
+procedure_of h variant (OfMultiset Delete) args = delete h args.a
+procedure_of h variant (OfMultiset Lookup) args = lookup h args.a
 procedure_of h variant _ args = stop
 
 -- the procedure of an operation

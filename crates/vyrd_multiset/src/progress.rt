@@ -7,7 +7,7 @@ ghost use Rattle.vyrd_multiset.specs.Laws.{multiset_is_right_alone};
 
 use crate::place::{Place, Query, Searching, Want};
 use crate::task::Task;
-use vyrd_base::{Header, Method};
+use vyrd_base::{Header, Method, MultisetMethod};
 use vyrd_memory::{Act, Op, Progress, Variant};
 
 /// How far an operation of the multiset has come: the values of its call, and a place in its
@@ -34,10 +34,16 @@ impl Progress for MultisetProgress {
             y: op.args.b,
         };
         let place = match op.method {
-            Method::MsInsert => task.find(header, Want::Only),
-            Method::MsInsertPair => task.find(header, Want::First),
-            Method::MsDelete => Place::Search(Query::Delete, Searching::Lock),
-            Method::MsLookup => Place::Search(Query::Lookup, Searching::Lock),
+            Method::Multiset(MultisetMethod::Insert) => task.find(header, Want::Only),
+            Method::Multiset(MultisetMethod::InsertPair) => task.find(header, Want::First),
+            Method::Multiset(MultisetMethod::Delete) => Place::Search(
+                Query::Delete,
+                Searching::Lock,
+            ),
+            Method::Multiset(MultisetMethod::Lookup) => Place::Search(
+                Query::Lookup,
+                Searching::Lock,
+            ),
             _ => Place::Over,
         };
         MultisetProgress { task, place }

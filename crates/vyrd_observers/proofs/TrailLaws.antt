@@ -10,7 +10,7 @@ use Rattle.std.proofs.Math.Seq.{drop-length}
 use Rattle.vyrd_base.specs.declared.header.Header.{Header}
 use Rattle.vyrd_base.specs.declared.subject.Method.{Method}
 use Rattle.vyrd_base.specs.declared.subject.Args.{Args}
-use Rattle.vyrd_base.specs.Subjects.{is_observer}
+use Rattle.vyrd_base.specs.Subjects.{must_commit}
 use Rattle.vyrd_base.proofs.BlockLaws.{by_same}
 use Rattle.vyrd_base.proofs.TestLaws.{same_number, same_of, apart_of, isnt_same}
 use Rattle.vyrd_observers.specs.declared.watch.Watch.{Watch}
@@ -83,14 +83,14 @@ map_after f g (x ∷ xs) = ap (λ ys. f (g x) ∷ ys) (map_after f g xs)
 -- a trail that nobody asks is added
 pub asking_pushed : (h : Header) (trails : List Asked) (t : Asked) → t.is_asked ≡ false → AreAsking h trails → AreAsking h (trails ++ t ∷ [])
 asking_pushed h trails t free all =
-    all_pushed (λ u. u.is_asked ≡ true → (has_method h u.method u.args ≡ true) × (is_observer u.method ≡ true)) trails t (λ is. absurd (false_true free is)) all
+    all_pushed (λ u. u.is_asked ≡ true → (has_method h u.method u.args ≡ true) × (must_commit u.method ≡ false)) trails t (λ is. absurd (false_true free is)) all
 
 -- a trail is changed
 pub asking_set : (h : Header) (trails : List Asked) (i : ℕ) (t : Asked) → i < length trails
-    → (t.is_asked ≡ true → (has_method h t.method t.args ≡ true) × (is_observer t.method ≡ true)) → AreAsking h trails → AreAsking h (set trails i t)
+    → (t.is_asked ≡ true → (has_method h t.method t.args ≡ true) × (must_commit t.method ≡ false)) → AreAsking h trails → AreAsking h (set trails i t)
 asking_set h trails i t within own all = λ j u there. by_same i j
     (λ same. let it : t ≡ u = same_Some _ _ (sym (slice_get-set_same trails i t within) ∙ ap (slice_get (set trails i t)) same ∙ there) in
-    subst (λ v. v.is_asked ≡ true → (has_method h v.method v.args ≡ true) × (is_observer v.method ≡ true)) it own)
+    subst (λ v. v.is_asked ≡ true → (has_method h v.method v.args ≡ true) × (must_commit v.method ≡ false)) it own)
     (λ other. all j u (sym (slice_get-set_other trails i j t (apart_of i j other)) ∙ there))
 
 pub keeps_set : (trails : List Asked) (i : ℕ) (t new : Asked) → slice_get trails i ≡ Some t → t.is_asked ≡ false → KeepsAsked trails (set trails i new)
@@ -176,11 +176,11 @@ as_many_after affects told t = let same = question_after affects told t in recor
 -- some trails have the next state's answer
 pub asking_after : (h : Header) (affects : Method → Args → Bool) (told : Method → Args → ℕ) (n : ℕ) (trails : List Asked) → AreAsking h trails
     → AreAsking h (changed_below (after_state affects told) n trails)
-asking_after h affects told n trails all = all_changed (λ u. u.is_asked ≡ true → (has_method h u.method u.args ≡ true) × (is_observer u.method ≡ true))
+asking_after h affects told n trails all = all_changed (λ u. u.is_asked ≡ true → (has_method h u.method u.args ≡ true) × (must_commit u.method ≡ false))
     (after_state affects told)
     (λ t was is_asked. let same = question_after affects told t in let own = was (sym same.is_asked ∙ is_asked) in (
       ap (λ m. has_method h m (after_state affects told t).args) same.method ∙ ap (has_method h t.method) same.args ∙ own.0,
-      ap is_observer same.method ∙ own.1,
+      ap must_commit same.method ∙ own.1,
     ))
     n trails all
 

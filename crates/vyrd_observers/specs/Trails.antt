@@ -5,7 +5,7 @@ use Rattle.std.specs.Prelude.{slice_get, count_by, sum_by}
 use Rattle.vyrd_base.specs.declared.header.Header.{Header}
 use Rattle.vyrd_base.specs.declared.subject.Method.{Method}
 use Rattle.vyrd_base.specs.declared.subject.Args.{Args}
-use Rattle.vyrd_base.specs.Subjects.{is_observer}
+use Rattle.vyrd_base.specs.Subjects.{must_commit}
 use Rattle.vyrd_observers.specs.declared.watch.Watch.{Watch}
 use Rattle.vyrd_base.specs.Entries.{has_method}
 use Rattle.vyrd_observers.specs.Watching.{Seen, unwatched}
@@ -54,10 +54,10 @@ pub record IsOn (trails : List Asked) (w : Watch) : Type 0 where
 abbrev pub AreOn : List Asked → List (Option Watch) → Type 0
 AreOn trails watches = (c : ℕ) (w : Watch) → slice_get watches c ≡ Some (Some w) → IsOn trails w
 
--- what is asked is an observer of the header's specification
+-- what is asked is a method of the header's specification that may return without a commit
 abbrev pub AreAsking : Header → List Asked → Type 0
 AreAsking h trails = (i : ℕ) (t : Asked) → slice_get trails i ≡ Some t → t.is_asked ≡ true
-    → (has_method h t.method t.args ≡ true) × (is_observer t.method ≡ true)
+    → (has_method h t.method t.args ≡ true) × (must_commit t.method ≡ false)
 
 -- a trail is asked, it is that of this question, and its latest answer is this
 abbrev pub IsTrailOf : Method → Args → ℕ → Asked → Type 0
@@ -129,8 +129,8 @@ pub record Closes (caller : ℕ) (old new : List Asked)
   pub stay : StayOrEnd old new
   pub trails : length new ≡ length old
 
--- What is known of all trails and all watches: each open observer is on a trail, what is asked are
--- the header's observers, each trail is used, and there are no more trails than callers.
+-- What is known of all trails and all watches: each open observer is on a trail, what is asked may
+-- return without a commit, each trail is used, and there are no more trails than callers.
 pub record AreInOrder (h : Header) (trails : List Asked)
     (watches : List (Option Watch)) : Type 0 where
   pub on : AreOn trails watches

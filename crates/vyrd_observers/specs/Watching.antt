@@ -4,8 +4,8 @@ use Rattle.std.specs.Prelude.{length, slice_get, count_by, sum_by}
 use Rattle.std.specs.List.{list_any}
 use Rattle.vyrd_base.specs.declared.header.Header.{Header}
 use Rattle.vyrd_base.specs.declared.subject.Method.{Method}
-use Rattle.vyrd_base.specs.declared.subject.Method.TheVariants.{MsLookup}
 use Rattle.vyrd_base.specs.declared.subject.Args.{Args}
+use Rattle.vyrd_base.specs.Subjects.{some_method}
 
 -- whether an observer is open, what was called, and what the states since its call answer
 pub record Seen : Type 0 where
@@ -18,7 +18,7 @@ pub record Seen : Type 0 where
 abbrev pub unwatched : Seen
 unwatched = record {
   is_open = false;
-  method = MsLookup;
+  method = some_method;
   args = record { a = 0; b = 0; c = 0 };
   answers = [];
 }

@@ -109,6 +109,7 @@ fn let_go(trails: &mut [Trail], watches: &mut Vec<Option<Watch>>, trail: usize)
 }
 
 /// A caller has no open observer any more. The trail that it asked is free if no other asks it.
+#[inline]
 pub(crate) fn close(trails: &mut Vec<Trail>, watches: &mut Vec<Option<Watch>>, caller: usize)
     requires caller { caller < length watches.old.items }
     requires on { AreOn trails.old.items watches.old.items }

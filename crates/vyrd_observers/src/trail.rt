@@ -45,7 +45,7 @@ impl Trail {
     {
         Trail {
             is_asked: false,
-            method: Method::MsLookup,
+            method: Method::some(),
             args: Args { a: 0, b: 0, c: 0 },
             latest: 0,
             others: Vec::new(alloc),

@@ -5,7 +5,7 @@ ghost use Rattle.std.specs.Prelude.{Some, map, slice_get, length, IfOk, OnOk, On
 ghost use Rattle.std.specs.Prelude.{IsSome};
 ghost use Rattle.vyrd_base.specs.Rules.{rules_by};
 ghost use Rattle.vyrd_base.specs.declared.header.Header.{Header};
-ghost use Rattle.vyrd_base.specs.Subjects.{is_observer};
+ghost use Rattle.vyrd_base.specs.Subjects.{must_commit};
 ghost use Rattle.vyrd_observers.specs.declared.watch.Watch.{Watch};
 ghost use Rattle.vyrd_base.specs.Entries.{has_method};
 ghost use Rattle.vyrd_observers.specs.Trails.{Asked, IsTrailOf, AreAsking, AreInOrder, KeepsAsked};
@@ -14,7 +14,7 @@ ghost use Rattle.vyrd_observers.specs.Trails.{AreOldExcept, after_state};
 use crate::trail::Trail;
 use std::alloc::{AllocError, Global};
 use vyrd_base::{Args, Method};
-use vyrd_spec::{Spec, Touched};
+use vyrd_spec::Spec;
 
 /// The trail of a question that the last state answers in this way, if it is asked.
 fn find(trails: &[Trail], method: Method, args: Args, answer: u64) -> Option<usize>
@@ -82,7 +82,7 @@ pub(crate) fn ask(
     ensures asked { IfOk result (λ i. (t : Asked) × (slice_get trails.new.items i ≡ Some t)
         × IsTrailOf method args answer t) }
     ensures kept { KeepsAsked trails.old.items trails.new.items }
-    ensures asking { (h : Header) → has_method h method args ≡ true → is_observer method ≡ true
+    ensures asking { (h : Header) → has_method h method args ≡ true → must_commit method ≡ false
         → AreAsking h trails.old.items
         → AreAsking h trails.new.items }
     ensures shared { (i : ℕ) (t : Asked) → slice_get trails.old.items i ≡ Some t
@@ -105,43 +105,39 @@ pub(crate) fn ask(
     Ok(i)
 }
 
-/// A question that is asked gets the answer of the specification's state too, which differs from
-/// the one before in the touched keys alone.
-fn see<S: Spec>(trail: &mut Trail, spec: &S, touched: Touched) -> Result<(), AllocError>
+/// A question that is asked gets the answer of the specification's state too, if the last step can
+/// have changed it.
+fn see<S: Spec>(trail: &mut Trail, spec: &S) -> Result<(), AllocError>
     requires allowed { trail.old.is_asked ≡ true
         → has_method (rules_by (S.charter spec.now)).header trail.old.method trail.old.args ≡ true }
-    requires observer { trail.old.is_asked ≡ true → is_observer trail.old.method ≡ true }
+    requires may_answer { trail.old.is_asked ≡ true → must_commit trail.old.method ≡ false }
     ensures saw { OnOk result
         (trail.new
-        ≡ after_state (S.affects touched)
+        ≡ after_state (S.affects spec.now)
         ((rules_by (S.charter spec.now)).answer (S.state spec.now)) trail.old) }
     ensures unchanged { OnErr result (trail.new ≡ trail.old) }
 {
-    if trail.is_asked() && S::affects(touched, trail.method(), trail.args()) {
+    if trail.is_asked() && spec.affects(trail.method(), trail.args()) {
         trail.see(spec.answer(trail.method(), trail.args()))?;
     }
     Ok(())
 }
 
 /// All questions that are asked get the answer of the specification's state too.
-pub(crate) fn see_all<S: Spec>(
-    trails: &mut Vec<Trail>,
-    spec: &S,
-    touched: Touched,
-) -> Result<(), AllocError>
+pub(crate) fn see_all<S: Spec>(trails: &mut Vec<Trail>, spec: &S) -> Result<(), AllocError>
     requires asking { AreAsking (rules_by (S.charter spec.now)).header trails.old.items }
     ensures len { length trails.new.items ≡ length trails.old.items }
     ensures saw { OnOk result
         (trails.new.items
         ≡ map
-        (after_state (S.affects touched)
+        (after_state (S.affects spec.now)
         ((rules_by (S.charter spec.now)).answer (S.state spec.now))) trails.old.items) }
     ensures order { (h : Header) (watches : List (Option Watch))
         → AreInOrder h trails.old.items watches
         → AreInOrder h trails.new.items watches }
 {
     for i in 0..trails.len() {
-        see(&mut trails[i], spec, touched)?;
+        see(&mut trails[i], spec)?;
     }
     Ok(())
 }

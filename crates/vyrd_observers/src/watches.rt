@@ -3,7 +3,7 @@
 ghost use Rattle.std.specs.Prelude.{◌≡◌, ◌+◌, ◌<◌, ◌≤◌, ◌∷◌, ℕ, List, [], true, false, Some, None};
 ghost use Rattle.std.specs.Prelude.{IfOk, OnOk, length, replicate, slice_get, slice_set};
 ghost use Rattle.vyrd_base.specs.Rules.{rules_by};
-ghost use Rattle.vyrd_base.specs.Subjects.{is_observer};
+ghost use Rattle.vyrd_base.specs.Subjects.{must_commit};
 ghost use Rattle.vyrd_base.specs.Entries.{has_method};
 ghost use Rattle.vyrd_observers.specs.Watching.{AreCurrent, AllSee};
 ghost use Rattle.vyrd_observers.specs.Watching.{Seen, KeepsFew, unwatched, has_answer, open_count};
@@ -15,7 +15,7 @@ use crate::watch::Watch;
 use std::alloc::{AllocError, Global};
 use std::marker::Model;
 use vyrd_base::{Args, Header, Method};
-use vyrd_spec::{Spec, Touched};
+use vyrd_spec::Spec;
 
 /// What is known of each caller's open observer, if it has one. Observers that ask the same share
 /// one trail of answers. There are no more trails than the most open observers that there were at
@@ -81,7 +81,7 @@ impl Watches {
     ) -> Result<(), AllocError>
         requires caller { caller < length self.old.by_caller }
         requires allowed { has_method self.old.header method args ≡ true }
-        requires observer { is_observer method ≡ true }
+        requires may_answer { must_commit method ≡ false }
         ensures watches { OnOk result (self.new.by_caller ≡ slice_set self.old.by_caller caller
             (record { is_open = true; method = method; args = args; answers = answer ∷ [] })) }
         ensures header { self.new.header ≡ self.old.header }
@@ -127,12 +127,27 @@ impl Watches {
         }
     }
 
-    /// Every open observer sees the specification's state too, which differs from the one before in
-    /// the touched keys alone. It takes time in proportion to the trails.
-    pub fn see_all<S: Spec>(&mut self, spec: &S, touched: Touched) -> Result<(), AllocError>
+    /// A caller has no open observer any more: its execution has committed, and is judged by that
+    /// in place of its reply. It takes constant time if the caller has none, and otherwise time in
+    /// proportion to the callers and to the answers of its trail.
+    #[inline]
+    pub fn close(&mut self, caller: u32)
+        requires caller { caller < length self.old.by_caller }
+        ensures watches { self.new.by_caller ≡ slice_set self.old.by_caller caller unwatched }
+        ensures header { self.new.header ≡ self.old.header }
+        ensures len { length self.new.by_caller ≡ length self.old.by_caller }
+        ensures trails { self.new.trails ≡ self.old.trails }
+        ensures keeps_few { KeepsFew self.new }
+    {
+        close(&mut self.trails, &mut self.by_caller, caller as usize);
+    }
+
+    /// Every open observer sees the specification's state too. It is asked only what its last step
+    /// can have changed. It takes time in proportion to the trails.
+    pub fn see_all<S: Spec>(&mut self, spec: &S) -> Result<(), AllocError>
         requires header { (rules_by (S.charter spec.now)).header ≡ self.old.header }
         requires current { (c : ℕ) (seen : Seen) → slice_get self.old.by_caller c ≡ Some seen
-            → seen.is_open ≡ true → S.affects touched seen.method seen.args ≡ false
+            → seen.is_open ≡ true → S.affects spec.now seen.method seen.args ≡ false
             → has_answer seen.answers
             ((rules_by (S.charter spec.now)).answer (S.state spec.now) seen.method seen.args)
             ≡ true }
@@ -148,7 +163,7 @@ impl Watches {
         ensures trails { self.new.trails ≡ self.old.trails }
         ensures keeps_few { KeepsFew self.new }
     {
-        see_all(&mut self.trails, spec, touched)?;
+        see_all(&mut self.trails, spec)?;
         Ok(())
     }
 }

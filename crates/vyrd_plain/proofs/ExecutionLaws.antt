@@ -1,42 +1,67 @@
 -- How what is kept of a caller's execution changes with one more entry.
-use Rattle.std.proofs.Common.{◌≡◌, ℕ, ◌||◌, List, [], ◌∷◌, ◌++◌, Option, Some, None, ap, ◌∙◌, sym}
+use Rattle.std.proofs.Common.{◌≡◌, ℕ, true, ◌||◌, List, [], ◌∷◌, ◌++◌, Option, Some, None, ap, ◌∙◌, sym}
 use Rattle.std.specs.List.{list_any}
 use Rattle.std.proofs.lemmas.List.Folds.{list_any-append}
 use Rattle.std.proofs.Math.Bool.{or-false}
 use Rattle.vyrd_base.specs.declared.log.Entry.{Entry}
-use Rattle.vyrd_base.specs.Callers.{open_call}
+use Rattle.vyrd_base.specs.Callers.{open_call, has_committed}
 use Rattle.vyrd_base.specs.Amounts.{Amounts}
 use Rattle.vyrd_base.specs.Commits.{next_reply}
 use Rattle.vyrd_base.specs.Faults.{states_since_call}
 use Rattle.vyrd_plain.specs.declared.execution.Execution.{Execution}
-use Rattle.vyrd_plain.specs.Executions.{answers, seeing, IsOpen}
+use Rattle.vyrd_plain.specs.Executions.{answers, seeing, with_commit, IsExecution, IsOpen}
 use Rattle.vyrd_base.specs.Rules.{Rules}
 
 -- what is kept stays where the entry changes none of it
 pub execution_stays : (r : Rules) (states : List Amounts) (c : ℕ) (e : Entry) (earlier later : List Entry) (o : Option Execution)
     → open_call c (e ∷ earlier) ≡ open_call c earlier → next_reply c (e ∷ later) ≡ next_reply c later
+    → has_committed c (e ∷ earlier) ≡ has_committed c earlier
     → states_since_call states c (e ∷ earlier) ≡ states_since_call states c earlier
     → IsOpen r states c earlier (e ∷ later) o → IsOpen r states c (e ∷ earlier) later o
-execution_stays r states c e earlier later None called reply window is = called ∙ is
-execution_stays r states c e earlier later (Some x) called reply window is = record {
+execution_stays r states c e earlier later None called reply committed window is = called ∙ is
+execution_stays r states c e earlier later (Some x) called reply committed window is = record {
   called = called ∙ is.called;
   allowed = is.allowed;
   reply = is.reply ∙ reply;
+  committed = is.committed ∙ sym committed;
   answered = is.answered ∙ ap (list_any (answers r x)) (sym window);
 }
 
 -- what is kept sees the state after a commit
+sees_more : (r : Rules) (states : List Amounts) (c : ℕ) (e : Entry) (earlier later : List Entry) (next : Amounts) (x : Execution)
+    → states_since_call states c (e ∷ earlier) ≡ states_since_call states c earlier ++ next ∷ []
+    → IsExecution r states c earlier (e ∷ later) x
+    → (x.is_answered || answers r x next) ≡ list_any (answers r x) (states_since_call states c (e ∷ earlier))
+sees_more r states c e earlier later next x window is =
+    ap (λ b. b || answers r x next) is.answered
+    ∙ ap (λ b. list_any (answers r x) (states_since_call states c earlier) || b) (sym (or-false (answers r x next)))
+    ∙ sym (list_any-append (answers r x) (states_since_call states c earlier) (next ∷ []))
+    ∙ ap (list_any (answers r x)) (sym window)
+
 pub execution_sees : (r : Rules) (states : List Amounts) (c : ℕ) (e : Entry) (earlier later : List Entry) (next : Amounts) (o : Option Execution)
     → open_call c (e ∷ earlier) ≡ open_call c earlier → next_reply c (e ∷ later) ≡ next_reply c later
+    → has_committed c (e ∷ earlier) ≡ has_committed c earlier
     → states_since_call states c (e ∷ earlier) ≡ states_since_call states c earlier ++ next ∷ []
     → IsOpen r states c earlier (e ∷ later) o → IsOpen r states c (e ∷ earlier) later (seeing r next o)
-execution_sees r states c e earlier later next None called reply window is = called ∙ is
-execution_sees r states c e earlier later next (Some x) called reply window is = record {
+execution_sees r states c e earlier later next None called reply committed window is = called ∙ is
+execution_sees r states c e earlier later next (Some x) called reply committed window is = record {
   called = called ∙ is.called;
   allowed = is.allowed;
   reply = is.reply ∙ reply;
-  answered = ap (λ b. b || answers r x next) is.answered
-      ∙ ap (λ b. list_any (answers r x) (states_since_call states c earlier) || b) (sym (or-false (answers r x next)))
-      ∙ sym (list_any-append (answers r x) (states_since_call states c earlier) (next ∷ []))
-      ∙ ap (list_any (answers r x)) (sym window);
+  committed = is.committed ∙ sym committed;
+  answered = sees_more r states c e earlier later next x window is;
+}
+
+-- and so does the execution whose commit it is
+pub execution_commits : (r : Rules) (states : List Amounts) (c : ℕ) (e : Entry) (earlier later : List Entry) (next : Amounts) (x : Execution)
+    → open_call c (e ∷ earlier) ≡ open_call c earlier → next_reply c (e ∷ later) ≡ next_reply c later
+    → has_committed c (e ∷ earlier) ≡ true
+    → states_since_call states c (e ∷ earlier) ≡ states_since_call states c earlier ++ next ∷ []
+    → IsExecution r states c earlier (e ∷ later) x → IsOpen r states c (e ∷ earlier) later (seeing r next (Some (with_commit x)))
+execution_commits r states c e earlier later next x called reply committed window is = record {
+  called = called ∙ is.called;
+  allowed = is.allowed;
+  reply = is.reply ∙ reply;
+  committed = sym committed;
+  answered = sees_more r states c e earlier later next x window is;
 }

@@ -13,8 +13,9 @@ use Rattle.vyrd_base.specs.declared.log.StartWord.{StartWord}
 use Rattle.vyrd_base.specs.declared.verdict.Why.{Why}
 use Rattle.vyrd_base.specs.declared.verdict.Why.TheVariants.{Reply, View, Observer}
 use Rattle.vyrd_base.specs.Places.{Place, newest_first}
-use Rattle.vyrd_base.specs.Callers.{Called, open_call}
-use Rattle.vyrd_base.specs.Subjects.{is_observer}
+use Rattle.vyrd_base.specs.Callers.{Called, open_call, has_committed}
+use Rattle.vyrd_base.specs.Subjects.{is_observer, must_commit}
+use Rattle.vyrd_base.specs.Shape.{broken_rule}
 use Rattle.vyrd_base.specs.Amounts.{Amounts, first_difference}
 use Rattle.vyrd_base.specs.Words.{words_at}
 use Rattle.vyrd_base.specs.Commits.{returned, next_reply, committed_at, commits_after, once_returned, state_after}
@@ -28,9 +29,10 @@ use Rattle.vyrd_plain.specs.Executions.{is_reply, answers, begun, IsExecution}
 use Rattle.vyrd_plain.specs.Tracking.{Tracks}
 use Rattle.vyrd_base.specs.Entries.{place_of}
 use Rattle.vyrd_plain.specs.Outcomes.{CommitGives, PlaceGives, return_outcome}
-use Rattle.vyrd_base.proofs.CommitLaws.{Commits, alone, with_block, commits_is, commits_inside, commits_unreturned, commits_uncalled, fault_of_commit_kind}
+use Rattle.vyrd_base.proofs.CommitLaws.{Commits, alone, with_block, commits_is, commits_called, commits_inside, commits_unreturned, commits_uncalled, fault_of_commit_kind}
 use Rattle.vyrd_base.proofs.StateLaws.{next_reply-quiet, state_here, ending-commit}
 use Rattle.vyrd_base.proofs.KeptLaws.{commit_kept, block_commit_runs}
+use Rattle.vyrd_base.proofs.CommittedLaws.{return_free}
 use Rattle.vyrd_plain.proofs.StepLaws.{IsAt, Leads, call_allowed, called_is, leads_for}
 use Rattle.std.proofs.lemmas.Result.{IfOk-weaker}
 use Rattle.vyrd_plain.proofs.TrackingLaws.{tracks_inside, tracks_call, tracks_return, tracks_commit}
@@ -65,7 +67,7 @@ commit_fault_here r starting states c kind earlier later state executions x unre
 commit_gives : (r : Rules) (starting : List StartWord) (states : List Amounts) (c : ℕ) (kind : Kind) (earlier later : List Entry) (state next : Amounts)
     (executions new : List (Option Execution)) (x : Execution) (shown : Amounts) (o : Outcome)
     → Commits kind → Tracks r states earlier (entry c kind ∷ later) state executions → IsExecution r states c earlier (entry c kind ∷ later) x
-    → shown ≡ r.view (words_at r.header starting (place_of (entry c kind) earlier later)) → CommitGives r shown x state next executions new o
+    → shown ≡ r.view (words_at r.header starting (place_of (entry c kind) earlier later)) → CommitGives r shown c x state next executions new o
     → PlaceGives r starting states (place_of (entry c kind) earlier later) next new o
 commit_gives r starting states c kind earlier later state next executions new x shown o commits s is shows gives = by_outcome o gives
   where
@@ -88,14 +90,15 @@ commit_gives r starting states c kind earlier later state next executions new x 
         once_kept (λ called reply. r.next called.method called.args reply state) r states c kind earlier later x
         (commits_unreturned kind commits) is
 
-    by_outcome : (o' : Outcome) → CommitGives r shown x state next executions new o' → PlaceGives r starting states place next new o'
+    by_outcome : (o' : Outcome) → CommitGives r shown c x state next executions new o' → PlaceGives r starting states place next new o'
     by_outcome Goes g = (
       fault ∙ ap (option_and_then fault_by) g.returned
           ∙ ap (λ n. elim n as (λ _. Option Why) [ None ↦ Some (Reply g.reply) | Some a ↦ option_map View (first_difference shown (r.shown a)) ]) g.next
           ∙ ap (option_map View) g.same,
       subst (Tracks r states (entry c kind ∷ earlier) later next) (sym g.seen)
-          (tracks_commit r states c kind earlier later state next executions (commits_inside kind commits) (commits_unreturned kind commits)
-          (commits_uncalled kind commits) (commits_is kind commits) (after ∙ ap (option_and_then next_by) g.returned ∙ g.next) s),
+          (tracks_commit r states c kind earlier later state next executions x (commits_inside kind commits) (commits_unreturned kind commits)
+          (commits_uncalled kind commits) (commits_is kind commits) (commits_called kind commits)
+          (after ∙ ap (option_and_then next_by) g.returned ∙ g.next) is s),
     )
     by_outcome (Faults why) f = fault ∙ ap (option_and_then fault_by) f.returned ∙ f.fault
     by_outcome Ends none = (
@@ -103,7 +106,7 @@ commit_gives r starting states c kind earlier later state next executions new x 
       ending-commit r states (entry c kind) earlier later state (commits_is kind commits) (after ∙ ap (option_and_then next_by) none) s.going,
     )
 
--- an observer's test of a state is whether it answers the reply
+-- without a commit the test of a state is whether it answers the reply
 same_any : (p q : Amounts → Bool) (xs : List Amounts) → ((s : Amounts) → p s ≡ q s) → list_any p xs ≡ list_any q xs
 same_any p q [] same = refl
 same_any p q (x ∷ xs) same = ap (λ b. b || list_any p xs) (same x) ∙ ap (λ b. q x || b) (same_any p q xs same)
@@ -111,11 +114,12 @@ same_any p q (x ∷ xs) same = ap (λ b. b || list_any p xs) (same x) ∙ ap (λ
 -- what a return leads to
 return_gives : (r : Rules) (starting : List StartWord) (states : List Amounts) (c reply : ℕ) (earlier later : List Entry) (state : Amounts)
     (executions : List (Option Execution)) (x : Execution)
+    → broken_rule r.header earlier (entry c (Return reply)) ≡ None
     → Tracks r states earlier (entry c (Return reply) ∷ later) state executions
     → IsExecution r states c earlier (entry c (Return reply) ∷ later) x
     → PlaceGives r starting states (place_of (entry c (Return reply)) earlier later) state (set executions c None) (return_outcome x reply)
 unfolding fault_at
-return_gives r starting states c reply earlier later state executions x s is = by_test (is_observer x.method && not x.is_answered) fault
+return_gives r starting states c reply earlier later state executions x kept s is = by_test (not x.has_committed && not x.is_answered) fault
   where
     place : Place Entry
     place = place_of (entry c (Return reply)) earlier later
@@ -126,15 +130,15 @@ return_gives r starting states c reply earlier later state executions x s is = b
     window : List Amounts
     window = states_since_call states c earlier
 
-    by_window : fault_at r starting states place ≡ observer_fault r window reply (called_in x)
+    by_window : fault_at r starting states place ≡ observer_fault r window (has_committed c earlier) reply (called_in x)
     by_window =
-        ap (λ o. option_and o (option_and_then (observer_fault r window reply) (open_call c earlier)))
+        ap (λ o. option_and o (option_and_then (observer_fault r window (has_committed c earlier) reply) (open_call c earlier)))
         (state_here r states earlier state (commits_after earlier (entry c (Return reply) ∷ later)) s.going)
-        ∙ ap (option_and_then (observer_fault r window reply)) is.called
+        ∙ ap (option_and_then (observer_fault r window (has_committed c earlier) reply)) is.called
 
-    answered : is_observer x.method ≡ true → list_any replies window ≡ x.is_answered
-    answered observes = same_any replies (answers r x) window (λ st.
-        sym (ap (λ b. b && is_reply x.reply (r.answer st x.method x.args)) observes
+    answered : must_commit x.method ≡ false → list_any replies window ≡ x.is_answered
+    answered free = same_any replies (answers r x) window (λ st.
+        sym (ap (λ b. not b && is_reply x.reply (r.answer st x.method x.args)) free
         ∙ ap (λ o. is_reply o (r.answer st x.method x.args)) (is.reply ∙ own_answer c returned (Return reply) later))) ∙ sym is.answered
 
     turned : (b : Bool) → cond b None (Some (Observer reply)) ≡ cond (not b) (Some (Observer reply)) None
@@ -142,13 +146,15 @@ return_gives r starting states c reply earlier later state executions x s is = b
     turned false = refl
 
     -- the fault, by what the outcome looks at
-    by_method : (m : Bool) → is_observer x.method ≡ m
-        → cond (not m || list_any replies window) None (Some (Observer reply)) ≡ cond (m && not x.is_answered) (Some (Observer reply)) None
-    by_method false mutates = refl
-    by_method true observes = ap (λ a. cond a None (Some (Observer reply))) (answered observes) ∙ turned x.is_answered
+    by_commit : (b : Bool) → has_committed c earlier ≡ b
+        → cond (b || list_any replies window) None (Some (Observer reply)) ≡ cond (not b && not x.is_answered) (Some (Observer reply)) None
+    by_commit true committed = refl
+    by_commit false none = ap (λ a. cond a None (Some (Observer reply)))
+        (answered (return_free r.header c reply earlier (called_in x) kept is.called none)) ∙ turned x.is_answered
 
-    fault : fault_at r starting states place ≡ cond (is_observer x.method && not x.is_answered) (Some (Observer reply)) None
-    fault = by_window ∙ by_method (is_observer x.method) refl
+    fault : fault_at r starting states place ≡ cond (not x.has_committed && not x.is_answered) (Some (Observer reply)) None
+    fault = by_window ∙ by_commit (has_committed c earlier) refl
+        ∙ ap (λ b. cond (not b && not x.is_answered) (Some (Observer reply)) None) (sym is.committed)
 
     by_test : (b : Bool) → fault_at r starting states place ≡ cond b (Some (Observer reply)) None
         → PlaceGives r starting states place state (set executions c None) (cond b (Faults (Observer reply)) Goes)
@@ -161,7 +167,7 @@ pub return_leads : {r : Rules} {front : List Entry} {at c reply : ℕ} {state : 
     → IsExecution r (states_along r [] front) c (newest_first (take at front)) (entry c (Return reply) ∷ drop (at + 1) front) x
     → Leads r front at (entry c (Return reply)) state (set executions c None) (return_outcome x reply)
 return_leads {r} {front} {at} {c} {reply} {state} {executions} {x} here is = record {
-  to = return_gives r [] (states_along r [] front) c reply (newest_first (take at front)) (drop (at + 1) front) state executions x here.tracks is;
+  to = return_gives r [] (states_along r [] front) c reply (newest_first (take at front)) (drop (at + 1) front) state executions x here.kept here.tracks is;
 }
 
 pub call_leads : {r : Rules} {front : List Entry} {at c : ℕ} {method : Method} {args : Args} {reply : Option ℕ} {state : Amounts}
@@ -173,7 +179,7 @@ call_leads {r} {front} {at} {c} {method} {args} {reply} {state} {executions} her
   to = (
     refl,
     tracks_call r (states_along r [] front) c method args (newest_first (take at front)) (drop (at + 1) front) state executions
-        (begun r method args reply state) refl refl replies refl (call_allowed here) here.tracks,
+        (begun r method args reply state) refl refl replies refl refl (call_allowed here) here.tracks,
   );
 }
 
@@ -193,11 +199,11 @@ quiet_gives : (r : Rules) (starting : List StartWord) (states : List Amounts) (c
     → PlaceGives r starting states (place_of (entry c kind) earlier later) state executions Goes
 unfolding fault_at
 quiet_gives r starting states c _ earlier later state executions (writes word value) s =
-    (refl, tracks_inside r states c (Write word value) earlier later state executions refl refl refl refl s)
+    (refl, tracks_inside r states c (Write word value) earlier later state executions refl refl refl refl refl s)
 quiet_gives r starting states c _ earlier later state executions opens s =
-    (refl, tracks_inside r states c BlockOpen earlier later state executions refl refl refl refl s)
+    (refl, tracks_inside r states c BlockOpen earlier later state executions refl refl refl refl refl s)
 quiet_gives r starting states c _ earlier later state executions closes s =
-    (refl, tracks_inside r states c BlockClose earlier later state executions refl refl refl refl s)
+    (refl, tracks_inside r states c BlockClose earlier later state executions refl refl refl refl refl s)
 
 pub quiet_leads : {r : Rules} {front : List Entry} {at c : ℕ} {kind : Kind} {state : Amounts} {executions : List (Option Execution)}
     → Quiet kind → IsAt r front at (entry c kind) state executions → Leads r front at (entry c kind) state executions Goes
@@ -223,17 +229,17 @@ pub commit_leads : {E : Type 0} {r : Rules} {front : List Entry} {at c : ℕ} {k
     {executions : List (Option Execution)} {x : Execution} (val : Result Outcome E) (next : Amounts) (new : List (Option Execution)) → Commits kind
     → IsAt r front at (entry c kind) state executions
     → IsExecution r (states_along r [] front) c (newest_first (take at front)) (entry c kind ∷ drop (at + 1) front) x → entry c kind ≡ e
-    → IfOk val (CommitGives r (r.view (words_at r.header [] (place_of (entry c kind) (newest_first (take at front)) (drop (at + 1) front)))) x state next executions new)
+    → IfOk val (CommitGives r (r.view (words_at r.header [] (place_of (entry c kind) (newest_first (take at front)) (drop (at + 1) front)))) c x state next executions new)
     → IfOk val (PlaceGives r [] (states_along r [] front) (place_of e (newest_first (take at front)) (drop (at + 1) front)) next new)
 commit_leads {E} {r} {front} {at} {c} {kind} {e} {state} {executions} {x} val next new commits here is same gives =
-    IfOk-weaker val (CommitGives r shown x state next executions new)
+    IfOk-weaker val (CommitGives r shown c x state next executions new)
     (PlaceGives r [] (states_along r [] front) (place_of e (newest_first (take at front)) (drop (at + 1) front)) next new)
     (λ o given. (leads o given).to) gives
   where
     shown : Amounts
     shown = r.view (words_at r.header [] (place_of (entry c kind) (newest_first (take at front)) (drop (at + 1) front)))
 
-    leads : (o : Outcome) → CommitGives r shown x state next executions new o → Leads r front at e next new o
+    leads : (o : Outcome) → CommitGives r shown c x state next executions new o → Leads r front at e next new o
     leads o given = leads_for {d = entry c kind} same (record {
       to = commit_gives r [] (states_along r [] front) c kind (newest_first (take at front)) (drop (at + 1) front) state next executions new x shown o
           commits here.tracks is refl given;

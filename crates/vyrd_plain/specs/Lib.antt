@@ -2,4 +2,4 @@ pub mod Executions
 pub mod Tracking
 pub mod Outcomes
 pub mod OpenBlocks
-pub mod Observing
+pub mod Committed

@@ -1,19 +1,19 @@
 //! The numbers of an accepted log.
 
-ghost use Rattle.std.specs.Prelude.{◌≡◌, ◌<◌, ◌+◌, ◌&&◌, Bool, length, IfOk, None, Some, slice_get};
-ghost use Rattle.std.specs.Prelude.{slice_index_or, vec_len};
+ghost use Rattle.std.specs.Prelude.{◌≡◌, ◌<◌, ◌+◌, ◌&&◌, not, Bool, length, IfOk, None, Some};
+ghost use Rattle.std.specs.Prelude.{slice_get, slice_index_or, vec_len};
 ghost use Rattle.vyrd_base.specs.declared.header.Header.{Header};
 ghost use Rattle.vyrd_base.specs.Front.{first_break};
 ghost use Rattle.vyrd_base.specs.Commits.{commit_count, is_commit};
 ghost use Rattle.vyrd_base.specs.declared.log.Entry.{Entry};
 ghost use Rattle.vyrd_base.specs.Verdicts.{accepted, is_return, observer_count};
-ghost use Rattle.vyrd_plain.specs.Observing.{observing_after};
+ghost use Rattle.vyrd_plain.specs.Committed.{committed_after};
 
 use std::alloc::{AllocError, Global};
 use vyrd_base::{Entry, Header, Kind, Verdict};
 
 /// The answer that a log which keeps all rules is accepted, with its numbers of entries, commits
-/// and observers. It goes over the entries twice, and takes a flag for each caller.
+/// and returns without a commit. It goes over the entries twice, and takes a flag for each caller.
 pub(crate) fn accepted(
     alloc: Global,
     header: Header,
@@ -43,41 +43,40 @@ fn commit_count(entries: &[Entry]) -> u64
     entries.iter().filter(|e| is_commit(e.kind)).count() as u64
 }
 
-/// How many observers have returned. An observer that is still open doesn't count, so a call alone
-/// says too little.
+/// How many executions have returned without a commit.
 fn observer_count(alloc: Global, header: Header, entries: &[Entry]) -> Result<u64, AllocError>
     requires { first_break header entries.now ≡ None }
     ensures { IfOk result (λ n. n ≡ observer_count entries.now) }
 {
-    let mut observing = vec![in alloc; false; header.callers() as usize]?;
+    let mut committed = vec![in alloc; false; header.callers() as usize]?;
     let mut count = 0u64;
     for at in 0..entries.len() {
         let entry = entry_at(entries, at);
-        if observer_returns(&mut observing, entry) {
+        if observer_returns(&mut committed, entry) {
             count += 1;
         }
     }
     Ok(count)
 }
 
-/// Whether an observer returns with this entry, with each caller that observes before it. They
-/// become those after it.
-fn observer_returns(observing: &mut Vec<bool>, entry: Entry) -> bool
-    requires { entry.caller < vec_len observing.old }
-    ensures returns { (b : Bool) → slice_get observing.old.items entry.caller ≡ Some b
-        → result ≡ (is_return entry.kind && b) }
-    ensures after { observing.new.items
-        ≡ observing_after observing.old.items entry.caller entry.kind }
-    ensures all { vec_len observing.new ≡ vec_len observing.old }
+/// Whether an execution returns with this entry and has no commit, with each caller that has
+/// committed before it. They become those after it.
+fn observer_returns(committed: &mut Vec<bool>, entry: Entry) -> bool
+    requires { entry.caller < vec_len committed.old }
+    ensures returns { (b : Bool) → slice_get committed.old.items entry.caller ≡ Some b
+        → result ≡ (is_return entry.kind && not b) }
+    ensures after { committed.new.items
+        ≡ committed_after committed.old.items entry.caller entry.kind }
+    ensures all { vec_len committed.new ≡ vec_len committed.old }
 {
     let caller = entry.caller as usize;
-    let was_observing = observing[caller];
+    let had_committed = committed[caller];
     match entry.kind {
-        Kind::Call(method, _) => observing[caller] = method.is_observer(),
-        Kind::Return(_) => observing[caller] = false,
-        _ => {}
+        Kind::Call(..) | Kind::Return(_) => committed[caller] = false,
+        Kind::Commit | Kind::BlockCommit => committed[caller] = true,
+        Kind::Write(..) | Kind::BlockOpen | Kind::BlockClose => {}
     }
-    was_observing && matches!(entry.kind, Kind::Return(_))
+    !had_committed && matches!(entry.kind, Kind::Return(_))
 }
 
 /// The entry at a place. If the log keeps all rules, its caller is one of the header's.

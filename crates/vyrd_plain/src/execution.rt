@@ -12,15 +12,17 @@ use vyrd_spec::Spec;
 
 /// An execution that has begun, with the reply that it will return.
 ///
-/// The reply is known from the call on, so that an observer's can be compared with each state as it
-/// comes, and no state need be kept.
+/// The reply is known from the call on, so that it can be compared with the answer of each state as
+/// it comes, and no state need be kept.
 #[derive(Clone, Copy)]
 pub(crate) struct Execution {
     pub method: Method,
     pub args: Args,
     /// `None` if it doesn't return in the front.
     pub reply: Option<u64>,
-    /// Whether it is an observer's, and some state since its call gives the reply.
+    pub has_committed: bool,
+    /// Whether its method may return without a commit, and some state since its call gives the
+    /// reply.
     pub is_answered: bool,
 }
 
@@ -42,14 +44,14 @@ pub(crate) fn next_reply(caller: u32, later: &[Entry]) -> Option<u64>
 impl Execution {
     ghost use Rattle.vyrd_plain.specs.Executions.{answers};
 
-    /// Whether it is an observer's, whose reply this state answers.
+    /// Whether its method may return without a commit, and this state answers its reply.
     pub fn is_answered_by<S: Spec>(&self, spec: &S) -> bool
         requires allowed { has_method
             (rules_by (S.charter spec.now)).header self.now.method self.now.args ≡ true }
         ensures { result ≡ answers (rules_by (S.charter spec.now)) self.now (S.state spec.now) }
     {
         match self.reply {
-            Some(reply) if self.method.is_observer() => {
+            Some(reply) if !self.method.must_commit() => {
                 reply == spec.answer(self.method, self.args)
             }
             _ => false,

@@ -2,7 +2,7 @@
 
 ghost use Rattle.std.specs.Prelude.{◌≡◌, ◌+◌, ◌<◌, ◌≤◌, ◌^◌, true, false, [], length, replicate};
 ghost use Rattle.std.specs.Prelude.{take, drop, Option, Some, None, Ok, IfOk, slice_get, slice_set};
-ghost use Rattle.std.specs.Prelude.{vec_len};
+ghost use Rattle.std.specs.Prelude.{vec_len, map};
 ghost use Rattle.vyrd_base.specs.declared.log.Entry.{Entry};
 ghost use Rattle.vyrd_base.specs.Subjects.{is_observer};
 ghost use Rattle.vyrd_base.specs.Places.{newest_first};
@@ -13,7 +13,7 @@ ghost use Rattle.vyrd_base.specs.Specification.{start};
 ghost use Rattle.vyrd_base.specs.Verdicts.{states_along};
 ghost use Rattle.vyrd_plain.specs.declared.execution.Execution.{Execution};
 ghost use Rattle.vyrd_base.specs.Entries.{has_method};
-ghost use Rattle.vyrd_plain.specs.Executions.{begun, AreAllowed};
+ghost use Rattle.vyrd_plain.specs.Executions.{begun, seeing, with_commit, AreAllowed};
 ghost use Rattle.vyrd_plain.specs.Tracking.{Tracks};
 ghost use Rattle.vyrd_plain.specs.OpenBlocks.{HasEffects};
 ghost use Rattle.vyrd_base.specs.Entries.{place_of};
@@ -62,9 +62,7 @@ impl<S: BuiltIn> Scan<S> {
             executions: vec![in alloc; None; header.callers() as usize]?,
         })
     }
-}
 
-impl<S: Spec> Scan<S> {
     /// The caller's execution, if it is in one.
     fn execution_of(&self, caller: u32) -> Option<Execution>
         requires { caller < (rules_by (S.charter self.now.spec)).header.callers }
@@ -93,14 +91,15 @@ impl<S: Spec> Scan<S> {
             method,
             args,
             reply,
+            has_committed: false,
             is_answered: false,
         };
         execution.is_answered = execution.is_answered_by(&self.spec);
         self.executions[caller as usize] = Some(execution);
     }
 
-    /// A return ends its caller's execution. It is a fault if no state since the call answered an
-    /// observer's reply.
+    /// A return ends its caller's execution. It is a fault if the execution has no commit and no
+    /// state since its call answered the reply.
     fn finish(&mut self, caller: u32, reply: u64) -> Outcome
         requires caller { caller < (rules_by (S.charter self.old.spec)).header.callers }
         ensures outcome { (x : Execution)
@@ -114,11 +113,29 @@ impl<S: Spec> Scan<S> {
         let execution = self.execution_of(caller);
         self.executions[caller as usize] = None;
         match execution {
-            Some(x) if x.method.is_observer() && !x.is_answered => {
+            Some(x) if !x.has_committed && !x.is_answered => {
                 Outcome::Faults(Why::Observer(reply))
             }
             _ => Outcome::Goes,
         }
+    }
+
+    /// The caller's execution has committed, and every caller's sees the state after that.
+    fn mark_committed(&mut self, caller: u32, mut execution: Execution)
+        requires caller { caller < (rules_by (S.charter self.old.spec)).header.callers }
+        requires allowed { AreAllowed
+            (rules_by (S.charter self.old.spec)).header self.old.executions.items }
+        requires may { has_method (rules_by (S.charter self.old.spec)).header execution.method
+            execution.args ≡ true }
+        ensures executions { self.new.executions.items
+            ≡ map (seeing (rules_by (S.charter self.old.spec)) (S.state self.old.spec))
+            (slice_set self.old.executions.items caller (Some (with_commit execution))) }
+        ensures spec { self.new.spec ≡ self.old.spec }
+        ensures effects { self.new.effects ≡ self.old.effects }
+    {
+        execution.has_committed = true;
+        self.executions[caller as usize] = Some(execution);
+        see(&mut self.executions, &self.spec);
     }
 
     /// A commit takes the specification one step on by the reply that its execution will return,
@@ -135,7 +152,7 @@ impl<S: Spec> Scan<S> {
         ensures gives { (x : Execution) → slice_get self.old.executions.items caller ≡ Some (Some x)
             → IfOk result (CommitGives (rules_by (S.charter self.old.spec))
             ((rules_by (S.charter self.old.spec)).view self.old.effects.words.items)
-            x (S.state self.old.spec) (S.state self.new.spec) self.old.executions.items
+            caller x (S.state self.old.spec) (S.state self.new.spec) self.old.executions.items
             self.new.executions.items) }
         ensures charter { S.charter self.new.spec ≡ S.charter self.old.spec }
         ensures made { S.made self.new.spec ≤ S.made self.old.spec + 1 }
@@ -155,7 +172,7 @@ impl<S: Spec> Scan<S> {
         if let Some(key) = first_difference(&shown, &after) {
             return Ok(Outcome::Faults(Why::View(key)));
         }
-        see(&mut self.executions, &self.spec);
+        self.mark_committed(caller, execution);
         Ok(Outcome::Goes)
     }
 

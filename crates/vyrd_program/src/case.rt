@@ -42,9 +42,10 @@ pub const BYTE_BY_BYTE: Devices<'static> = Devices {
     failing_writes: &[],
 };
 
-/// How many bytes a read gives at most, and a write takes, of devices that fail.
+/// How many bytes a read of a device that fails gives at most.
 const SHORT_READ: usize = 16;
 
+/// How many bytes a write to a device that fails takes at most.
 pub const SHORT_WRITE: usize = 5;
 
 /// Reads of 16 bytes and writes of 5, of which these fail.

@@ -2,7 +2,8 @@
 
 use crate::case::{BYTE_BY_BYTE, Case};
 use crate::program::vyrd;
-use crate::run::MOST_EVENTS;
+use crate::run::{MOST_EVENTS, play};
+use crate::show::Show;
 use std::alloc::{AllocError, Global};
 use std::sync::Wait;
 use std::sync::atomic::{AtomicU64, Ordering};
@@ -93,6 +94,30 @@ fn write_of_a_log_that_fails(rt: HostRuntime) -> Result<(), Fail> {
     let words = ["run", "--log"];
     let ended = vyrd(&rt, alloc, &words, &mut source, &mut sink, &OpenGate);
     assert_eq!(rt; (ended.status, sink.taken()), (5, b"vyrd 1 mul".as_slice()));
+    Ok(())
+}
+
+/// The bound of a multiset's operation is 32 events. A limit below it is given to the call by which
+/// `run` plays, since no workload of a text comes near the limit of the program.
+#[test]
+fn events_that_are_spent(rt: HostRuntime) -> Result<(), Fail> {
+    for (limit, status, text) in [
+        (31, 9, b"events spent by caller 0\n".as_slice()),
+        (
+            32,
+            0,
+            b"accepted: 2 entries, 0 commits, 1 observers\n".as_slice(),
+        ),
+    ] {
+        let Ok(work) = read_work(
+            rt.alloc(),
+            b"work multiset 1 1 correct\nop 0 lookup 5\nend\n",
+        ) else {
+            panic!(rt; "no workload")
+        };
+        let answer = play(&rt, rt.alloc(), Show::Verdict, work, limit, &OpenGate)?;
+        assert_eq!(rt; (answer.status, answer.text.as_slice()), (status, text));
+    }
     Ok(())
 }
 

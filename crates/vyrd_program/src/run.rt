@@ -6,6 +6,7 @@ ghost use Rattle.vyrd_work.specs.Workloads.{workload_of};
 ghost use Rattle.vyrd_work.specs.WorkLimits.{KeepsLimits};
 ghost use Rattle.vyrd_work.specs.WorkReading.{work_reading};
 ghost use Rattle.vyrd_work.specs.LongInputs.{longest_input};
+ghost use Rattle.vyrd_trace.specs.Hands.{most_events};
 ghost use Rattle.vyrd_program.specs.Inputs.{IsInputTaken, IsFewTaken};
 ghost use Rattle.vyrd_program.specs.Runs.{AnswersRun, IsRunAnswer, IsRunStatus};
 
@@ -72,26 +73,30 @@ fn answer_to<R: Threads + Wait + Sync, G: Gate>(
     let read = read_work(alloc, &bytes);
     drop(bytes);
     match read {
-        Ok(work) => play(rt, alloc, show, work, gate),
+        Ok(work) => play(rt, alloc, show, work, MOST_EVENTS, gate),
         Err(WorkFault::Refused { line, rule }) => refuse(alloc, line, rule),
         Err(WorkFault::Memory) => Err(AllocError),
     }
 }
 
-/// The answer to a workload that keeps its limits.
-fn play<R: Threads + Wait + Sync, G: Gate>(
+/// The answer to a workload that keeps its limits, each of whose callers may have this many events.
+/// `run` lets a caller have `MOST_EVENTS`.
+pub(crate) fn play<R: Threads + Wait + Sync, G: Gate>(
     rt: &R,
     alloc: Global,
     show: Show,
     work: Work,
+    limit: u64,
     gate: &G,
 ) -> Result<Answer, AllocError>
-    requires { KeepsLimits (workload_of work) }
-    ensures { IfOk result (λ answer. IsRunAnswer show (Ok (workload_of work)) answer.status
+    requires limits { KeepsLimits (workload_of work) }
+    requires limit { limit ≤ most_events }
+    ensures { limit ≡ most_events
+        → IfOk result (λ answer. IsRunAnswer show (Ok (workload_of work)) answer.status
         answer.text.items) }
 {
     let account = Account::new(alloc, work.header, show)?;
-    let played = show_live(rt, alloc, work, MOST_EVENTS, gate, account)?;
+    let played = show_live(rt, alloc, work, limit, gate, account)?;
     let Played { sink, spent, .. } = played;
     match spent {
         Some(caller) => overrun(alloc, caller),

@@ -4,7 +4,8 @@
 use Rattle.std.specs.Prelude.{ℕ, zero, suc, ◌-◌, Bool, true, false, List, [], ◌∷◌, refl}
 use Rattle.vyrd_base.specs.declared.header.Header.{Header}
 use Rattle.vyrd_base.specs.declared.subject.Subject.TheVariants.{Multiset}
-use Rattle.vyrd_base.specs.declared.subject.Method.TheVariants.{MsInsert}
+use Rattle.vyrd_base.specs.declared.subject.Method.TheVariants.{Multiset as OfMultiset}
+use Rattle.vyrd_base.specs.declared.multiset.MultisetMethod.TheVariants.{Insert}
 use Rattle.vyrd_base.specs.declared.log.Kind.TheVariants.{Call, Return, Commit}
 use Rattle.vyrd_memory.specs.declared.act.Act.{Act}
 use Rattle.vyrd_memory.specs.declared.act.Act.TheVariants.{Load, Store, Take, Give, Mark}
@@ -32,7 +33,7 @@ rest_of_visit true = visit_on 17 16 6
 
 -- a visit
 abbrev pub visit : Bool → List Act
-visit crosses = Mark (Call MsInsert (record { a = 5; b = 0; c = 0 })) ∷ rest_of_visit crosses
+visit crosses = Mark (Call (OfMultiset Insert) (record { a = 5; b = 0; c = 0 })) ∷ rest_of_visit crosses
 
 -- how many events there are to come at most, after this many
 abbrev pub ahead_after : ℕ → ℕ

@@ -10,7 +10,7 @@ ghost use Rattle.vyrd_memory.specs.Scripts.{IsAnswer};
 
 use std::alloc::Global;
 use std::test::Fail;
-use vyrd_base::{Args, Header, Kind, Method, Subject};
+use vyrd_base::{Args, BuffersMethod, Header, Kind, Method, Subject};
 use vyrd_buffers::BufferMachine;
 use vyrd_memory::{Act, Machine, Op, Variant};
 
@@ -72,7 +72,7 @@ fn acts(alloc: Global, variant: Variant, op: Op, words: &mut [u64]) -> Result<Ve
 #[test]
 fn append_stores_behind_the_characters(rt: HostRuntime) -> Result<(), Fail> {
     let mut words = [0, 0, 0, 0, 0, 0, 0, 0, 2, 3, 4, 0, 0, 0, 0, 0];
-    let append = op(Method::BuAppend, 1, 9);
+    let append = op(Method::Buffers(BuffersMethod::Append), 1, 9);
     let done = acts(rt.alloc(), Variant::Correct, append, &mut words)?;
     let wanted = [
         Act::Take(17),
@@ -92,7 +92,7 @@ fn append_stores_behind_the_characters(rt: HostRuntime) -> Result<(), Fail> {
 #[test]
 fn append_to_a_full_buffer_changes_nothing(rt: HostRuntime) -> Result<(), Fail> {
     let mut words = [7, 1, 2, 3, 4, 5, 6, 7, 0, 0, 0, 0, 0, 0, 0, 0];
-    let append = op(Method::BuAppend, 0, 9);
+    let append = op(Method::Buffers(BuffersMethod::Append), 0, 9);
     let done = acts(rt.alloc(), Variant::Broken, append, &mut words)?;
     let wanted = [
         Act::Take(16),
@@ -108,7 +108,7 @@ fn append_to_a_full_buffer_changes_nothing(rt: HostRuntime) -> Result<(), Fail> 
 #[test]
 fn append_from_holds_both_locks(rt: HostRuntime) -> Result<(), Fail> {
     let mut words = [2, 5, 6, 0, 0, 0, 0, 0, 3, 7, 8, 9, 0, 0, 0, 0];
-    let append_from = op(Method::BuAppendFrom, 1, 0);
+    let append_from = op(Method::Buffers(BuffersMethod::AppendFrom), 1, 0);
     let done = acts(rt.alloc(), Variant::Correct, append_from, &mut words)?;
     let wanted = [
         Act::Take(16),
@@ -134,7 +134,7 @@ fn append_from_holds_both_locks(rt: HostRuntime) -> Result<(), Fail> {
 #[test]
 fn append_from_without_its_lock(rt: HostRuntime) -> Result<(), Fail> {
     let mut words = [2, 5, 6, 0, 0, 0, 0, 0, 3, 7, 8, 9, 0, 0, 0, 0];
-    let append_from = op(Method::BuAppendFrom, 1, 0);
+    let append_from = op(Method::Buffers(BuffersMethod::AppendFrom), 1, 0);
     let done = acts(rt.alloc(), Variant::Broken, append_from, &mut words)?;
     let wanted = [
         Act::Take(16),
@@ -159,7 +159,7 @@ fn append_from_without_its_lock(rt: HostRuntime) -> Result<(), Fail> {
 #[test]
 fn append_from_a_buffer_to_itself(rt: HostRuntime) -> Result<(), Fail> {
     let mut words = [0, 0, 0, 0, 0, 0, 0, 0, 2, 3, 4, 0, 0, 0, 0, 0];
-    let append_from = op(Method::BuAppendFrom, 1, 1);
+    let append_from = op(Method::Buffers(BuffersMethod::AppendFrom), 1, 1);
     let done = acts(rt.alloc(), Variant::Correct, append_from, &mut words)?;
     let wanted = [
         Act::Take(17),
@@ -182,7 +182,7 @@ fn append_from_a_buffer_to_itself(rt: HostRuntime) -> Result<(), Fail> {
 #[test]
 fn append_from_without_room_changes_nothing(rt: HostRuntime) -> Result<(), Fail> {
     let mut words = [4, 1, 2, 3, 4, 0, 0, 0, 4, 1, 2, 3, 4, 0, 0, 0];
-    let append_from = op(Method::BuAppendFrom, 0, 1);
+    let append_from = op(Method::Buffers(BuffersMethod::AppendFrom), 0, 1);
     let correct = acts(rt.alloc(), Variant::Correct, append_from, &mut words)?;
     let broken = acts(rt.alloc(), Variant::Broken, append_from, &mut words)?;
     let wanted = [
@@ -213,7 +213,7 @@ fn append_from_without_room_changes_nothing(rt: HostRuntime) -> Result<(), Fail>
 #[test]
 fn append_from_fills_a_buffer(rt: HostRuntime) -> Result<(), Fail> {
     let mut words = [0, 0, 0, 0, 0, 0, 0, 0, 7, 1, 2, 3, 4, 5, 6, 7];
-    let append_from = op(Method::BuAppendFrom, 0, 1);
+    let append_from = op(Method::Buffers(BuffersMethod::AppendFrom), 0, 1);
     let _ = acts(rt.alloc(), Variant::Correct, append_from, &mut words)?;
     assert_eq!(rt; words, [7, 1, 2, 3, 4, 5, 6, 7, 7, 1, 2, 3, 4, 5, 6, 7]);
     Ok(())
@@ -222,9 +222,9 @@ fn append_from_fills_a_buffer(rt: HostRuntime) -> Result<(), Fail> {
 #[test]
 fn cut_stores_a_lower_count(rt: HostRuntime) -> Result<(), Fail> {
     let mut words = [3, 1, 2, 3, 0, 0, 0, 0, 0, 0, 0, 0, 0, 0, 0, 0];
-    let cut_to_three = op(Method::BuCut, 0, 3);
+    let cut_to_three = op(Method::Buffers(BuffersMethod::Cut), 0, 3);
     let uncut = acts(rt.alloc(), Variant::Correct, cut_to_three, &mut words)?;
-    let cut_to_one = op(Method::BuCut, 0, 1);
+    let cut_to_one = op(Method::Buffers(BuffersMethod::Cut), 0, 1);
     let cut = acts(rt.alloc(), Variant::Broken, cut_to_one, &mut words)?;
     let wanted = [
         Act::Take(16),
@@ -250,9 +250,9 @@ fn cut_stores_a_lower_count(rt: HostRuntime) -> Result<(), Fail> {
 #[test]
 fn length_is_at_most_seven(rt: HostRuntime) -> Result<(), Fail> {
     let mut words = [3, 1, 2, 3, 0, 0, 0, 0, 9, 0, 0, 0, 0, 0, 0, 0];
-    let first_length = op(Method::BuLength, 0, 0);
+    let first_length = op(Method::Buffers(BuffersMethod::Length), 0, 0);
     let three = acts(rt.alloc(), Variant::Correct, first_length, &mut words)?;
-    let second_length = op(Method::BuLength, 1, 0);
+    let second_length = op(Method::Buffers(BuffersMethod::Length), 1, 0);
     let nine = acts(rt.alloc(), Variant::Broken, second_length, &mut words)?;
     let wanted = [
         Act::Take(16),
@@ -274,9 +274,9 @@ fn length_is_at_most_seven(rt: HostRuntime) -> Result<(), Fail> {
 #[test]
 fn read_replies_with_the_text(rt: HostRuntime) -> Result<(), Fail> {
     let mut words = [2, 3, 4, 0, 0, 0, 0, 0, 0, 1, 0, 0, 0, 0, 0, 0];
-    let first_read = op(Method::BuRead, 0, 0);
+    let first_read = op(Method::Buffers(BuffersMethod::Read), 0, 0);
     let two = acts(rt.alloc(), Variant::Correct, first_read, &mut words)?;
-    let second_read = op(Method::BuRead, 1, 0);
+    let second_read = op(Method::Buffers(BuffersMethod::Read), 1, 0);
     let empty = acts(rt.alloc(), Variant::Broken, second_read, &mut words)?;
     let wanted = [
         Act::Take(16),
@@ -302,9 +302,9 @@ fn read_cuts_its_characters(rt: HostRuntime) -> Result<(), Fail> {
     let mut words = [
         9, 254, 254, 254, 254, 254, 254, 254, 2, 255, 256, 0, 0, 0, 0, 0,
     ];
-    let first_read = op(Method::BuRead, 0, 0);
+    let first_read = op(Method::Buffers(BuffersMethod::Read), 0, 0);
     let full = acts(rt.alloc(), Variant::Correct, first_read, &mut words)?;
-    let second_read = op(Method::BuRead, 1, 0);
+    let second_read = op(Method::Buffers(BuffersMethod::Read), 1, 0);
     let high = acts(rt.alloc(), Variant::Correct, second_read, &mut words)?;
     assert!(rt;
         full.as_slice()

@@ -7,7 +7,7 @@ ghost use Rattle.vyrd_memory.specs.Arguments.{are_small};
 
 use std::alloc::{AllocError, Global};
 use std::test::Fail;
-use vyrd_base::{Args, Header, Kind, Method, Subject};
+use vyrd_base::{Args, CacheMethod, Header, Kind, Method, Subject};
 use vyrd_cache::CacheProgress;
 use vyrd_memory::{Act, Op, Progress, Variant};
 
@@ -67,8 +67,22 @@ fn acts_of(
 
 #[test]
 fn writes(rt: HostRuntime) -> Result<(), Fail> {
-    let correct = acts_of(rt.alloc(), Variant::Correct, Method::CaWrite, 7, 8, 2)?;
-    let dirty = acts_of(rt.alloc(), Variant::Broken, Method::CaWrite, 7, 8, 2)?;
+    let correct = acts_of(
+        rt.alloc(),
+        Variant::Correct,
+        Method::Cache(CacheMethod::Write),
+        7,
+        8,
+        2,
+    )?;
+    let dirty = acts_of(
+        rt.alloc(),
+        Variant::Broken,
+        Method::Cache(CacheMethod::Write),
+        7,
+        8,
+        2,
+    )?;
     assert_eq!(rt;
         correct.as_slice(),
         [
@@ -101,8 +115,22 @@ fn writes(rt: HostRuntime) -> Result<(), Fail> {
 
 #[test]
 fn flush_and_evict(rt: HostRuntime) -> Result<(), Fail> {
-    let dirty = acts_of(rt.alloc(), Variant::Correct, Method::CaFlush, 0, 0, 2)?;
-    let clean = acts_of(rt.alloc(), Variant::Correct, Method::CaEvict, 0, 0, 1)?;
+    let dirty = acts_of(
+        rt.alloc(),
+        Variant::Correct,
+        Method::Cache(CacheMethod::Flush),
+        0,
+        0,
+        2,
+    )?;
+    let clean = acts_of(
+        rt.alloc(),
+        Variant::Correct,
+        Method::Cache(CacheMethod::Evict),
+        0,
+        0,
+        1,
+    )?;
     assert_eq!(rt;
         dirty.as_slice(),
         [
@@ -138,11 +166,18 @@ fn flush_and_evict(rt: HostRuntime) -> Result<(), Fail> {
 
 #[test]
 fn reads(rt: HostRuntime) -> Result<(), Fail> {
-    let absent = acts_of(rt.alloc(), Variant::Correct, Method::CaRead, 0, 0, 0)?;
+    let absent = acts_of(
+        rt.alloc(),
+        Variant::Correct,
+        Method::Cache(CacheMethod::Read),
+        0,
+        0,
+        0,
+    )?;
     let wide = acts_of(
         rt.alloc(),
         Variant::Correct,
-        Method::CaRead,
+        Method::Cache(CacheMethod::Read),
         0,
         0,
         4294967299,

@@ -9,7 +9,7 @@ ghost use Rattle.vyrd_run_tests.specs.Laws.Visits.{visit_done, visit_few};
 
 use std::alloc::Global;
 use std::test::Fail;
-use vyrd_base::{Args, Did, Header, Kind, Method, Stamped, Subject};
+use vyrd_base::{Args, Did, Header, Kind, Method, MultisetMethod, Stamped, Subject};
 use vyrd_memory::{Act, Machine, Ran, StepFault, Turn, run_turns};
 
 /// The acts of a visit: both locks, a load and a store.
@@ -18,7 +18,7 @@ fn acts(crosses: bool) -> [Act; 9]
 {
     let (first, second, value) = if crosses { (17, 16, 6) } else { (16, 17, 5) };
     [
-        Act::Mark(Kind::Call(Method::MsInsert, INSERT)),
+        Act::Mark(Kind::Call(Method::Multiset(MultisetMethod::Insert), INSERT)),
         Act::Take(first),
         Act::Take(second),
         Act::Load(1),

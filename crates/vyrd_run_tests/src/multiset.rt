@@ -8,7 +8,7 @@ ghost use Rattle.vyrd_memory.specs.Scripts.{IsAnswer};
 
 use std::alloc::Global;
 use std::test::Fail;
-use vyrd_base::{Args, Header, Kind, Method, Subject};
+use vyrd_base::{Args, Header, Kind, Method, MultisetMethod, Subject};
 use vyrd_memory::{Act, Machine, Op, Variant};
 use vyrd_multiset::MultisetMachine;
 
@@ -75,10 +75,10 @@ fn acts(
 fn insert_takes_the_first_free_slot(rt: HostRuntime) -> Result<(), Fail> {
     let header = Header::new(1, Subject::Multiset, 1, 1).ok_or("a header")?;
     let mut words = [2, 9, 0, 0, 0, 0, 0, 0];
-    let insert = op(Method::MsInsert, 5, 0);
+    let insert = op(Method::Multiset(MultisetMethod::Insert), 5, 0);
     let done = acts(rt.alloc(), header, Variant::Correct, insert, &mut words)?;
     let wanted = [
-        Act::Mark(Kind::Call(Method::MsInsert, insert.args)),
+        Act::Mark(Kind::Call(Method::Multiset(MultisetMethod::Insert), insert.args)),
         Act::Take(8),
         Act::Load(0),
         Act::Load(2),
@@ -101,10 +101,10 @@ fn insert_takes_the_first_free_slot(rt: HostRuntime) -> Result<(), Fail> {
 fn slot_taken_without_the_lock(rt: HostRuntime) -> Result<(), Fail> {
     let header = Header::new(1, Subject::Multiset, 1, 1).ok_or("a header")?;
     let mut words = [0; 8];
-    let insert = op(Method::MsInsert, 5, 0);
+    let insert = op(Method::Multiset(MultisetMethod::Insert), 5, 0);
     let done = acts(rt.alloc(), header, Variant::Broken, insert, &mut words)?;
     let wanted = [
-        Act::Mark(Kind::Call(Method::MsInsert, insert.args)),
+        Act::Mark(Kind::Call(Method::Multiset(MultisetMethod::Insert), insert.args)),
         Act::Load(0),
         Act::Store(1, 5),
         Act::Store(0, 1),
@@ -123,10 +123,10 @@ fn slot_taken_without_the_lock(rt: HostRuntime) -> Result<(), Fail> {
 fn pair_locks_the_lower_bucket_first(rt: HostRuntime) -> Result<(), Fail> {
     let header = Header::new(1, Subject::Multiset, 2, 1).ok_or("a header")?;
     let mut words = [0; 16];
-    let pair = op(Method::MsInsertPair, 1, 2);
+    let pair = op(Method::Multiset(MultisetMethod::InsertPair), 1, 2);
     let done = acts(rt.alloc(), header, Variant::Correct, pair, &mut words)?;
     let wanted = [
-        Act::Mark(Kind::Call(Method::MsInsertPair, pair.args)),
+        Act::Mark(Kind::Call(Method::Multiset(MultisetMethod::InsertPair), pair.args)),
         Act::Take(17),
         Act::Load(8),
         Act::Store(9, 1),
@@ -155,10 +155,10 @@ fn pair_locks_the_lower_bucket_first(rt: HostRuntime) -> Result<(), Fail> {
 fn locks_taken_crosswise(rt: HostRuntime) -> Result<(), Fail> {
     let header = Header::new(1, Subject::Multiset, 2, 1).ok_or("a header")?;
     let mut words = [0; 16];
-    let pair = op(Method::MsInsertPair, 1, 2);
+    let pair = op(Method::Multiset(MultisetMethod::InsertPair), 1, 2);
     let done = acts(rt.alloc(), header, Variant::Broken, pair, &mut words)?;
     let wanted = [
-        Act::Mark(Kind::Call(Method::MsInsertPair, pair.args)),
+        Act::Mark(Kind::Call(Method::Multiset(MultisetMethod::InsertPair), pair.args)),
         Act::Load(8),
         Act::Store(9, 1),
         Act::Store(8, 1),
@@ -183,7 +183,7 @@ fn locks_taken_crosswise(rt: HostRuntime) -> Result<(), Fail> {
 fn pair_without_room_frees_its_first_slot(rt: HostRuntime) -> Result<(), Fail> {
     let header = Header::new(1, Subject::Multiset, 1, 1).ok_or("a header")?;
     let mut words = [2, 9, 2, 9, 2, 9, 0, 0];
-    let pair = op(Method::MsInsertPair, 5, 6);
+    let pair = op(Method::Multiset(MultisetMethod::InsertPair), 5, 6);
     let done = acts(rt.alloc(), header, Variant::Correct, pair, &mut words)?;
     let wanted = [
         Act::Give(8),
@@ -202,10 +202,10 @@ fn pair_without_room_frees_its_first_slot(rt: HostRuntime) -> Result<(), Fail> {
 fn search_stops_at_the_value(rt: HostRuntime) -> Result<(), Fail> {
     let header = Header::new(1, Subject::Multiset, 1, 1).ok_or("a header")?;
     let mut words = [1, 5, 2, 9, 2, 5, 2, 5];
-    let delete = op(Method::MsDelete, 5, 0);
+    let delete = op(Method::Multiset(MultisetMethod::Delete), 5, 0);
     let done = acts(rt.alloc(), header, Variant::Correct, delete, &mut words)?;
     let wanted = [
-        Act::Mark(Kind::Call(Method::MsDelete, delete.args)),
+        Act::Mark(Kind::Call(Method::Multiset(MultisetMethod::Delete), delete.args)),
         Act::Take(8),
         Act::Load(0),
         Act::Load(2),
@@ -227,10 +227,10 @@ fn four_generated_operations(rt: HostRuntime) -> Result<(), Fail> {
     let header = Header::new(1, Subject::Multiset, 64, 4).ok_or("a header")?;
     let mut words = [0; 512];
     let table = [
-        (op(Method::MsInsert, 227, 0), 12),
-        (op(Method::MsLookup, 204, 0), 8),
-        (op(Method::MsInsertPair, 31, 5), 20),
-        (op(Method::MsLookup, 207, 0), 8),
+        (op(Method::Multiset(MultisetMethod::Insert), 227, 0), 12),
+        (op(Method::Multiset(MultisetMethod::Lookup), 204, 0), 8),
+        (op(Method::Multiset(MultisetMethod::InsertPair), 31, 5), 20),
+        (op(Method::Multiset(MultisetMethod::Lookup), 207, 0), 8),
     ];
     for (op, count) in table {
         let done = acts(rt.alloc(), header, Variant::Correct, op, &mut words)?;
@@ -242,7 +242,10 @@ fn four_generated_operations(rt: HostRuntime) -> Result<(), Fail> {
 #[test]
 fn left_between_operations(rt: HostRuntime) -> Result<(), Fail> {
     let header = Header::new(1, Subject::Multiset, 1, 1).ok_or("a header")?;
-    let ops = [op(Method::MsDelete, 5, 0), op(Method::MsLookup, 5, 0)];
+    let ops = [
+        op(Method::Multiset(MultisetMethod::Delete), 5, 0),
+        op(Method::Multiset(MultisetMethod::Lookup), 5, 0),
+    ];
     let mut machine = MultisetMachine::new(rt.alloc(), header, 0, Variant::Correct, &ops)?;
     let mut bounds: Vec<(u64, u64)> = Vec::new(rt.alloc());
     for _ in 0..40 {

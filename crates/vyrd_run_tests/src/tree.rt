@@ -8,7 +8,7 @@ ghost use Rattle.vyrd_memory.specs.Scripts.{IsAnswer};
 
 use std::alloc::Global;
 use std::test::Fail;
-use vyrd_base::{Args, Header, Kind, Method, Subject};
+use vyrd_base::{Args, Header, Kind, Method, Subject, TreeMethod};
 use vyrd_memory::{Act, Machine, Op, Variant};
 use vyrd_tree::TreeMachine;
 
@@ -92,10 +92,10 @@ const SPLIT_LEAF: [u64; 38] = [
 fn insert_writes_from_its_place(rt: HostRuntime) -> Result<(), Fail> {
     let header = Header::new(1, Subject::Tree, 1, 1).ok_or("a header")?;
     let mut words = [0, 2, 0, 0, 1, 5, 0, 0, 7, 7, 0, 0, 0, 0];
-    let insert = op(Method::TrInsert, 3, 9);
+    let insert = op(Method::Tree(TreeMethod::Insert), 3, 9);
     let done = acts(rt.alloc(), header, Variant::Correct, insert, &mut words)?;
     let wanted = [
-        Act::Mark(Kind::Call(Method::TrInsert, insert.args)),
+        Act::Mark(Kind::Call(Method::Tree(TreeMethod::Insert), insert.args)),
         Act::Load(12),
         Act::Take(14),
         Act::Load(0),
@@ -124,7 +124,7 @@ fn insert_writes_from_its_place(rt: HostRuntime) -> Result<(), Fail> {
 fn insert_of_a_key_stores_its_value(rt: HostRuntime) -> Result<(), Fail> {
     let header = Header::new(1, Subject::Tree, 3, 1).ok_or("a header")?;
     let mut words = FULL_LEAF;
-    let insert = op(Method::TrInsert, 30, 9);
+    let insert = op(Method::Tree(TreeMethod::Insert), 30, 9);
     let done = acts(rt.alloc(), header, Variant::Correct, insert, &mut words)?;
     let wanted = [
         Act::Load(11),
@@ -142,7 +142,7 @@ fn insert_of_a_key_stores_its_value(rt: HostRuntime) -> Result<(), Fail> {
 fn delete_moves_entries_up(rt: HostRuntime) -> Result<(), Fail> {
     let header = Header::new(1, Subject::Tree, 3, 1).ok_or("a header")?;
     let mut words = FULL_LEAF;
-    let delete = op(Method::TrDelete, 20, 0);
+    let delete = op(Method::Tree(TreeMethod::Delete), 20, 0);
     let done = acts(rt.alloc(), header, Variant::Correct, delete, &mut words)?;
     let wanted = [
         Act::Mark(Kind::BlockOpen),
@@ -170,7 +170,7 @@ fn delete_moves_entries_up(rt: HostRuntime) -> Result<(), Fail> {
 fn full_leaf_is_split_below_a_new_root(rt: HostRuntime) -> Result<(), Fail> {
     let header = Header::new(1, Subject::Tree, 3, 1).ok_or("a header")?;
     let mut words = FULL_LEAF;
-    let insert = op(Method::TrInsert, 25, 9);
+    let insert = op(Method::Tree(TreeMethod::Insert), 25, 9);
     let done = acts(rt.alloc(), header, Variant::Correct, insert, &mut words)?;
     let wanted = [
         Act::Load(11),
@@ -225,10 +225,10 @@ fn lookup_goes_down_and_right(rt: HostRuntime) -> Result<(), Fail> {
     let header = Header::new(1, Subject::Tree, 3, 1).ok_or("a header")?;
     let mut words = SPLIT_LEAF;
     words[25] = 1;
-    let lookup = op(Method::TrLookup, 40, 0);
+    let lookup = op(Method::Tree(TreeMethod::Lookup), 40, 0);
     let done = acts(rt.alloc(), header, Variant::Correct, lookup, &mut words)?;
     let wanted = [
-        Act::Mark(Kind::Call(Method::TrLookup, lookup.args)),
+        Act::Mark(Kind::Call(Method::Tree(TreeMethod::Lookup), lookup.args)),
         Act::Load(36),
         Act::Take(40),
         Act::Load(24),
@@ -265,7 +265,7 @@ fn leaf_not_walked_right(rt: HostRuntime) -> Result<(), Fail> {
     let header = Header::new(1, Subject::Tree, 3, 1).ok_or("a header")?;
     let mut words = SPLIT_LEAF;
     words[36] = 0;
-    let lookup = op(Method::TrLookup, 40, 0);
+    let lookup = op(Method::Tree(TreeMethod::Lookup), 40, 0);
     let right = acts(rt.alloc(), header, Variant::Correct, lookup, &mut words)?;
     assert!(rt;
         right
@@ -285,7 +285,7 @@ fn leaf_not_walked_right(rt: HostRuntime) -> Result<(), Fail> {
 fn tree_is_full(rt: HostRuntime) -> Result<(), Fail> {
     let header = Header::new(1, Subject::Tree, 1, 1).ok_or("a header")?;
     let mut words = [0, 4, 0, 0, 1, 2, 3, 4, 7, 7, 7, 7, 0, 0];
-    let insert = op(Method::TrInsert, 5, 9);
+    let insert = op(Method::Tree(TreeMethod::Insert), 5, 9);
     let done = acts(rt.alloc(), header, Variant::Correct, insert, &mut words)?;
     let wanted = [
         Act::Load(11),
@@ -304,7 +304,7 @@ fn tree_is_full(rt: HostRuntime) -> Result<(), Fail> {
 fn walk_is_lost(rt: HostRuntime) -> Result<(), Fail> {
     let header = Header::new(1, Subject::Tree, 1, 1).ok_or("a header")?;
     let mut words = [0, 1, 1, 0, 0, 0, 0, 0, 7, 0, 0, 0, 0, 0];
-    let delete = op(Method::TrDelete, 5, 0);
+    let delete = op(Method::Tree(TreeMethod::Delete), 5, 0);
     let round_and_round = acts(rt.alloc(), header, Variant::Correct, delete, &mut words)?;
     let wanted = [
         Act::Load(3),
@@ -314,7 +314,7 @@ fn walk_is_lost(rt: HostRuntime) -> Result<(), Fail> {
     ];
     assert!(rt; round_and_round.as_slice().ends_with(&wanted));
     words[12] = 1;
-    let lookup = op(Method::TrLookup, 5, 0);
+    let lookup = op(Method::Tree(TreeMethod::Lookup), 5, 0);
     let nowhere = acts(rt.alloc(), header, Variant::Correct, lookup, &mut words)?;
     assert!(rt;
         nowhere
@@ -329,7 +329,7 @@ fn tree_grows_roots(rt: HostRuntime) -> Result<(), Fail> {
     let header = Header::new(1, Subject::Tree, 64, 1).ok_or("a header")?;
     let mut words = [0; 770];
     for key in 0..60 {
-        let insert = op(Method::TrInsert, key, key + 100);
+        let insert = op(Method::Tree(TreeMethod::Insert), key, key + 100);
         let done = acts(rt.alloc(), header, Variant::Correct, insert, &mut words)?;
         assert!(rt; done.as_slice().ends_with(&[Act::Mark(Kind::Return(1))]));
     }
@@ -338,7 +338,7 @@ fn tree_grows_roots(rt: HostRuntime) -> Result<(), Fail> {
     assert!(rt; root < 64);
     assert_eq!(rt; word(&words, 12 * root as u32), 3);
     for key in 0..60 {
-        let lookup = op(Method::TrLookup, key, 0);
+        let lookup = op(Method::Tree(TreeMethod::Lookup), key, 0);
         let done = acts(rt.alloc(), header, Variant::Correct, lookup, &mut words)?;
         assert!(rt;
             done.as_slice()

@@ -4,7 +4,7 @@ ghost use Rattle.std.specs.Prelude.{◌≡◌, ◌<◌, ◌^◌};
 
 use std::alloc::AllocError;
 use std::test::Fail;
-use vyrd_base::{Args, Did, Header, Kind, Method, Stamped, Subject, Verdict, Why};
+use vyrd_base::{Args, Did, Header, Kind, Method, MultisetMethod, Stamped, Subject, Verdict, Why};
 use vyrd_verifier::Verifier;
 
 /// A mark of caller 0.
@@ -36,7 +36,13 @@ fn answers_backwards(
     let five = Args { a: 5, b: 0, c: 0 };
     let reply = take_new(verifier, marked(2, Kind::Return(1)))?;
     let commit = take_new(verifier, marked(1, Kind::Commit))?;
-    let call = take_new(verifier, marked(0, Kind::Call(Method::MsDelete, five)))?;
+    let call = take_new(
+        verifier,
+        marked(
+            0,
+            Kind::Call(Method::Multiset(MultisetMethod::Delete), five),
+        ),
+    )?;
     Ok((reply, commit, call))
 }
 

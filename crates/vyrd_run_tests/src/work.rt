@@ -2,7 +2,7 @@
 
 use std::alloc::{AllocError, Global};
 use std::test::Fail;
-use vyrd_base::{Args, Header, Method, Subject};
+use vyrd_base::{Args, Header, Method, MultisetMethod, Subject};
 use vyrd_memory::{Op, Turn, Variant};
 use vyrd_work::{
     Work, WorkFault, WorkOp, WorkRule, generate, read_work, write_refusal, write_work,
@@ -41,7 +41,10 @@ fn workload_read_and_written(rt: HostRuntime) -> Result<(), Fail> {
     let work = read_work(rt.alloc(), SMALL).map_err(|_| "a workload")?;
     assert_eq!(rt; Header::new(1, Subject::Multiset, 1, 2), Some(work.header));
     assert_eq!(rt; work.variant, Variant::Broken);
-    let ops = [op(0, Method::MsInsert, 5, 0), op(1, Method::MsInsert, 6, 0)];
+    let ops = [
+        op(0, Method::Multiset(MultisetMethod::Insert), 5, 0),
+        op(1, Method::Multiset(MultisetMethod::Insert), 6, 0),
+    ];
     assert_eq!(rt; work.ops.as_slice(), ops.as_slice());
     let turns = [
         Turn {
@@ -158,10 +161,10 @@ fn four_generated_operations(rt: HostRuntime) -> Result<(), Fail> {
     assert_eq!(rt; Header::new(1, Subject::Multiset, 64, 4), Some(header));
     assert_eq!(rt; variant, Variant::Correct);
     let want = [
-        op(0, Method::MsInsert, 227, 0),
-        op(1, Method::MsLookup, 204, 0),
-        op(2, Method::MsInsertPair, 31, 5),
-        op(3, Method::MsLookup, 207, 0),
+        op(0, Method::Multiset(MultisetMethod::Insert), 227, 0),
+        op(1, Method::Multiset(MultisetMethod::Lookup), 204, 0),
+        op(2, Method::Multiset(MultisetMethod::InsertPair), 31, 5),
+        op(3, Method::Multiset(MultisetMethod::Lookup), 207, 0),
     ];
     assert_eq!(rt; ops.as_slice(), want.as_slice());
     assert!(rt; turns.is_empty());

@@ -111,7 +111,7 @@ impl Phase {
         match self.open_method {
             None => Some(Rule::NoCall),
             Some(_) if self.in_block => Some(Rule::ReturnInBlock),
-            Some(method) if !method.is_observer() && !self.committed => Some(Rule::NoCommit),
+            Some(method) if method.must_commit() && !self.committed => Some(Rule::NoCommit),
             Some(_) => None,
         }
     }

@@ -1,19 +1,32 @@
 -- Each key that a call touches is changed by a step with that call.
-use Rattle.std.proofs.Common.{◌≡◌, ◌≢◌, ℕ, ◌+◌, ◌-◌, ◌*◌, ◌^◌, ◌%◌, ◌<◌, ◌≤◌, Bool, true, false, cond, not, ◌||◌, [], refl, ap, ◌∙◌, sym, arith}
+use Rattle.std.proofs.Common.{◌≡◌, ◌≢◌, ℕ, ◌+◌, ◌-◌, ◌*◌, ◌^◌, ◌%◌, ◌<◌, ◌≤◌, Bool, true, false, cond, not, ◌||◌, [], ◌∷◌, refl, ap, ◌∙◌, sym, arith}
 use Rattle.std.specs.Prelude.{◌==◌, nat_lt}
 use Rattle.std.specs.Bool.{then_some}
 use Rattle.std.proofs.Math.Nat.{mod-lt, one-le-pow, pow-le-pow_right}
 use Rattle.vyrd_base.specs.declared.subject.Method.{Method}
-use Rattle.vyrd_base.specs.declared.subject.Method.TheVariants.{MsInsert, MsInsertPair, MsDelete, MsLookup, CaWrite, CaFlush, CaEvict, CaRead, TrInsert, TrDelete, TrLookup, BuAppend, BuAppendFrom, BuCut, BuLength, BuRead}
+use Rattle.vyrd_base.specs.declared.subject.Method.TheVariants.{Multiset as OfMultiset}
+use Rattle.vyrd_base.specs.declared.subject.Method.TheVariants.{Cache as OfCache, Tree as OfTree}
+use Rattle.vyrd_base.specs.declared.subject.Method.TheVariants.{Buffers as OfBuffers}
+use Rattle.vyrd_base.specs.declared.multiset.MultisetMethod.TheVariants.{Insert as MsInsert}
+use Rattle.vyrd_base.specs.declared.multiset.MultisetMethod.TheVariants.{InsertPair}
+use Rattle.vyrd_base.specs.declared.multiset.MultisetMethod.TheVariants.{Delete as MsDelete}
+use Rattle.vyrd_base.specs.declared.multiset.MultisetMethod.TheVariants.{Lookup as MsLookup}
+use Rattle.vyrd_base.specs.declared.cache.CacheMethod.TheVariants.{Write, Flush, Evict}
+use Rattle.vyrd_base.specs.declared.cache.CacheMethod.TheVariants.{Read as CaRead}
+use Rattle.vyrd_base.specs.declared.tree.TreeMethod.TheVariants.{Insert as TrInsert}
+use Rattle.vyrd_base.specs.declared.tree.TreeMethod.TheVariants.{Delete as TrDelete}
+use Rattle.vyrd_base.specs.declared.tree.TreeMethod.TheVariants.{Lookup as TrLookup}
+use Rattle.vyrd_base.specs.declared.buffers.BuffersMethod.TheVariants.{Append, AppendFrom, Cut}
+use Rattle.vyrd_base.specs.declared.buffers.BuffersMethod.TheVariants.{Length, Read as BuRead}
 use Rattle.vyrd_base.specs.declared.subject.Args.{Args}
 use Rattle.vyrd_base.specs.Amounts.{Amounts, IsAmounts, amount_of, with_amount, plus_amount, part_given}
 use Rattle.vyrd_base.specs.Buffers.{text_length, has_room, joined, cut_to}
-use Rattle.vyrd_base.specs.Specification.{is_present}
+use Rattle.vyrd_base.specs.Amounts.{is_present}
 use Rattle.vyrd_base.proofs.AmountLaws.{amount_of-with_amount, IsAmounts-with_amount, no_amounts}
 use Rattle.vyrd_base.proofs.SumLaws.{amount_of-plus}
 use Rattle.vyrd_base.proofs.TestLaws.{same_of, same_number, below_of, is_below, is_at_most}
 use Rattle.vyrd_base.proofs.TextLaws.{length_at_most}
-use Rattle.vyrd_spec.specs.Touching.{touched_by, is_key, is_touched, CanChange}
+use Rattle.vyrd_spec.specs.Touching.{touched_by, is_touched, CanChange}
 
 of_first : (b : Bool) → (b || false) ≡ true → b ≡ true
 of_first true e = refl
@@ -39,13 +52,13 @@ lone_present : (k : ℕ) → is_present (lone k) k ≡ true
 lone_present k = ap (λ a. not (a == 0)) (lone_amount k k (same_number k))
 
 -- both of a pair get one more
-pair_amount : (a b q : ℕ) → (a == q || b == q) ≡ true → amount_of (plus_amount (plus_amount [] a 1) b 1) q ≢ 0
+pair_amount : (a b q : ℕ) → (a == q || (b == q || false)) ≡ true → amount_of (plus_amount (plus_amount [] a 1) b 1) q ≢ 0
 pair_amount a b q e = by_keys (a == q) (b == q) refl refl e
   where
     own : (k : ℕ) → (k == q) ≡ true → part_given q (k, 1) ≡ 1
     own k f = ap (λ x. part_given q (x, 1)) (same_of k q f) ∙ ap (λ t. cond t 1 0) (same_number q)
 
-    by_keys : (s t : Bool) → (a == q) ≡ s → (b == q) ≡ t → (s || t) ≡ true → amount_of (plus_amount (plus_amount [] a 1) b 1) q ≢ 0
+    by_keys : (s t : Bool) → (a == q) ≡ s → (b == q) ≡ t → (s || (t || false)) ≡ true → amount_of (plus_amount (plus_amount [] a 1) b 1) q ≢ 0
     by_keys true t f g h = λ zero'. absurd (omega (arith, amount_of-plus (plus_amount [] a 1) b 1 q, amount_of-plus [] a 1 q, own a f, zero'))
     by_keys false true f g h = λ zero'. absurd (omega (arith, amount_of-plus (plus_amount [] a 1) b 1 q, own b g, zero'))
     by_keys false false f g h = cc
@@ -97,16 +110,16 @@ cut_shorter n low = λ same.
     let is_cut : cut_to n long_text ≡ long_text % 256 ^ n = ap (λ b. cond b (long_text % 256 ^ n) long_text) (is_below n 7 low) in
     absurd (omega (arith, smaller, power, is_cut, same))
 
-cut_changes : (k n q : ℕ) → (is_key (then_some (nat_lt n 7) k) q || false) ≡ true
+cut_changes : (k n q : ℕ) → is_touched (cond (nat_lt n 7) (k ∷ []) []) q ≡ true
     → (n < 7) × ((k == q) ≡ true)
 cut_changes k n q touched = by_length (nat_lt n 7) refl touched
   where
-    by_length : (b : Bool) → nat_lt n 7 ≡ b → (is_key (then_some b k) q || false) ≡ true → (n < 7) × ((k == q) ≡ true)
+    by_length : (b : Bool) → nat_lt n 7 ≡ b → is_touched (cond b (k ∷ []) []) q ≡ true → (n < 7) × ((k == q) ≡ true)
     by_length true e touched = (below_of n 7 e, of_first _ touched)
     by_length false e touched = cc
 
 pub touched_changes : (method : Method) (args : Args) (key : ℕ) → is_touched (touched_by method args) key ≡ true → CanChange method args key
-touched_changes MsInsert args key e = record {
+touched_changes (OfMultiset MsInsert) args key e = record {
   reply = 1;
   before = [];
   after = plus_amount [] args.a 1;
@@ -114,7 +127,7 @@ touched_changes MsInsert args key e = record {
   allowed = refl;
   changed = λ same. absurd (let one = set_amount [] args.a (amount_of [] args.a + 1) key (of_first _ e) in omega (arith, one, same));
 }
-touched_changes MsInsertPair args key e = record {
+touched_changes (OfMultiset InsertPair) args key e = record {
   reply = 1;
   before = [];
   after = plus_amount (plus_amount [] args.a 1) args.b 1;
@@ -122,7 +135,7 @@ touched_changes MsInsertPair args key e = record {
   allowed = refl;
   changed = pair_amount args.a args.b key e;
 }
-touched_changes MsDelete args key e = record {
+touched_changes (OfMultiset MsDelete) args key e = record {
   reply = 1;
   before = lone args.a;
   after = with_amount (lone args.a) args.a (amount_of (lone args.a) args.a - 1);
@@ -136,7 +149,7 @@ touched_changes MsDelete args key e = record {
     same,
   ));
 }
-touched_changes CaWrite args key e = record {
+touched_changes (OfCache Write) args key e = record {
   reply = 1;
   before = with_amount [] args.a (args.c * 2 ^ 32 + args.b + 1);
   after = with_amount (with_amount [] args.a (args.c * 2 ^ 32 + args.b + 1)) args.a (args.c * 2 ^ 32 + args.b);
@@ -149,7 +162,7 @@ touched_changes CaWrite args key e = record {
     same,
   ));
 }
-touched_changes TrInsert args key e = record {
+touched_changes (OfTree TrInsert) args key e = record {
   reply = 1;
   before = [];
   after = with_amount [] args.a (2 ^ 32 + args.b);
@@ -157,7 +170,7 @@ touched_changes TrInsert args key e = record {
   allowed = refl;
   changed = λ same. absurd (let set = set_amount [] args.a (2 ^ 32 + args.b) key (of_first _ e) in omega (arith, set, same));
 }
-touched_changes TrDelete args key e = record {
+touched_changes (OfTree TrDelete) args key e = record {
   reply = 1;
   before = lone args.a;
   after = with_amount (lone args.a) args.a 0;
@@ -165,7 +178,7 @@ touched_changes TrDelete args key e = record {
   allowed = ap (λ b. then_some b (with_amount (lone args.a) args.a 0)) (lone_present args.a);
   changed = λ same. absurd (omega (arith, set_amount (lone args.a) args.a 0 key (of_first _ e), lone_amount args.a key (of_first _ e), same));
 }
-touched_changes BuAppend args key e = record {
+touched_changes (OfBuffers Append) args key e = record {
   reply = 1;
   before = [];
   after = with_amount [] args.a (joined 0 (args.b + 1));
@@ -178,7 +191,7 @@ touched_changes BuAppend args key e = record {
     same,
   ));
 }
-touched_changes BuAppendFrom args key e =
+touched_changes (OfBuffers AppendFrom) args key e =
     let before : Amounts = two_texts args.a args.b in
     let own = first_text args.a args.b args.a (same_number args.a) in
     let other = second_text args.a args.b in
@@ -197,7 +210,7 @@ touched_changes BuAppendFrom args key e =
         same,
       ));
     }
-touched_changes BuCut args key e =
+touched_changes (OfBuffers Cut) args key e =
     let cut = cut_changes args.a args.b key e in
     let before : Amounts = with_amount [] args.a long_text in
     let text : ℕ = amount_of before args.a in
@@ -212,10 +225,10 @@ touched_changes BuCut args key e =
           (ap (cut_to args.b) (sym own) ∙ sym (set_amount before args.a (cut_to args.b text) key cut.1) ∙ same
           ∙ set_amount [] args.a long_text key cut.1);
     }
-touched_changes CaFlush args key e = cc
-touched_changes CaEvict args key e = cc
-touched_changes MsLookup args key e = cc
-touched_changes CaRead args key e = cc
-touched_changes TrLookup args key e = cc
-touched_changes BuLength args key e = cc
-touched_changes BuRead args key e = cc
+touched_changes (OfCache Flush) args key e = cc
+touched_changes (OfCache Evict) args key e = cc
+touched_changes (OfMultiset MsLookup) args key e = cc
+touched_changes (OfCache CaRead) args key e = cc
+touched_changes (OfTree TrLookup) args key e = cc
+touched_changes (OfBuffers Length) args key e = cc
+touched_changes (OfBuffers BuRead) args key e = cc

@@ -4,8 +4,9 @@ use Rattle.std.specs.Prelude.{◌==◌, nat_lt, nat_le, flat_map, slice_index}
 use Rattle.std.specs.List.{list_all, list_any, AllByRecursion}
 use Rattle.vyrd_base.specs.Added.{added}
 use Rattle.vyrd_base.specs.Amounts.{Amounts, amount_of, plus_amount, collected}
-use Rattle.vyrd_base.specs.TreeView.{level_of, count_of, bound_of, right_of, entries_of, entry_parts, node_parts, damage, chain_parts_from, chain_parts}
-use Rattle.vyrd_base.specs.Trees.{last_of, low_of, is_leaf_entry}
+use Rattle.vyrd_base.specs.Tree.{level_of, count_of, bound_of, right_of, entries_of, entry_parts}
+use Rattle.vyrd_base.specs.Tree.{node_parts, damage, chain_parts_from, chain_parts}
+use Rattle.vyrd_base.specs.Tree.{last_of, low_of, is_leaf_entry}
 use Rattle.vyrd_base.proofs.AddedLaws.{added-append, added-collected}
 use Rattle.vyrd_base.proofs.PartLaws.{parts_after}
 use Rattle.vyrd_base.proofs.TestLaws.{first_true, second_true, below_of, isnt_same, isnt_at_most, is_same}

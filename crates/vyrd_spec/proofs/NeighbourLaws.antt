@@ -4,8 +4,8 @@ use Rattle.std.specs.Prelude.{◌==◌, nat_lt, nat_le, find, count_by, is_some}
 use Rattle.std.specs.Option.{option_or}
 use Rattle.std.proofs.lemmas.List.{ext_get_or, get_or_past}
 use Rattle.vyrd_base.specs.Places.{numbers_below}
-use Rattle.vyrd_base.specs.TreeView.{right_of}
-use Rattle.vyrd_base.specs.Trees.{nodes, leads_to, left_of}
+use Rattle.vyrd_base.specs.Tree.{right_of}
+use Rattle.vyrd_base.specs.Tree.{nodes, leads_to, left_of}
 use Rattle.vyrd_base.proofs.TestLaws.{same_of, is_same, first_true, second_true, neither_true, is_at_most, isnt_at_most, below_of, not_below_of}
 use Rattle.vyrd_base.proofs.PlaceLaws.{element_below, length_below}
 use Rattle.vyrd_spec.specs.Neighbours.{have_one_left, has_left, with_left}

@@ -5,8 +5,8 @@ use Rattle.std.specs.List.{list_all}
 use Rattle.std.proofs.lemmas.List.Folds.{list_all-map}
 use Rattle.std.proofs.Math.Bool.{and-false}
 use Rattle.vyrd_base.specs.Places.{numbers_from, numbers_below}
-use Rattle.vyrd_base.specs.TreeView.{level_of, count_of, right_of, entries_of}
-use Rattle.vyrd_base.specs.Trees.{nodes, leads_to, left_of, is_linked, rises, has_sound_keys}
+use Rattle.vyrd_base.specs.Tree.{level_of, count_of, right_of, entries_of}
+use Rattle.vyrd_base.specs.Tree.{nodes, leads_to, left_of, is_linked, rises, has_sound_keys}
 use Rattle.vyrd_base.proofs.TestLaws.{is_same, isnt_same, is_at_most, both_true}
 use Rattle.vyrd_base.proofs.PlaceLaws.{element_below, length_below}
 use Rattle.vyrd_spec.specs.Neighbours.{have_one_left}

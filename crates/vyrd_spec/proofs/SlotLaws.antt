@@ -5,7 +5,7 @@ use Rattle.std.proofs.lemmas.List.{get_or_past}
 use Rattle.std.proofs.lemmas.List.Elements.{All-get_or}
 use Rattle.vyrd_base.specs.Places.{numbers_below}
 use Rattle.vyrd_base.specs.Amounts.{Amounts, amount_of, collected, given}
-use Rattle.vyrd_base.specs.Views.{slot_parts}
+use Rattle.vyrd_base.specs.Multiset.{slot_parts}
 use Rattle.vyrd_base.proofs.SumLaws.{given_nothing, amount_of-collected}
 use Rattle.vyrd_base.proofs.PartLaws.{slots_at_most}
 use Rattle.vyrd_base.proofs.TestLaws.{below_of, not_below_of, isnt_same}

@@ -4,8 +4,11 @@ use Rattle.std.specs.Prelude.{◌==◌, nat_lt, nat_le, count_by}
 use Rattle.std.specs.Option.{option_map_or}
 use Rattle.std.specs.List.{list_all}
 use Rattle.std.proofs.Math.Bool.{and-false}
-use Rattle.vyrd_base.specs.TreeView.{level_of, count_of, bound_of, right_of, entries_of}
-use Rattle.vyrd_base.specs.Trees.{root_of, last_of, nodes, leads_to, left_of, is_first, low_of, is_linked, is_bounded, has_sound_keys, keys_at, begins_with, is_leaf_entry, is_child_entry, has_sound_entries, is_only_first, is_sound_node, is_tree}
+use Rattle.vyrd_base.specs.Tree.{level_of, count_of, bound_of, right_of, entries_of}
+use Rattle.vyrd_base.specs.Tree.{root_of, last_of, nodes, leads_to, left_of, is_first, low_of}
+use Rattle.vyrd_base.specs.Tree.{is_linked, is_bounded, has_sound_keys, keys_at, begins_with}
+use Rattle.vyrd_base.specs.Tree.{is_leaf_entry, is_child_entry, has_sound_entries, is_only_first}
+use Rattle.vyrd_base.specs.Tree.{is_sound_node, is_tree}
 use Rattle.vyrd_base.proofs.TestLaws.{first_true, second_true, at_most_of, below_of, is_below, is_at_most, is_same, isnt_same, same_of}
 use Rattle.vyrd_spec.specs.Neighbours.{have_one_left}
 use Rattle.vyrd_spec.specs.NodeKeys.{is_sound_below}

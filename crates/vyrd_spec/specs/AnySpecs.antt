@@ -1,5 +1,5 @@
 -- What the specification of any subject is seen as: the one specification in it.
-use Rattle.std.specs.Prelude.{ℕ, ◌^◌, ◌<◌}
+use Rattle.std.specs.Prelude.{ℕ, ◌^◌, ◌<◌, List}
 use Rattle.vyrd_base.specs.declared.header.Header.{Header}
 use Rattle.vyrd_base.specs.Amounts.{Amounts, IsAmounts}
 use Rattle.vyrd_spec.specs.declared.any.AnySpec.{AnySpec}
@@ -25,6 +25,12 @@ made_in (Multiset s) = s.made
 made_in (Cache s) = s.made
 made_in (Tree s) = s.made
 made_in (Buffers s) = s.made
+
+abbrev pub touched_in : AnySpec → List ℕ
+touched_in (Multiset s) = s.touched
+touched_in (Cache s) = s.touched
+touched_in (Tree s) = s.touched
+touched_in (Buffers s) = s.touched
 
 -- These are amounts.
 pub formed_in : (s : AnySpec) → IsAmounts (state_in s)

@@ -1,7 +1,7 @@
 -- The pairs that the words of a cache's chunks show, each as one number.
 use Rattle.std.specs.Prelude.{ℕ, ◌==◌, List, Option, if◌then◌else◌}
-use Rattle.vyrd_base.specs.Views.{Chunk, chunk_at, cached_pair, stored_pair}
-use Rattle.vyrd_base.specs.Represented.{is_sound_chunk}
+use Rattle.vyrd_base.specs.Cache.{Chunk, chunk_at, cached_pair, stored_pair}
+use Rattle.vyrd_base.specs.Cache.{is_sound_chunk}
 use Rattle.vyrd_spec.specs.Rows.{sound_row}
 
 -- the pair that a chunk shows: the stored one if it is absent, and otherwise the cached one

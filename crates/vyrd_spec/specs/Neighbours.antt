@@ -2,7 +2,7 @@
 use Rattle.std.specs.Prelude.{ℕ, Bool, ◌==◌, not, ◌&&◌, ◌||◌, nat_le, List, length, get_or}
 use Rattle.std.specs.Prelude.{slice_set, count_by, Option, None, Some, is_some, if◌then◌else◌}
 use Rattle.std.specs.List.{list_all}
-use Rattle.vyrd_base.specs.Trees.{nodes, leads_to}
+use Rattle.vyrd_base.specs.Tree.{nodes, leads_to}
 
 -- whether at most one right link leads to each node in use
 abbrev pub have_one_left : ℕ → List ℕ → Bool

@@ -1,7 +1,7 @@
 -- The keys and entries of a node, place by place.
 use Rattle.std.specs.Prelude.{ℕ, ◌+◌, ◌-◌, ◌==◌, Bool, ◌&&◌, ◌||◌, nat_lt, nat_le, List}
-use Rattle.vyrd_base.specs.TreeView.{node_word, level_of, bound_of}
-use Rattle.vyrd_base.specs.Trees.{low_of, is_first, is_sound_node}
+use Rattle.vyrd_base.specs.Tree.{node_word, level_of, bound_of}
+use Rattle.vyrd_base.specs.Tree.{low_of, is_first, is_sound_node}
 
 -- the key at a place
 abbrev pub key_at : List ℕ → ℕ → ℕ → ℕ

@@ -4,10 +4,10 @@ use crate::buffers::BufferSpec;
 use crate::cache::CacheSpec;
 use crate::multiset::MultisetSpec;
 use crate::spec::{BuiltIn, Spec};
-use crate::touched::{Touched, touched_by};
 use crate::tree::TreeSpec;
 use std::alloc::{AllocError, Global};
 use vyrd_base::{Args, Header, Method, Subject, View};
+use vyrd_view::Compared;
 
 /// The specification of any subject that is built in: that of its header's.
 #[derive(Drop)]
@@ -23,10 +23,9 @@ pub enum AnySpec {
 }
 
 impl Spec for AnySpec {
-    ghost use Rattle.std.specs.Prelude.{refl};
     ghost use Rattle.vyrd_base.specs.Rules.{built_in};
     ghost use Rattle.vyrd_spec.specs.Touching.{touched_by, is_touched};
-    ghost use Rattle.vyrd_spec.specs.AnySpecs.{header_in, state_in, made_in};
+    ghost use Rattle.vyrd_spec.specs.AnySpecs.{header_in, state_in, made_in, touched_in};
 
     ghost charter = { λ s. built_in (header_in s) };
 
@@ -34,11 +33,13 @@ impl Spec for AnySpec {
 
     ghost made = { made_in };
 
-    ghost touched = { λ s. touched_by };
+    ghost touches = { λ s method args reply. touched_by method args };
 
-    ghost affects = { λ touched method args. is_touched touched args.a };
+    ghost touched = { touched_in };
 
-    ghost shows_words = { λ s words. refl };
+    ghost affects = { λ s method args. is_touched (touched_in s) args.a };
+
+    type Compared = Compared;
 
     fn header(&self) -> Header {
         match self {
@@ -76,12 +77,26 @@ impl Spec for AnySpec {
         }
     }
 
-    fn touched(&self, method: Method, args: Args) -> Touched {
-        touched_by(method, args)
+    fn touched(&self) -> &[u64] {
+        match self {
+            AnySpec::Multiset(spec) => spec.touched(),
+            AnySpec::Cache(spec) => spec.touched(),
+            AnySpec::Tree(spec) => spec.touched(),
+            AnySpec::Buffers(spec) => spec.touched(),
+        }
     }
 
-    fn affects(keys: Touched, _method: Method, args: Args) -> bool {
-        keys.has(u64::from(args.a))
+    fn affects(&self, method: Method, args: Args) -> bool {
+        match self {
+            AnySpec::Multiset(spec) => spec.affects(method, args),
+            AnySpec::Cache(spec) => spec.affects(method, args),
+            AnySpec::Tree(spec) => spec.affects(method, args),
+            AnySpec::Buffers(spec) => spec.affects(method, args),
+        }
+    }
+
+    fn compared(&self, alloc: Global) -> Result<Compared, AllocError> {
+        Compared::new(alloc, self.header())
     }
 
     fn view(&self, alloc: Global) -> Result<View, AllocError> {
@@ -95,9 +110,12 @@ impl Spec for AnySpec {
 }
 
 impl BuiltIn for AnySpec {
+    ghost use Rattle.std.specs.Prelude.{refl};
     ghost use Rattle.vyrd_spec.specs.AnySpecs.{formed_in, small_in};
 
     ghost serves = { λ subject. Unit {0} };
+
+    ghost has_built_in_rules = { λ s. refl };
 
     ghost is_formed = { formed_in };
 

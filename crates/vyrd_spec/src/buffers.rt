@@ -16,7 +16,8 @@ use crate::spec::{BuiltIn, Spec};
 use crate::text::{cut_to, joined, text_length};
 use crate::touched::{Touched, touched_by};
 use std::alloc::{AllocError, Global};
-use vyrd_base::{Args, Header, Method, View};
+use vyrd_base::{Args, BuffersMethod, Header, Method, View};
+use vyrd_view::Compared;
 
 /// The specification of the string buffers. The amount of a buffer is its text as one number.
 /// The texts stand in a list by buffer, so that a step costs constant time and no memory.
@@ -24,6 +25,7 @@ use vyrd_base::{Args, Header, Method, View};
 pub struct BufferSpec {
     header: Header,
     made: u64,
+    touched: Touched,
     texts: Vec<u64>,
     ghost subject: { header.subject ≡ Buffers },
     ghost few: { made ≤ 2 ^ 62 },
@@ -38,11 +40,13 @@ impl Spec for BufferSpec {
 
     ghost made = { λ s. s.made };
 
-    ghost touched = { λ s. touched_by };
+    ghost touches = { λ s method args reply. touched_by method args };
 
-    ghost affects = { λ touched method args. is_touched touched args.a };
+    ghost touched = { λ s. s.touched };
 
-    ghost shows_words = { λ s words. refl };
+    ghost affects = { λ s method args. is_touched s.touched args.a };
+
+    type Compared = Compared;
 
     fn header(&self) -> Header {
         self.header
@@ -53,13 +57,14 @@ impl Spec for BufferSpec {
         let allowed = next(&mut self.texts, method, args, reply);
         if allowed {
             self.made += 1;
+            self.touched = touched_by(method, args);
         }
         Ok(allowed)
     }
 
     fn answer(&self, method: Method, args: Args) -> u64 {
         let text = amount_at(&self.texts, u64::from(args.a));
-        if method == Method::BuLength {
+        if method == Method::Buffers(BuffersMethod::Length) {
             u64::from(text_length(text))
         } else {
             text
@@ -70,12 +75,16 @@ impl Spec for BufferSpec {
         amount_at(&self.texts, key)
     }
 
-    fn touched(&self, method: Method, args: Args) -> Touched {
-        touched_by(method, args)
+    fn touched(&self) -> &[u64] {
+        self.touched.keys()
     }
 
-    fn affects(keys: Touched, _method: Method, args: Args) -> bool {
-        keys.has(u64::from(args.a))
+    fn affects(&self, _method: Method, args: Args) -> bool {
+        self.touched.has(u64::from(args.a))
+    }
+
+    fn compared(&self, alloc: Global) -> Result<Compared, AllocError> {
+        Compared::new(alloc, self.header)
     }
 
     fn view(&self, alloc: Global) -> Result<View, AllocError> {
@@ -86,6 +95,8 @@ impl Spec for BufferSpec {
 impl BuiltIn for BufferSpec {
     ghost serves = { λ subject. subject ≡ Buffers };
 
+    ghost has_built_in_rules = { λ s. refl };
+
     ghost is_formed = { λ s. row_formed s.texts.items };
 
     ghost is_small = { λ s. small_texts (row_amounts s.texts.items) s.small };
@@ -94,6 +105,7 @@ impl BuiltIn for BufferSpec {
         Ok(BufferSpec {
             header,
             made: 0,
+            touched: Touched::none(),
             texts: empty_row(alloc, header.size() as usize)?,
         })
     }
@@ -107,6 +119,7 @@ impl BuiltIn for BufferSpec {
             Some(texts) => Ok(Some(BufferSpec {
                 header,
                 made: 0,
+                touched: Touched::none(),
                 texts,
             })),
             None => Ok(None),
@@ -150,9 +163,12 @@ fn next_text(texts: &[u64], method: Method, args: Args) -> Option<u64>
 {
     let text = amount_at(texts, u64::from(args.a));
     match method {
-        Method::BuAppend => joined(text, u64::from(args.b) + 1),
-        Method::BuAppendFrom => joined(text, amount_at(texts, u64::from(args.b))),
-        Method::BuCut => Some(cut_to(args.b, text)),
+        Method::Buffers(BuffersMethod::Append) => joined(text, u64::from(args.b) + 1),
+        Method::Buffers(BuffersMethod::AppendFrom) => joined(
+            text,
+            amount_at(texts, u64::from(args.b)),
+        ),
+        Method::Buffers(BuffersMethod::Cut) => Some(cut_to(args.b, text)),
         _ => None,
     }
 }

@@ -15,7 +15,8 @@ use crate::row::{amount_at, empty_row, row_shown, set_amount};
 use crate::spec::{BuiltIn, Spec};
 use crate::touched::{Touched, touched_by};
 use std::alloc::{AllocError, Global};
-use vyrd_base::{Args, Header, Method, View};
+use vyrd_base::{Args, CacheMethod, Header, Method, View};
+use vyrd_view::Compared;
 
 /// The specification of the cache. The amount of a chunk is hi * 2^32 + lo of the pair that was
 /// written last. The pairs stand in a list by chunk, so that a step costs constant time and no
@@ -24,6 +25,7 @@ use vyrd_base::{Args, Header, Method, View};
 pub struct CacheSpec {
     header: Header,
     made: u64,
+    touched: Touched,
     pairs: Vec<u64>,
     ghost subject: { header.subject ≡ Cache },
     ghost few: { made ≤ 2 ^ 62 },
@@ -39,11 +41,13 @@ impl Spec for CacheSpec {
 
     ghost made = { λ s. s.made };
 
-    ghost touched = { λ s. touched_by };
+    ghost touches = { λ s method args reply. touched_by method args };
 
-    ghost affects = { λ touched method args. is_touched touched args.a };
+    ghost touched = { λ s. s.touched };
 
-    ghost shows_words = { λ s words. refl };
+    ghost affects = { λ s method args. is_touched s.touched args.a };
+
+    type Compared = Compared;
 
     fn header(&self) -> Header {
         self.header
@@ -54,6 +58,7 @@ impl Spec for CacheSpec {
         let allowed = next(&mut self.pairs, method, args, reply);
         if allowed {
             self.made += 1;
+            self.touched = touched_by(method, args);
         }
         Ok(allowed)
     }
@@ -66,12 +71,16 @@ impl Spec for CacheSpec {
         amount_at(&self.pairs, key)
     }
 
-    fn touched(&self, method: Method, args: Args) -> Touched {
-        touched_by(method, args)
+    fn touched(&self) -> &[u64] {
+        self.touched.keys()
     }
 
-    fn affects(keys: Touched, _method: Method, args: Args) -> bool {
-        keys.has(u64::from(args.a))
+    fn affects(&self, _method: Method, args: Args) -> bool {
+        self.touched.has(u64::from(args.a))
+    }
+
+    fn compared(&self, alloc: Global) -> Result<Compared, AllocError> {
+        Compared::new(alloc, self.header)
     }
 
     fn view(&self, alloc: Global) -> Result<View, AllocError> {
@@ -82,6 +91,8 @@ impl Spec for CacheSpec {
 impl BuiltIn for CacheSpec {
     ghost serves = { λ subject. subject ≡ Cache };
 
+    ghost has_built_in_rules = { λ s. refl };
+
     ghost is_formed = { λ s. row_formed s.pairs.items };
 
     ghost is_small = { λ s. small_chunks (row_amounts s.pairs.items) s.small };
@@ -90,6 +101,7 @@ impl BuiltIn for CacheSpec {
         Ok(CacheSpec {
             header,
             made: 0,
+            touched: Touched::none(),
             pairs: empty_row(alloc, header.size() as usize)?,
         })
     }
@@ -103,6 +115,7 @@ impl BuiltIn for CacheSpec {
             Some(pairs) => Ok(Some(CacheSpec {
                 header,
                 made: 0,
+                touched: Touched::none(),
                 pairs,
             })),
             None => Ok(None),
@@ -130,7 +143,7 @@ fn next(pairs: &mut Vec<u64>, method: Method, args: Args, reply: u64) -> bool
     if reply != 1 {
         return false;
     }
-    if method == Method::CaWrite {
+    if method == Method::Cache(CacheMethod::Write) {
         set_amount(
             pairs,
             args.a as usize,

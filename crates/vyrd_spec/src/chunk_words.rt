@@ -4,8 +4,8 @@
 ghost use Rattle.std.specs.Prelude.{◌≡◌, ◌*◌, ◌+◌, ◌<◌, ◌^◌, ◌&&◌, nat_lt, length, IfOk};
 ghost use Rattle.std.specs.Prelude.{MatchOption};
 ghost use Rattle.std.specs.Bool.{then_some};
-ghost use Rattle.vyrd_base.specs.Represented.{is_sound_chunk};
-ghost use Rattle.vyrd_base.specs.Views.{chunk_at, pair_amount};
+ghost use Rattle.vyrd_base.specs.Cache.{is_sound_chunk};
+ghost use Rattle.vyrd_base.specs.Cache.{chunk_at, pair_amount};
 ghost use Rattle.vyrd_spec.specs.Chunks.{sound_pairs, shown_pair};
 
 use std::alloc::{AllocError, Global};

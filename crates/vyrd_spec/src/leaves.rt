@@ -5,8 +5,8 @@ ghost use Rattle.std.specs.List.{list_all};
 ghost use Rattle.vyrd_base.specs.declared.subject.Subject.TheVariants.{Tree};
 ghost use Rattle.vyrd_base.specs.Added.{added};
 ghost use Rattle.vyrd_base.specs.Amounts.{amount_of, collected};
-ghost use Rattle.vyrd_base.specs.TreeView.{entries_of, entry_parts, node_parts};
-ghost use Rattle.vyrd_base.specs.Trees.{is_leaf_entry, is_tree};
+ghost use Rattle.vyrd_base.specs.Tree.{entries_of, entry_parts, node_parts};
+ghost use Rattle.vyrd_base.specs.Tree.{is_leaf_entry, is_tree};
 ghost use Rattle.vyrd_base.specs.Views.{parts_of};
 ghost use Rattle.vyrd_spec.specs.Bounds.{AllAmounts};
 

@@ -3,7 +3,8 @@
 //!
 //! The central type is the trait `Spec`. A step answers `true` exactly when the rules allow the
 //! reply in this state, and the state is then the next one by the rules; after `false`, and when
-//! memory runs out, it is as it was. `BuiltIn` are the specifications of the four subjects, by the
+//! memory runs out, it is as it was. It says which keys its last step has touched, and gives what
+//! compares the words with its states. `BuiltIn` are the specifications of the four subjects, by the
 //! rules of a header, and [`AnySpec`] is that of the subject which the header names.
 #![tactic(auto)]
 
@@ -30,5 +31,4 @@ pub use buffers::BufferSpec;
 pub use cache::CacheSpec;
 pub use multiset::MultisetSpec;
 pub use spec::{BuiltIn, Spec};
-pub use touched::Touched;
 pub use tree::TreeSpec;

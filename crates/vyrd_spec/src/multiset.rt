@@ -6,7 +6,9 @@ ghost use Rattle.std.specs.Bool.{then_some};
 ghost use Rattle.vyrd_base.specs.Rules.{built_in};
 ghost use Rattle.vyrd_base.specs.declared.subject.Subject.TheVariants.{Multiset};
 ghost use Rattle.vyrd_base.specs.Amounts.{amount_of, with_amount, plus_amount, IsAmounts};
-ghost use Rattle.vyrd_base.specs.Specification.{next_state, by_reply, is_present};
+ghost use Rattle.vyrd_base.specs.Specification.{next_state};
+ghost use Rattle.vyrd_base.specs.Structures.{by_reply};
+ghost use Rattle.vyrd_base.specs.Amounts.{is_present};
 ghost use Rattle.vyrd_spec.specs.Touching.{touched_by, is_touched};
 ghost use Rattle.vyrd_base.specs.Subjects.{subject_of, is_observer};
 ghost use Rattle.vyrd_spec.specs.Bounds.{AllAmounts, most_after, small_counts};
@@ -16,7 +18,8 @@ use crate::slot_words::{are_sound, counts};
 use crate::spec::{BuiltIn, Spec};
 use crate::touched::{Touched, touched_by};
 use std::alloc::{AllocError, Global};
-use vyrd_base::{AmountTable, Args, Header, Method, View};
+use vyrd_base::{AmountTable, Args, Header, Method, MultisetMethod, View};
+use vyrd_view::Compared;
 
 /// The specification of the multiset. The amount of a value is its multiplicity.
 /// It begins with 4,096 at most, and a step adds two at most.
@@ -24,6 +27,7 @@ use vyrd_base::{AmountTable, Args, Header, Method, View};
 pub struct MultisetSpec {
     header: Header,
     made: u64,
+    touched: Touched,
     amounts: AmountTable,
     ghost subject: { header.subject ≡ Multiset },
     ghost few: { made ≤ 2 ^ 62 },
@@ -39,11 +43,13 @@ impl Spec for MultisetSpec {
 
     ghost made = { λ s. s.made };
 
-    ghost touched = { λ s. touched_by };
+    ghost touches = { λ s method args reply. touched_by method args };
 
-    ghost affects = { λ touched method args. is_touched touched args.a };
+    ghost touched = { λ s. s.touched };
 
-    ghost shows_words = { λ s words. refl };
+    ghost affects = { λ s method args. is_touched s.touched args.a };
+
+    type Compared = Compared;
 
     fn header(&self) -> Header {
         self.header
@@ -54,6 +60,7 @@ impl Spec for MultisetSpec {
         let allowed = next(&mut self.amounts, method, args, reply)?;
         if allowed {
             self.made += 1;
+            self.touched = touched_by(method, args);
         }
         Ok(allowed)
     }
@@ -66,12 +73,16 @@ impl Spec for MultisetSpec {
         self.amounts.amount(key)
     }
 
-    fn touched(&self, method: Method, args: Args) -> Touched {
-        touched_by(method, args)
+    fn touched(&self) -> &[u64] {
+        self.touched.keys()
     }
 
-    fn affects(keys: Touched, _method: Method, args: Args) -> bool {
-        keys.has(u64::from(args.a))
+    fn affects(&self, _method: Method, args: Args) -> bool {
+        self.touched.has(u64::from(args.a))
+    }
+
+    fn compared(&self, alloc: Global) -> Result<Compared, AllocError> {
+        Compared::new(alloc, self.header)
     }
 
     fn view(&self, alloc: Global) -> Result<View, AllocError> {
@@ -82,6 +93,8 @@ impl Spec for MultisetSpec {
 impl BuiltIn for MultisetSpec {
     ghost serves = { λ subject. subject ≡ Multiset };
 
+    ghost has_built_in_rules = { λ s. refl };
+
     ghost is_formed = { λ s. s.formed };
 
     ghost is_small = { λ s. small_counts s.made s.amounts s.few s.small };
@@ -90,6 +103,7 @@ impl BuiltIn for MultisetSpec {
         Ok(MultisetSpec {
             header,
             made: 0,
+            touched: Touched::none(),
             amounts: AmountTable::new(alloc, 4 * header.size() as usize)?,
         })
     }
@@ -106,6 +120,7 @@ impl BuiltIn for MultisetSpec {
         Ok(Some(MultisetSpec {
             header,
             made: 0,
+            touched: Touched::none(),
             amounts: counts(alloc, size, words)?,
         }))
     }
@@ -131,9 +146,14 @@ fn next(
 {
     let value = u64::from(args.a);
     match method {
-        Method::MsInsert => insert(counts, value, reply),
-        Method::MsInsertPair => insert_pair(counts, value, u64::from(args.b), reply),
-        Method::MsDelete => Ok(delete(counts, value, reply)),
+        Method::Multiset(MultisetMethod::Insert) => insert(counts, value, reply),
+        Method::Multiset(MultisetMethod::InsertPair) => insert_pair(
+            counts,
+            value,
+            u64::from(args.b),
+            reply,
+        ),
+        Method::Multiset(MultisetMethod::Delete) => Ok(delete(counts, value, reply)),
         _ => unreachable!(),
     }
 }

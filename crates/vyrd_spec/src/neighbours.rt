@@ -2,7 +2,7 @@
 
 ghost use Rattle.std.specs.Prelude.{◌≡◌, ◌+◌, ◌*◌, ◌<◌, ◌≤◌, true, false, not, map, length};
 ghost use Rattle.std.specs.Prelude.{replicate, IfOk, MatchOption, None};
-ghost use Rattle.vyrd_base.specs.Trees.{nodes, left_of};
+ghost use Rattle.vyrd_base.specs.Tree.{nodes, left_of};
 ghost use Rattle.vyrd_spec.specs.Neighbours.{have_one_left, has_left, with_left};
 
 use crate::nodes::{NODE_WORDS, RIGHT};

@@ -3,11 +3,11 @@
 ghost use Rattle.std.specs.Prelude.{◌≡◌, ◌+◌, ◌*◌, ◌<◌, ◌≤◌, ◌==◌, ◌&&◌, true, false, min, map};
 ghost use Rattle.std.specs.Prelude.{length, IfOk, IfSome, MatchOption};
 ghost use Rattle.std.specs.List.{list_all};
-ghost use Rattle.vyrd_base.specs.TreeView.{node_word, level_of, count_of, bound_of, right_of};
-ghost use Rattle.vyrd_base.specs.TreeView.{entries_of};
-ghost use Rattle.vyrd_base.specs.Trees.{nodes, left_of, is_first, low_of, is_linked, is_bounded};
-ghost use Rattle.vyrd_base.specs.Trees.{has_sound_keys, is_leaf_entry, is_child_entry};
-ghost use Rattle.vyrd_base.specs.Trees.{has_sound_entries, is_only_first, is_sound_node};
+ghost use Rattle.vyrd_base.specs.Tree.{node_word, level_of, count_of, bound_of, right_of};
+ghost use Rattle.vyrd_base.specs.Tree.{entries_of};
+ghost use Rattle.vyrd_base.specs.Tree.{nodes, left_of, is_first, low_of, is_linked, is_bounded};
+ghost use Rattle.vyrd_base.specs.Tree.{has_sound_keys, is_leaf_entry, is_child_entry};
+ghost use Rattle.vyrd_base.specs.Tree.{has_sound_entries, is_only_first, is_sound_node};
 ghost use Rattle.vyrd_spec.specs.Neighbours.{have_one_left};
 ghost use Rattle.vyrd_spec.specs.NodeKeys.{is_sound_key, is_first_of, is_sound_below};
 

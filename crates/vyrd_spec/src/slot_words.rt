@@ -6,7 +6,8 @@ ghost use Rattle.std.specs.Prelude.{if◌then◌else◌, IfOk, OnOk};
 ghost use Rattle.vyrd_base.specs.declared.subject.Subject.TheVariants.{Multiset};
 ghost use Rattle.vyrd_base.specs.Added.{added};
 ghost use Rattle.vyrd_base.specs.Amounts.{amount_of, collected};
-ghost use Rattle.vyrd_base.specs.Represented.{is_sound, is_sound_slot};
+ghost use Rattle.vyrd_base.specs.Represented.{is_sound};
+ghost use Rattle.vyrd_base.specs.Multiset.{is_sound_slot};
 ghost use Rattle.vyrd_base.specs.Views.{parts_of};
 
 use std::alloc::{AllocError, Global};

@@ -6,19 +6,18 @@ ghost use Rattle.std.specs.Option.{option_map};
 ghost use Rattle.vyrd_base.specs.declared.subject.Args.{Args};
 ghost use Rattle.vyrd_base.specs.declared.subject.Method.{Method};
 ghost use Rattle.vyrd_base.specs.Rules.{Charter, built_in, rules_by};
-ghost use Rattle.vyrd_base.specs.Views.{view_of_words};
 ghost use Rattle.vyrd_base.specs.declared.subject.Subject.{Subject};
 ghost use Rattle.vyrd_base.specs.Amounts.{Amounts, IsAmounts, amount_of};
 ghost use Rattle.vyrd_base.specs.Layout.{plain_words, lock_words};
 ghost use Rattle.vyrd_base.specs.Represented.{state_of_words};
-ghost use Rattle.vyrd_base.specs.Subjects.{subject_of, is_observer, are_args};
+ghost use Rattle.vyrd_base.specs.Subjects.{subject_of, is_observer, must_commit, are_args};
 ghost use Rattle.vyrd_spec.specs.Bounds.{AllAmounts};
-ghost use Rattle.vyrd_spec.specs.declared.touched.Touched.{Touched};
 ghost use Rattle.vyrd_spec.specs.Touching.{with_touched};
+ghost use Rattle.vyrd_view.specs.Known.{IsNew, view_by};
 
-use crate::touched::Touched;
 use std::alloc::{AllocError, Global};
 use vyrd_base::{Args, Header, Method, View};
+use vyrd_view::Compare;
 
 /// A specification that runs: a state that steps with each mutator, in the order of the commits,
 /// by rules that stay the same.
@@ -34,18 +33,25 @@ pub trait Spec: Sized + Drop {
     // How many steps were allowed since the start.
     ghost made: { Self → ℕ };
 
-    // The keys whose shown amount the last step can have changed, which was a step with this call.
-    ghost touched: { Self → Method → Args → Touched };
+    // The keys whose shown amount a step with this call and reply can change, in this state.
+    ghost touches: { Self → Method → Args → ℕ → List ℕ };
 
-    // Whether a step that touched these keys can have changed what an observer answers.
-    ghost affects: { Touched → Method → Args → Bool };
+    // The keys that the last step has touched.
+    ghost touched: { Self → List ℕ };
+
+    // Whether the last step can have changed what an observer answers.
+    ghost affects: { Self → Method → Args → Bool };
+
+    /// What compares the words with its states.
+    type Compared: Compare;
 
     /// The header of the rules.
     fn header(&self) -> Header
         ensures { result ≡ (rules_by (charter self.now)).header };
 
-    /// Makes a step with a mutator's call and its reply. `false` says that the reply isn't allowed
-    /// in this state. After `false`, and when memory runs out, all is as it was.
+    /// Makes a step with the call of an execution that commits, and its reply. `false` says that
+    /// the reply isn't allowed in this state. After `false`, and when memory runs out, all is as it
+    /// was.
     fn step(&mut self, method: Method, args: Args, reply: u64) -> Result<bool, AllocError>
         requires subject { subject_of method ≡ (rules_by (charter self.old)).header.subject }
         requires args { are_args (rules_by (charter self.old)).header.size method args ≡ true }
@@ -60,43 +66,49 @@ pub trait Spec: Sized + Drop {
         ensures charter { charter self.new ≡ charter self.old }
         ensures counted { result ≡ Ok true → made self.new ≡ made self.old + 1 }
         ensures uncounted { result ≢ Ok true → made self.new ≡ made self.old }
+        ensures touches { result ≡ Ok true
+            → touched self.new ≡ touches self.old method args reply }
         ensures touched { result ≡ Ok true
-            → with_touched (touched self.new method args)
+            → with_touched (touched self.new)
             ((rules_by (charter self.old)).shown (state self.new))
             ((rules_by (charter self.old)).shown (state self.old))
             ≡ (rules_by (charter self.old)).shown (state self.new) }
         ensures answers { result ≡ Ok true → (m : Method) (a : Args)
-            → affects (touched self.new method args) m a ≡ false
+            → affects self.new m a ≡ false
             → (rules_by (charter self.old)).answer (state self.new) m a
             ≡ (rules_by (charter self.old)).answer (state self.old) m a };
 
-    /// What an observer answers in this state.
+    /// What an execution without a commit answers in this state: an observer's, or one of another
+    /// method that may return without a commit.
     fn answer(&self, method: Method, args: Args) -> u64
         requires subject { subject_of method ≡ (rules_by (charter self.now)).header.subject }
         requires args { are_args (rules_by (charter self.now)).header.size method args ≡ true }
-        requires observer { is_observer method ≡ true }
+        requires may_answer { must_commit method ≡ false }
         ensures { result ≡ (rules_by (charter self.now)).answer (state self.now) method args };
 
     /// The shown amount of a key, 0 if the key isn't there.
     fn amount(&self, key: u64) -> u64
         ensures { result ≡ amount_of ((rules_by (charter self.now)).shown (state self.now)) key };
 
-    /// The keys whose shown amount the last step can have changed, which was a step with this call.
-    fn touched(&self, method: Method, args: Args) -> Touched
-        ensures { result ≡ touched self.now method args };
+    /// The keys that the last step has touched, if it was allowed: no other shown amount differs
+    /// from the one before.
+    fn touched(&self) -> &[u64]
+        ensures { result.now ≡ touched self.now };
 
-    /// Whether a step that touched these keys can have changed what an observer answers.
-    fn affects(keys: Touched, method: Method, args: Args) -> bool
-        ensures { result ≡ affects keys method args };
+    /// Whether the last step can have changed what an observer answers, if it was allowed.
+    fn affects(&self, method: Method, args: Args) -> bool
+        ensures { result ≡ affects self.now method args };
 
     /// The keys whose shown amount isn't 0, with their amounts.
     fn view(&self, alloc: Global) -> Result<View, AllocError>
         ensures { IfOk result (λ v. v ≡ (rules_by (charter self.now)).shown (state self.now)) };
 
-    // The words show what those of the built-in subjects do. This goes once the comparison of
-    // words with a state is a part of the specification too.
-    ghost shows_words: { (s : Self) → (words : List ℕ)
-        → (rules_by (charter s)).view words ≡ view_of_words (rules_by (charter s)).header words };
+    /// What compares words by its rules, which was told nothing yet: zeroed words against nothing.
+    fn compared(&self, alloc: Global) -> Result<Self::Compared, AllocError>
+        ensures new { IfOk result (λ c. IsNew
+            (plain_words (rules_by (charter self.now)).header) (Self.Compared.known c)) }
+        ensures view { IfOk result (λ c. view_by (Self.Compared.known c).shows
+            ≡ (rules_by (charter self.now)).view) };
 }
 
 /// A specification that is built in. It is made from a header, and its rules are those of the
@@ -125,6 +137,10 @@ pub trait BuiltIn: Spec {
         ensures charter { IfOk result
             (λ found. IfSome found (λ s. Self.charter s ≡ built_in header)) }
         ensures made { IfOk result (λ found. IfSome found (λ s. Self.made s ≡ 0)) };
+
+    // Its rules are those of its header.
+    ghost has_built_in_rules: { (s : Self)
+        → Self.charter s ≡ built_in (rules_by (Self.charter s)).header };
 
     // The keys of a state rise, and no amount is 0.
     ghost is_formed: { (s : Self) → IsAmounts (Self.state s) };

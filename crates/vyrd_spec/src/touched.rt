@@ -1,35 +1,72 @@
 //! The keys that a step can change.
 
-ghost use Rattle.std.specs.Prelude.{◌≡◌};
-ghost use Rattle.vyrd_spec.specs.Touching.{touched_by, is_key, is_touched};
+ghost use Rattle.std.specs.Prelude.{◌≡◌, [], ◌∷◌};
+ghost use Rattle.vyrd_spec.specs.Touching.{touched_by, is_touched};
 
-use vyrd_base::{Args, Method};
+use std::marker::Model;
+use vyrd_base::{Args, BuffersMethod, CacheMethod, Method, MultisetMethod, TreeMethod};
 
 /// The keys whose amount a step can change: none, one or two.
-#[derive(Clone, Copy)]
-pub struct Touched {
-    /// One key.
-    pub first: Option<u64>,
-    /// Another, or the same.
-    pub second: Option<u64>,
+#[derive(Drop)]
+pub(crate) struct Touched {
+    keys: [u64; 2],
+    count: usize,
+}
+
+impl Model for Touched {
+    ghost use Rattle.std.specs.Prelude.{◌≤◌, ℕ, List, take};
+
+    ghost Value = { List ℕ };
+
+    ghost view = { λ t. take t.count t.keys };
+
+    ghost invariant = { λ t. t.count ≤ 2 };
 }
 
 impl Touched {
+    /// No key.
+    pub fn none() -> Touched
+        ensures { result ≡ [] }
+    {
+        Touched {
+            keys: [0, 0],
+            count: 0,
+        }
+    }
+
+    /// One key.
+    fn one(key: u32) -> Touched
+        ensures { result ≡ key ∷ [] }
+    {
+        Touched {
+            keys: [u64::from(key), 0],
+            count: 1,
+        }
+    }
+
+    /// One key, and another or the same.
+    fn two(key: u32, other: u32) -> Touched
+        ensures { result ≡ key ∷ other ∷ [] }
+    {
+        Touched {
+            keys: [u64::from(key), u64::from(other)],
+            count: 2,
+        }
+    }
+
+    /// The keys.
+    pub fn keys(&self) -> &[u64]
+        ensures { result.now ≡ self.now }
+    {
+        let (keys, _) = self.keys.split_at(self.count);
+        keys
+    }
+
     /// Whether the key is one of them.
     pub fn has(&self, key: u64) -> bool
         ensures { result ≡ is_touched self.now key }
     {
-        is_key(self.first, key) || is_key(self.second, key)
-    }
-}
-
-/// Whether the key is this one.
-fn is_key(one: Option<u64>, key: u64) -> bool
-    ensures { result ≡ is_key one key }
-{
-    match one {
-        Some(k) => k == key,
-        None => false,
+        self.keys().iter().any(|k| *k == key)
     }
 }
 
@@ -37,30 +74,24 @@ fn is_key(one: Option<u64>, key: u64) -> bool
 pub(crate) fn touched_by(method: Method, args: Args) -> Touched
     ensures { result ≡ touched_by method args }
 {
-    let key = Some(u64::from(args.a));
     match method {
-        Method::MsInsert
-        | Method::MsDelete
-        | Method::CaWrite
-        | Method::TrInsert
-        | Method::TrDelete
-        | Method::BuAppend
-        | Method::BuAppendFrom => Touched {
-            first: key,
-            second: None,
-        },
+        Method::Multiset(MultisetMethod::Insert)
+        | Method::Multiset(MultisetMethod::Delete)
+        | Method::Cache(CacheMethod::Write)
+        | Method::Tree(TreeMethod::Insert)
+        | Method::Tree(TreeMethod::Delete)
+        | Method::Buffers(BuffersMethod::Append)
+        | Method::Buffers(BuffersMethod::AppendFrom) => Touched::one(args.a),
         // A buffer has at most 7 characters, so that a cut to 7 or more changes none.
-        Method::BuCut if args.b < 7 => Touched {
-            first: key,
-            second: None,
-        },
-        Method::MsInsertPair => Touched {
-            first: key,
-            second: Some(u64::from(args.b)),
-        },
-        _ => Touched {
-            first: None,
-            second: None,
-        },
+        Method::Buffers(BuffersMethod::Cut) if args.b < 7 => Touched::one(args.a),
+        Method::Multiset(MultisetMethod::InsertPair) => Touched::two(args.a, args.b),
+        Method::Multiset(MultisetMethod::Lookup)
+        | Method::Cache(CacheMethod::Flush)
+        | Method::Cache(CacheMethod::Evict)
+        | Method::Cache(CacheMethod::Read)
+        | Method::Tree(TreeMethod::Lookup)
+        | Method::Buffers(BuffersMethod::Cut)
+        | Method::Buffers(BuffersMethod::Length)
+        | Method::Buffers(BuffersMethod::Read) => Touched::none(),
     }
 }

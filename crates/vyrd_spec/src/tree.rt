@@ -6,7 +6,9 @@ ghost use Rattle.std.specs.Bool.{then_some};
 ghost use Rattle.vyrd_base.specs.Rules.{built_in};
 ghost use Rattle.vyrd_base.specs.declared.subject.Subject.TheVariants.{Tree};
 ghost use Rattle.vyrd_base.specs.Amounts.{with_amount, IsAmounts};
-ghost use Rattle.vyrd_base.specs.Specification.{next_state, by_reply, is_present};
+ghost use Rattle.vyrd_base.specs.Specification.{next_state};
+ghost use Rattle.vyrd_base.specs.Structures.{by_reply};
+ghost use Rattle.vyrd_base.specs.Amounts.{is_present};
 ghost use Rattle.vyrd_spec.specs.Touching.{touched_by, is_touched};
 ghost use Rattle.vyrd_base.specs.Subjects.{subject_of, is_observer};
 ghost use Rattle.vyrd_spec.specs.Bounds.{AllAmounts, small_values};
@@ -17,7 +19,8 @@ use crate::spec::{BuiltIn, Spec};
 use crate::touched::{Touched, touched_by};
 use crate::tree_words::is_tree;
 use std::alloc::{AllocError, Global};
-use vyrd_base::{AmountTable, Args, Header, Method, View};
+use vyrd_base::{AmountTable, Args, Header, Method, TreeMethod, View};
+use vyrd_view::Compared;
 
 /// What is added to a value, so that the amount of a key that is there is never 0.
 const PRESENT: u64 = 1 << 32;
@@ -27,6 +30,7 @@ const PRESENT: u64 = 1 << 32;
 pub struct TreeSpec {
     header: Header,
     made: u64,
+    touched: Touched,
     amounts: AmountTable,
     ghost subject: { header.subject ≡ Tree },
     ghost few: { made ≤ 2 ^ 62 },
@@ -42,11 +46,13 @@ impl Spec for TreeSpec {
 
     ghost made = { λ s. s.made };
 
-    ghost touched = { λ s. touched_by };
+    ghost touches = { λ s method args reply. touched_by method args };
 
-    ghost affects = { λ touched method args. is_touched touched args.a };
+    ghost touched = { λ s. s.touched };
 
-    ghost shows_words = { λ s words. refl };
+    ghost affects = { λ s method args. is_touched s.touched args.a };
+
+    type Compared = Compared;
 
     fn header(&self) -> Header {
         self.header
@@ -57,6 +63,7 @@ impl Spec for TreeSpec {
         let allowed = next(&mut self.amounts, method, args, reply)?;
         if allowed {
             self.made += 1;
+            self.touched = touched_by(method, args);
         }
         Ok(allowed)
     }
@@ -70,12 +77,16 @@ impl Spec for TreeSpec {
         self.amounts.amount(key)
     }
 
-    fn touched(&self, method: Method, args: Args) -> Touched {
-        touched_by(method, args)
+    fn touched(&self) -> &[u64] {
+        self.touched.keys()
     }
 
-    fn affects(keys: Touched, _method: Method, args: Args) -> bool {
-        keys.has(u64::from(args.a))
+    fn affects(&self, _method: Method, args: Args) -> bool {
+        self.touched.has(u64::from(args.a))
+    }
+
+    fn compared(&self, alloc: Global) -> Result<Compared, AllocError> {
+        Compared::new(alloc, self.header)
     }
 
     fn view(&self, alloc: Global) -> Result<View, AllocError> {
@@ -86,6 +97,8 @@ impl Spec for TreeSpec {
 impl BuiltIn for TreeSpec {
     ghost serves = { λ subject. subject ≡ Tree };
 
+    ghost has_built_in_rules = { λ s. refl };
+
     ghost is_formed = { λ s. s.formed };
 
     ghost is_small = { λ s. small_values s.amounts s.small };
@@ -94,6 +107,7 @@ impl BuiltIn for TreeSpec {
         Ok(TreeSpec {
             header,
             made: 0,
+            touched: Touched::none(),
             amounts: AmountTable::new(alloc, 4 * header.size() as usize)?,
         })
     }
@@ -110,6 +124,7 @@ impl BuiltIn for TreeSpec {
         Ok(Some(TreeSpec {
             header,
             made: 0,
+            touched: Touched::none(),
             amounts: values(alloc, size, words)?,
         }))
     }
@@ -133,8 +148,8 @@ fn next(
 {
     let key = u64::from(args.a);
     match method {
-        Method::TrInsert => insert(values, key, u64::from(args.b), reply),
-        Method::TrDelete => Ok(delete(values, key, reply)),
+        Method::Tree(TreeMethod::Insert) => insert(values, key, u64::from(args.b), reply),
+        Method::Tree(TreeMethod::Delete) => Ok(delete(values, key, reply)),
         _ => unreachable!(),
     }
 }

@@ -1,7 +1,7 @@
 //! The words of a tree: whether they stand for a state.
 
 ghost use Rattle.std.specs.Prelude.{◌≡◌, ◌+◌, ◌*◌, ◌≤◌, length, IfOk};
-ghost use Rattle.vyrd_base.specs.Trees.{is_tree};
+ghost use Rattle.vyrd_base.specs.Tree.{is_tree};
 
 use crate::nodes::{NODE_WORDS, Nodes};
 use std::alloc::{AllocError, Global};

@@ -14,9 +14,11 @@ use Rattle.vyrd_base.specs.Spelling.{header_line, subject_name}
 use Rattle.vyrd_base.specs.Lines.{fields_of, number_of, subject_called, header_if, header_of, header_spelled, header_from, header_in}
 use Rattle.vyrd_base.proofs.HeaderLaws.{small_size, small_callers}
 use Rattle.vyrd_base.proofs.SplitLaws.{split-join, number_of_decimal, bytes_same}
-use Rattle.vyrd_base.proofs.LineLaws.{is_plain_field, plain_number, plain_spaces}
+use Rattle.vyrd_base.proofs.SplitLaws.{is_plain_field}
+use Rattle.vyrd_base.proofs.LineLaws.{plain_number, plain_spaces}
 use Rattle.vyrd_base.proofs.TestLaws.{both_true, first_true, second_true, below_of, is_below}
-use Rattle.vyrd_base.proofs.SubjectLaws.{one_name, plain_subject, subject_read}
+use Rattle.vyrd_base.proofs.SubjectLaws.{one_name, subject_read}
+use Rattle.vyrd_base.proofs.StructureLaws.{plain_subject}
 use Rattle.vyrd_text.specs.Spelled.{AreLimitsRead, AreNumbersRead}
 use Rattle.vyrd_text.proofs.PartLaws.{one_before_space}
 

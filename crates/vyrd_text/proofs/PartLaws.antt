@@ -7,7 +7,12 @@ use Rattle.std.proofs.lemmas.Fmt.{decimal_injective}
 use Rattle.vyrd_base.specs.declared.subject.Subject.{Subject}
 use Rattle.vyrd_base.specs.declared.subject.Subject.TheVariants.{Multiset, Buffers}
 use Rattle.vyrd_base.specs.declared.subject.Method.{Method}
-use Rattle.vyrd_base.specs.declared.subject.Method.TheVariants.{MsInsert, MsInsertPair, MsDelete, MsLookup, BuAppend, BuAppendFrom, BuCut, BuLength, BuRead}
+use Rattle.vyrd_base.specs.declared.subject.Method.TheVariants.{Multiset as OfMultiset}
+use Rattle.vyrd_base.specs.declared.subject.Method.TheVariants.{Buffers as OfBuffers}
+use Rattle.vyrd_base.specs.declared.multiset.MultisetMethod.TheVariants.{Insert, InsertPair, Delete}
+use Rattle.vyrd_base.specs.declared.multiset.MultisetMethod.TheVariants.{Lookup}
+use Rattle.vyrd_base.specs.declared.buffers.BuffersMethod.TheVariants.{Append, AppendFrom, Cut}
+use Rattle.vyrd_base.specs.declared.buffers.BuffersMethod.TheVariants.{Length, Read}
 use Rattle.vyrd_base.specs.declared.log.Kind.{Kind}
 use Rattle.vyrd_base.specs.declared.log.Kind.TheVariants.{Call, Return, Write, Commit, BlockOpen, BlockClose, BlockCommit}
 use Rattle.vyrd_base.specs.declared.log.Entry.{Entry}
@@ -87,26 +92,6 @@ no_third text m n r s low small e f none args padded a b c g =
     let is = one_before_space m args.a r (decimal args.b ++ 32 ∷ decimal args.c) low (omega arith) (sym e ∙ g) in
     let more = one_before_space n args.b s (decimal args.c) small (omega arith) (sym f ∙ is.1) in
     none args.c c more.1
-
--- a text that begins with no method's name and a space
-pub no_multiset_method : (text : List ℕ) → ((rest : List ℕ) → text ≡ codes "insert " ++ rest → ⊥) → ((rest : List ℕ) → text ≡ codes "delete " ++ rest → ⊥)
-    → ((rest : List ℕ) → text ≡ codes "lookup " ++ rest → ⊥) → ((rest : List ℕ) → text ≡ codes "insert_pair " ++ rest → ⊥)
-    → (method : Method) (rest : List ℕ) → same_subject (subject_of method) Multiset ≡ true → text ≡ method_name method ++ 32 ∷ rest → ⊥
-no_multiset_method text insert delete lookup pair MsInsert rest is e = insert rest e
-no_multiset_method text insert delete lookup pair MsInsertPair rest is e = pair rest e
-no_multiset_method text insert delete lookup pair MsDelete rest is e = delete rest e
-no_multiset_method text insert delete lookup pair MsLookup rest is e = lookup rest e
-no_multiset_method text insert delete lookup pair _ rest is e = cc
-
-pub no_buffers_method : (text : List ℕ) → ((rest : List ℕ) → text ≡ codes "append " ++ rest → ⊥) → ((rest : List ℕ) → text ≡ codes "append_from " ++ rest → ⊥)
-    → ((rest : List ℕ) → text ≡ codes "cut " ++ rest → ⊥) → ((rest : List ℕ) → text ≡ codes "length " ++ rest → ⊥) → ((rest : List ℕ) → text ≡ codes "read " ++ rest → ⊥)
-    → (method : Method) (rest : List ℕ) → same_subject (subject_of method) Buffers ≡ true → text ≡ method_name method ++ 32 ∷ rest → ⊥
-no_buffers_method text append from cut length read BuAppend rest is e = append rest e
-no_buffers_method text append from cut length read BuAppendFrom rest is e = from rest e
-no_buffers_method text append from cut length read BuCut rest is e = cut rest e
-no_buffers_method text append from cut length read BuLength rest is e = length rest e
-no_buffers_method text append from cut length read BuRead rest is e = read rest e
-no_buffers_method text append from cut length read _ rest is e = cc
 
 -- an entry's line is its caller, a space and what it says
 pub entry_line_is : (caller : ℕ) (kind : Kind) → entry_line (record { caller = caller; kind = kind }) ≡ decimal caller ++ 32 ∷ kind_text kind

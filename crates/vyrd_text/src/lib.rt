@@ -33,6 +33,4 @@ pub use number::{read_u32, read_u32_and_space, read_u64};
 pub use reader::LogReader;
 pub use start::read_start;
 pub use verdict::write_verdict;
-pub use writer::{
-    name_of_subject, push_call, write_entry, write_header, write_line, write_log, write_started,
-};
+pub use writer::{push_call, write_entry, write_header, write_line, write_log, write_started};

@@ -95,105 +95,22 @@ fn read_method(subject: Subject, text: &[u8]) -> Option<(Method, &[u8])>
         (λ r. (same_subject (subject_of r.0) subject ≡ true)
         × (text.now ≡ method_name r.0 ++ 32 ∷ r.1.now)) }
 {
-    match subject {
-        Subject::Multiset => read_multiset_method(text),
-        Subject::Cache => read_cache_method(text),
-        Subject::Tree => read_tree_method(text),
-        Subject::Buffers => read_buffers_method(text),
-    }
-}
-
-/// The method of a multiset before a space, and what stands after that space.
-fn read_multiset_method(text: &[u8]) -> Option<(Method, &[u8])>
-    ensures { MatchOption result
-        ((method : Method) (rest : List ℕ)
-        → same_subject (subject_of method) Subject.Multiset ≡ true
-        → text.now ≡ method_name method ++ 32 ∷ rest → ⊥)
-        (λ r. (same_subject (subject_of r.0) Subject.Multiset ≡ true)
-        × (text.now ≡ method_name r.0 ++ 32 ∷ r.1.now)) }
-{
-    if let Some(rest) = after(text, b"insert ") {
-        return Some((Method::MsInsert, rest));
-    }
-    if let Some(rest) = after(text, b"delete ") {
-        return Some((Method::MsDelete, rest));
-    }
-    if let Some(rest) = after(text, b"lookup ") {
-        return Some((Method::MsLookup, rest));
-    }
-    if let Some(rest) = after(text, b"insert_pair ") {
-        return Some((Method::MsInsertPair, rest));
+    for method in subject.methods() {
+        if let Some(rest) = after_name(text, method.name()) {
+            return Some((*method, rest));
+        }
     }
     None
 }
 
-/// The method of a cache before a space, and what stands after that space.
-fn read_cache_method(text: &[u8]) -> Option<(Method, &[u8])>
-    ensures { MatchOption result
-        ((method : Method) (rest : List ℕ) → same_subject (subject_of method) Subject.Cache ≡ true
-        → text.now ≡ method_name method ++ 32 ∷ rest → ⊥)
-        (λ r. (same_subject (subject_of r.0) Subject.Cache ≡ true)
-        × (text.now ≡ method_name r.0 ++ 32 ∷ r.1.now)) }
+/// What stands after the name and a space, if the text begins with them.
+fn after_name<'a>(text: &'a [u8], name: &[u8]) -> Option<&'a [u8]>
+    ensures { MatchOption result ((rest : List ℕ) → text.now ≡ name.now ++ 32 ∷ rest → ⊥)
+        (λ rest. text.now ≡ name.now ++ 32 ∷ rest.now) }
 {
-    if let Some(rest) = after(text, b"read ") {
-        return Some((Method::CaRead, rest));
-    }
-    if let Some(rest) = after(text, b"write ") {
-        return Some((Method::CaWrite, rest));
-    }
-    if let Some(rest) = after(text, b"flush ") {
-        return Some((Method::CaFlush, rest));
-    }
-    if let Some(rest) = after(text, b"evict ") {
-        return Some((Method::CaEvict, rest));
-    }
-    None
-}
-
-/// The method of a tree before a space, and what stands after that space.
-fn read_tree_method(text: &[u8]) -> Option<(Method, &[u8])>
-    ensures { MatchOption result
-        ((method : Method) (rest : List ℕ) → same_subject (subject_of method) Subject.Tree ≡ true
-        → text.now ≡ method_name method ++ 32 ∷ rest → ⊥)
-        (λ r. (same_subject (subject_of r.0) Subject.Tree ≡ true)
-        × (text.now ≡ method_name r.0 ++ 32 ∷ r.1.now)) }
-{
-    if let Some(rest) = after(text, b"insert ") {
-        return Some((Method::TrInsert, rest));
-    }
-    if let Some(rest) = after(text, b"delete ") {
-        return Some((Method::TrDelete, rest));
-    }
-    if let Some(rest) = after(text, b"lookup ") {
-        return Some((Method::TrLookup, rest));
-    }
-    None
-}
-
-/// The method of string buffers before a space, and what stands after that space.
-fn read_buffers_method(text: &[u8]) -> Option<(Method, &[u8])>
-    ensures { MatchOption result
-        ((method : Method) (rest : List ℕ) → same_subject (subject_of method) Subject.Buffers ≡ true
-        → text.now ≡ method_name method ++ 32 ∷ rest → ⊥)
-        (λ r. (same_subject (subject_of r.0) Subject.Buffers ≡ true)
-        × (text.now ≡ method_name r.0 ++ 32 ∷ r.1.now)) }
-{
-    if let Some(rest) = after(text, b"append ") {
-        return Some((Method::BuAppend, rest));
-    }
-    if let Some(rest) = after(text, b"append_from ") {
-        return Some((Method::BuAppendFrom, rest));
-    }
-    if let Some(rest) = after(text, b"cut ") {
-        return Some((Method::BuCut, rest));
-    }
-    if let Some(rest) = after(text, b"length ") {
-        return Some((Method::BuLength, rest));
-    }
-    if let Some(rest) = after(text, b"read ") {
-        return Some((Method::BuRead, rest));
-    }
-    None
+    let rest = after(text, name)?;
+    let rest = after(rest, b" ")?;
+    Some(rest)
 }
 
 /// The arguments of a method that has `arity` of them.

@@ -13,7 +13,9 @@ ghost use Rattle.vyrd_text.specs.Quick.{IsFrontNumber, IsEntryAtFront, IsKindAtF
 ghost use Rattle.vyrd_text.specs.Quick.{AreArgsAtFront, AreEntriesAtFront};
 
 use core::dec2flt::read_digits;
-use vyrd_base::{Args, Entry, Kind, Method, Subject};
+use vyrd_base::{
+    Args, BuffersMethod, CacheMethod, Entry, Kind, Method, MultisetMethod, Subject, TreeMethod,
+};
 
 /// The most digits whose value is below 2^64 whatever they are.
 const FEW_DIGITS: usize = 19;
@@ -269,9 +271,18 @@ fn read_multiset_method(text: &[u8]) -> Option<(Method, &[u8])>
         × (text.now ≡ method_name r.0 ++ 32 ∷ r.1.now)) }
 {
     match text {
-        [b'i', b'n', b's', b'e', b'r', b't', b' ', rest @ ..] => Some((Method::MsInsert, rest)),
-        [b'd', b'e', b'l', b'e', b't', b'e', b' ', rest @ ..] => Some((Method::MsDelete, rest)),
-        [b'l', b'o', b'o', b'k', b'u', b'p', b' ', rest @ ..] => Some((Method::MsLookup, rest)),
+        [b'i', b'n', b's', b'e', b'r', b't', b' ', rest @ ..] => Some((
+            Method::Multiset(MultisetMethod::Insert),
+            rest,
+        )),
+        [b'd', b'e', b'l', b'e', b't', b'e', b' ', rest @ ..] => Some((
+            Method::Multiset(MultisetMethod::Delete),
+            rest,
+        )),
+        [b'l', b'o', b'o', b'k', b'u', b'p', b' ', rest @ ..] => Some((
+            Method::Multiset(MultisetMethod::Lookup),
+            rest,
+        )),
         [
             b'i',
             b'n',
@@ -286,7 +297,7 @@ fn read_multiset_method(text: &[u8]) -> Option<(Method, &[u8])>
             b'r',
             b' ',
             rest @ ..,
-        ] => Some((Method::MsInsertPair, rest)),
+        ] => Some((Method::Multiset(MultisetMethod::InsertPair), rest)),
         _ => None,
     }
 }
@@ -298,10 +309,19 @@ fn read_cache_method(text: &[u8]) -> Option<(Method, &[u8])>
         × (text.now ≡ method_name r.0 ++ 32 ∷ r.1.now)) }
 {
     match text {
-        [b'r', b'e', b'a', b'd', b' ', rest @ ..] => Some((Method::CaRead, rest)),
-        [b'w', b'r', b'i', b't', b'e', b' ', rest @ ..] => Some((Method::CaWrite, rest)),
-        [b'f', b'l', b'u', b's', b'h', b' ', rest @ ..] => Some((Method::CaFlush, rest)),
-        [b'e', b'v', b'i', b'c', b't', b' ', rest @ ..] => Some((Method::CaEvict, rest)),
+        [b'r', b'e', b'a', b'd', b' ', rest @ ..] => Some((Method::Cache(CacheMethod::Read), rest)),
+        [b'w', b'r', b'i', b't', b'e', b' ', rest @ ..] => Some((
+            Method::Cache(CacheMethod::Write),
+            rest,
+        )),
+        [b'f', b'l', b'u', b's', b'h', b' ', rest @ ..] => Some((
+            Method::Cache(CacheMethod::Flush),
+            rest,
+        )),
+        [b'e', b'v', b'i', b'c', b't', b' ', rest @ ..] => Some((
+            Method::Cache(CacheMethod::Evict),
+            rest,
+        )),
         _ => None,
     }
 }
@@ -313,9 +333,18 @@ fn read_tree_method(text: &[u8]) -> Option<(Method, &[u8])>
         × (text.now ≡ method_name r.0 ++ 32 ∷ r.1.now)) }
 {
     match text {
-        [b'i', b'n', b's', b'e', b'r', b't', b' ', rest @ ..] => Some((Method::TrInsert, rest)),
-        [b'd', b'e', b'l', b'e', b't', b'e', b' ', rest @ ..] => Some((Method::TrDelete, rest)),
-        [b'l', b'o', b'o', b'k', b'u', b'p', b' ', rest @ ..] => Some((Method::TrLookup, rest)),
+        [b'i', b'n', b's', b'e', b'r', b't', b' ', rest @ ..] => Some((
+            Method::Tree(TreeMethod::Insert),
+            rest,
+        )),
+        [b'd', b'e', b'l', b'e', b't', b'e', b' ', rest @ ..] => Some((
+            Method::Tree(TreeMethod::Delete),
+            rest,
+        )),
+        [b'l', b'o', b'o', b'k', b'u', b'p', b' ', rest @ ..] => Some((
+            Method::Tree(TreeMethod::Lookup),
+            rest,
+        )),
         _ => None,
     }
 }
@@ -327,10 +356,19 @@ fn read_buffers_method(text: &[u8]) -> Option<(Method, &[u8])>
         × (text.now ≡ method_name r.0 ++ 32 ∷ r.1.now)) }
 {
     match text {
-        [b'a', b'p', b'p', b'e', b'n', b'd', b' ', rest @ ..] => Some((Method::BuAppend, rest)),
-        [b'c', b'u', b't', b' ', rest @ ..] => Some((Method::BuCut, rest)),
-        [b'l', b'e', b'n', b'g', b't', b'h', b' ', rest @ ..] => Some((Method::BuLength, rest)),
-        [b'r', b'e', b'a', b'd', b' ', rest @ ..] => Some((Method::BuRead, rest)),
+        [b'a', b'p', b'p', b'e', b'n', b'd', b' ', rest @ ..] => Some((
+            Method::Buffers(BuffersMethod::Append),
+            rest,
+        )),
+        [b'c', b'u', b't', b' ', rest @ ..] => Some((Method::Buffers(BuffersMethod::Cut), rest)),
+        [b'l', b'e', b'n', b'g', b't', b'h', b' ', rest @ ..] => Some((
+            Method::Buffers(BuffersMethod::Length),
+            rest,
+        )),
+        [b'r', b'e', b'a', b'd', b' ', rest @ ..] => Some((
+            Method::Buffers(BuffersMethod::Read),
+            rest,
+        )),
         [
             b'a',
             b'p',
@@ -345,7 +383,7 @@ fn read_buffers_method(text: &[u8]) -> Option<(Method, &[u8])>
             b'm',
             b' ',
             rest @ ..,
-        ] => Some((Method::BuAppendFrom, rest)),
+        ] => Some((Method::Buffers(BuffersMethod::AppendFrom), rest)),
         _ => None,
     }
 }

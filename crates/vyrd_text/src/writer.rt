@@ -11,7 +11,7 @@ ghost use Rattle.vyrd_text.specs.Written.{is_writable};
 
 use crate::line_buffer::LineBuffer;
 use std::alloc::AllocError;
-use vyrd_base::{Args, Entry, Header, Kind, Method, StartWord, Subject};
+use vyrd_base::{Args, Entry, Header, Kind, Method, StartWord};
 
 /// Appends the one spelling of the entry, without a line feed. A refusal leaves `out` unchanged.
 ///
@@ -104,7 +104,7 @@ pub fn write_header(header: Header, out: &mut Vec<u8>) -> Result<(), AllocError>
     line.push(b"vyrd ");
     line.push_number(u64::from(header.version()));
     line.push(b" ");
-    line.push(name_of_subject(header.subject()));
+    line.push(header.subject().name());
     line.push(b" ");
     line.push_number(u64::from(header.size()));
     line.push(b" ");
@@ -203,7 +203,7 @@ pub fn push_call(method: Method, args: Args, line: &mut LineBuffer)
     ensures text { line.new ≡ line.old ++ call_text method args }
     ensures len { length line.new ≤ length line.old + 80 }
 {
-    line.push(name_of_method(method));
+    line.push(method.name());
     line.push(b" ");
     push_args(method.arity(), args, line);
 }
@@ -226,38 +226,4 @@ fn push_args(arity: u32, args: Args, line: &mut LineBuffer)
     }
     line.push(b" ");
     line.push_number(u64::from(args.c));
-}
-
-/// The subject's name.
-pub fn name_of_subject(subject: Subject) -> &'static [u8]
-    ensures text { result.now ≡ subject_name subject }
-    ensures len { length result.now ≤ 8 }
-{
-    match subject {
-        Subject::Multiset => b"multiset",
-        Subject::Cache => b"cache",
-        Subject::Tree => b"tree",
-        Subject::Buffers => b"buffers",
-    }
-}
-
-/// The method's name.
-fn name_of_method(method: Method) -> &'static [u8]
-    ensures text { result.now ≡ method_name method }
-    ensures len { length result.now ≤ 11 }
-{
-    match method {
-        Method::MsInsert | Method::TrInsert => b"insert",
-        Method::MsInsertPair => b"insert_pair",
-        Method::MsDelete | Method::TrDelete => b"delete",
-        Method::MsLookup | Method::TrLookup => b"lookup",
-        Method::CaWrite => b"write",
-        Method::CaFlush => b"flush",
-        Method::CaEvict => b"evict",
-        Method::CaRead | Method::BuRead => b"read",
-        Method::BuAppend => b"append",
-        Method::BuAppendFrom => b"append_from",
-        Method::BuCut => b"cut",
-        Method::BuLength => b"length",
-    }
 }

@@ -5,8 +5,8 @@ use Rattle.std.specs.List.{list_all, AllByRecursion as Each}
 use Rattle.std.proofs.lemmas.Bool.Decides.{nat_tests}
 use Rattle.vyrd_base.specs.declared.header.Header.{Header}
 use Rattle.vyrd_base.specs.declared.subject.Subject.TheVariants.{Tree}
-use Rattle.vyrd_base.specs.TreeView.{level_of, entries_of}
-use Rattle.vyrd_base.specs.Trees.{last_of, nodes, low_of}
+use Rattle.vyrd_base.specs.Tree.{level_of, entries_of}
+use Rattle.vyrd_base.specs.Tree.{last_of, nodes, low_of}
 use Rattle.vyrd_base.proofs.TestLaws.{both_true, first_true, second_true, same_of, is_same, isnt_same, is_at_most, at_most_of}
 use Rattle.vyrd_base.proofs.PlaceLaws.{pass_all}
 use Rattle.vyrd_memory.specs.Alone.{Memory, words_in}

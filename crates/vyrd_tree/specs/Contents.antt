@@ -6,7 +6,7 @@ use Rattle.std.specs.List.{AllByRecursion}
 use Rattle.vyrd_base.specs.declared.header.Header.{Header}
 use Rattle.vyrd_base.specs.Places.{numbers_from}
 use Rattle.vyrd_base.specs.Amounts.{Amounts, IsAmounts, amount_of, given}
-use Rattle.vyrd_base.specs.TreeView.{entry_parts}
+use Rattle.vyrd_base.specs.Tree.{entry_parts}
 use Rattle.vyrd_memory.specs.Alone.{Memory}
 
 -- the words of node n

@@ -3,8 +3,8 @@
 use Rattle.std.specs.Prelude.{ℕ, Bool, not, ◌&&◌, ◌||◌, ◌==◌, nat_le, List}
 use Rattle.std.specs.List.{list_all}
 use Rattle.vyrd_base.specs.declared.header.Header.{Header}
-use Rattle.vyrd_base.specs.TreeView.{level_of, entries_of}
-use Rattle.vyrd_base.specs.Trees.{last_of, nodes, low_of}
+use Rattle.vyrd_base.specs.Tree.{level_of, entries_of}
+use Rattle.vyrd_base.specs.Tree.{last_of, nodes, low_of}
 use Rattle.vyrd_memory.specs.Alone.{Memory, words_in}
 
 -- whether a node is a leaf, or none of its entries leads to the other node

@@ -1,7 +1,8 @@
 -- What an insert has done before its ascent, and what each round of the ascent does.
 use Rattle.std.specs.Prelude.{◌≡◌, ℕ, ◌+◌, true, Some, ◌⊎◌}
 use Rattle.vyrd_base.specs.declared.header.Header.{Header}
-use Rattle.vyrd_base.specs.declared.subject.Method.TheVariants.{TrInsert}
+use Rattle.vyrd_base.specs.declared.subject.Method.TheVariants.{Tree as OfTree}
+use Rattle.vyrd_base.specs.declared.tree.TreeMethod.TheVariants.{Insert}
 use Rattle.vyrd_base.specs.declared.subject.Args.{Args}
 use Rattle.vyrd_base.specs.Amounts.{Amounts}
 use Rattle.vyrd_base.specs.Specification.{next_state}
@@ -23,7 +24,7 @@ pub record SplitsLeaf (h : Header) (c : ℕ) (args : Args) (memory : Memory)
   pub after : Memory
   pub rest : (split : ℕ → ℕ → Script)
       → alone c (insert_then h Correct args.a args.b split) memory ≡ alone c (split key leaf) after
-  pub represents : state_in h after ≡ next_state TrInsert args 1 state
+  pub represents : state_in h after ≡ next_state (OfTree Insert) args 1 state
   pub hangs : is_hanging h after 0 key leaf ≡ true
 
 -- What a round goes on with is given: one script for where the ascent stops, and one for where the

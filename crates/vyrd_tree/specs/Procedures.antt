@@ -8,7 +8,8 @@ use Rattle.vyrd_base.specs.declared.header.Header.{Header}
 use Rattle.vyrd_base.specs.declared.log.Kind.TheVariants.{Commit, BlockOpen, BlockCommit}
 use Rattle.vyrd_base.specs.declared.subject.Args.{Args}
 use Rattle.vyrd_base.specs.declared.subject.Method.{Method}
-use Rattle.vyrd_base.specs.declared.subject.Method.TheVariants.{TrInsert, TrDelete, TrLookup}
+use Rattle.vyrd_base.specs.declared.subject.Method.TheVariants.{Tree as OfTree}
+use Rattle.vyrd_base.specs.declared.tree.TreeMethod.TheVariants.{Insert, Delete, Lookup}
 use Rattle.vyrd_memory.specs.declared.act.Act.TheVariants.{Load, Store, Mark}
 use Rattle.vyrd_memory.specs.declared.op.Op.{Op}
 use Rattle.vyrd_memory.specs.declared.op.Variant.{Variant}
@@ -105,9 +106,9 @@ insert_entry h variant key value = insert_then h variant key value (ascend_from_
 
 -- the procedure of a method's call with these arguments; that of another subject's method is empty
 abbrev pub procedure_of : Header → Variant → Method → Args → Script
-procedure_of h variant TrInsert args = insert_entry h variant args.a args.b
-procedure_of h variant TrDelete args = delete h variant args.a
-procedure_of h variant TrLookup args = lookup h variant args.a
+procedure_of h variant (OfTree Insert) args = insert_entry h variant args.a args.b
+procedure_of h variant (OfTree Delete) args = delete h variant args.a
+procedure_of h variant (OfTree Lookup) args = lookup h variant args.a
 procedure_of h variant _ args = stop
 
 -- the procedure of an operation

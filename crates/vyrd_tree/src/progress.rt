@@ -6,7 +6,7 @@ ghost use Rattle.vyrd_tree.specs.Laws.{tree_is_sound, tree_ends_in_time, tree_is
 
 use crate::place::Place;
 use crate::task::{Call, Task};
-use vyrd_base::{Header, Method};
+use vyrd_base::{Header, Method, TreeMethod};
 use vyrd_memory::{Act, Op, Progress, Variant};
 
 /// How far an operation of the tree has come: its call, and a place in its procedure.
@@ -28,8 +28,8 @@ impl Progress for TreeProgress {
 
     fn begin(_header: &Header, variant: Variant, op: Op) -> Self {
         let call = match op.method {
-            Method::TrInsert => Call::Insert,
-            Method::TrDelete => Call::Delete,
+            Method::Tree(TreeMethod::Insert) => Call::Insert,
+            Method::Tree(TreeMethod::Delete) => Call::Delete,
             _ => Call::Lookup,
         };
         let task = Task {

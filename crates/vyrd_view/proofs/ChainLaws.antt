@@ -5,7 +5,7 @@ use Rattle.std.specs.List.{list_any}
 use Rattle.std.proofs.lemmas.Bool.Decides.{nat_tests}
 use Rattle.std.proofs.Math.Bool.{or-true}
 use Rattle.vyrd_base.specs.Amounts.{Amounts, collected}
-use Rattle.vyrd_base.specs.TreeView.{right_of, node_parts, damage, chain_parts_from, chain_parts}
+use Rattle.vyrd_base.specs.Tree.{right_of, node_parts, damage, chain_parts_from, chain_parts}
 use Rattle.vyrd_base.proofs.PartLaws.{parts_after}
 use Rattle.vyrd_base.proofs.TestLaws.{isnt_same, is_same}
 use Rattle.vyrd_base.specs.Added.{added}

@@ -1,7 +1,7 @@
 -- The two places of a chunk.
 use Rattle.std.proofs.Common.{◌≡◌, ℕ, ◌+◌, ◌*◌, ◌/◌, ◌%◌, ◌<◌, Bool, true, false, cond, List, length, set, refl, ap, ◌∙◌, sym, arith}
 use Rattle.std.specs.Prelude.{◌==◌, ◌≢◌}
-use Rattle.vyrd_base.specs.Views.{chunk_at}
+use Rattle.vyrd_base.specs.Cache.{chunk_at}
 use Rattle.vyrd_base.specs.Amounts.{given}
 use Rattle.vyrd_base.proofs.TestLaws.{same_of, apart_of, is_same, isnt_same}
 use Rattle.vyrd_view.specs.Pairs.{chunk_amount, chunk_flaw, chunk_pair, chunk_key, HaveChunkKeys}

@@ -7,8 +7,9 @@ use Rattle.vyrd_base.specs.declared.subject.Subject.{Subject}
 use Rattle.vyrd_base.specs.declared.subject.Subject.TheVariants.{Multiset, Cache, Tree, Buffers}
 use Rattle.vyrd_base.specs.Places.{numbers_below}
 use Rattle.vyrd_base.specs.Amounts.{amount_of, collected, given}
-use Rattle.vyrd_base.specs.Views.{Chunk, chunk_at, parts_of}
-use Rattle.vyrd_base.specs.TreeView.{right_of, node_word, count_of}
+use Rattle.vyrd_base.specs.Cache.{Chunk, chunk_at}
+use Rattle.vyrd_base.specs.Views.{parts_of}
+use Rattle.vyrd_base.specs.Tree.{right_of, node_word, count_of}
 use Rattle.vyrd_base.proofs.SumLaws.{amount_of-collected, nothing_given}
 use Rattle.vyrd_base.proofs.ListLaws.{zeros}
 use Rattle.vyrd_base.proofs.TestLaws.{apart_of, isnt_same, neither_true, isnt_below}

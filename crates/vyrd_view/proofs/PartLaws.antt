@@ -3,7 +3,7 @@ use Rattle.std.proofs.Common.{◌≡◌, ℕ, ◌+◌, ◌<◌, Bool, true, fals
 use Rattle.std.specs.Prelude.{◌==◌, ◌≢◌, flat_map}
 use Rattle.vyrd_base.specs.Places.{numbers_below}
 use Rattle.vyrd_base.specs.Amounts.{Amounts, amount_of, plus_amount, collected, given}
-use Rattle.vyrd_base.specs.Views.{chunk_at, chunk_parts, is_chunk, stored_pair, cached_pair, Chunk}
+use Rattle.vyrd_base.specs.Cache.{chunk_at, chunk_parts, is_chunk, stored_pair, cached_pair, Chunk}
 use Rattle.vyrd_base.specs.Buffers.{Buffer, buffer_at, buffer_parts, is_buffer, text_of}
 use Rattle.vyrd_base.proofs.SumLaws.{given_nothing, amount_of-collected, amount_of-plus, other_part}
 

@@ -2,7 +2,8 @@
 use Rattle.std.proofs.Common.{◌≡◌, ℕ, zero, suc, ◌+◌, ◌*◌, Bool, true, false, cond, not, ◌&&◌, List, [], ◌∷◌, map, refl, ap, ◌∙◌, sym, arith}
 use Rattle.std.specs.Prelude.{◌==◌, flat_map, slice_index}
 use Rattle.vyrd_base.specs.Places.{numbers_below}
-use Rattle.vyrd_base.specs.Views.{slot_parts, chunk_at, chunk_parts, is_chunk, stored_pair, cached_pair, Chunk}
+use Rattle.vyrd_base.specs.Multiset.{slot_parts}
+use Rattle.vyrd_base.specs.Cache.{chunk_at, chunk_parts, is_chunk, stored_pair, cached_pair, Chunk}
 use Rattle.vyrd_base.specs.Buffers.{buffer_at, buffer_parts}
 use Rattle.vyrd_base.specs.Amounts.{given, part_given}
 use Rattle.vyrd_base.proofs.SumLaws.{given-append, nothing_given}

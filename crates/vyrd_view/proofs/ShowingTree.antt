@@ -4,7 +4,8 @@ use Rattle.std.specs.Prelude.{◌==◌, nat_lt, nat_le, flat_map}
 use Rattle.std.specs.List.{list_any}
 use Rattle.std.proofs.Math.Bool.{or-false}
 use Rattle.vyrd_base.specs.Places.{numbers_below}
-use Rattle.vyrd_base.specs.TreeView.{node_word, count_of, right_of, node_parts, damage, chain_parts_from, chain_parts}
+use Rattle.vyrd_base.specs.Tree.{node_word, count_of, right_of, node_parts, damage}
+use Rattle.vyrd_base.specs.Tree.{chain_parts_from, chain_parts}
 use Rattle.vyrd_base.specs.Amounts.{given, part_given}
 use Rattle.vyrd_base.proofs.SumLaws.{given-append, nothing_given}
 use Rattle.vyrd_base.proofs.TestLaws.{same_of, apart_of, isnt_same, below_of, not_below_of, neither_true, above_of}

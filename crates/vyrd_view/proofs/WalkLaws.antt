@@ -4,7 +4,7 @@ use Rattle.std.specs.Prelude.{◌==◌, ◌≢◌, nat_le}
 use Rattle.std.specs.List.{list_any}
 use Rattle.std.proofs.lemmas.List.{get_or_default}
 use Rattle.std.proofs.Math.Bool.{or-false}
-use Rattle.vyrd_base.specs.TreeView.{right_of}
+use Rattle.vyrd_base.specs.Tree.{right_of}
 use Rattle.vyrd_base.proofs.TestLaws.{isnt_same, is_same, isnt_at_most}
 use Rattle.vyrd_view.specs.Chains.{chain_nodes_from, chain_breaks_from, is_on_chain, is_broken}
 use Rattle.vyrd_view.proofs.ChainLaws.{Marks, marked, none_marked}

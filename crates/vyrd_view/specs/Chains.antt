@@ -2,7 +2,7 @@
 use Rattle.std.specs.Prelude.{ℕ, zero, suc, Bool, true, false, ◌+◌, ◌*◌, ◌/◌, ◌%◌, ◌^◌, ◌==◌, ◌&&◌}
 use Rattle.std.specs.Prelude.{◌||◌, nat_lt, nat_le, List, [], ◌∷◌, slice_index_or, if◌then◌else◌}
 use Rattle.std.specs.List.{list_any}
-use Rattle.vyrd_base.specs.TreeView.{right_of, count_of, node_word}
+use Rattle.vyrd_base.specs.Tree.{right_of, count_of, node_word}
 use Rattle.vyrd_view.specs.Pairs.{is_touched}
 
 -- the nodes of the chain of right links from a node on, `left` of them at most; those seen before

@@ -7,6 +7,9 @@ use Rattle.vyrd_base.specs.declared.subject.Subject.{Subject}
 use Rattle.vyrd_base.specs.declared.subject.Subject.TheVariants.{Multiset, Cache, Tree, Buffers}
 use Rattle.vyrd_base.specs.Places.{numbers_below}
 use Rattle.vyrd_base.specs.Amounts.{Amounts}
+use Rattle.vyrd_base.specs.Layout.{plain_words}
+use Rattle.vyrd_base.specs.Rules.{built_in}
+use Rattle.vyrd_view.specs.Known.{Known, by_rules}
 use Rattle.vyrd_view.specs.Pairs.{slot_pair, chunk_pair, buffer_pair}
 use Rattle.vyrd_view.specs.Chains.{tree_pair, is_on_chain, has_link}
 
@@ -17,6 +20,16 @@ pub record Comparison : Type 0 where
   pub words : List ℕ
   pub specified : Amounts
   pub refused : Bool
+
+-- the same, as every comparison is seen: the words show what a built-in subject's do
+abbrev pub known_of : Comparison → Known
+known_of c = record {
+  shows = by_rules (built_in c.header);
+  count = plain_words c.header;
+  words = c.words;
+  specified = c.specified;
+  refused = c.refused;
+}
 
 -- the pairs that all parts of the words give, in their places
 abbrev pub pairs_in : Subject → ℕ → List ℕ → List (ℕ × ℕ)

@@ -7,3 +7,4 @@ pub mod Chains
 pub mod Comparing
 pub mod Firsts
 pub mod Homes
+pub mod Known

@@ -3,7 +3,7 @@
 use Rattle.std.specs.Prelude.{◌≡◌, ℕ, Bool, ◌+◌, ◌*◌, ◌/◌, ◌%◌, ◌<◌, ◌≤◌, ◌==◌, ◌&&◌, not, List}
 use Rattle.std.specs.Prelude.{length, slice_index, slice_index_or, if◌then◌else◌}
 use Rattle.std.specs.List.{list_any}
-use Rattle.vyrd_base.specs.Views.{Chunk, chunk_at, is_chunk, cached_pair, stored_pair}
+use Rattle.vyrd_base.specs.Cache.{Chunk, chunk_at, is_chunk, cached_pair, stored_pair}
 use Rattle.vyrd_base.specs.Buffers.{buffer_at, is_buffer, text_of}
 
 -- whether a changed word is in this part, if each part has `size` words

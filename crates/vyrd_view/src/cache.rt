@@ -3,7 +3,7 @@
 ghost use Rattle.std.specs.Prelude.{◌≡◌, ℕ, ◌+◌, ◌*◌, ◌/◌, ◌<◌, ◌≤◌, true, false, length, map, All};
 ghost use Rattle.std.specs.Prelude.{slice_index_or, OnOk, OnErr};
 ghost use Rattle.vyrd_base.specs.Places.{numbers_below};
-ghost use Rattle.vyrd_base.specs.Views.{chunk_at};
+ghost use Rattle.vyrd_base.specs.Cache.{chunk_at};
 ghost use Rattle.vyrd_view.specs.Pairs.{is_touched, chunk_amount, chunk_flaw, chunk_pair};
 ghost use Rattle.vyrd_view.specs.Pairs.{HaveChunkKeys};
 

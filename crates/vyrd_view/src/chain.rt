@@ -4,7 +4,7 @@ ghost use Rattle.std.specs.Prelude.{◌≡◌, ◌+◌, ◌*◌, ◌<◌, ◌≤
 ghost use Rattle.std.specs.Prelude.{IfOk, OnOk};
 ghost use Rattle.vyrd_base.specs.declared.subject.Subject.TheVariants.{Tree};
 ghost use Rattle.vyrd_base.specs.Amounts.{amount_of, collected};
-ghost use Rattle.vyrd_base.specs.TreeView.{entry_parts, node_parts};
+ghost use Rattle.vyrd_base.specs.Tree.{entry_parts, node_parts};
 ghost use Rattle.vyrd_base.specs.Views.{parts_of};
 ghost use Rattle.vyrd_base.specs.Added.{added};
 

@@ -1,7 +1,7 @@
 //! One chunk of a cache.
 
 ghost use Rattle.std.specs.Prelude.{◌≡◌, ◌+◌, ◌*◌, ◌<◌, ◌==◌, true, length};
-ghost use Rattle.vyrd_base.specs.Views.{chunk_at, is_chunk, cached_pair, stored_pair};
+ghost use Rattle.vyrd_base.specs.Cache.{chunk_at, is_chunk, cached_pair, stored_pair};
 
 use std::marker::Model;
 
@@ -28,9 +28,9 @@ pub(crate) struct Chunk {
 }
 
 impl Model for Chunk {
-    ghost use Rattle.vyrd_base.specs.Views as views;
+    ghost use Rattle.vyrd_base.specs.Cache as definitions;
 
-    ghost Value = { views.Chunk };
+    ghost Value = { definitions.Chunk };
 
     ghost view = { λ c. record {
       state = c.state;

@@ -3,7 +3,8 @@
 ghost use Rattle.std.specs.Prelude.{◌≡◌, ◌+◌, ◌*◌, ◌<◌, ◌≤◌, length, IfOk, OnOk};
 ghost use Rattle.vyrd_base.specs.declared.subject.Subject.TheVariants.{Cache};
 ghost use Rattle.vyrd_base.specs.Amounts.{amount_of, collected};
-ghost use Rattle.vyrd_base.specs.Views.{parts_of, chunk_parts};
+ghost use Rattle.vyrd_base.specs.Views.{parts_of};
+ghost use Rattle.vyrd_base.specs.Cache.{chunk_parts};
 ghost use Rattle.vyrd_base.specs.Added.{added};
 
 use crate::chunk::Chunk;

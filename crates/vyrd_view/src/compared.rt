@@ -7,13 +7,14 @@ ghost use Rattle.vyrd_base.specs.Layout.{plain_words};
 ghost use Rattle.vyrd_base.specs.Views.{view_of_words};
 ghost use Rattle.vyrd_view.specs.Comparing.{AgreeElsewhere, keys_of_part, parts_looked_at};
 
+use crate::compare::Compare;
 use crate::current::bring_up_to_date;
 use crate::first::{first_marks, first_pairs, no_marks};
 use crate::parts::Parts;
 use crate::steps::Steps;
 use std::alloc::{AllocError, Global};
-use std::marker::Model;
-use std::sync::ledger::Ledger;
+use std::marker::{Brand, Model};
+use std::sync::ledger::{Blank, Ledger};
 use vyrd_base::Header;
 
 /// The words and the specification's amounts, and where they differ. It is told what changes on
@@ -139,4 +140,69 @@ impl Compared {
     {
         self.parts.refused()
     }
+}
+
+impl Compare for Compared {
+    ghost use Rattle.vyrd_view.specs.Comparing.{known_of};
+
+    ghost known = { known_of };
+
+    fn words_changed(&mut self, words: &[u64], changed: &[u32]) -> Result<(), AllocError> {
+        tell_words::<Brand>(Blank::new(1), self, words, changed)
+    }
+
+    fn spec_changed(&mut self, key: u64, amount: u64) -> Result<(), AllocError> {
+        tell_amount::<Brand>(Blank::new(1), self, key, amount)
+    }
+
+    #[inline(always)]
+    fn first_difference(&self) -> Option<u64> {
+        self.first_difference()
+    }
+
+    fn refused(&self) -> bool {
+        self.refused()
+    }
+}
+
+/// The comparison learns the words. The steps aren't counted.
+fn tell_words<L: Ledger>(
+    blank: Blank,
+    compared: &mut Compared,
+    words: &[u64],
+    changed: &[u32],
+) -> Result<(), AllocError>
+    requires name { blank.name ≡ L.name }
+    requires parts { blank.parts ≡ L.parts }
+    requires some { 0 < blank.parts }
+    requires sound { compared.old.refused ≡ false }
+    requires count { length words.now ≡ plain_words compared.old.header }
+    requires within { All (λ w. w < plain_words compared.old.header) changed.now }
+    requires elsewhere { AgreeElsewhere compared.old.words words.now changed.now }
+    ensures ok { OnOk result (compared.new ≡ record compared.old { words = words.now }) }
+    ensures refused { compared.new.refused ≡ is_err result }
+    ensures header { compared.new.header ≡ compared.old.header }
+{
+    let mut steps = Steps::<L>::new(blank);
+    compared.words_changed(words, changed, &mut steps)
+}
+
+/// The comparison learns an amount. The step isn't counted.
+fn tell_amount<L: Ledger>(
+    blank: Blank,
+    compared: &mut Compared,
+    key: u64,
+    amount: u64,
+) -> Result<(), AllocError>
+    requires name { blank.name ≡ L.name }
+    requires parts { blank.parts ≡ L.parts }
+    requires some { 0 < blank.parts }
+    requires sound { compared.old.refused ≡ false }
+    ensures refused { compared.new.refused ≡ is_err result }
+    ensures ok { OnOk result (compared.new
+        ≡ record compared.old { specified = with_amount compared.old.specified key amount }) }
+    ensures header { compared.new.header ≡ compared.old.header }
+{
+    let mut steps = Steps::<L>::new(blank);
+    compared.spec_changed(key, amount, &mut steps)
 }

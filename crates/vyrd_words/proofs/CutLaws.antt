@@ -12,7 +12,8 @@ use Rattle.std.specs.List.{list_any, sum_by}
 use Rattle.std.proofs.Common.{append_assoc, get_or-set_other}
 use Rattle.std.proofs.lemmas.List.Folds.{list_any-append}
 use Rattle.std.proofs.lemmas.List.Elements.{All-append, All-head, All-tail}
-use Rattle.vyrd_view.specs.Comparing.{Comparison, AgreeElsewhere}
+use Rattle.vyrd_view.specs.Comparing.{AgreeElsewhere}
+use Rattle.vyrd_view.specs.Known.{Known}
 use Rattle.vyrd_base.proofs.TestLaws.{same_of, apart_of, is_same, flipped, lower_isnt, neither_true}
 use Rattle.vyrd_shadow.proofs.WriteLaws.{with_writes-append}
 use Rattle.vyrd_shadow.specs.Blocks.{with_writes, AreInRange}
@@ -443,10 +444,10 @@ pub within_more : (n : ℕ) (changed : List ℕ) (ws : List (ℕ × ℕ)) → Al
 within_more n changed ws within in_range = All-append (λ w. w < n) changed (map (λ write. write.0) ws) within (keys_below n ws in_range)
 
 -- writes take effect: what is known of the words
-pub known_more : (h : Header) (words changed : List ℕ) (compared : Comparison) (ws : List (ℕ × ℕ)) → AreInRange (plain_words h) ws
+pub known_more : (h : Header) (words changed : List ℕ) (compared : Known) (ws : List (ℕ × ℕ)) → AreInRange (plain_words h) ws
     → AreKnown h words changed compared → AreKnown h (with_writes words ws) (changed ++ map (λ write. write.0) ws) compared
 known_more h words changed compared ws in_range known = record {
-  same_header = known.same_header;
+  count = known.count;
   within = within_more (plain_words h) changed ws known.within in_range;
   elsewhere = λ sound. agree_more compared.words words changed ws (known.elsewhere sound);
 }
@@ -457,7 +458,7 @@ none_waits [] writes e = refl
 none_waits (k ∷ ks) writes e = absurd (omega (arith, length-split_at ks (drop k writes), ap length e))
 
 -- the first commit no longer waits: what is kept stays sound
-pub advanced_both : (h : Header) (words : List ℕ) (k : ℕ) (ks : List ℕ) (writes : List (ℕ × ℕ)) (tail : ℕ) (changed : List ℕ) (compared : Comparison)
+pub advanced_both : (h : Header) (words : List ℕ) (k : ℕ) (ks : List ℕ) (writes : List (ℕ × ℕ)) (tail : ℕ) (changed : List ℕ) (compared : Known)
     → AreCuts h words (k ∷ ks) writes tail × AreKnown h words changed compared
     → AreCuts h (with_writes words (take k writes)) ks (drop k writes) tail
     × AreKnown h (with_writes words (take k writes)) (changed ++ map (λ write. write.0) (take k writes)) compared
@@ -467,7 +468,7 @@ advanced_both h words k ks writes tail changed compared both = (
 )
 
 -- a write takes effect at once
-pub at_once_both : (h : Header) (words : List ℕ) (writes : List (ℕ × ℕ)) (tail w v : ℕ) (changed : List ℕ) (compared : Comparison)
+pub at_once_both : (h : Header) (words : List ℕ) (writes : List (ℕ × ℕ)) (tail w v : ℕ) (changed : List ℕ) (compared : Known)
     → w < plain_words h → v < 2 ^ 63
     → AreCuts h words [] writes tail × AreKnown h words changed compared
     → AreCuts h (set (with_writes words (take tail writes)) w v) [] (drop tail writes) 0

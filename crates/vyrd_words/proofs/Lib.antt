@@ -8,3 +8,4 @@ pub mod StartWords
 pub mod CostLaws
 pub mod CountLaws
 pub mod OwedLaws
+pub mod TouchedLaws

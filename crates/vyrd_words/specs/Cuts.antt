@@ -7,17 +7,19 @@ use Rattle.vyrd_base.specs.declared.header.Header.{Header}
 use Rattle.vyrd_base.specs.Amounts.{Amounts}
 use Rattle.vyrd_base.specs.Layout.{plain_words}
 use Rattle.vyrd_shadow.specs.Blocks.{with_writes, AreInRange}
-use Rattle.vyrd_view.specs.Comparing.{Comparison, AgreeElsewhere}
+use Rattle.vyrd_view.specs.Comparing.{AgreeElsewhere}
+use Rattle.vyrd_view.specs.Known.{Known, Shows}
 
 -- The header; the words at the last commit that doesn't wait, or later ones; the words at the first
 -- commit that waits, and those now if none waits; for each commit that waits the writes that took
--- effect after it, up to the next one and in their order; the words and the specification's amounts
--- that were compared last; and whether memory was refused.
+-- effect after it, up to the next one and in their order; what the words show, by its name; the
+-- words and the specification's amounts that were compared last; and whether memory was refused.
 pub record Cuts : Type 0 where
   pub header : Header
   pub base : List ℕ
   pub first : List ℕ
   pub since : List (List (ℕ × ℕ))
+  pub shows : Shows
   pub compared : List ℕ
   pub specified : Amounts
   pub refused : Bool
@@ -64,7 +66,7 @@ pub record AreCuts (h : Header) (words counts : List ℕ) (writes : List (ℕ ×
   pub counted : sum counts + tail ≡ length writes
 
 -- the words that were compared last are these except for the changed ones
-pub record AreKnown (h : Header) (words changed : List ℕ) (compared : Comparison) : Type 0 where
-  pub same_header : compared.header ≡ h
+pub record AreKnown (h : Header) (words changed : List ℕ) (compared : Known) : Type 0 where
+  pub count : compared.count ≡ plain_words h
   pub within : All (λ w. w < plain_words h) changed
   pub elsewhere : compared.refused ≡ false → AgreeElsewhere compared.words words changed

@@ -5,25 +5,25 @@ ghost use Rattle.std.specs.Prelude.{◌≡◌, ◌<◌, ◌≤◌, ◌^◌, ◌+
 ghost use Rattle.std.specs.Prelude.{length, map, take, drop, sum, insert, replicate, slice_set};
 ghost use Rattle.std.specs.Prelude.{slice_index, Some, IfOk, OnOk, vec_len, vec_capacity, All};
 ghost use Rattle.vyrd_base.specs.Rules.{rules_by};
-ghost use Rattle.vyrd_base.specs.Amounts.{with_amount, first_difference as least_difference};
+ghost use Rattle.vyrd_base.specs.Amounts.{first_difference as least_difference};
 ghost use Rattle.std.specs.Result.{is_err};
 ghost use Rattle.vyrd_base.specs.Layout.{plain_words};
-ghost use Rattle.vyrd_base.specs.Views.{view_of_words};
 ghost use Rattle.vyrd_shadow.specs.Blocks.{with_writes, AreInRange};
 ghost use Rattle.vyrd_words.specs.Costs.{writes_behind};
 ghost use Rattle.vyrd_words.specs.Cuts.{first_with, with_part, written};
-ghost use Rattle.vyrd_spec.specs.Touching.{with_touched, with_key};
+ghost use Rattle.vyrd_spec.specs.Touching.{with_touched};
 ghost use Rattle.vyrd_view.specs.Comparing.{AgreeElsewhere};
+ghost use Rattle.vyrd_view.specs.Known.{IsNew, view_by};
 
 use crate::counts::Counts;
 use crate::write::Write;
 use std::alloc::{AllocError, Global};
 use std::collections::VecDeque;
-use std::marker::{Brand, Model};
-use std::sync::ledger::{Blank, Ledger};
+use std::marker::Model;
+use std::sync::ledger::Ledger;
 use vyrd_base::{Header, View};
-use vyrd_spec::{Spec, Touched};
-use vyrd_view::{Compared, Steps};
+use vyrd_spec::Spec;
+use vyrd_view::{Compare, Steps};
 
 /// How many changed words are kept before they are compared, so that their list doesn't grow with
 /// the log.
@@ -35,7 +35,7 @@ const MOST_CHANGED: usize = 1024;
 /// The only error of its calls is that memory has run out. Nothing is known of the words after it
 /// but what a clause says.
 #[derive(Drop)]
-pub(crate) struct Views {
+pub(crate) struct Views<C: Compare> {
     header: Header,
     words: Vec<u64>,
     /// How many of the writes took effect between each commit that waits and the commit before it.
@@ -46,10 +46,10 @@ pub(crate) struct Views {
     tail: usize,
     /// Which words have changed since they were compared.
     changed: Vec<u32>,
-    compared: Compared,
+    compared: C,
 }
 
-impl Model for Views {
+impl<C: Compare> Model for Views<C> {
     ghost use Rattle.vyrd_words.specs.Cuts.{Cuts, first_of, since_of, AreCuts, AreKnown};
 
     ghost Value = { Cuts };
@@ -59,29 +59,34 @@ impl Model for Views {
       base = v.words.items;
       first = first_of v.words.items v.counts v.writes.items;
       since = since_of v.counts v.writes.items;
-      compared = v.compared.words;
-      specified = v.compared.specified;
-      refused = v.compared.refused;
+      shows = (C.known v.compared).shows;
+      compared = (C.known v.compared).words;
+      specified = (C.known v.compared).specified;
+      refused = (C.known v.compared).refused;
     } };
 
     ghost invariant = { λ v. AreCuts v.header v.words.items v.counts v.writes.items v.tail
-        × AreKnown v.header v.words.items v.changed.items v.compared };
+        × AreKnown v.header v.words.items v.changed.items (C.known v.compared) };
 }
 
-impl Views {
-    /// These are the words now; all but the changed ones are 0. No commit waits.
+impl<C: Compare> Views<C> {
+    /// These are the words now; all but the changed ones are 0. No commit waits. They are compared
+    /// by what was told nothing yet.
     pub fn new(
         alloc: Global,
         header: Header,
         words: &[u64],
         changed: Vec<u32>,
-    ) -> Result<Views, AllocError>
+        compared: C,
+    ) -> Result<Views<C>, AllocError>
         requires all { length words.now ≡ plain_words header }
         requires values { (w : ℕ) → slice_index words.now w < 2 ^ 63 }
         requires changed { All (λ w. w < plain_words header) changed.items }
         requires elsewhere { AgreeElsewhere (replicate (plain_words header) 0) words.now
             changed.items }
+        requires compared { IsNew (plain_words header) (C.known compared) }
         ensures header { IfOk result (λ v. v.header ≡ header) }
+        ensures shows { IfOk result (λ v. v.shows ≡ (C.known compared).shows) }
         ensures first { IfOk result (λ v. v.first ≡ words.now) }
         ensures since { IfOk result (λ v. v.since ≡ []) }
         ensures specified { IfOk result (λ v. v.specified ≡ []) }
@@ -94,7 +99,7 @@ impl Views {
             writes: VecDeque::new(alloc),
             tail: 0,
             changed,
-            compared: Compared::new(alloc, header)?,
+            compared,
         })
     }
 
@@ -107,6 +112,7 @@ impl Views {
         ensures first { self.new.first ≡ self.old.first }
         ensures since { self.new.since ≡ self.old.since }
         ensures header { self.new.header ≡ self.old.header }
+        ensures shows { self.new.shows ≡ self.old.shows }
     {
         tell_amounts(&mut self.compared, state)
     }
@@ -124,6 +130,7 @@ impl Views {
         ensures specified { OnOk result (self.new.specified ≡ self.old.specified) }
         ensures sound { OnOk result (self.new.refused ≡ false) }
         ensures header { self.new.header ≡ self.old.header }
+        ensures shows { self.new.shows ≡ self.old.shows }
     {
         if self.counts.is_empty() {
             self.take_effect(word, value)
@@ -146,6 +153,7 @@ impl Views {
         ensures specified { OnOk result (self.new.specified ≡ self.old.specified) }
         ensures sound { OnOk result (self.new.refused ≡ false) }
         ensures header { self.new.header ≡ self.old.header }
+        ensures shows { self.new.shows ≡ self.old.shows }
     {
         self.changed.reserve(self.tail + 1)?;
         catch_up(
@@ -184,6 +192,7 @@ impl Views {
         ensures specified { self.new.specified ≡ self.old.specified }
         ensures sound { self.new.refused ≡ self.old.refused }
         ensures header { self.new.header ≡ self.old.header }
+        ensures shows { self.new.shows ≡ self.old.shows }
         ensures steps { steps.new ≤ steps.old + length changed.now
             + 2 * writes_behind behind self.old.since
             + 4 * behind }
@@ -207,6 +216,7 @@ impl Views {
         ensures specified { self.new.specified ≡ self.old.specified }
         ensures sound { self.new.refused ≡ self.old.refused }
         ensures header { self.new.header ≡ self.old.header }
+        ensures shows { self.new.shows ≡ self.old.shows }
     {
         self.counts.push(self.tail)?;
         self.tail = 0;
@@ -228,6 +238,7 @@ impl Views {
         ensures specified { self.new.specified ≡ self.old.specified }
         ensures sound { self.new.refused ≡ self.old.refused }
         ensures header { self.new.header ≡ self.old.header }
+        ensures shows { self.new.shows ≡ self.old.shows }
     {
         let Some(count) = self.counts.first() else {
             return Ok(());
@@ -247,13 +258,9 @@ impl Views {
         ensures specified { OnOk result (self.new.specified ≡ self.old.specified) }
         ensures sound { OnOk result (self.new.refused ≡ false) }
         ensures header { self.new.header ≡ self.old.header }
+        ensures shows { self.new.shows ≡ self.old.shows }
     {
-        tell_words::<Brand>(
-            Blank::new(1),
-            &mut self.compared,
-            &self.words,
-            &self.changed,
-        )?;
+        self.compared.words_changed(&self.words, &self.changed)?;
         self.changed.clear();
         Ok(())
     }
@@ -262,19 +269,15 @@ impl Views {
     /// after it: the least key where they differ. That commit no longer waits then. The state
     /// differs from that of the last comparison in the touched keys alone.
     #[inline(always)]
-    pub fn difference<S: Spec>(
-        &mut self,
-        spec: &S,
-        touched: Touched,
-    ) -> Result<Option<u64>, AllocError>
+    pub fn difference<S: Spec>(&mut self, spec: &S) -> Result<Option<u64>, AllocError>
         requires sound { self.old.refused ≡ false }
         ensures difference { (part : List (ℕ × ℕ)) (rest : List (List (ℕ × ℕ)))
             → self.old.since ≡ part ∷ rest
-            → with_touched touched
+            → with_touched (S.touched spec.now)
             ((rules_by (S.charter spec.now)).shown (S.state spec.now)) self.old.specified
             ≡ (rules_by (S.charter spec.now)).shown (S.state spec.now)
             → IfOk result (λ found. found
-            ≡ least_difference (view_of_words self.old.header self.old.first)
+            ≡ least_difference (view_by self.old.shows self.old.first)
             ((rules_by (S.charter spec.now)).shown (S.state spec.now))) }
         ensures first { (part : List (ℕ × ℕ)) (rest : List (List (ℕ × ℕ)))
             → self.old.since ≡ part ∷ rest
@@ -284,94 +287,71 @@ impl Views {
             → OnOk result (self.new.since ≡ rest) }
         ensures specified { OnOk result
             (self.new.specified
-            ≡ with_touched touched
+            ≡ with_touched (S.touched spec.now)
             ((rules_by (S.charter spec.now)).shown (S.state spec.now)) self.old.specified) }
         ensures sound { OnOk result (self.new.refused ≡ false) }
         ensures header { self.new.header ≡ self.old.header }
+        ensures shows { self.new.shows ≡ self.old.shows }
     {
         self.advance()?;
         self.compare_words()?;
-        self.specify(spec, touched.first)?;
-        self.specify(spec, touched.second)?;
+        self.specify(spec)?;
         Ok(self.compared.first_difference())
     }
 
-    /// The specification has its amount of the key now.
+    /// The specification has its amounts of the touched keys now.
     #[inline(always)]
-    fn specify<S: Spec>(&mut self, spec: &S, key: Option<u64>) -> Result<(), AllocError>
+    fn specify<S: Spec>(&mut self, spec: &S) -> Result<(), AllocError>
         requires sound { self.old.refused ≡ false }
         ensures specified { OnOk result
             (self.new.specified
-            ≡ with_key key
+            ≡ with_touched (S.touched spec.now)
             ((rules_by (S.charter spec.now)).shown (S.state spec.now)) self.old.specified) }
         ensures sound { OnOk result (self.new.refused ≡ false) }
         ensures first { self.new.first ≡ self.old.first }
         ensures since { self.new.since ≡ self.old.since }
         ensures compared { OnOk result (self.new.compared ≡ self.old.compared) }
         ensures header { self.new.header ≡ self.old.header }
+        ensures shows { self.new.shows ≡ self.old.shows }
     {
-        match key {
-            Some(k) => tell_amount::<Brand>(Blank::new(1), &mut self.compared, k, spec.amount(k)),
-            None => Ok(()),
-        }
+        tell_touched(&mut self.compared, spec)
     }
 }
 
-/// The comparison learns the words. No contract says how many steps that takes.
-fn tell_words<L: Ledger>(
-    blank: Blank,
-    compared: &mut Compared,
-    words: &[u64],
-    changed: &[u32],
-) -> Result<(), AllocError>
-    requires name { blank.name ≡ L.name }
-    requires parts { blank.parts ≡ L.parts }
-    requires some { 0 < blank.parts }
-    requires sound { compared.old.refused ≡ false }
-    requires count { length words.now ≡ plain_words compared.old.header }
-    requires small { All (λ value. value < 2 ^ 63) words.now }
-    requires within { All (λ w. w < plain_words compared.old.header) changed.now }
-    requires elsewhere { AgreeElsewhere compared.old.words words.now changed.now }
-    ensures ok { OnOk result (compared.new ≡ record compared.old { words = words.now }) }
-    ensures refused { compared.new.refused ≡ is_err result }
-    ensures header { compared.new.header ≡ compared.old.header }
-{
-    let mut steps = Steps::<L>::new(blank);
-    compared.words_changed(words, changed, &mut steps)
-}
-
 /// The comparison learns all amounts of a state.
-fn tell_amounts(compared: &mut Compared, state: &View) -> Result<(), AllocError>
-    requires sound { compared.old.refused ≡ false }
-    requires none { compared.old.specified ≡ [] }
-    ensures ok { OnOk result (compared.new ≡ record compared.old { specified = state.now }) }
-    ensures refused { compared.new.refused ≡ is_err result }
-    ensures header { compared.new.header ≡ compared.old.header }
+fn tell_amounts<C: Compare>(compared: &mut C, state: &View) -> Result<(), AllocError>
+    requires sound { (C.known compared.old).refused ≡ false }
+    requires none { (C.known compared.old).specified ≡ [] }
+    ensures ok { OnOk result
+        (C.known compared.new ≡ record (C.known compared.old) { specified = state.now }) }
+    ensures refused { (C.known compared.new).refused ≡ is_err result }
+    ensures shows { (C.known compared.new).shows ≡ (C.known compared.old).shows }
+    ensures count { (C.known compared.new).count ≡ (C.known compared.old).count }
 {
     for (key, amount) in state.pairs() {
-        tell_amount::<Brand>(Blank::new(1), compared, *key, *amount)?;
+        compared.spec_changed(*key, *amount)?;
     }
     Ok(())
 }
 
-/// The comparison learns an amount.
-fn tell_amount<L: Ledger>(
-    blank: Blank,
-    compared: &mut Compared,
-    key: u64,
-    amount: u64,
-) -> Result<(), AllocError>
-    requires name { blank.name ≡ L.name }
-    requires parts { blank.parts ≡ L.parts }
-    requires some { 0 < blank.parts }
-    requires sound { compared.old.refused ≡ false }
-    ensures refused { compared.new.refused ≡ is_err result }
-    ensures ok { OnOk result (compared.new
-        ≡ record compared.old { specified = with_amount compared.old.specified key amount }) }
-    ensures header { compared.new.header ≡ compared.old.header }
+/// The comparison learns the amounts of the keys that the last step touched.
+#[inline(always)]
+fn tell_touched<C: Compare, S: Spec>(compared: &mut C, spec: &S) -> Result<(), AllocError>
+    requires sound { (C.known compared.old).refused ≡ false }
+    ensures ok { OnOk result (C.known compared.new
+        ≡ record (C.known compared.old) {
+          specified = with_touched (S.touched spec.now)
+              ((rules_by (S.charter spec.now)).shown (S.state spec.now))
+              (C.known compared.old).specified;
+        }) }
+    ensures refused { (C.known compared.new).refused ≡ is_err result }
+    ensures shows { (C.known compared.new).shows ≡ (C.known compared.old).shows }
+    ensures count { (C.known compared.new).count ≡ (C.known compared.old).count }
 {
-    let mut steps = Steps::<L>::new(blank);
-    compared.spec_changed(key, amount, &mut steps)
+    for key in spec.touched() {
+        compared.spec_changed(*key, spec.amount(*key))?;
+    }
+    Ok(())
 }
 
 /// The first writes take effect, and no longer wait. Mostly there are none.

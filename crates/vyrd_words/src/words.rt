@@ -9,10 +9,10 @@ ghost use Rattle.vyrd_base.specs.declared.log.StartWord.{StartWord};
 ghost use Rattle.vyrd_base.specs.Commits.{commit_count};
 ghost use Rattle.vyrd_base.specs.Layout.{plain_words};
 ghost use Rattle.vyrd_base.specs.Starts.{words_at_start};
-ghost use Rattle.vyrd_base.specs.Views.{view_of_words};
 ghost use Rattle.vyrd_shadow.specs.Blocks.{with_writes};
 ghost use Rattle.vyrd_spec.specs.Touching.{with_touched};
 ghost use Rattle.vyrd_view.specs.Comparing.{AgreeElsewhere};
+ghost use Rattle.vyrd_view.specs.Known.{IsNew, view_by};
 ghost use Rattle.vyrd_words.specs.Costs.{writes_behind, work_held, most_held};
 ghost use Rattle.vyrd_words.specs.Costs.{effect_count, owed};
 ghost use Rattle.vyrd_words.specs.Cuts.{first_with, with_part, written};
@@ -24,8 +24,8 @@ use std::marker::{Brand, Model};
 use std::sync::ledger::{Blank, Ledger};
 use vyrd_base::{Entry, Header, Kind, View};
 use vyrd_shadow::Shadow;
-use vyrd_spec::{Spec, Touched};
-use vyrd_view::Steps;
+use vyrd_spec::Spec;
+use vyrd_view::{Compare, Steps};
 
 /// The words after the entries so far, with what open blocks keep back, and the words at the
 /// commits that wait. It takes memory for each plain word, each write that an open block keeps
@@ -34,15 +34,15 @@ use vyrd_view::Steps;
 /// The only error of its calls is that memory has run out. After one nothing is known of the words
 /// any more but whose header they have.
 #[derive(Drop)]
-pub struct Words {
+pub struct Words<C: Compare> {
     shadow: Shadow,
-    views: Views,
+    views: Views<C>,
     /// By caller: the number of the lone commit since its last open, 0 if there is none. The first
     /// commit of a log has number 1.
     inner: Vec<u64>,
 }
 
-impl Model for Words {
+impl<C: Compare> Model for Words<C> {
     ghost use Rattle.std.specs.Prelude.{◌≡◌, vec_len};
     ghost use Rattle.vyrd_words.specs.HasWords.{WordsView};
 
@@ -54,31 +54,35 @@ impl Model for Words {
         × (vec_len w.inner ≡ w.shadow.header.callers) };
 }
 
-impl Words {
+impl<C: Compare> Words<C> {
     /// These are the words at the start, of which all but the changed ones are 0, and this is the
-    /// specification's state. It takes time for each plain word and each amount of the state.
+    /// specification's state. They are compared by what was told nothing yet. It takes time for each
+    /// plain word and each amount of the state.
     pub fn new(
         alloc: Global,
         header: Header,
         words: &[u64],
         changed: Vec<u32>,
         state: &View,
-    ) -> Result<Words, AllocError>
+        compared: C,
+    ) -> Result<Words<C>, AllocError>
         requires all { length words.now ≡ plain_words header }
         requires values { All (λ value. value < 2 ^ 63) words.now }
         requires changed { All (λ w. w < plain_words header) changed.items }
         requires elsewhere { AgreeElsewhere (replicate (plain_words header) 0) words.now
             changed.items }
+        requires compared { IsNew (plain_words header) (C.known compared) }
         ensures words { (starting : List StartWord) → words.now ≡ words_at_start header starting →
             IfOk result (λ w. HasWords w.shadow w.inner starting []) }
         ensures header { IfOk result (λ w. w.shadow.header ≡ header) }
         ensures views_header { IfOk result (λ w. w.views.header ≡ header) }
+        ensures shows { IfOk result (λ w. w.views.shows ≡ (C.known compared).shows) }
         ensures first { IfOk result (λ w. w.views.first ≡ words.now) }
         ensures since { IfOk result (λ w. w.views.since ≡ []) }
         ensures specified { IfOk result (λ w. w.views.specified ≡ state.now) }
         ensures sound { IfOk result (λ w. w.views.refused ≡ false) }
     {
-        let mut views = Views::new(alloc, header, words, changed)?;
+        let mut views = Views::new(alloc, header, words, changed, compared)?;
         views.specify_start(state)?;
         Ok(Words {
             shadow: Shadow::start_from(alloc, header, words)?,
@@ -105,8 +109,9 @@ impl Words {
         ensures sound { OnOk result (self.new.views.refused ≡ false) }
         ensures header { self.new.shadow.header ≡ self.old.shadow.header }
         ensures views_header { self.new.views.header ≡ self.old.views.header }
+        ensures shows { self.new.views.shows ≡ self.old.views.shows }
     {
-        follow_alone::<Brand>(Blank::new(1), self, entry, commits)
+        follow_alone::<C, Brand>(Blank::new(1), self, entry, commits)
     }
 
     /// The same, with its steps counted. One step is a write that is passed on to the commits that
@@ -133,6 +138,7 @@ impl Words {
         ensures sound { OnOk result (self.new.views.refused ≡ false) }
         ensures header { self.new.shadow.header ≡ self.old.shadow.header }
         ensures views_header { self.new.views.header ≡ self.old.views.header }
+        ensures shows { self.new.views.shows ≡ self.old.views.shows }
         ensures steps { (starting : List StartWord) (earlier : List Entry)
             → HasWords self.old.shadow self.old.inner starting earlier
             → Keeps self.old.shadow.header earlier entry → commits ≡ commit_count earlier
@@ -164,6 +170,7 @@ impl Words {
         ensures sound { OnOk result (self.new.views.refused ≡ false) }
         ensures header { self.new.shadow.header ≡ self.old.shadow.header }
         ensures views_header { self.new.views.header ≡ self.old.views.header }
+        ensures shows { self.new.views.shows ≡ self.old.views.shows }
         ensures steps { (starting : List StartWord) (earlier : List Entry)
             → HasWords self.old.shadow self.old.inner starting earlier
             → Keeps self.old.shadow.header earlier entry → commits ≡ commit_count earlier
@@ -215,19 +222,15 @@ impl Words {
     /// differs from that of the last comparison in the touched keys alone. It takes time for each
     /// write that took effect between that commit and the one before it.
     #[inline(always)]
-    pub fn difference<S: Spec>(
-        &mut self,
-        spec: &S,
-        touched: Touched,
-    ) -> Result<Option<u64>, AllocError>
+    pub fn difference<S: Spec>(&mut self, spec: &S) -> Result<Option<u64>, AllocError>
         requires sound { self.old.views.refused ≡ false }
         ensures difference { (part : List (ℕ × ℕ)) (rest : List (List (ℕ × ℕ)))
             → self.old.views.since ≡ part ∷ rest
-            → with_touched touched
+            → with_touched (S.touched spec.now)
             ((rules_by (S.charter spec.now)).shown (S.state spec.now)) self.old.views.specified
             ≡ (rules_by (S.charter spec.now)).shown (S.state spec.now)
             → IfOk result (λ found. found ≡ least_difference
-            (view_of_words self.old.views.header self.old.views.first)
+            (view_by self.old.views.shows self.old.views.first)
             ((rules_by (S.charter spec.now)).shown (S.state spec.now))) }
         ensures first { (part : List (ℕ × ℕ)) (rest : List (List (ℕ × ℕ)))
             → self.old.views.since ≡ part ∷ rest
@@ -240,22 +243,23 @@ impl Words {
             → OnOk result (owed callers earlier self.new.views.since
             ≤ owed callers earlier self.old.views.since) }
         ensures specified { OnOk result (self.new.views.specified
-            ≡ with_touched touched
+            ≡ with_touched (S.touched spec.now)
             ((rules_by (S.charter spec.now)).shown (S.state spec.now)) self.old.views.specified) }
         ensures sound { OnOk result (self.new.views.refused ≡ false) }
         ensures views_header { self.new.views.header ≡ self.old.views.header }
+        ensures shows { self.new.views.shows ≡ self.old.views.shows }
         ensures shadow { self.new.shadow ≡ self.old.shadow }
         ensures inner { self.new.inner ≡ self.old.inner }
     {
-        self.views.difference(spec, touched)
+        self.views.difference(spec)
     }
 }
 
 /// Follows an entry with a count of its own.
 #[inline(always)]
-fn follow_alone<L: Ledger>(
+fn follow_alone<C: Compare, L: Ledger>(
     blank: Blank,
-    words: &mut Words,
+    words: &mut Words<C>,
     entry: Entry,
     commits: u64,
 ) -> Result<(), AllocError>
@@ -274,6 +278,7 @@ fn follow_alone<L: Ledger>(
     ensures sound { OnOk result (words.new.views.refused ≡ false) }
     ensures header { words.new.shadow.header ≡ words.old.shadow.header }
     ensures views_header { words.new.views.header ≡ words.old.views.header }
+    ensures shows { words.new.views.shows ≡ words.old.views.shows }
 {
     let mut steps = Steps::<L>::new(blank);
     words.follow_counted(entry, commits, &mut steps)
@@ -281,9 +286,9 @@ fn follow_alone<L: Ledger>(
 
 /// What effects have changed is known to the views too.
 #[inline(always)]
-fn pass_on<L: Ledger>(
+fn pass_on<C: Compare, L: Ledger>(
     shadow: &mut Shadow,
-    views: &mut Views,
+    views: &mut Views<C>,
     steps: &mut Steps<L>,
 ) -> Result<(), AllocError>
     requires header { views.old.header ≡ shadow.old.header }
@@ -299,6 +304,7 @@ fn pass_on<L: Ledger>(
     ensures shadow { OnOk result (shadow.new ≡ record shadow.old { changed = [] }) }
     ensures shadow_header { shadow.new.header ≡ shadow.old.header }
     ensures views_header { views.new.header ≡ views.old.header }
+    ensures shows { views.new.shows ≡ views.old.shows }
     ensures steps { steps.new ≤ steps.old + length shadow.old.changed }
 {
     give(views, shadow.changed(), shadow.words(), steps)?;
@@ -308,9 +314,9 @@ fn pass_on<L: Ledger>(
 
 /// What effects have changed was so at a commit already, after which that many lists of writes
 /// stand.
-fn pass_back<L: Ledger>(
+fn pass_back<C: Compare, L: Ledger>(
     shadow: &mut Shadow,
-    views: &mut Views,
+    views: &mut Views<C>,
     behind: usize,
     steps: &mut Steps<L>,
 ) -> Result<(), AllocError>
@@ -328,6 +334,7 @@ fn pass_back<L: Ledger>(
     ensures shadow { OnOk result (shadow.new ≡ record shadow.old { changed = [] }) }
     ensures shadow_header { shadow.new.header ≡ shadow.old.header }
     ensures views_header { views.new.header ≡ views.old.header }
+    ensures shows { views.new.shows ≡ views.old.shows }
     ensures steps { steps.new ≤ steps.old + length shadow.old.changed
         + 2 * writes_behind behind views.old.since
         + 4 * behind }
@@ -339,8 +346,8 @@ fn pass_back<L: Ledger>(
 
 /// The views learn the changed words.
 #[inline(always)]
-fn give<L: Ledger>(
-    views: &mut Views,
+fn give<C: Compare, L: Ledger>(
+    views: &mut Views<C>,
     changed: &[u32],
     words: &[u64],
     steps: &mut Steps<L>,
@@ -356,6 +363,7 @@ fn give<L: Ledger>(
     ensures specified { OnOk result (views.new.specified ≡ views.old.specified) }
     ensures sound { OnOk result (views.new.refused ≡ false) }
     ensures header { views.new.header ≡ views.old.header }
+    ensures shows { views.new.shows ≡ views.old.shows }
     ensures steps { steps.new ≤ steps.old + length changed.now }
 {
     for word in changed {

@@ -4,7 +4,9 @@ use Rattle.std.specs.Prelude.{◌==◌, nat_lt}
 use Rattle.std.specs.List.{AllByRecursion}
 use Rattle.std.proofs.Math.Bool.{or-true}
 use Rattle.vyrd_base.specs.declared.subject.Subject.TheVariants.{Multiset}
-use Rattle.vyrd_base.specs.declared.subject.Method.TheVariants.{MsInsert, MsInsertPair, MsDelete, MsLookup}
+use Rattle.vyrd_base.specs.declared.subject.Method.TheVariants.{Multiset as OfMultiset}
+use Rattle.vyrd_base.specs.declared.multiset.MultisetMethod.TheVariants.{Insert, InsertPair, Delete}
+use Rattle.vyrd_base.specs.declared.multiset.MultisetMethod.TheVariants.{Lookup}
 use Rattle.vyrd_base.specs.Subjects.{subject_of, same_subject, are_args}
 use Rattle.vyrd_base.proofs.TestLaws.{both_true, is_below}
 use Rattle.vyrd_memory.specs.declared.op.Op.{Op}
@@ -25,10 +27,10 @@ ops_step n i x y o h e f =
 -- the operation by the tests of its kind
 abbrev op_by : Bool → Bool → Bool → ℕ → ℕ → Op
 op_by a b c v w =
-    cond a (record { method = MsInsert; args = record { a = v; b = 0; c = 0 } })
-    (cond b (record { method = MsInsertPair; args = record { a = v; b = w; c = 0 } })
-    (cond c (record { method = MsDelete; args = record { a = v; b = 0; c = 0 } })
-    (record { method = MsLookup; args = record { a = v; b = 0; c = 0 } })))
+    cond a (record { method = OfMultiset Insert; args = record { a = v; b = 0; c = 0 } })
+    (cond b (record { method = OfMultiset InsertPair; args = record { a = v; b = w; c = 0 } })
+    (cond c (record { method = OfMultiset Delete; args = record { a = v; b = 0; c = 0 } })
+    (record { method = OfMultiset Lookup; args = record { a = v; b = 0; c = 0 } })))
 
 by_fits : (a b c : Bool) (v w : ℕ)
     → (same_subject (subject_of (op_by a b c v w).method) Multiset && are_args 64 (op_by a b c v w).method (op_by a b c v w).args) ≡ true

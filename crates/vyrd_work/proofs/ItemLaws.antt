@@ -17,7 +17,8 @@ use Rattle.vyrd_base.specs.Subjects.{arity_of, are_padded, subject_of, same_subj
 use Rattle.vyrd_base.specs.Spelling.{method_name, arg_fields, end_line, is_kind_of}
 use Rattle.vyrd_base.specs.Lines.{fields_of, method_called, args_from}
 use Rattle.vyrd_base.proofs.SplitLaws.{lacks, split-join, lacks-join, number_of_decimal, bytes_same}
-use Rattle.vyrd_base.proofs.LineLaws.{is_plain_field, plain_number, plain_spaces, plain_line_feeds, call_guess, plain_entry, below_32}
+use Rattle.vyrd_base.proofs.SplitLaws.{is_plain_field}
+use Rattle.vyrd_base.proofs.LineLaws.{plain_number, plain_spaces, plain_line_feeds, call_guess, plain_entry, below_32}
 use Rattle.vyrd_base.proofs.TestLaws.{both_true, first_true, second_true, below_of}
 use Rattle.vyrd_memory.specs.declared.op.Turn.{Turn}
 use Rattle.vyrd_text.specs.Spelled.{call_text, IsCallRead}

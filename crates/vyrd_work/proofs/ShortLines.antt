@@ -8,7 +8,7 @@ use Rattle.vyrd_base.specs.Spelling.{subject_name, end_line}
 use Rattle.vyrd_base.proofs.HeaderLaws.{size_in_32_bits, callers_in_32_bits}
 use Rattle.vyrd_base.proofs.LongLines.{short_entry, short_number}
 use Rattle.vyrd_base.proofs.TestLaws.{both_true, first_true, second_true, below_of}
-use Rattle.vyrd_base.proofs.SubjectLaws.{short_subject}
+use Rattle.vyrd_base.proofs.StructureLaws.{short_subject}
 use Rattle.vyrd_memory.specs.declared.op.Turn.{Turn}
 use Rattle.vyrd_memory.specs.declared.op.Variant.{Variant}
 use Rattle.vyrd_memory.specs.declared.op.Variant.TheVariants.{Correct, Broken}

@@ -3,8 +3,9 @@ use Rattle.std.specs.Prelude.{ℕ, zero, suc, ◌+◌, ◌*◌, ◌/◌, ◌%◌
 use Rattle.std.specs.Prelude.{if◌then◌else◌}
 use Rattle.vyrd_base.specs.declared.header.Header.{Header}
 use Rattle.vyrd_base.specs.declared.subject.Subject.TheVariants.{Multiset}
-use Rattle.vyrd_base.specs.declared.subject.Method.TheVariants.{MsInsert, MsInsertPair, MsDelete}
-use Rattle.vyrd_base.specs.declared.subject.Method.TheVariants.{MsLookup}
+use Rattle.vyrd_base.specs.declared.subject.Method.TheVariants.{Multiset as OfMultiset}
+use Rattle.vyrd_base.specs.declared.multiset.MultisetMethod.TheVariants.{Insert, InsertPair, Delete}
+use Rattle.vyrd_base.specs.declared.multiset.MultisetMethod.TheVariants.{Lookup}
 use Rattle.vyrd_memory.specs.declared.op.Op.{Op}
 use Rattle.vyrd_memory.specs.declared.op.Variant.TheVariants.{Correct}
 use Rattle.vyrd_work.specs.declared.work.WorkOp.{WorkOp}
@@ -22,10 +23,10 @@ upper x = x / 65536
 -- remainder by 8 says which.
 abbrev pub op_for : ℕ → ℕ → ℕ → Op
 op_for kind v w =
-    if nat_lt kind 3 then record { method = MsInsert; args = record { a = v; b = 0; c = 0 } }
-    else (if kind == 3 then record { method = MsInsertPair; args = record { a = v; b = w; c = 0 } }
-    else (if nat_lt kind 6 then record { method = MsDelete; args = record { a = v; b = 0; c = 0 } }
-    else record { method = MsLookup; args = record { a = v; b = 0; c = 0 } }))
+    if nat_lt kind 3 then record { method = OfMultiset Insert; args = record { a = v; b = 0; c = 0 } }
+    else (if kind == 3 then record { method = OfMultiset InsertPair; args = record { a = v; b = w; c = 0 } }
+    else (if nat_lt kind 6 then record { method = OfMultiset Delete; args = record { a = v; b = 0; c = 0 } }
+    else record { method = OfMultiset Lookup; args = record { a = v; b = 0; c = 0 } }))
 
 -- the operation for the upper bits
 abbrev pub op_from : ℕ → Op

@@ -9,7 +9,7 @@ ghost use Rattle.vyrd_memory.specs.Bounds.{most_ops};
 
 use crate::work::{Work, WorkOp};
 use std::alloc::{AllocError, Global};
-use vyrd_base::{Args, Header, Method, Subject};
+use vyrd_base::{Args, Header, Method, MultisetMethod, Subject};
 use vyrd_memory::{Op, Variant};
 
 /// The factor between two numbers that are drawn, as C's standard shows it for `rand`.
@@ -101,13 +101,13 @@ fn op_of_kind(kind: u64, value: u32, second: u32) -> Op
     ensures { result ≡ op_for kind value second }
 {
     let (method, b) = if kind < 3 {
-        (Method::MsInsert, 0)
+        (Method::Multiset(MultisetMethod::Insert), 0)
     } else if kind == 3 {
-        (Method::MsInsertPair, second)
+        (Method::Multiset(MultisetMethod::InsertPair), second)
     } else if kind < 6 {
-        (Method::MsDelete, 0)
+        (Method::Multiset(MultisetMethod::Delete), 0)
     } else {
-        (Method::MsLookup, 0)
+        (Method::Multiset(MultisetMethod::Lookup), 0)
     };
     Op {
         method,

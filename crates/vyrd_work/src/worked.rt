@@ -2,8 +2,9 @@
 
 ghost use Rattle.std.specs.Prelude.{◌≡◌, codes, [], ◌∷◌, Ok, refl};
 ghost use Rattle.vyrd_base.specs.declared.subject.Subject.TheVariants.{Multiset};
-ghost use Rattle.vyrd_base.specs.declared.subject.Method.TheVariants.{MsInsert, MsInsertPair};
-ghost use Rattle.vyrd_base.specs.declared.subject.Method.TheVariants.{MsLookup};
+ghost use Rattle.vyrd_base.specs.declared.subject.Method.TheVariants.{Multiset as OfMultiset};
+ghost use Rattle.vyrd_base.specs.declared.multiset.MultisetMethod.TheVariants.{Insert, InsertPair};
+ghost use Rattle.vyrd_base.specs.declared.multiset.MultisetMethod.TheVariants.{Lookup};
 ghost use Rattle.vyrd_memory.specs.declared.op.Variant.TheVariants.{Correct, Broken};
 ghost use Rattle.vyrd_work.specs.declared.fault.WorkRule.TheVariants.{AfterEnd, BadHeader, BadLine};
 ghost use Rattle.vyrd_work.specs.declared.fault.WorkRule.TheVariants.{CallerRange, ArgumentRange};
@@ -22,11 +23,11 @@ pub fn workload_read()
           variant = Broken;
           ops = record {
             caller = 0;
-            op = record { method = MsInsert; args = record { a = 5; b = 0; c = 0 } };
+            op = record { method = OfMultiset Insert; args = record { a = 5; b = 0; c = 0 } };
           }
               ∷ record {
                 caller = 1;
-                op = record { method = MsInsertPair; args = record { a = 6; b = 7; c = 0 } };
+                op = record { method = OfMultiset InsertPair; args = record { a = 6; b = 7; c = 0 } };
               }
               ∷ [];
           turns = record { caller = 0; count = 2 } ∷ record { caller = 1; count = 10 } ∷ [];
@@ -85,19 +86,19 @@ pub fn four_generated_operations()
       variant = Correct;
       ops = record {
         caller = 0;
-        op = record { method = MsInsert; args = record { a = 227; b = 0; c = 0 } };
+        op = record { method = OfMultiset Insert; args = record { a = 227; b = 0; c = 0 } };
       }
           ∷ record {
             caller = 1;
-            op = record { method = MsLookup; args = record { a = 204; b = 0; c = 0 } };
+            op = record { method = OfMultiset Lookup; args = record { a = 204; b = 0; c = 0 } };
           }
           ∷ record {
             caller = 2;
-            op = record { method = MsInsertPair; args = record { a = 31; b = 5; c = 0 } };
+            op = record { method = OfMultiset InsertPair; args = record { a = 31; b = 5; c = 0 } };
           }
           ∷ record {
             caller = 3;
-            op = record { method = MsLookup; args = record { a = 207; b = 0; c = 0 } };
+            op = record { method = OfMultiset Lookup; args = record { a = 207; b = 0; c = 0 } };
           }
           ∷ [];
       turns = [];

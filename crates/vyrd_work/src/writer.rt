@@ -10,7 +10,7 @@ use crate::work::{Work, WorkOp};
 use std::alloc::AllocError;
 use vyrd_base::Header;
 use vyrd_memory::{Turn, Variant};
-use vyrd_text::{LineBuffer, name_of_subject, push_call};
+use vyrd_text::{LineBuffer, push_call};
 
 /// Appends the workload's text. A refusal leaves `out` unchanged.
 ///
@@ -47,7 +47,7 @@ fn append_header(header: Header, variant: Variant, out: &mut Vec<u8>) -> Result<
 {
     let mut line = LineBuffer::new();
     line.push(b"work ");
-    line.push(name_of_subject(header.subject()));
+    line.push(header.subject().name());
     line.push(b" ");
     line.push_number(u64::from(header.size()));
     line.push(b" ");

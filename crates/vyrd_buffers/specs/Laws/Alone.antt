@@ -11,11 +11,21 @@ use Rattle.std.specs.Prelude.{◌&&◌, nat_lt, nat_le, slice_index}
 use Rattle.vyrd_base.specs.declared.header.Header.{Header}
 use Rattle.vyrd_base.specs.declared.subject.Subject.TheVariants.{Buffers}
 use Rattle.vyrd_base.specs.declared.subject.Method.{Method}
-use Rattle.vyrd_base.specs.declared.subject.Method.TheVariants.{MsInsert, MsInsertPair, MsDelete}
-use Rattle.vyrd_base.specs.declared.subject.Method.TheVariants.{MsLookup, CaWrite, CaFlush, CaEvict}
-use Rattle.vyrd_base.specs.declared.subject.Method.TheVariants.{CaRead, TrInsert, TrDelete}
-use Rattle.vyrd_base.specs.declared.subject.Method.TheVariants.{TrLookup, BuAppend, BuAppendFrom}
-use Rattle.vyrd_base.specs.declared.subject.Method.TheVariants.{BuCut, BuLength, BuRead}
+use Rattle.vyrd_base.specs.declared.subject.Method.TheVariants.{Multiset as OfMultiset}
+use Rattle.vyrd_base.specs.declared.subject.Method.TheVariants.{Cache as OfCache, Tree as OfTree}
+use Rattle.vyrd_base.specs.declared.subject.Method.TheVariants.{Buffers as OfBuffers}
+use Rattle.vyrd_base.specs.declared.multiset.MultisetMethod.TheVariants.{Insert as MsInsert}
+use Rattle.vyrd_base.specs.declared.multiset.MultisetMethod.TheVariants.{InsertPair}
+use Rattle.vyrd_base.specs.declared.multiset.MultisetMethod.TheVariants.{Delete as MsDelete}
+use Rattle.vyrd_base.specs.declared.multiset.MultisetMethod.TheVariants.{Lookup as MsLookup}
+use Rattle.vyrd_base.specs.declared.cache.CacheMethod.TheVariants.{Write, Flush, Evict}
+use Rattle.vyrd_base.specs.declared.cache.CacheMethod.TheVariants.{Read as CaRead}
+use Rattle.vyrd_base.specs.declared.tree.TreeMethod.TheVariants.{Insert as TrInsert}
+use Rattle.vyrd_base.specs.declared.tree.TreeMethod.TheVariants.{Delete as TrDelete}
+use Rattle.vyrd_base.specs.declared.tree.TreeMethod.TheVariants.{Lookup as TrLookup}
+use Rattle.vyrd_base.specs.declared.buffers.BuffersMethod.TheVariants.{Append, AppendFrom}
+use Rattle.vyrd_base.specs.declared.buffers.BuffersMethod.TheVariants.{Cut as BuCut, Length}
+use Rattle.vyrd_base.specs.declared.buffers.BuffersMethod.TheVariants.{Read as BuRead}
 use Rattle.vyrd_base.specs.declared.subject.Args.{Args}
 use Rattle.vyrd_base.specs.Subjects.{subject_of, arity_of, are_padded, are_ranged, are_args}
 use Rattle.vyrd_base.specs.Amounts.{Amounts, amount_of, with_amount}
@@ -285,10 +295,10 @@ cut_alone h op c b n memory state is s low says = by_count (nat_le count n) refl
 -- a length
 length_alone : (h : Header) (args : Args) (c : ℕ) (memory : Memory) (state : Amounts)
     → h.subject ≡ Buffers → Represents h memory state → args.a < h.size
-    → MeetsSpecification h (record { method = BuLength; args = args }) (length_of h args.a) c memory
+    → MeetsSpecification h (record { method = OfBuffers Length; args = args }) (length_of h args.a) c memory
     state
 length_alone h args c memory state is s low =
-    answer_alone h (record { method = BuLength; args = args }) (length_of h args.a) c args.a
+    answer_alone h (record { method = OfBuffers Length; args = args }) (length_of h args.a) c args.a
     (min (memory (count_cell args.a)) 7) memory state is s low refl
     (run_look h c args.a memory (λ count. unlock h args.a (returns (min count 7))) low
     (free_lock h memory state args.a is s low))
@@ -301,9 +311,9 @@ length_alone h args c memory state is s low =
 -- a read
 read_alone : (h : Header) (args : Args) (c : ℕ) (memory : Memory) (state : Amounts)
     → h.subject ≡ Buffers → Represents h memory state → args.a < h.size
-    → MeetsSpecification h (record { method = BuRead; args = args }) (read h args.a) c memory state
+    → MeetsSpecification h (record { method = OfBuffers BuRead; args = args }) (read h args.a) c memory state
 read_alone h args c memory state is s low =
-    answer_alone h (record { method = BuRead; args = args }) (read h args.a) c args.a
+    answer_alone h (record { method = OfBuffers BuRead; args = args }) (read h args.a) c args.a
     (text_of (buffer_of now args.a).character (0 + memory (count_cell args.a))) memory state is s
     low refl
     (run_look h c args.a memory (λ count. read_from h (min count 7) args.a 0 0) low
@@ -349,33 +359,33 @@ by_method_right : (h : Header) (method : Method) (args : Args) → h.subject ≡
     → (c : ℕ) (memory : Memory) (state : Amounts) → Represents h memory state
     → MeetsSpecification h (record { method = method; args = args })
     (procedure_of h Correct method args) c memory state
-by_method_right h BuAppend args is of fit c memory state s =
-    append_alone h (record { method = BuAppend; args = args }) c args.a args.b memory state is s
+by_method_right h (OfBuffers Append) args is of fit c memory state s =
+    append_alone h (record { method = OfBuffers Append; args = args }) c args.a args.b memory state is s
     (first_below h.size args (nat_lt args.b 255) fit)
     (second_below h.size 255 args fit) (λ reply. refl)
-by_method_right h BuAppendFrom args is of fit c memory state s =
-    append_from_alone h (record { method = BuAppendFrom; args = args }) c args.a args.b memory state
+by_method_right h (OfBuffers AppendFrom) args is of fit c memory state s =
+    append_from_alone h (record { method = OfBuffers AppendFrom; args = args }) c args.a args.b memory state
     is s
     (first_below h.size args (nat_lt args.b h.size) fit) (second_below h.size h.size args fit)
     (λ reply. refl)
-by_method_right h BuCut args is of fit c memory state s =
-    cut_alone h (record { method = BuCut; args = args }) c args.a args.b memory state is s
+by_method_right h (OfBuffers BuCut) args is of fit c memory state s =
+    cut_alone h (record { method = OfBuffers BuCut; args = args }) c args.a args.b memory state is s
     (below_of args.a h.size fit) refl
-by_method_right h BuLength args is of fit c memory state s =
+by_method_right h (OfBuffers Length) args is of fit c memory state s =
     length_alone h args c memory state is s (below_of args.a h.size fit)
-by_method_right h BuRead args is of fit c memory state s =
+by_method_right h (OfBuffers BuRead) args is of fit c memory state s =
     read_alone h args c memory state is s (below_of args.a h.size fit)
-by_method_right h MsInsert args is of fit c memory state s = absurd (cc)
-by_method_right h MsInsertPair args is of fit c memory state s = absurd (cc)
-by_method_right h MsDelete args is of fit c memory state s = absurd (cc)
-by_method_right h MsLookup args is of fit c memory state s = absurd (cc)
-by_method_right h CaWrite args is of fit c memory state s = absurd (cc)
-by_method_right h CaFlush args is of fit c memory state s = absurd (cc)
-by_method_right h CaEvict args is of fit c memory state s = absurd (cc)
-by_method_right h CaRead args is of fit c memory state s = absurd (cc)
-by_method_right h TrInsert args is of fit c memory state s = absurd (cc)
-by_method_right h TrDelete args is of fit c memory state s = absurd (cc)
-by_method_right h TrLookup args is of fit c memory state s = absurd (cc)
+by_method_right h (OfMultiset MsInsert) args is of fit c memory state s = absurd (cc)
+by_method_right h (OfMultiset InsertPair) args is of fit c memory state s = absurd (cc)
+by_method_right h (OfMultiset MsDelete) args is of fit c memory state s = absurd (cc)
+by_method_right h (OfMultiset MsLookup) args is of fit c memory state s = absurd (cc)
+by_method_right h (OfCache Write) args is of fit c memory state s = absurd (cc)
+by_method_right h (OfCache Flush) args is of fit c memory state s = absurd (cc)
+by_method_right h (OfCache Evict) args is of fit c memory state s = absurd (cc)
+by_method_right h (OfCache CaRead) args is of fit c memory state s = absurd (cc)
+by_method_right h (OfTree TrInsert) args is of fit c memory state s = absurd (cc)
+by_method_right h (OfTree TrDelete) args is of fit c memory state s = absurd (cc)
+by_method_right h (OfTree TrLookup) args is of fit c memory state s = absurd (cc)
 
 pub procedure_right_alone : (h : Header) (method : Method) (args : Args) → h.subject ≡ Buffers
     → subject_of method ≡ Buffers → are_args h.size method args ≡ true → are_small args ≡ true

@@ -7,11 +7,11 @@ use Rattle.std.proofs.lemmas.List.{length_push}
 use Rattle.vyrd_base.specs.declared.header.Header.{Header}
 use Rattle.vyrd_base.specs.declared.subject.Subject.TheVariants.{Buffers}
 use Rattle.vyrd_base.specs.declared.subject.Method.{Method}
-use Rattle.vyrd_base.specs.declared.subject.Method.TheVariants.{MsInsert, MsInsertPair, MsDelete}
-use Rattle.vyrd_base.specs.declared.subject.Method.TheVariants.{MsLookup, CaWrite, CaFlush, CaEvict}
-use Rattle.vyrd_base.specs.declared.subject.Method.TheVariants.{CaRead, TrInsert, TrDelete}
-use Rattle.vyrd_base.specs.declared.subject.Method.TheVariants.{TrLookup, BuAppend, BuAppendFrom}
-use Rattle.vyrd_base.specs.declared.subject.Method.TheVariants.{BuCut, BuLength, BuRead}
+use Rattle.vyrd_base.specs.declared.subject.Method.TheVariants.{Multiset as OfMultiset}
+use Rattle.vyrd_base.specs.declared.subject.Method.TheVariants.{Cache as OfCache, Tree as OfTree}
+use Rattle.vyrd_base.specs.declared.subject.Method.TheVariants.{Buffers as OfBuffers}
+use Rattle.vyrd_base.specs.declared.buffers.BuffersMethod.TheVariants.{Append, AppendFrom, Cut}
+use Rattle.vyrd_base.specs.declared.buffers.BuffersMethod.TheVariants.{Length, Read}
 use Rattle.vyrd_base.specs.declared.subject.Args.{Args}
 use Rattle.vyrd_base.specs.declared.log.Kind.TheVariants.{Commit, BlockOpen, BlockCommit}
 use Rattle.vyrd_base.specs.Subjects.{subject_of}
@@ -190,19 +190,11 @@ procedure_ends h variant method args is of_buffers =
   where
     by_method : (method : Method) → subject_of method ≡ Buffers
         → EndsByReturn 31 (procedure_of h variant method args)
-    by_method BuAppend of_buffers = ends_append h args.a args.b
-    by_method BuAppendFrom of_buffers = ends_append_from h variant args.a args.b
-    by_method BuCut of_buffers = ends_cut h args.a args.b
-    by_method BuLength of_buffers = ends_length_of h args.a
-    by_method BuRead of_buffers = ends_read h args.a
-    by_method MsInsert of_buffers = cc
-    by_method MsInsertPair of_buffers = cc
-    by_method MsDelete of_buffers = cc
-    by_method MsLookup of_buffers = cc
-    by_method CaWrite of_buffers = cc
-    by_method CaFlush of_buffers = cc
-    by_method CaEvict of_buffers = cc
-    by_method CaRead of_buffers = cc
-    by_method TrInsert of_buffers = cc
-    by_method TrDelete of_buffers = cc
-    by_method TrLookup of_buffers = cc
+    by_method (OfBuffers Append) of_buffers = ends_append h args.a args.b
+    by_method (OfBuffers AppendFrom) of_buffers = ends_append_from h variant args.a args.b
+    by_method (OfBuffers Cut) of_buffers = ends_cut h args.a args.b
+    by_method (OfBuffers Length) of_buffers = ends_length_of h args.a
+    by_method (OfBuffers Read) of_buffers = ends_read h args.a
+    by_method (OfMultiset other) of_buffers = cc
+    by_method (OfCache other) of_buffers = cc
+    by_method (OfTree other) of_buffers = cc

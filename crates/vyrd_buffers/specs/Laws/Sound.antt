@@ -8,11 +8,11 @@ use Rattle.std.proofs.lemmas.List.{length_push}
 use Rattle.vyrd_base.specs.declared.header.Header.{Header}
 use Rattle.vyrd_base.specs.declared.subject.Subject.TheVariants.{Buffers}
 use Rattle.vyrd_base.specs.declared.subject.Method.{Method}
-use Rattle.vyrd_base.specs.declared.subject.Method.TheVariants.{MsInsert, MsInsertPair, MsDelete}
-use Rattle.vyrd_base.specs.declared.subject.Method.TheVariants.{MsLookup, CaWrite, CaFlush, CaEvict}
-use Rattle.vyrd_base.specs.declared.subject.Method.TheVariants.{CaRead, TrInsert, TrDelete}
-use Rattle.vyrd_base.specs.declared.subject.Method.TheVariants.{TrLookup, BuAppend, BuAppendFrom}
-use Rattle.vyrd_base.specs.declared.subject.Method.TheVariants.{BuCut, BuLength, BuRead}
+use Rattle.vyrd_base.specs.declared.subject.Method.TheVariants.{Multiset as OfMultiset}
+use Rattle.vyrd_base.specs.declared.subject.Method.TheVariants.{Cache as OfCache, Tree as OfTree}
+use Rattle.vyrd_base.specs.declared.subject.Method.TheVariants.{Buffers as OfBuffers}
+use Rattle.vyrd_base.specs.declared.buffers.BuffersMethod.TheVariants.{Append, AppendFrom, Cut}
+use Rattle.vyrd_base.specs.declared.buffers.BuffersMethod.TheVariants.{Length, Read}
 use Rattle.vyrd_base.specs.declared.subject.Args.{Args}
 use Rattle.vyrd_base.specs.declared.log.Kind.TheVariants.{Commit, BlockCommit}
 use Rattle.vyrd_base.specs.Subjects.{subject_of, is_observer, are_args}
@@ -114,34 +114,34 @@ looked h b method rest is low sound =
     taken h b method false (step (Load (count_cell b)) rest) is low (count_plain h b is low, sound)
 
 sound_append_at : (h : Header) (b x count : ℕ) → h.subject ≡ Buffers → b < h.size → x < 2 ^ 32
-    → IsSound h (holding (lock_of h b ∷ []) BuAppend false) (append_at h b x count)
+    → IsSound h (holding (lock_of h b ∷ []) (OfBuffers Append) false) (append_at h b x count)
 sound_append_at h b x count is low small = either h _ (nat_le 7 count) _ _
-    (λ full. lone_commit h (lock_of h b ∷ []) BuAppend (unlock h b (returns 0)) refl
-    (leave h b BuAppend true 0 is low refl))
+    (λ full. lone_commit h (lock_of h b ∷ []) (OfBuffers Append) (unlock h b (returns 0)) refl
+    (leave h b (OfBuffers Append) true 0 is low refl))
     (λ room. (
       refl,
-      λ answer none. store_sound h (in_block (lock_of h b ∷ []) BuAppend) (character_cell b count) x
+      λ answer none. store_sound h (in_block (lock_of h b ∷ []) (OfBuffers Append)) (character_cell b count) x
           (commit_count b (count + 1) (unlock h b (returns 1)))
           (character_plain h b count is low (above_of 7 count room)) (omega (arith, small)) refl
-          (counted h (lock_of h b ∷ []) BuAppend b (count + 1) (unlock h b (returns 1)) is refl low
-          (omega (arith, above_of 7 count room)) (leave h b BuAppend true 1 is low refl)),
+          (counted h (lock_of h b ∷ []) (OfBuffers Append) b (count + 1) (unlock h b (returns 1)) is refl low
+          (omega (arith, above_of 7 count room)) (leave h b (OfBuffers Append) true 1 is low refl)),
     ))
 
 sound_cut_at : (h : Header) (b n count : ℕ) → h.subject ≡ Buffers → b < h.size → n < 2 ^ 32
-    → IsSound h (holding (lock_of h b ∷ []) BuCut false) (cut_at h b n count)
+    → IsSound h (holding (lock_of h b ∷ []) (OfBuffers Cut) false) (cut_at h b n count)
 sound_cut_at h b n count is low small = either h _ (nat_le count n) _ _
-    (λ short. lone_commit h (lock_of h b ∷ []) BuCut (unlock h b (returns 1)) refl
-    (leave h b BuCut true 1 is low refl))
+    (λ short. lone_commit h (lock_of h b ∷ []) (OfBuffers Cut) (unlock h b (returns 1)) refl
+    (leave h b (OfBuffers Cut) true 1 is low refl))
     (λ long. (
       refl,
-      λ answer none. counted h (lock_of h b ∷ []) BuCut b n (unlock h b (returns 1)) is refl low
-          (omega (arith, small)) (leave h b BuCut true 1 is low refl),
+      λ answer none. counted h (lock_of h b ∷ []) (OfBuffers Cut) b n (unlock h b (returns 1)) is refl low
+          (omega (arith, small)) (leave h b (OfBuffers Cut) true 1 is low refl),
     ))
 
 -- reading a buffer
 sound_read_from : (h : Header) (left b i text : ℕ) → h.subject ≡ Buffers → b < h.size → i + left ≤ 7
-    → IsSound h (holding (lock_of h b ∷ []) BuRead false) (read_from h left b i text)
-sound_read_from h zero b i text is low few = leave h b BuRead false text is low refl
+    → IsSound h (holding (lock_of h b ∷ []) (OfBuffers Read) false) (read_from h left b i text)
+sound_read_from h zero b i text is low few = leave h b (OfBuffers Read) false text is low refl
 sound_read_from h (suc left) b i text is low few = (
   character_plain h b i is low (omega (arith, few)),
   λ character small. sound_read_from h left b (i + 1) _ is low (omega (arith, few)),
@@ -190,15 +190,15 @@ sound_store_from h s (character ∷ characters) b i later is low called few smal
 
 sound_append_held : (h : Header) (locks : List ℕ) (first second b count more : ℕ) (held : List ℕ)
     → h.subject ≡ Buffers → b < h.size → length held ≡ more → count + more ≤ 7 → are_low held ≡ true
-    → IsSound h (holding locks BuAppendFrom true) (unlock_both h first second (returns 1))
-    → IsSound h (holding locks BuAppendFrom false) (append_held h first second b count more held)
+    → IsSound h (holding locks (OfBuffers AppendFrom) true) (unlock_both h first second (returns 1))
+    → IsSound h (holding locks (OfBuffers AppendFrom) false) (append_held h first second b count more held)
 sound_append_held h locks first second b count more held is low long few small sound = (
   refl,
   λ answer none.
-      sound_store_from h (in_block locks BuAppendFrom) held b count
+      sound_store_from h (in_block locks (OfBuffers AppendFrom)) held b count
       (commit_count b (count + more) (unlock_both h first second (returns 1))) is low refl
       (omega (arith, long, few)) small
-      (counted h locks BuAppendFrom b (count + more) (unlock_both h first second (returns 1)) is
+      (counted h locks (OfBuffers AppendFrom) b (count + more) (unlock_both h first second (returns 1)) is
       refl low (omega (arith, few)) sound),
 )
 
@@ -206,54 +206,54 @@ sound_append_held h locks first second b count more held is low long few small s
 sound_append_all : (h : Header) (locks : List ℕ) (first second b s count more : ℕ)
     → h.subject ≡ Buffers → b < h.size → s < h.size
     → ((reply : ℕ)
-    → IsSound h (holding locks BuAppendFrom true) (unlock_both h first second (returns reply)))
-    → IsSound h (holding locks BuAppendFrom false) (append_all h first second b s count more)
+    → IsSound h (holding locks (OfBuffers AppendFrom) true) (unlock_both h first second (returns reply)))
+    → IsSound h (holding locks (OfBuffers AppendFrom) false) (append_all h first second b s count more)
 sound_append_all h locks first second b s count more is low_b low_s sound =
     either h _ (nat_le (count + more) 7) _ _
-    (λ room. sound_load_from h (holding locks BuAppendFrom false) more s 0 []
+    (λ room. sound_load_from h (holding locks (OfBuffers AppendFrom) false) more s 0 []
     (append_held h first second b count more) is low_s
     (omega (arith, at_most_of (count + more) 7 room)) refl
     (λ all small long. sound_append_held h locks first second b count more all is low_b
     (omega (arith, long)) (at_most_of (count + more) 7 room) small (sound 1)))
-    (λ full. lone_commit h locks BuAppendFrom (unlock_both h first second (returns 0)) refl
+    (λ full. lone_commit h locks (OfBuffers AppendFrom) (unlock_both h first second (returns 0)) refl
     (sound 0))
 
 -- both locks are given back
 given_one : (h : Header) (first second reply : ℕ) → h.subject ≡ Buffers → first < h.size
     → (first == second) ≡ true
-    → IsSound h (holding (lock_of h first ∷ []) BuAppendFrom true)
+    → IsSound h (holding (lock_of h first ∷ []) (OfBuffers AppendFrom) true)
     (unlock_both h first second (returns reply))
 given_one h first second reply is low same =
     subst
-    (λ b. IsSound h (holding (lock_of h first ∷ []) BuAppendFrom true)
+    (λ b. IsSound h (holding (lock_of h first ∷ []) (OfBuffers AppendFrom) true)
     (cond b (unlock h first (returns reply)) (unlock h second (unlock h first (returns reply)))))
-    (sym same) (leave h first BuAppendFrom true reply is low refl)
+    (sym same) (leave h first (OfBuffers AppendFrom) true reply is low refl)
 
 given_both : (h : Header) (first second reply : ℕ) → h.subject ≡ Buffers → first < h.size
     → second < h.size
     → (first == second) ≡ false
-    → IsSound h (holding (lock_of h second ∷ lock_of h first ∷ []) BuAppendFrom true)
+    → IsSound h (holding (lock_of h second ∷ lock_of h first ∷ []) (OfBuffers AppendFrom) true)
     (unlock_both h first second (returns reply))
 given_both h first second reply is low_first low_second apart =
-    subst (λ b. IsSound h (holding (lock_of h second ∷ lock_of h first ∷ []) BuAppendFrom true)
+    subst (λ b. IsSound h (holding (lock_of h second ∷ lock_of h first ∷ []) (OfBuffers AppendFrom) true)
     (cond b (unlock h first (returns reply))
     (unlock h second (unlock h first (returns reply))))) (sym apart) (
       both_true _ _ (lock_cell h second is low_second)
-          (held_first (lock_of h second) (lock_of h first ∷ []) BuAppendFrom true),
+          (held_first (lock_of h second) (lock_of h first ∷ []) (OfBuffers AppendFrom) true),
       λ answer none.
           subst
-          (λ locks. IsSound h (holding locks BuAppendFrom true) (unlock h first (returns reply)))
+          (λ locks. IsSound h (holding locks (OfBuffers AppendFrom) true) (unlock h first (returns reply)))
           (sym (gone (lock_of h second) (lock_of h first ∷ [])
           ∙ ap (λ b. cond (not b) (lock_of h first ∷ []) [])
           (other_lock (8 * h.size) first second apart)))
-          (leave h first BuAppendFrom true reply is low_first refl),
+          (leave h first (OfBuffers AppendFrom) true reply is low_first refl),
     )
 
 -- the counts of both buffers are loaded
 both_counts : (h : Header) (locks : List ℕ) (b s : ℕ) (rest : ℕ → ℕ → Script) → h.subject ≡ Buffers
     → b < h.size → s < h.size
-    → ((count more : ℕ) → IsSound h (holding locks BuAppendFrom false) (rest count more))
-    → IsSound h (holding locks BuAppendFrom false)
+    → ((count more : ℕ) → IsSound h (holding locks (OfBuffers AppendFrom) false) (rest count more))
+    → IsSound h (holding locks (OfBuffers AppendFrom) false)
     (step (Load (count_cell b)) (λ count. step (Load (count_cell s)) (rest count)))
 both_counts h locks b s rest is low_b low_s sound = (
   count_plain h b is low_b,
@@ -263,11 +263,11 @@ both_counts h locks b s rest is low_b low_s sound = (
 -- under both locks
 under_both : (h : Header) (first second b s : ℕ) → h.subject ≡ Buffers → first < h.size
     → second < h.size → b < h.size → s < h.size
-    → IsSound h (holding [] BuAppendFrom false) (lock h first
+    → IsSound h (holding [] (OfBuffers AppendFrom) false) (lock h first
     (lock_other h first second (step (Load (count_cell b)) (λ count. step (Load (count_cell s))
     (λ more. append_all h first second b s (min count 7) (min more 7))))))
 under_both h first second b s is low_first low_second low_b low_s =
-    taken h first BuAppendFrom false (lock_other h first second both) is low_first
+    taken h first (OfBuffers AppendFrom) false (lock_other h first second both) is low_first
     (either h _ (first == second) _ _
     (λ same. counts (lock_of h first ∷ [])
     (λ reply. given_one h first second reply is low_first same))
@@ -284,8 +284,8 @@ under_both h first second b s is low_first low_second low_b low_s =
 
     counts : (locks : List ℕ)
         → ((reply : ℕ)
-        → IsSound h (holding locks BuAppendFrom true) (unlock_both h first second (returns reply)))
-        → IsSound h (holding locks BuAppendFrom false) both
+        → IsSound h (holding locks (OfBuffers AppendFrom) true) (unlock_both h first second (returns reply)))
+        → IsSound h (holding locks (OfBuffers AppendFrom) false) both
     counts locks sound = both_counts h locks b s
         (λ count more. append_all h first second b s (min count 7) (min more 7)) is low_b low_s
         (λ count more. sound_append_all h locks first second b s (min count 7) (min more 7) is low_b
@@ -293,13 +293,13 @@ under_both h first second b s is low_first low_second low_b low_s =
 
 sound_append_from : (h : Header) (variant : Variant) (b s : ℕ) → h.subject ≡ Buffers → b < h.size
     → s < h.size
-    → IsSound h (just_called BuAppendFrom) (append_from h variant b s)
+    → IsSound h (just_called (OfBuffers AppendFrom)) (append_from h variant b s)
 sound_append_from h Correct b s is low_b low_s =
     under_both h (min b s) (max b s) b s is (omega (arith, low_b, low_s))
     (omega (arith, low_b, low_s)) low_b low_s
 sound_append_from h Broken b s is low_b low_s =
-    looked h s BuAppendFrom (λ more. unlock h s (alone more)) is low_s (λ more small.
-    given h s BuAppendFrom false (alone more) is low_s (looked h b BuAppendFrom
+    looked h s (OfBuffers AppendFrom) (λ more. unlock h s (alone more)) is low_s (λ more small.
+    given h s (OfBuffers AppendFrom) false (alone more) is low_s (looked h b (OfBuffers AppendFrom)
     (λ count. append_all h b b b s (min count 7) (min more 7)) is low_b
     (λ count low. sound_append_all h (lock_of h b ∷ []) b b b s (min count 7) (min more 7) is low_b
     low_s (λ reply. given_one h b b reply is low_b (same_number b)))))
@@ -309,24 +309,24 @@ sound_append_from h Broken b s is low_b low_s =
         (step (Load (count_cell b)) (λ count. append_all h b b b s (min count 7) (min more 7)))
 
 sound_append : (h : Header) (b x : ℕ) → h.subject ≡ Buffers → b < h.size → x < 2 ^ 32
-    → IsSound h (just_called BuAppend) (append h b x)
-sound_append h b x is low small = looked h b BuAppend (append_at h b x) is low
+    → IsSound h (just_called (OfBuffers Append)) (append h b x)
+sound_append h b x is low small = looked h b (OfBuffers Append) (append_at h b x) is low
     (λ count below. sound_append_at h b x count is low small)
 
 sound_cut : (h : Header) (b n : ℕ) → h.subject ≡ Buffers → b < h.size → n < 2 ^ 32
-    → IsSound h (just_called BuCut) (cut h b n)
+    → IsSound h (just_called (OfBuffers Cut)) (cut h b n)
 sound_cut h b n is low small =
-    looked h b BuCut (cut_at h b n) is low (λ count below. sound_cut_at h b n count is low small)
+    looked h b (OfBuffers Cut) (cut_at h b n) is low (λ count below. sound_cut_at h b n count is low small)
 
 sound_length_of : (h : Header) (b : ℕ) → h.subject ≡ Buffers → b < h.size
-    → IsSound h (just_called BuLength) (length_of h b)
+    → IsSound h (just_called (OfBuffers Length)) (length_of h b)
 sound_length_of h b is low =
-    looked h b BuLength (λ count. unlock h b (returns (min count 7))) is low
-    (λ count below. leave h b BuLength false (min count 7) is low refl)
+    looked h b (OfBuffers Length) (λ count. unlock h b (returns (min count 7))) is low
+    (λ count below. leave h b (OfBuffers Length) false (min count 7) is low refl)
 
 sound_read : (h : Header) (b : ℕ) → h.subject ≡ Buffers → b < h.size
-    → IsSound h (just_called BuRead) (read h b)
-sound_read h b is low = looked h b BuRead (λ count. read_from h (min count 7) b 0 0) is low
+    → IsSound h (just_called (OfBuffers Read)) (read h b)
+sound_read h b is low = looked h b (OfBuffers Read) (λ count. read_from h (min count 7) b 0 0) is low
     (λ count below. sound_read_from h (min count 7) b 0 0 is low (omega arith))
 
 -- the arguments name a buffer, and those of append_from another
@@ -344,24 +344,16 @@ first_below size method args of_buffers fit = by_method method of_buffers fit
 
     by_method : (method : Method) → subject_of method ≡ Buffers → are_args size method args ≡ true
         → args.a < size
-    by_method BuAppend of_buffers fit = with_more _ _ fit
-    by_method BuAppendFrom of_buffers fit = with_more _ _ fit
-    by_method BuCut of_buffers fit = alone _ fit
-    by_method BuLength of_buffers fit = alone _ fit
-    by_method BuRead of_buffers fit = alone _ fit
-    by_method MsInsert of_buffers fit = cc
-    by_method MsInsertPair of_buffers fit = cc
-    by_method MsDelete of_buffers fit = cc
-    by_method MsLookup of_buffers fit = cc
-    by_method CaWrite of_buffers fit = cc
-    by_method CaFlush of_buffers fit = cc
-    by_method CaEvict of_buffers fit = cc
-    by_method CaRead of_buffers fit = cc
-    by_method TrInsert of_buffers fit = cc
-    by_method TrDelete of_buffers fit = cc
-    by_method TrLookup of_buffers fit = cc
+    by_method (OfBuffers Append) of_buffers fit = with_more _ _ fit
+    by_method (OfBuffers AppendFrom) of_buffers fit = with_more _ _ fit
+    by_method (OfBuffers Cut) of_buffers fit = alone _ fit
+    by_method (OfBuffers Length) of_buffers fit = alone _ fit
+    by_method (OfBuffers Read) of_buffers fit = alone _ fit
+    by_method (OfMultiset other) of_buffers fit = cc
+    by_method (OfCache other) of_buffers fit = cc
+    by_method (OfTree other) of_buffers fit = cc
 
-second_below : (size : ℕ) (args : Args) → are_args size BuAppendFrom args ≡ true → args.b < size
+second_below : (size : ℕ) (args : Args) → are_args size (OfBuffers AppendFrom) args ≡ true → args.b < size
 second_below size args fit = with_more _ fit
   where
     with_more : (padded : Bool) → (padded && (nat_lt args.a size && nat_lt args.b size)) ≡ true
@@ -380,20 +372,12 @@ procedure_sound h variant method args is of_buffers fit small =
     by_method : (method : Method) → subject_of method ≡ Buffers → are_args h.size method args ≡ true
         → args.a < h.size
         → IsSound h (just_called method) (procedure_of h variant method args)
-    by_method BuAppend of_buffers fit low = sound_append h args.a args.b is low (small_b args small)
-    by_method BuAppendFrom of_buffers fit low =
+    by_method (OfBuffers Append) of_buffers fit low = sound_append h args.a args.b is low (small_b args small)
+    by_method (OfBuffers AppendFrom) of_buffers fit low =
         sound_append_from h variant args.a args.b is low (second_below h.size args fit)
-    by_method BuCut of_buffers fit low = sound_cut h args.a args.b is low (small_b args small)
-    by_method BuLength of_buffers fit low = sound_length_of h args.a is low
-    by_method BuRead of_buffers fit low = sound_read h args.a is low
-    by_method MsInsert of_buffers fit low = cc
-    by_method MsInsertPair of_buffers fit low = cc
-    by_method MsDelete of_buffers fit low = cc
-    by_method MsLookup of_buffers fit low = cc
-    by_method CaWrite of_buffers fit low = cc
-    by_method CaFlush of_buffers fit low = cc
-    by_method CaEvict of_buffers fit low = cc
-    by_method CaRead of_buffers fit low = cc
-    by_method TrInsert of_buffers fit low = cc
-    by_method TrDelete of_buffers fit low = cc
-    by_method TrLookup of_buffers fit low = cc
+    by_method (OfBuffers Cut) of_buffers fit low = sound_cut h args.a args.b is low (small_b args small)
+    by_method (OfBuffers Length) of_buffers fit low = sound_length_of h args.a is low
+    by_method (OfBuffers Read) of_buffers fit low = sound_read h args.a is low
+    by_method (OfMultiset other) of_buffers fit low = cc
+    by_method (OfCache other) of_buffers fit low = cc
+    by_method (OfTree other) of_buffers fit low = cc

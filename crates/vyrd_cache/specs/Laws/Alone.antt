@@ -9,17 +9,16 @@ use Rattle.std.specs.Prelude.{◌==◌, nat_lt}
 use Rattle.vyrd_base.specs.declared.header.Header.{Header}
 use Rattle.vyrd_base.specs.declared.subject.Subject.TheVariants.{Cache}
 use Rattle.vyrd_base.specs.declared.subject.Method.{Method}
-use Rattle.vyrd_base.specs.declared.subject.Method.TheVariants.{MsInsert, MsInsertPair, MsDelete}
-use Rattle.vyrd_base.specs.declared.subject.Method.TheVariants.{MsLookup, CaWrite, CaFlush, CaEvict}
-use Rattle.vyrd_base.specs.declared.subject.Method.TheVariants.{CaRead, TrInsert, TrDelete}
-use Rattle.vyrd_base.specs.declared.subject.Method.TheVariants.{TrLookup, BuAppend, BuAppendFrom}
-use Rattle.vyrd_base.specs.declared.subject.Method.TheVariants.{BuCut, BuLength, BuRead}
+use Rattle.vyrd_base.specs.declared.subject.Method.TheVariants.{Multiset as OfMultiset}
+use Rattle.vyrd_base.specs.declared.subject.Method.TheVariants.{Cache as OfCache, Tree as OfTree}
+use Rattle.vyrd_base.specs.declared.subject.Method.TheVariants.{Buffers as OfBuffers}
+use Rattle.vyrd_base.specs.declared.cache.CacheMethod.TheVariants.{Write, Flush, Evict, Read}
 use Rattle.vyrd_base.specs.declared.subject.Args.{Args}
 use Rattle.vyrd_base.specs.Subjects.{subject_of, is_observer, are_args}
 use Rattle.vyrd_base.specs.Layout.{plain_words, lock_words, plain_words_of, lock_words_of}
 use Rattle.vyrd_base.specs.Amounts.{Amounts, amount_of, with_amount}
-use Rattle.vyrd_base.specs.Views.{Chunk, cached_pair}
-use Rattle.vyrd_base.specs.Represented.{is_sound_chunk}
+use Rattle.vyrd_base.specs.Cache.{Chunk, cached_pair}
+use Rattle.vyrd_base.specs.Cache.{is_sound_chunk}
 use Rattle.vyrd_base.proofs.TestLaws.{first_true, second_true, same_number}
 use Rattle.vyrd_memory.specs.declared.act.Act.TheVariants.{Load}
 use Rattle.vyrd_memory.specs.declared.op.Op.{Op}
@@ -94,10 +93,10 @@ run_look h c k memory rest low free =
 -- a write
 write_alone : (h : Header) (args : Args) → h.subject ≡ Cache → args.a < h.size
     → are_small args ≡ true
-    → IsRightAlone h (record { method = CaWrite; args = args })
+    → IsRightAlone h (record { method = OfCache Write; args = args })
     (write h Correct args.a args.b args.c)
 write_alone h args is low few c memory state e =
-    met h (record { method = CaWrite; args = args })
+    met h (record { method = OfCache Write; args = args })
     (write h Correct args.a args.b args.c) c memory new state
     (with_amount state args.a (args.c * 2 ^ 32 + args.b)) 1
     (run_lock h c args.a memory (put_cached h args.a args.b args.c) free) after refl
@@ -186,7 +185,7 @@ put_stored_alone h op script c k left memory state is s low dirty run sound show
 
 -- a flush
 flush_alone : (h : Header) (args : Args) → h.subject ≡ Cache → args.a < h.size
-    → IsRightAlone h (record { method = CaFlush; args = args }) (flush h args.a)
+    → IsRightAlone h (record { method = OfCache Flush; args = args }) (flush h args.a)
 flush_alone h args is low c memory state e = by_state (memory (5 * args.a) == 2) refl
   where
     s : Represents h memory state
@@ -200,23 +199,23 @@ flush_alone h args is low c memory state e = by_state (memory (5 * args.a) == 2)
         (free_lock h memory state args.a is s low)
 
     by_state : (b : Bool) → (memory (5 * args.a) == 2) ≡ b
-        → MeetsSpecification h (record { method = CaFlush; args = args })
+        → MeetsSpecification h (record { method = OfCache Flush; args = args })
         (flush h args.a) c memory state
     by_state true dirty =
-        put_stored_alone h (record { method = CaFlush; args = args })
+        put_stored_alone h (record { method = OfCache Flush; args = args })
         (flush h args.a) c args.a 1 memory state is s low dirty
         (run ∙ ap (λ b. alone c (cond b (put_stored h args.a 1) (only_commit h args.a))
         (held c (lock_of h args.a) memory)) dirty)
         (flushed_sound (chunk_of memory args.a) (sound_at h memory state args.a is s low)) refl refl
     by_state false other =
-        only_commit_alone h (record { method = CaFlush; args = args })
+        only_commit_alone h (record { method = OfCache Flush; args = args })
         (flush h args.a) c args.a memory state is s low
         (run ∙ ap (λ b. alone c (cond b (put_stored h args.a 1) (only_commit h args.a))
         (held c (lock_of h args.a) memory)) other) refl
 
 -- an evict
 evict_alone : (h : Header) (args : Args) → h.subject ≡ Cache → args.a < h.size
-    → IsRightAlone h (record { method = CaEvict; args = args }) (evict h args.a)
+    → IsRightAlone h (record { method = OfCache Evict; args = args }) (evict h args.a)
 evict_alone h args is low c memory state e = by_state (memory (5 * args.a) == 2) refl
   where
     s : Represents h memory state
@@ -241,15 +240,15 @@ evict_alone h args is low c memory state e = by_state (memory (5 * args.a) == 2)
     new = only_state c (lock_of h args.a) memory (5 * args.a) 0
 
     by_clean : (memory (5 * args.a) == 2) ≡ false → (b : Bool) → (memory (5 * args.a) == 0) ≡ b
-        → MeetsSpecification h (record { method = CaEvict; args = args })
+        → MeetsSpecification h (record { method = OfCache Evict; args = args })
         (evict h args.a) c memory state
     by_clean other true absent =
-        only_commit_alone h (record { method = CaEvict; args = args })
+        only_commit_alone h (record { method = OfCache Evict; args = args })
         (evict h args.a) c args.a memory state is s low
         (run_clean other ∙ ap (λ b. alone c (cond b (only_commit h args.a) (forget h args.a))
         (held c (lock_of h args.a) memory)) absent) refl
     by_clean other false there =
-        met h (record { method = CaEvict; args = args }) (evict h args.a) c memory new state state 1
+        met h (record { method = OfCache Evict; args = args }) (evict h args.a) c memory new state state 1
         (run_clean other ∙ ap (λ b. alone c (cond b (only_commit h args.a) (forget h args.a))
         (held c (lock_of h args.a) memory)) there)
         (kept h memory new state args.a (with_state 0 (chunk_of memory args.a)) is s low
@@ -262,10 +261,10 @@ evict_alone h args is low c memory state e = by_state (memory (5 * args.a) == 2)
         there))) refl
 
     by_state : (b : Bool) → (memory (5 * args.a) == 2) ≡ b
-        → MeetsSpecification h (record { method = CaEvict; args = args })
+        → MeetsSpecification h (record { method = OfCache Evict; args = args })
         (evict h args.a) c memory state
     by_state true dirty =
-        put_stored_alone h (record { method = CaEvict; args = args }) (evict h args.a) c args.a 0
+        put_stored_alone h (record { method = OfCache Evict; args = args }) (evict h args.a) c args.a 0
         memory state is s low dirty
         (run ∙ ap (λ b. alone c (cond b (put_stored h args.a 0) (cond (memory (5 * args.a) == 0)
         (only_commit h args.a) (forget h args.a))) (held c (lock_of h args.a) memory)) dirty)
@@ -274,7 +273,7 @@ evict_alone h args is low c memory state e = by_state (memory (5 * args.a) == 2)
 
 -- a read
 read_alone : (h : Header) (args : Args) → h.subject ≡ Cache → args.a < h.size
-    → IsRightAlone h (record { method = CaRead; args = args }) (read h args.a)
+    → IsRightAlone h (record { method = OfCache Read; args = args }) (read h args.a)
 read_alone h args is low c memory state e = by_state (memory (5 * args.a) == 0) refl
   where
     s : Represents h memory state
@@ -295,7 +294,7 @@ read_alone h args is low c memory state e = by_state (memory (5 * args.a) == 0) 
 
     -- an answer that is the chunk's pair is the specification's
     allowed : (reply : ℕ) → reply ≡ shown (chunk_of memory args.a)
-        → state_after true (record { method = CaRead; args = args }) reply state ≡ Some state
+        → state_after true (record { method = OfCache Read; args = args }) reply state ≡ Some state
     allowed reply pair =
         let same : reply ≡ amount_of state args.a =
         pair ∙ sym (shown_at h memory state args.a is s low) in
@@ -320,10 +319,10 @@ read_alone h args is low c memory state e = by_state (memory (5 * args.a) == 0) 
         (loaded 4 (omega arith))
 
     by_state : (b : Bool) → (memory (5 * args.a) == 0) ≡ b
-        → MeetsSpecification h (record { method = CaRead; args = args })
+        → MeetsSpecification h (record { method = OfCache Read; args = args })
         (read h args.a) c memory state
     by_state true absent =
-        met h (record { method = CaRead; args = args }) (read h args.a) c memory fetched state state
+        met h (record { method = OfCache Read; args = args }) (read h args.a) c memory fetched state state
         (joined fetched_low fetched_high)
         (run ∙ ap (λ b. alone c (cond b (fetch h args.a) (answer_cached h args.a))
         (held c (lock_of h args.a) memory)) absent)
@@ -340,7 +339,7 @@ read_alone h args is low c memory state e = by_state (memory (5 * args.a) == 0) 
         (chunk_of memory args.a) sound).stored_lo (small (chunk_of memory args.a) sound).stored_hi
         ∙ sym (shown_absent (chunk_of memory args.a) absent)))
     by_state false there =
-        met h (record { method = CaRead; args = args }) (read h args.a) c memory
+        met h (record { method = OfCache Read; args = args }) (read h args.a) c memory
         (untouched c (lock_of h args.a) memory) state state
         (joined (held c (lock_of h args.a) memory (5 * args.a + 1))
         (held c (lock_of h args.a) memory (5 * args.a + 2)))
@@ -369,19 +368,10 @@ procedure_right_alone h method args is of_cache fit few =
     by_method : (method : Method) → subject_of method ≡ Cache → args.a < h.size
         → IsRightAlone h (record { method = method; args = args })
         (procedure_of h Correct method args)
-    by_method CaWrite of_cache low = write_alone h args is low few
-    by_method CaFlush of_cache low = flush_alone h args is low
-    by_method CaEvict of_cache low = evict_alone h args is low
-    by_method CaRead of_cache low = read_alone h args is low
-    by_method MsInsert of_cache low = cc
-    by_method MsInsertPair of_cache low = cc
-    by_method MsDelete of_cache low = cc
-    by_method MsLookup of_cache low = cc
-    by_method TrInsert of_cache low = cc
-    by_method TrDelete of_cache low = cc
-    by_method TrLookup of_cache low = cc
-    by_method BuAppend of_cache low = cc
-    by_method BuAppendFrom of_cache low = cc
-    by_method BuCut of_cache low = cc
-    by_method BuLength of_cache low = cc
-    by_method BuRead of_cache low = cc
+    by_method (OfCache Write) of_cache low = write_alone h args is low few
+    by_method (OfCache Flush) of_cache low = flush_alone h args is low
+    by_method (OfCache Evict) of_cache low = evict_alone h args is low
+    by_method (OfCache Read) of_cache low = read_alone h args is low
+    by_method (OfMultiset other) of_cache low = cc
+    by_method (OfTree other) of_cache low = cc
+    by_method (OfBuffers other) of_cache low = cc

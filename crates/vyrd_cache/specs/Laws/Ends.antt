@@ -6,11 +6,10 @@ use Rattle.std.specs.Prelude.{◌==◌, ◌&&◌, not}
 use Rattle.vyrd_base.specs.declared.header.Header.{Header}
 use Rattle.vyrd_base.specs.declared.subject.Subject.TheVariants.{Cache}
 use Rattle.vyrd_base.specs.declared.subject.Method.{Method}
-use Rattle.vyrd_base.specs.declared.subject.Method.TheVariants.{MsInsert, MsInsertPair, MsDelete}
-use Rattle.vyrd_base.specs.declared.subject.Method.TheVariants.{MsLookup, CaWrite, CaFlush, CaEvict}
-use Rattle.vyrd_base.specs.declared.subject.Method.TheVariants.{CaRead, TrInsert, TrDelete}
-use Rattle.vyrd_base.specs.declared.subject.Method.TheVariants.{TrLookup, BuAppend, BuAppendFrom}
-use Rattle.vyrd_base.specs.declared.subject.Method.TheVariants.{BuCut, BuLength, BuRead}
+use Rattle.vyrd_base.specs.declared.subject.Method.TheVariants.{Multiset as OfMultiset}
+use Rattle.vyrd_base.specs.declared.subject.Method.TheVariants.{Cache as OfCache, Tree as OfTree}
+use Rattle.vyrd_base.specs.declared.subject.Method.TheVariants.{Buffers as OfBuffers}
+use Rattle.vyrd_base.specs.declared.cache.CacheMethod.TheVariants.{Write, Flush, Evict, Read}
 use Rattle.vyrd_base.specs.declared.log.Kind.TheVariants.{Return, Commit, BlockOpen, BlockClose}
 use Rattle.vyrd_base.specs.declared.log.Kind.TheVariants.{BlockCommit}
 use Rattle.vyrd_base.specs.declared.subject.Args.{Args}
@@ -145,19 +144,10 @@ procedure_ends h variant method args is of_cache =
   where
     by_method : (method : Method) → subject_of method ≡ Cache
         → EndsByReturn 15 (procedure_of h variant method args)
-    by_method CaWrite of_cache = ends_write h variant args.a args.b args.c
-    by_method CaFlush of_cache = ends_flush h args.a
-    by_method CaEvict of_cache = ends_evict h args.a
-    by_method CaRead of_cache = ends_read h args.a
-    by_method MsInsert of_cache = cc
-    by_method MsInsertPair of_cache = cc
-    by_method MsDelete of_cache = cc
-    by_method MsLookup of_cache = cc
-    by_method TrInsert of_cache = cc
-    by_method TrDelete of_cache = cc
-    by_method TrLookup of_cache = cc
-    by_method BuAppend of_cache = cc
-    by_method BuAppendFrom of_cache = cc
-    by_method BuCut of_cache = cc
-    by_method BuLength of_cache = cc
-    by_method BuRead of_cache = cc
+    by_method (OfCache Write) of_cache = ends_write h variant args.a args.b args.c
+    by_method (OfCache Flush) of_cache = ends_flush h args.a
+    by_method (OfCache Evict) of_cache = ends_evict h args.a
+    by_method (OfCache Read) of_cache = ends_read h args.a
+    by_method (OfMultiset other) of_cache = cc
+    by_method (OfTree other) of_cache = cc
+    by_method (OfBuffers other) of_cache = cc

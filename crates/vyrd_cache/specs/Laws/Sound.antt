@@ -7,11 +7,10 @@ use Rattle.std.proofs.lemmas.Bool.Decides.{nat_tests}
 use Rattle.vyrd_base.specs.declared.header.Header.{Header}
 use Rattle.vyrd_base.specs.declared.subject.Subject.TheVariants.{Cache}
 use Rattle.vyrd_base.specs.declared.subject.Method.{Method}
-use Rattle.vyrd_base.specs.declared.subject.Method.TheVariants.{MsInsert, MsInsertPair, MsDelete}
-use Rattle.vyrd_base.specs.declared.subject.Method.TheVariants.{MsLookup, CaWrite, CaFlush, CaEvict}
-use Rattle.vyrd_base.specs.declared.subject.Method.TheVariants.{CaRead, TrInsert, TrDelete}
-use Rattle.vyrd_base.specs.declared.subject.Method.TheVariants.{TrLookup, BuAppend, BuAppendFrom}
-use Rattle.vyrd_base.specs.declared.subject.Method.TheVariants.{BuCut, BuLength, BuRead}
+use Rattle.vyrd_base.specs.declared.subject.Method.TheVariants.{Multiset as OfMultiset}
+use Rattle.vyrd_base.specs.declared.subject.Method.TheVariants.{Cache as OfCache, Tree as OfTree}
+use Rattle.vyrd_base.specs.declared.subject.Method.TheVariants.{Buffers as OfBuffers}
+use Rattle.vyrd_base.specs.declared.cache.CacheMethod.TheVariants.{Write, Flush, Evict, Read}
 use Rattle.vyrd_base.specs.declared.subject.Args.{Args}
 use Rattle.vyrd_base.specs.declared.log.Kind.TheVariants.{Return, Commit, BlockOpen, BlockCommit}
 use Rattle.vyrd_base.specs.Subjects.{subject_of, is_observer, are_args}
@@ -144,25 +143,25 @@ locked h chunk method rest is low sound =
 
 sound_put_cached : (h : Header) (chunk low high : ℕ) → h.subject ≡ Cache → chunk < h.size
     → low < 2 ^ 32 → high < 2 ^ 32
-    → IsSound h (holding (lock_of h chunk) CaWrite false false) (put_cached h chunk low high)
+    → IsSound h (holding (lock_of h chunk) (OfCache Write) false false) (put_cached h chunk low high)
 sound_put_cached h chunk low high is few x y =
-    pair_block h chunk CaWrite (cached_low chunk) low (cached_high chunk) high 2 is few refl
+    pair_block h chunk (OfCache Write) (cached_low chunk) low (cached_high chunk) high 2 is few refl
     (omega arith) (omega arith)
     (omega arith) (omega arith) (omega arith)
 
 sound_put_cached_bare : (h : Header) (chunk low high : ℕ) → h.subject ≡ Cache → chunk < h.size
     → low < 2 ^ 32 → high < 2 ^ 32
-    → IsSound h (holding (lock_of h chunk) CaWrite false false) (put_cached_bare h chunk low high)
+    → IsSound h (holding (lock_of h chunk) (OfCache Write) false false) (put_cached_bare h chunk low high)
 sound_put_cached_bare h chunk low high is few x y =
-    given h chunk CaWrite false (in_order (Store (cached_low chunk) low
+    given h chunk (OfCache Write) false (in_order (Store (cached_low chunk) low
     ∷ Store (cached_high chunk) high ∷ Mark Commit ∷ Mark (Return 1) ∷ [])) is few (
-      may_store h (unlocked CaWrite false) CaWrite (cached_low chunk) low is (omega arith)
+      may_store h (unlocked (OfCache Write) false) (OfCache Write) (cached_low chunk) low is (omega arith)
           (omega arith) refl,
       λ _ _. (
-        may_store h (unlocked CaWrite false) CaWrite (cached_high chunk) high is (omega arith)
+        may_store h (unlocked (OfCache Write) false) (OfCache Write) (cached_high chunk) high is (omega arith)
             (omega arith) refl,
         λ _ _.
-            (refl, λ _ _. returned h CaWrite true 1 refl),
+            (refl, λ _ _. returned h (OfCache Write) true 1 refl),
       ),
     )
 
@@ -186,19 +185,19 @@ sound_only_commit h chunk method is few mutates =
     (rw mutates, λ _ _. leave h chunk method true 1 is few (rw mutates))
 
 sound_forget : (h : Header) (chunk : ℕ) → h.subject ≡ Cache → chunk < h.size
-    → IsSound h (holding (lock_of h chunk) CaEvict false false) (forget h chunk)
+    → IsSound h (holding (lock_of h chunk) (OfCache Evict) false false) (forget h chunk)
 sound_forget h chunk is few = (
   refl,
   λ _ _. (
-    may_store h (holding (lock_of h chunk) CaEvict false true) CaEvict (state_cell chunk) 0 is
+    may_store h (holding (lock_of h chunk) (OfCache Evict) false true) (OfCache Evict) (state_cell chunk) 0 is
         (omega arith) (omega arith) refl,
     λ _ _.
-        (refl, λ _ _. leave h chunk CaEvict true 1 is few refl),
+        (refl, λ _ _. leave h chunk (OfCache Evict) true 1 is few refl),
   ),
 )
 
 sound_fetch : (h : Header) (chunk : ℕ) → h.subject ≡ Cache → chunk < h.size
-    → IsSound h (holding (lock_of h chunk) CaRead false false) (fetch h chunk)
+    → IsSound h (holding (lock_of h chunk) (OfCache Read) false false) (fetch h chunk)
 sound_fetch h chunk is few = (
   plain_cell h (stored_low chunk) is (omega arith),
   λ low x. (
@@ -206,16 +205,16 @@ sound_fetch h chunk is few = (
     λ high y. (
       refl,
       λ _ _. (
-        may_store h (holding (lock_of h chunk) CaRead false true) CaRead (cached_low chunk) low is
+        may_store h (holding (lock_of h chunk) (OfCache Read) false true) (OfCache Read) (cached_low chunk) low is
             (omega arith) x refl,
         λ _ _. (
-          may_store h (holding (lock_of h chunk) CaRead false true) CaRead (cached_high chunk) high
+          may_store h (holding (lock_of h chunk) (OfCache Read) false true) (OfCache Read) (cached_high chunk) high
               is (omega arith) y refl,
           λ _ _. (
-            may_store h (holding (lock_of h chunk) CaRead false true) CaRead (state_cell chunk) 1 is
+            may_store h (holding (lock_of h chunk) (OfCache Read) false true) (OfCache Read) (state_cell chunk) 1 is
                 (omega arith) (omega arith) refl,
             λ _ _.
-                (refl, λ _ _. leave h chunk CaRead false (joined low high) is few refl),
+                (refl, λ _ _. leave h chunk (OfCache Read) false (joined low high) is few refl),
           ),
         ),
       ),
@@ -224,13 +223,13 @@ sound_fetch h chunk is few = (
 )
 
 sound_answer_cached : (h : Header) (chunk : ℕ) → h.subject ≡ Cache → chunk < h.size
-    → IsSound h (holding (lock_of h chunk) CaRead false false) (answer_cached h chunk)
+    → IsSound h (holding (lock_of h chunk) (OfCache Read) false false) (answer_cached h chunk)
 sound_answer_cached h chunk is few = (
   plain_cell h (cached_low chunk) is (omega arith),
   λ low x. (
     plain_cell h (cached_high chunk) is (omega arith),
     λ high y.
-        leave h chunk CaRead false (joined low high) is few refl,
+        leave h chunk (OfCache Read) false (joined low high) is few refl,
   ),
 )
 
@@ -246,34 +245,34 @@ looked h chunk method rest is few sound =
 
 sound_write : (h : Header) (variant : Variant) (chunk low high : ℕ) → h.subject ≡ Cache
     → chunk < h.size → low < 2 ^ 32 → high < 2 ^ 32
-    → IsSound h (just_called CaWrite) (write h variant chunk low high)
+    → IsSound h (just_called (OfCache Write)) (write h variant chunk low high)
 sound_write h Correct chunk low high is few x y =
-    locked h chunk CaWrite (put_cached h chunk low high) is few
+    locked h chunk (OfCache Write) (put_cached h chunk low high) is few
     (sound_put_cached h chunk low high is few x y)
-sound_write h Broken chunk low high is few x y = looked h chunk CaWrite _ is few (λ state. either h
+sound_write h Broken chunk low high is few x y = looked h chunk (OfCache Write) _ is few (λ state. either h
     _ (state == 2) (put_cached_bare h chunk low high) (put_cached h chunk low high)
     (sound_put_cached_bare h chunk low high is few x y)
     (sound_put_cached h chunk low high is few x y))
 
 sound_flush : (h : Header) (chunk : ℕ) → h.subject ≡ Cache → chunk < h.size
-    → IsSound h (just_called CaFlush) (flush h chunk)
+    → IsSound h (just_called (OfCache Flush)) (flush h chunk)
 sound_flush h chunk is few =
-    looked h chunk CaFlush _ is few (λ state. either h _ (state == 2) (put_stored h chunk 1)
-    (only_commit h chunk) (sound_put_stored h chunk 1 CaFlush is few refl (omega arith))
-    (sound_only_commit h chunk CaFlush is few refl))
+    looked h chunk (OfCache Flush) _ is few (λ state. either h _ (state == 2) (put_stored h chunk 1)
+    (only_commit h chunk) (sound_put_stored h chunk 1 (OfCache Flush) is few refl (omega arith))
+    (sound_only_commit h chunk (OfCache Flush) is few refl))
 
 sound_evict : (h : Header) (chunk : ℕ) → h.subject ≡ Cache → chunk < h.size
-    → IsSound h (just_called CaEvict) (evict h chunk)
-sound_evict h chunk is few = looked h chunk CaEvict _ is few (λ state. either h _ (state == 2)
+    → IsSound h (just_called (OfCache Evict)) (evict h chunk)
+sound_evict h chunk is few = looked h chunk (OfCache Evict) _ is few (λ state. either h _ (state == 2)
     (put_stored h chunk 0) (cond (state == 0) (only_commit h chunk) (forget h chunk))
-    (sound_put_stored h chunk 0 CaEvict is few refl (omega arith))
+    (sound_put_stored h chunk 0 (OfCache Evict) is few refl (omega arith))
     (either h _ (state == 0) (only_commit h chunk) (forget h chunk)
-    (sound_only_commit h chunk CaEvict is few refl) (sound_forget h chunk is few)))
+    (sound_only_commit h chunk (OfCache Evict) is few refl) (sound_forget h chunk is few)))
 
 sound_read : (h : Header) (chunk : ℕ) → h.subject ≡ Cache → chunk < h.size
-    → IsSound h (just_called CaRead) (read h chunk)
+    → IsSound h (just_called (OfCache Read)) (read h chunk)
 sound_read h chunk is few =
-    looked h chunk CaRead _ is few (λ state. either h _ (state == 0) (fetch h chunk)
+    looked h chunk (OfCache Read) _ is few (λ state. either h _ (state == 0) (fetch h chunk)
     (answer_cached h chunk) (sound_fetch h chunk is few) (sound_answer_cached h chunk is few))
 
 -- the arguments name a chunk
@@ -286,22 +285,13 @@ chunk_below size method args of_cache fit = by_method method of_cache fit
 
     by_method : (method : Method) → subject_of method ≡ Cache → are_args size method args ≡ true
         → args.a < size
-    by_method CaWrite of_cache fit = lower _ fit
-    by_method CaFlush of_cache fit = lower _ fit
-    by_method CaEvict of_cache fit = lower _ fit
-    by_method CaRead of_cache fit = lower _ fit
-    by_method MsInsert of_cache fit = cc
-    by_method MsInsertPair of_cache fit = cc
-    by_method MsDelete of_cache fit = cc
-    by_method MsLookup of_cache fit = cc
-    by_method TrInsert of_cache fit = cc
-    by_method TrDelete of_cache fit = cc
-    by_method TrLookup of_cache fit = cc
-    by_method BuAppend of_cache fit = cc
-    by_method BuAppendFrom of_cache fit = cc
-    by_method BuCut of_cache fit = cc
-    by_method BuLength of_cache fit = cc
-    by_method BuRead of_cache fit = cc
+    by_method (OfCache Write) of_cache fit = lower _ fit
+    by_method (OfCache Flush) of_cache fit = lower _ fit
+    by_method (OfCache Evict) of_cache fit = lower _ fit
+    by_method (OfCache Read) of_cache fit = lower _ fit
+    by_method (OfMultiset other) of_cache fit = cc
+    by_method (OfTree other) of_cache fit = cc
+    by_method (OfBuffers other) of_cache fit = cc
 
 pub procedure_sound : (h : Header) (variant : Variant) (method : Method) (args : Args)
     → h.subject ≡ Cache → subject_of method ≡ Cache → are_args h.size method args ≡ true
@@ -312,20 +302,11 @@ procedure_sound h variant method args is of_cache fit small =
   where
     by_method : (method : Method) → subject_of method ≡ Cache → args.a < h.size
         → IsSound h (just_called method) (procedure_of h variant method args)
-    by_method CaWrite of_cache low =
+    by_method (OfCache Write) of_cache low =
         sound_write h variant args.a args.b args.c is low (small_b args small) (small_c args small)
-    by_method CaFlush of_cache low = sound_flush h args.a is low
-    by_method CaEvict of_cache low = sound_evict h args.a is low
-    by_method CaRead of_cache low = sound_read h args.a is low
-    by_method MsInsert of_cache low = cc
-    by_method MsInsertPair of_cache low = cc
-    by_method MsDelete of_cache low = cc
-    by_method MsLookup of_cache low = cc
-    by_method TrInsert of_cache low = cc
-    by_method TrDelete of_cache low = cc
-    by_method TrLookup of_cache low = cc
-    by_method BuAppend of_cache low = cc
-    by_method BuAppendFrom of_cache low = cc
-    by_method BuCut of_cache low = cc
-    by_method BuLength of_cache low = cc
-    by_method BuRead of_cache low = cc
+    by_method (OfCache Flush) of_cache low = sound_flush h args.a is low
+    by_method (OfCache Evict) of_cache low = sound_evict h args.a is low
+    by_method (OfCache Read) of_cache low = sound_read h args.a is low
+    by_method (OfMultiset other) of_cache low = cc
+    by_method (OfTree other) of_cache low = cc
+    by_method (OfBuffers other) of_cache low = cc

@@ -2,6 +2,12 @@
 use Rattle.std.specs.Prelude.{ℕ}
 use Rattle.vyrd_base.specs.declared.log.Kind.{Kind}
 use Rattle.vyrd_base.specs.declared.log.Kind.TheVariants.{BlockClose, BlockCommit}
+use Rattle.vyrd_base.specs.declared.cache.CacheMethod.{CacheMethod}
+use Rattle.vyrd_base.specs.declared.cache.CacheMethod.TheVariants.{Write as CaWrite}
+use Rattle.vyrd_base.specs.declared.cache.CacheMethod.TheVariants.{Flush as CaFlush}
+use Rattle.vyrd_base.specs.declared.cache.CacheMethod.TheVariants.{Evict as CaEvict, Read as CaRead}
+use Rattle.vyrd_memory.specs.declared.op.Variant.{Variant}
+use Rattle.vyrd_memory.specs.declared.op.Variant.TheVariants.{Correct, Broken}
 use Rattle.vyrd_cache.specs.declared.task.Action.{Action}
 use Rattle.vyrd_cache.specs.declared.task.Action.TheVariants.{Write, LookAndWrite, BareWrite, Flush}
 use Rattle.vyrd_cache.specs.declared.task.Action.TheVariants.{Evict, Forget, Read, Fetch}
@@ -11,6 +17,14 @@ use Rattle.vyrd_cache.specs.declared.place.Place.TheVariants.{StoreHigh, StoreSt
 use Rattle.vyrd_cache.specs.declared.place.Place.TheVariants.{Unlock, Return, Over}
 use Rattle.vyrd_cache.specs.Cells.{cached_low, cached_high, stored_low, stored_high}
 use Rattle.vyrd_cache.specs.Procedures.{joined}
+
+-- what an operation of the method does at first: the broken variant's write looks before it locks
+abbrev pub action_of : CacheMethod → Variant → Action
+action_of CaWrite Correct = Write
+action_of CaWrite Broken = LookAndWrite
+action_of CaFlush variant = Flush
+action_of CaEvict variant = Evict
+action_of CaRead variant = Read
 
 -- the cell of the lower half that is loaded
 abbrev pub source_low : Action → ℕ → ℕ

@@ -4,7 +4,11 @@ use Rattle.std.specs.Prelude.{nat_lt, nat_le, slice_index}
 use Rattle.vyrd_base.specs.declared.header.Header.{Header}
 use Rattle.vyrd_base.specs.declared.subject.Subject.TheVariants.{Buffers}
 use Rattle.vyrd_base.specs.declared.subject.Method.{Method}
-use Rattle.vyrd_base.specs.declared.subject.Method.TheVariants.{MsInsert, MsInsertPair, MsDelete, MsLookup, CaWrite, CaFlush, CaEvict, CaRead, TrInsert, TrDelete, TrLookup, BuAppend, BuAppendFrom, BuCut, BuLength, BuRead}
+use Rattle.vyrd_base.specs.declared.subject.Method.TheVariants.{Multiset as OfMultiset}
+use Rattle.vyrd_base.specs.declared.subject.Method.TheVariants.{Cache as OfCache, Tree as OfTree}
+use Rattle.vyrd_base.specs.declared.subject.Method.TheVariants.{Buffers as OfBuffers}
+use Rattle.vyrd_base.specs.declared.buffers.BuffersMethod.TheVariants.{Append, AppendFrom, Cut}
+use Rattle.vyrd_base.specs.declared.buffers.BuffersMethod.TheVariants.{Length, Read}
 use Rattle.vyrd_base.specs.declared.subject.Args.{Args}
 use Rattle.vyrd_base.specs.declared.log.Kind.TheVariants.{Commit, BlockOpen}
 use Rattle.vyrd_base.specs.Callers.{Called}
@@ -41,8 +45,8 @@ use Rattle.vyrd_every.proofs.Buffers.Parts.{block_right, unlock_right, lock_righ
 
 -- an append of one character
 append_right : (h : Header) (k : Locals) (before : Memory) (args : Args) → h.subject ≡ Buffers → args.a < h.size → args.b < 255 → ((i : ℕ) → k.owned i ≡ false)
-    → k.called ≡ Some (record { method = BuAppend; args = args })
-    → DoesRight (buffers h) (at [] false false (record { method = BuAppend; args = args })) k before (append h args.a args.b)
+    → k.called ≡ Some (record { method = OfBuffers Append; args = args })
+    → DoesRight (buffers h) (at [] false false (record { method = OfBuffers Append; args = args })) k before (append h args.a args.b)
 append_right h k before args is low small none called_is =
     lock_right h called k before args.a (step (Load (count_cell args.a)) (append_at h args.a args.b)) low
     (λ m0 held.
@@ -50,7 +54,7 @@ append_right h k before args is low small none called_is =
     (λ now stays. by_count now held (nat_le 7 (now (8 * args.a))) refl))
   where
     called : Called
-    called = record { method = BuAppend; args = args }
+    called = record { method = OfBuffers Append; args = args }
 
     locks : List ℕ
     locks = lock_of h args.a ∷ []
@@ -107,14 +111,14 @@ count_now h locks before now state b is stays held s =
 
 -- an append of another buffer's characters, with the locks of both
 append_all_right : (h : Header) (locks : List ℕ) (k : Locals) (now : Memory) (args : Args) (first second : ℕ) → h.subject ≡ Buffers
-    → IsHeld h locks args.a → IsHeld h locks args.b → ((i : ℕ) → k.owned i ≡ false) → k.called ≡ Some (record { method = BuAppendFrom; args = args })
-    → ((reply : ℕ) → Finishes h locks (record { method = BuAppendFrom; args = args }) reply (unlock_both h first second (returns reply)))
-    → DoesRight (buffers h) (at locks false false (record { method = BuAppendFrom; args = args })) k now
+    → IsHeld h locks args.a → IsHeld h locks args.b → ((i : ℕ) → k.owned i ≡ false) → k.called ≡ Some (record { method = OfBuffers AppendFrom; args = args })
+    → ((reply : ℕ) → Finishes h locks (record { method = OfBuffers AppendFrom; args = args }) reply (unlock_both h first second (returns reply)))
+    → DoesRight (buffers h) (at locks false false (record { method = OfBuffers AppendFrom; args = args })) k now
     (append_all h first second args.a args.b (min (now (8 * args.a)) 7) (min (now (8 * args.b)) 7))
 append_all_right h locks k now args first second is held_a held_b none called_is finishes = by_room (nat_le (count + more) 7) refl
   where
     called : Called
-    called = record { method = BuAppendFrom; args = args }
+    called = record { method = OfBuffers AppendFrom; args = args }
 
     count : ℕ
     count = min (now (8 * args.a)) 7
@@ -172,8 +176,8 @@ append_all_right h locks k now args first second is held_a held_b none called_is
         (λ state s. (state, full_allowed state args.a (amount_of state args.b) (room_is now state (stays_same h locks now) s ∙ e), s))
 
 append_from_right : (h : Header) (k : Locals) (before : Memory) (args : Args) → h.subject ≡ Buffers → args.a < h.size → args.b < h.size
-    → ((i : ℕ) → k.owned i ≡ false) → k.called ≡ Some (record { method = BuAppendFrom; args = args })
-    → DoesRight (buffers h) (at [] false false (record { method = BuAppendFrom; args = args })) k before (append_from h Correct args.a args.b)
+    → ((i : ℕ) → k.owned i ≡ false) → k.called ≡ Some (record { method = OfBuffers AppendFrom; args = args })
+    → DoesRight (buffers h) (at [] false false (record { method = OfBuffers AppendFrom; args = args })) k before (append_from h Correct args.a args.b)
 append_from_right h k before args is low_a low_b none called_is =
     lock_both_right h called k before first second (step (Load (count_cell args.a)) (λ count. step (Load (count_cell args.b)) (rest count)))
     (omega arith) (omega (arith, low_a, low_b)) refl
@@ -188,7 +192,7 @@ append_from_right h k before args is low_a low_b none called_is =
     (append_all_right h locks k now args first second is both.0 both.1 none called_is finishes))))
   where
     called : Called
-    called = record { method = BuAppendFrom; args = args }
+    called = record { method = OfBuffers AppendFrom; args = args }
 
     first : ℕ
     first = min args.a args.b
@@ -201,8 +205,8 @@ append_from_right h k before args is low_a low_b none called_is =
 
 -- a cut
 cut_right : (h : Header) (k : Locals) (before : Memory) (args : Args) → h.subject ≡ Buffers → args.a < h.size → ((i : ℕ) → k.owned i ≡ false)
-    → k.called ≡ Some (record { method = BuCut; args = args })
-    → DoesRight (buffers h) (at [] false false (record { method = BuCut; args = args })) k before (cut h args.a args.b)
+    → k.called ≡ Some (record { method = OfBuffers Cut; args = args })
+    → DoesRight (buffers h) (at [] false false (record { method = OfBuffers Cut; args = args })) k before (cut h args.a args.b)
 cut_right h k before args is low none called_is =
     lock_right h called k before args.a (step (Load (count_cell args.a)) (cut_at h args.a args.b)) low
     (λ m0 held.
@@ -210,7 +214,7 @@ cut_right h k before args is low none called_is =
     (λ now stays. by_count now held (nat_le (now (8 * args.a)) args.b) refl))
   where
     called : Called
-    called = record { method = BuCut; args = args }
+    called = record { method = OfBuffers Cut; args = args }
 
     locks : List ℕ
     locks = lock_of h args.a ∷ []
@@ -241,8 +245,8 @@ cut_right h k before args is low none called_is =
 
 -- a length, and a read, have their answers when they give the lock back
 length_right : (h : Header) (k : Locals) (before : Memory) (args : Args) → h.subject ≡ Buffers → args.a < h.size → ((i : ℕ) → k.owned i ≡ false)
-    → k.called ≡ Some (record { method = BuLength; args = args })
-    → DoesRight (buffers h) (at [] false false (record { method = BuLength; args = args })) k before (length_of h args.a)
+    → k.called ≡ Some (record { method = OfBuffers Length; args = args })
+    → DoesRight (buffers h) (at [] false false (record { method = OfBuffers Length; args = args })) k before (length_of h args.a)
 length_right h k before args is low none called_is =
     lock_right h called k before args.a (step (Load (count_cell args.a)) (λ count. unlock h args.a (returns (min count 7)))) low
     (λ m0 held.
@@ -253,11 +257,11 @@ length_right h k before args is low none called_is =
     length_at h now state args.a is s low ∙ count_now h (lock_of h args.a ∷ []) now now state args.a is (stays_same h (lock_of h args.a ∷ []) now) held s)))
   where
     called : Called
-    called = record { method = BuLength; args = args }
+    called = record { method = OfBuffers Length; args = args }
 
 read_right : (h : Header) (k : Locals) (before : Memory) (args : Args) → h.subject ≡ Buffers → args.a < h.size → ((i : ℕ) → k.owned i ≡ false)
-    → k.called ≡ Some (record { method = BuRead; args = args })
-    → DoesRight (buffers h) (at [] false false (record { method = BuRead; args = args })) k before (read h args.a)
+    → k.called ≡ Some (record { method = OfBuffers Read; args = args })
+    → DoesRight (buffers h) (at [] false false (record { method = OfBuffers Read; args = args })) k before (read h args.a)
 read_right h k before args is low none called_is =
     lock_right h called k before args.a (step (Load (count_cell args.a)) (λ count. read_from h (min count 7) args.a 0 0)) low
     (λ m0 held.
@@ -269,7 +273,7 @@ read_right h k before args is low none called_is =
     (λ state s. answer now last held then_ state s))))
   where
     called : Called
-    called = record { method = BuRead; args = args }
+    called = record { method = OfBuffers Read; args = args }
 
     locks : List ℕ
     locks = lock_of h args.a ∷ []
@@ -297,26 +301,18 @@ procedure_right h k before method args is of fit none called_is = by_method meth
 
     by_method : (method : Method) → subject_of method ≡ Buffers → are_ranged h.size method args ≡ true → k.called ≡ Some (record { method = method; args = args })
         → DoesRight (buffers h) (just_called method) k before (procedure_of h Correct method args)
-    by_method BuAppend of fit called_is =
+    by_method (OfBuffers Append) of fit called_is =
         append_right h k before args is (below_of args.a h.size (first_true (nat_lt args.a h.size) (nat_lt args.b 255) fit))
         (below_of args.b 255 (second_true (nat_lt args.a h.size) (nat_lt args.b 255) fit)) none called_is
-    by_method BuAppendFrom of fit called_is =
+    by_method (OfBuffers AppendFrom) of fit called_is =
         append_from_right h k before args is (below_of args.a h.size (first_true (nat_lt args.a h.size) (nat_lt args.b h.size) fit))
         (below_of args.b h.size (second_true (nat_lt args.a h.size) (nat_lt args.b h.size) fit)) none called_is
-    by_method BuCut of fit called_is = cut_right h k before args is (below_of args.a h.size fit) none called_is
-    by_method BuLength of fit called_is = length_right h k before args is (below_of args.a h.size fit) none called_is
-    by_method BuRead of fit called_is = read_right h k before args is (below_of args.a h.size fit) none called_is
-    by_method MsInsert of fit called_is = cc
-    by_method MsInsertPair of fit called_is = cc
-    by_method MsDelete of fit called_is = cc
-    by_method MsLookup of fit called_is = cc
-    by_method CaWrite of fit called_is = cc
-    by_method CaFlush of fit called_is = cc
-    by_method CaEvict of fit called_is = cc
-    by_method CaRead of fit called_is = cc
-    by_method TrInsert of fit called_is = cc
-    by_method TrDelete of fit called_is = cc
-    by_method TrLookup of fit called_is = cc
+    by_method (OfBuffers Cut) of fit called_is = cut_right h k before args is (below_of args.a h.size fit) none called_is
+    by_method (OfBuffers Length) of fit called_is = length_right h k before args is (below_of args.a h.size fit) none called_is
+    by_method (OfBuffers Read) of fit called_is = read_right h k before args is (below_of args.a h.size fit) none called_is
+    by_method (OfMultiset other) of fit called_is = cc
+    by_method (OfCache other) of fit called_is = cc
+    by_method (OfTree other) of fit called_is = cc
 
 -- so each operation that may be called does right
 pub buffers_right : (h : Header) (op : Op) → h.subject ≡ Buffers → is_callable h op ≡ true → IsRight (buffers h) (buffers_procedure h Correct) op

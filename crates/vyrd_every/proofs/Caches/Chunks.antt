@@ -3,8 +3,8 @@ use Rattle.std.proofs.Common.{◌≡◌, ◌≢◌, ℕ, ◌+◌, ◌*◌, ◌/�
 use Rattle.vyrd_base.specs.declared.header.Header.{Header}
 use Rattle.vyrd_base.specs.declared.subject.Subject.TheVariants.{Cache}
 use Rattle.vyrd_base.specs.Amounts.{Amounts, with_amount}
-use Rattle.vyrd_base.specs.Views.{Chunk}
-use Rattle.vyrd_base.specs.Represented.{is_sound_chunk}
+use Rattle.vyrd_base.specs.Cache.{Chunk}
+use Rattle.vyrd_base.specs.Cache.{is_sound_chunk}
 use Rattle.vyrd_memory.specs.Alone.{Memory, with_cell}
 use Rattle.vyrd_memory.specs.Soundness.{Situation, holds}
 use Rattle.vyrd_memory.proofs.Memories.{Represents, changed_cell, other_cell}

@@ -9,8 +9,10 @@ use Rattle.vyrd_base.specs.Layout.{plain_words, plain_words_of}
 use Rattle.vyrd_base.specs.Amounts.{Amounts, collected, given}
 use Rattle.vyrd_base.specs.Specification.{start}
 use Rattle.vyrd_base.specs.FirstVersion.{old_effects, old_value_after, old_words_after}
-use Rattle.vyrd_base.specs.Views.{chunk_at, chunk_parts, parts_of, view_of_words}
-use Rattle.vyrd_base.specs.Represented.{is_sound, is_sound_chunk}
+use Rattle.vyrd_base.specs.Cache.{chunk_at, chunk_parts}
+use Rattle.vyrd_base.specs.Views.{parts_of, view_of_words}
+use Rattle.vyrd_base.specs.Represented.{is_sound}
+use Rattle.vyrd_base.specs.Cache.{is_sound_chunk}
 use Rattle.vyrd_base.proofs.SumLaws.{given_nothing}
 use Rattle.vyrd_base.proofs.PlaceLaws.{pass_all}
 use Rattle.vyrd_memory.specs.Alone.{words_in}

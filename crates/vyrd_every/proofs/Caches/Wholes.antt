@@ -4,15 +4,18 @@ use Rattle.std.specs.Prelude.{◌==◌, ◌&&◌, nat_lt}
 use Rattle.vyrd_base.specs.declared.header.Header.{Header}
 use Rattle.vyrd_base.specs.declared.subject.Subject.TheVariants.{Cache}
 use Rattle.vyrd_base.specs.declared.subject.Method.{Method}
-use Rattle.vyrd_base.specs.declared.subject.Method.TheVariants.{MsInsert, MsInsertPair, MsDelete, MsLookup, CaWrite, CaFlush, CaEvict, CaRead, TrInsert, TrDelete, TrLookup, BuAppend, BuAppendFrom, BuCut, BuLength, BuRead}
+use Rattle.vyrd_base.specs.declared.subject.Method.TheVariants.{Multiset as OfMultiset}
+use Rattle.vyrd_base.specs.declared.subject.Method.TheVariants.{Cache as OfCache, Tree as OfTree}
+use Rattle.vyrd_base.specs.declared.subject.Method.TheVariants.{Buffers as OfBuffers}
+use Rattle.vyrd_base.specs.declared.cache.CacheMethod.TheVariants.{Write, Flush, Evict, Read}
 use Rattle.vyrd_base.specs.declared.subject.Args.{Args}
 use Rattle.vyrd_base.specs.declared.log.Kind.TheVariants.{Return, BlockOpen, BlockClose, BlockCommit}
 use Rattle.vyrd_base.specs.Callers.{Called}
 use Rattle.vyrd_base.specs.Subjects.{is_observer, subject_of, are_args, same_subject}
 use Rattle.vyrd_base.specs.Amounts.{Amounts, with_amount}
 use Rattle.vyrd_base.specs.Specification.{next_state}
-use Rattle.vyrd_base.specs.Views.{Chunk, cached_pair}
-use Rattle.vyrd_base.specs.Represented.{is_sound_chunk}
+use Rattle.vyrd_base.specs.Cache.{Chunk, cached_pair}
+use Rattle.vyrd_base.specs.Cache.{is_sound_chunk}
 use Rattle.vyrd_base.proofs.TestLaws.{first_true, second_true}
 use Rattle.vyrd_memory.specs.declared.act.Act.TheVariants.{Load, Store, Give, Mark}
 use Rattle.vyrd_memory.specs.declared.op.Op.{Op}
@@ -170,8 +173,8 @@ committed_right h n a x b y z called k before low from_a to_a from_b to_b is mut
 
 -- a write
 write_right : (h : Header) (k : Locals) (before : Memory) (args : Args) → h.subject ≡ Cache → args.a < h.size → are_small args ≡ true
-    → k.called ≡ Some (record { method = CaWrite; args = args })
-    → DoesRight (cache h) (at [] false false (record { method = CaWrite; args = args })) k before (write h Correct args.a args.b args.c)
+    → k.called ≡ Some (record { method = OfCache Write; args = args })
+    → DoesRight (cache h) (at [] false false (record { method = OfCache Write; args = args })) k before (write h Correct args.a args.b args.c)
 write_right h k before args is low few called_is =
     enter_right h args.a called k before (put_cached h args.a args.b args.c)
     (λ now. committed_right h args.a (5 * args.a + 1) args.b (5 * args.a + 2) args.c 2 called k now low
@@ -189,7 +192,7 @@ write_right h k before args is low few called_is =
     )))
   where
     called : Called
-    called = record { method = CaWrite; args = args }
+    called = record { method = OfCache Write; args = args }
 
     b_small : nat_lt args.b (2 ^ 32) ≡ true
     b_small = second_true (nat_lt args.a (2 ^ 32)) _ (first_true _ (nat_lt args.c (2 ^ 32)) few)
@@ -283,8 +286,8 @@ forget_right h n called k before is low called_is mutator stays other there =
 
 -- a flush
 flush_right : (h : Header) (k : Locals) (before : Memory) (args : Args) → h.subject ≡ Cache → args.a < h.size → ((i : ℕ) → k.owned i ≡ false)
-    → k.called ≡ Some (record { method = CaFlush; args = args })
-    → DoesRight (cache h) (at [] false false (record { method = CaFlush; args = args })) k before (flush h args.a)
+    → k.called ≡ Some (record { method = OfCache Flush; args = args })
+    → DoesRight (cache h) (at [] false false (record { method = OfCache Flush; args = args })) k before (flush h args.a)
 flush_right h k before args is low none called_is =
     enter_right h args.a called k before (step (Load (state_cell args.a)) (λ n. cond (n == 2) (put_stored h args.a 1) (only_commit h args.a)))
     (λ m0.
@@ -292,7 +295,7 @@ flush_right h k before args is low none called_is =
     (λ now same. by_state now (now (5 * args.a) == 2) refl))
   where
     called : Called
-    called = record { method = CaFlush; args = args }
+    called = record { method = OfCache Flush; args = args }
 
     by_state : (now : Memory) (b : Bool) → (now (5 * args.a) == 2) ≡ b
         → DoesRight (cache h) (locked h args.a false false called) k now (cond b (put_stored h args.a 1) (only_commit h args.a))
@@ -302,15 +305,15 @@ flush_right h k before args is low none called_is =
 
 -- an evict
 evict_right : (h : Header) (k : Locals) (before : Memory) (args : Args) → h.subject ≡ Cache → args.a < h.size → ((i : ℕ) → k.owned i ≡ false)
-    → k.called ≡ Some (record { method = CaEvict; args = args })
-    → DoesRight (cache h) (at [] false false (record { method = CaEvict; args = args })) k before (evict h args.a)
+    → k.called ≡ Some (record { method = OfCache Evict; args = args })
+    → DoesRight (cache h) (at [] false false (record { method = OfCache Evict; args = args })) k before (evict h args.a)
 evict_right h k before args is low none called_is =
     enter_right h args.a called k before (step (Load (state_cell args.a)) rest)
     (λ m0. look_right h args.a (5 * args.a) called k m0 rest low (omega arith) (omega arith)
     (λ now same. by_state now (now (5 * args.a) == 2) refl (now (5 * args.a) == 0) refl))
   where
     called : Called
-    called = record { method = CaEvict; args = args }
+    called = record { method = OfCache Evict; args = args }
 
     rest : ℕ → Script
     rest n = cond (n == 2) (put_stored h args.a 0) (cond (n == 0) (only_commit h args.a) (forget h args.a))
@@ -324,8 +327,8 @@ evict_right h k before args is low none called_is =
 
 -- a read has its answer when it gives its lock back
 answer_cached_right : (h : Header) (k : Locals) (before : Memory) (args : Args) → h.subject ≡ Cache → args.a < h.size → ((i : ℕ) → k.owned i ≡ false)
-    → k.called ≡ Some (record { method = CaRead; args = args }) → (before (5 * args.a) == 0) ≡ false
-    → DoesRight (cache h) (locked h args.a false false (record { method = CaRead; args = args })) k before (answer_cached h args.a)
+    → k.called ≡ Some (record { method = OfCache Read; args = args }) → (before (5 * args.a) == 0) ≡ false
+    → DoesRight (cache h) (locked h args.a false false (record { method = OfCache Read; args = args })) k before (answer_cached h args.a)
 answer_cached_right h k before args is low none called_is there =
     look_twice h n (5 * n + 1) (5 * n + 2) called k before (λ x y. in_order (Give (lock_of h n) ∷ Mark (Return (joined x y)) ∷ []))
     low (omega arith) (omega arith) (omega arith) (omega arith)
@@ -340,12 +343,12 @@ answer_cached_right h k before args is low none called_is there =
     n = args.a
 
     called : Called
-    called = record { method = CaRead; args = args }
+    called = record { method = OfCache Read; args = args }
 
 -- an absent chunk is fetched first, which changes nothing that it shows
 fetch_right : (h : Header) (k : Locals) (before : Memory) (args : Args) → h.subject ≡ Cache → args.a < h.size → ((i : ℕ) → k.owned i ≡ false)
-    → k.called ≡ Some (record { method = CaRead; args = args }) → (before (5 * args.a) == 0) ≡ true
-    → DoesRight (cache h) (locked h args.a false false (record { method = CaRead; args = args })) k before (fetch h args.a)
+    → k.called ≡ Some (record { method = OfCache Read; args = args }) → (before (5 * args.a) == 0) ≡ true
+    → DoesRight (cache h) (locked h args.a false false (record { method = OfCache Read; args = args })) k before (fetch h args.a)
 fetch_right h k before args is low none called_is absent =
     look_twice h n (5 * n + 3) (5 * n + 4) called k before
     (λ x y. in_order (Mark BlockOpen ∷ Store (5 * n + 1) x ∷ Store (5 * n + 2) y ∷ Store (5 * n) 1 ∷ Mark BlockClose
@@ -357,7 +360,7 @@ fetch_right h k before args is low none called_is absent =
     n = args.a
 
     called : Called
-    called = record { method = CaRead; args = args }
+    called = record { method = OfCache Read; args = args }
 
     filled : (now : Memory) → (now (5 * n) == 0) ≡ true → DoesRight (cache h) (locked h n false false called) k now
         (in_order (Mark BlockOpen ∷ Store (5 * n + 1) (now (5 * n + 3)) ∷ Store (5 * n + 2) (now (5 * n + 4)) ∷ Store (5 * n) 1 ∷ Mark BlockClose
@@ -397,15 +400,15 @@ fetch_right h k before args is low none called_is absent =
         chunk_is then_ same = after_cached then_ n 1 x y ∙ ap (with_cached 1 x y) same
 
 read_right : (h : Header) (k : Locals) (before : Memory) (args : Args) → h.subject ≡ Cache → args.a < h.size → ((i : ℕ) → k.owned i ≡ false)
-    → k.called ≡ Some (record { method = CaRead; args = args })
-    → DoesRight (cache h) (at [] false false (record { method = CaRead; args = args })) k before (read h args.a)
+    → k.called ≡ Some (record { method = OfCache Read; args = args })
+    → DoesRight (cache h) (at [] false false (record { method = OfCache Read; args = args })) k before (read h args.a)
 read_right h k before args is low none called_is =
     enter_right h args.a called k before (step (Load (state_cell args.a)) (λ n. cond (n == 0) (fetch h args.a) (answer_cached h args.a)))
     (λ m0. look_right h args.a (5 * args.a) called k m0 (λ n. cond (n == 0) (fetch h args.a) (answer_cached h args.a)) low (omega arith) (omega arith)
     (λ now same. by_state now (now (5 * args.a) == 0) refl))
   where
     called : Called
-    called = record { method = CaRead; args = args }
+    called = record { method = OfCache Read; args = args }
 
     by_state : (now : Memory) (b : Bool) → (now (5 * args.a) == 0) ≡ b
         → DoesRight (cache h) (locked h args.a false false called) k now (cond b (fetch h args.a) (answer_cached h args.a))
@@ -417,22 +420,13 @@ procedure_right : (h : Header) (k : Locals) (before : Memory) (method : Method) 
     → args.a < h.size → are_small args ≡ true → ((i : ℕ) → k.owned i ≡ false)
     → k.called ≡ Some (record { method = method; args = args })
     → DoesRight (cache h) (just_called method) k before (procedure_of h Correct method args)
-procedure_right h k before CaWrite args is of low few none called_is = write_right h k before args is low few called_is
-procedure_right h k before CaFlush args is of low few none called_is = flush_right h k before args is low none called_is
-procedure_right h k before CaEvict args is of low few none called_is = evict_right h k before args is low none called_is
-procedure_right h k before CaRead args is of low few none called_is = read_right h k before args is low none called_is
-procedure_right h k before MsInsert args is of low few none called_is = cc
-procedure_right h k before MsInsertPair args is of low few none called_is = cc
-procedure_right h k before MsDelete args is of low few none called_is = cc
-procedure_right h k before MsLookup args is of low few none called_is = cc
-procedure_right h k before TrInsert args is of low few none called_is = cc
-procedure_right h k before TrDelete args is of low few none called_is = cc
-procedure_right h k before TrLookup args is of low few none called_is = cc
-procedure_right h k before BuAppend args is of low few none called_is = cc
-procedure_right h k before BuAppendFrom args is of low few none called_is = cc
-procedure_right h k before BuCut args is of low few none called_is = cc
-procedure_right h k before BuLength args is of low few none called_is = cc
-procedure_right h k before BuRead args is of low few none called_is = cc
+procedure_right h k before (OfCache Write) args is of low few none called_is = write_right h k before args is low few called_is
+procedure_right h k before (OfCache Flush) args is of low few none called_is = flush_right h k before args is low none called_is
+procedure_right h k before (OfCache Evict) args is of low few none called_is = evict_right h k before args is low none called_is
+procedure_right h k before (OfCache Read) args is of low few none called_is = read_right h k before args is low none called_is
+procedure_right h k before (OfMultiset other) args is of low few none called_is = cc
+procedure_right h k before (OfTree other) args is of low few none called_is = cc
+procedure_right h k before (OfBuffers other) args is of low few none called_is = cc
 
 -- so each operation that may be called does right
 pub cache_right : (h : Header) (op : Op) → h.subject ≡ Cache → is_callable h op ≡ true → IsRight (cache h) (cache_procedure h Correct) op

@@ -1,7 +1,8 @@
 -- What each procedure does at its end does right: blocks that commit, giving up, and returns.
 use Rattle.std.proofs.Common.{◌≡◌, ◌≢◌, ℕ, ◌+◌, ◌*◌, ◌/◌, ◌<◌, inl, true, false, List, [], ◌∷◌, Some, refl, ap, ◌∙◌, sym, subst, arith}
 use Rattle.vyrd_base.specs.declared.header.Header.{Header}
-use Rattle.vyrd_base.specs.declared.subject.Method.TheVariants.{MsInsertPair}
+use Rattle.vyrd_base.specs.declared.subject.Method.TheVariants.{Multiset as OfMultiset}
+use Rattle.vyrd_base.specs.declared.multiset.MultisetMethod.TheVariants.{InsertPair}
 use Rattle.vyrd_base.specs.declared.subject.Args.{Args}
 use Rattle.vyrd_base.specs.declared.log.Kind.TheVariants.{BlockCommit}
 use Rattle.vyrd_base.specs.Callers.{Called}
@@ -147,7 +148,7 @@ still_reserved h k k' shown now args slot_x slot_y r same keeps = record {
 
 -- the call of a pair
 abbrev pub pair_of : Args → Called
-pair_of args = record { method = MsInsertPair; args = args }
+pair_of args = record { method = OfMultiset InsertPair; args = args }
 
 -- both slots become valid in a block that commits
 pair_leads : (h : Header) (k : Locals) (shown : Memory) (args : Args) (slot_x slot_y : ℕ) (before : Amounts) → AreReserved h k shown args slot_x slot_y

@@ -9,7 +9,8 @@ use Rattle.vyrd_base.specs.Layout.{plain_words, plain_words_of}
 use Rattle.vyrd_base.specs.Amounts.{Amounts, collected}
 use Rattle.vyrd_base.specs.Specification.{start}
 use Rattle.vyrd_base.specs.FirstVersion.{old_effects, old_value_after, old_words_after}
-use Rattle.vyrd_base.specs.Views.{slot_parts, parts_of, view_of_words}
+use Rattle.vyrd_base.specs.Multiset.{slot_parts}
+use Rattle.vyrd_base.specs.Views.{parts_of, view_of_words}
 use Rattle.vyrd_base.proofs.SumLaws.{given_nothing}
 use Rattle.vyrd_memory.proofs.NumberLists.{element_below, flat_map_alike}
 use Rattle.vyrd_memory.proofs.PartSums.{collected-is}

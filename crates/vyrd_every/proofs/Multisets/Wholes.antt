@@ -6,7 +6,11 @@ use Rattle.std.proofs.lemmas.Bool.Decides.{nat_tests}
 use Rattle.vyrd_base.specs.declared.header.Header.{Header}
 use Rattle.vyrd_base.specs.declared.subject.Subject.TheVariants.{Multiset}
 use Rattle.vyrd_base.specs.declared.subject.Method.{Method}
-use Rattle.vyrd_base.specs.declared.subject.Method.TheVariants.{MsInsert, MsInsertPair, MsDelete, MsLookup, CaWrite, CaFlush, CaEvict, CaRead, TrInsert, TrDelete, TrLookup, BuAppend, BuAppendFrom, BuCut, BuLength, BuRead}
+use Rattle.vyrd_base.specs.declared.subject.Method.TheVariants.{Multiset as OfMultiset}
+use Rattle.vyrd_base.specs.declared.subject.Method.TheVariants.{Cache as OfCache, Tree as OfTree}
+use Rattle.vyrd_base.specs.declared.subject.Method.TheVariants.{Buffers as OfBuffers}
+use Rattle.vyrd_base.specs.declared.multiset.MultisetMethod.TheVariants.{Insert, InsertPair, Delete}
+use Rattle.vyrd_base.specs.declared.multiset.MultisetMethod.TheVariants.{Lookup}
 use Rattle.vyrd_base.specs.declared.subject.Args.{Args}
 use Rattle.vyrd_base.specs.Callers.{Called}
 use Rattle.vyrd_base.specs.Subjects.{is_observer, subject_of}
@@ -130,8 +134,8 @@ commit_both_right h k shown args first second slot_x slot_y r is order of_x of_y
 
 -- an insert makes the slot that it found valid
 insert_right : (h : Header) (k : Locals) (shown : Memory) (args : Args) → ((i : ℕ) → k.owned i ≡ false)
-    → k.called ≡ Some (record { method = MsInsert; args = args })
-    → DoesRight (multiset h) (at [] false false (record { method = MsInsert; args = args })) k shown (find h Correct args.a (inserted h args.a))
+    → k.called ≡ Some (record { method = OfMultiset Insert; args = args })
+    → DoesRight (multiset h) (at [] false false (record { method = OfMultiset Insert; args = args })) k shown (find h Correct args.a (inserted h args.a))
 insert_right h k shown args none is =
     find_right h k shown args.a called (inserted h args.a) (bucket_low h args.a)
     (λ j low of now one has keeps apart pending.
@@ -153,7 +157,7 @@ insert_right h k shown args none is =
     (λ now keeps. gives_up_right h k now called none is refl (λ state. refl))
   where
     called : Called
-    called = record { method = MsInsert; args = args }
+    called = record { method = OfMultiset Insert; args = args }
 
 -- if both slots for a pair were found, they are made valid
 pair_found_right : (h : Header) (k : Locals) (shown : Memory) (args : Args) (slot_x slot_y : ℕ) → AreReserved h k shown args slot_x slot_y
@@ -249,8 +253,8 @@ search_right h k shown called x ended some none =
     (λ last rely' nowhere. none last nowhere))
 
 delete_right : (h : Header) (k : Locals) (shown : Memory) (args : Args) → ((i : ℕ) → k.owned i ≡ false)
-    → k.called ≡ Some (record { method = MsDelete; args = args })
-    → DoesRight (multiset h) (at [] false false (record { method = MsDelete; args = args })) k shown (search_in h args.a (deleted h args.a))
+    → k.called ≡ Some (record { method = OfMultiset Delete; args = args })
+    → DoesRight (multiset h) (at [] false false (record { method = OfMultiset Delete; args = args })) k shown (search_in h args.a (deleted h args.a))
 delete_right h k shown args none is =
     search_right h k shown called args.a (deleted h args.a)
     (λ j low of now valid has.
@@ -268,7 +272,7 @@ delete_right h k shown args none is =
     (λ now nowhere. absent now nowhere)
   where
     called : Called
-    called = record { method = MsDelete; args = args }
+    called = record { method = OfMultiset Delete; args = args }
 
     zero_two : (n : ℕ) → n ≡ 0 → n ≡ 2 → ⊥
     zero_two n e f = omega (arith, e, f)
@@ -292,8 +296,8 @@ delete_right h k shown args none is =
 
 -- a lookup has its answer when it gives the lock back
 lookup_right : (h : Header) (k : Locals) (shown : Memory) (args : Args) → ((i : ℕ) → k.owned i ≡ false)
-    → k.called ≡ Some (record { method = MsLookup; args = args })
-    → DoesRight (multiset h) (at [] false false (record { method = MsLookup; args = args })) k shown (search_in h args.a (looked_up h args.a))
+    → k.called ≡ Some (record { method = OfMultiset Lookup; args = args })
+    → DoesRight (multiset h) (at [] false false (record { method = OfMultiset Lookup; args = args })) k shown (search_in h args.a (looked_up h args.a))
 lookup_right h k shown args none is =
     search_right h k shown called args.a (looked_up h args.a)
     (λ j low of now valid has. sees now 1 (λ state m.
@@ -302,9 +306,9 @@ lookup_right h k shown args none is =
     ap (λ b. if b then 1 else 0) (isnt_there_test (amount_of state args.a) (isnt_there h now state args.a m nowhere))))
   where
     called : Called
-    called = record { method = MsLookup; args = args }
+    called = record { method = OfMultiset Lookup; args = args }
 
-    sees : (now : Memory) (reply : ℕ) → ((state : Amounts) → IsMultiset h now state → answer_in state MsLookup args ≡ reply)
+    sees : (now : Memory) (reply : ℕ) → ((state : Amounts) → IsMultiset h now state → answer_in state (OfMultiset Lookup) args ≡ reply)
         → DoesRight (multiset h) (at (lock_of h (bucket_of h args.a) ∷ []) false false called) k now (unlock h (bucket_of h args.a) (returns reply))
     sees now reply seen = answer_right (multiset h) k now (lock_of h (bucket_of h args.a)) called reply none is seen
 
@@ -312,22 +316,13 @@ lookup_right h k shown args none is =
 procedure_right : (h : Header) (k : Locals) (shown : Memory) (method : Method) (args : Args) → subject_of method ≡ Multiset → ((i : ℕ) → k.owned i ≡ false)
     → k.called ≡ Some (record { method = method; args = args })
     → DoesRight (multiset h) (just_called method) k shown (procedure_of h Correct method args)
-procedure_right h k shown MsInsert args of none is = insert_right h k shown args none is
-procedure_right h k shown MsInsertPair args of none is = insert_pair_right h k shown args none is
-procedure_right h k shown MsDelete args of none is = delete_right h k shown args none is
-procedure_right h k shown MsLookup args of none is = lookup_right h k shown args none is
-procedure_right h k shown CaWrite args of none is = cc
-procedure_right h k shown CaFlush args of none is = cc
-procedure_right h k shown CaEvict args of none is = cc
-procedure_right h k shown CaRead args of none is = cc
-procedure_right h k shown TrInsert args of none is = cc
-procedure_right h k shown TrDelete args of none is = cc
-procedure_right h k shown TrLookup args of none is = cc
-procedure_right h k shown BuAppend args of none is = cc
-procedure_right h k shown BuAppendFrom args of none is = cc
-procedure_right h k shown BuCut args of none is = cc
-procedure_right h k shown BuLength args of none is = cc
-procedure_right h k shown BuRead args of none is = cc
+procedure_right h k shown (OfMultiset Insert) args of none is = insert_right h k shown args none is
+procedure_right h k shown (OfMultiset InsertPair) args of none is = insert_pair_right h k shown args none is
+procedure_right h k shown (OfMultiset Delete) args of none is = delete_right h k shown args none is
+procedure_right h k shown (OfMultiset Lookup) args of none is = lookup_right h k shown args none is
+procedure_right h k shown (OfCache other) args of none is = cc
+procedure_right h k shown (OfTree other) args of none is = cc
+procedure_right h k shown (OfBuffers other) args of none is = cc
 
 -- so each operation that may be called does right
 pub multiset_right : (h : Header) (op : Op) → h.subject ≡ Multiset → is_callable h op ≡ true → IsRight (multiset h) (multiset_procedure h Correct) op

@@ -4,7 +4,8 @@ use Rattle.std.proofs.lemmas.Option.{same_Some}
 use Rattle.std.specs.Prelude.{◌||◌}
 use Rattle.std.specs.List.{AllByRecursion as Each}
 use Rattle.vyrd_base.specs.declared.header.Header.{Header}
-use Rattle.vyrd_base.specs.declared.subject.Method.TheVariants.{TrInsert}
+use Rattle.vyrd_base.specs.declared.subject.Method.TheVariants.{Tree as OfTree}
+use Rattle.vyrd_base.specs.declared.tree.TreeMethod.TheVariants.{Insert}
 use Rattle.vyrd_base.specs.declared.subject.Args.{Args}
 use Rattle.vyrd_base.specs.declared.log.Kind.TheVariants.{BlockOpen, BlockClose}
 use Rattle.vyrd_base.specs.Callers.{Called}
@@ -46,11 +47,11 @@ use Rattle.vyrd_tree.specs.Laws.Alone.SplitKeepsTree.{new_low}
 
 -- the call of an insert
 abbrev pub insert_of : Args → Called
-insert_of args = record { method = TrInsert; args = args }
+insert_of args = record { method = OfTree Insert; args = args }
 
 -- the return of an insert, which lets go of a node that hangs still
 pub ended_right : (h : Header) (args : Args) (k : TreeLocals) (g : Shape) (m : Memory) → IsLinked h.size g m → OwnsUnseen h k g m → k.called ≡ Some (insert_of args)
-    → TreeRight h (holding [] TrInsert true false) k g m (returns 1)
+    → TreeRight h (holding [] (OfTree Insert) true false) k g m (returns 1)
 ended_right h args k g m tree unseen is = (
   over,
   g,
@@ -79,8 +80,8 @@ ended_right h args k g m tree unseen is = (
     over : TreeLocals
     over = record { fresh = None; hanging = None; pending = k.pending; out = k.out; called = None; answered = None }
 
-    c : Changeless h (holding [] TrInsert true false) k g m
-    c = changeless h (holding [] TrInsert true false) k g m unseen
+    c : Changeless h (holding [] (OfTree Insert) true false) k g m
+    c = changeless h (holding [] (OfTree Insert) true false) k g m unseen
 
     or_false : (b : Bool) → b ≡ (b || false)
     or_false true = refl
@@ -89,10 +90,10 @@ ended_right h args k g m tree unseen is = (
 -- the node is unlocked, and the insert ends
 pub unlocked_end : (h : Header) (args : Args) (k : TreeLocals) (g : Shape) (m : Memory) (lock : ℕ) → IsLinked h.size g m → OwnsUnseen h k g m
     → k.called ≡ Some (insert_of args)
-    → TreeRight h (holding (lock ∷ []) TrInsert true false) k g m (perform (Give lock) (returns 1))
+    → TreeRight h (holding (lock ∷ []) (OfTree Insert) true false) k g m (perform (Give lock) (returns 1))
 unlocked_end h args k g m lock tree unseen is =
-    tree_give_last h TrInsert true k g m lock (returns 1) tree unseen
-    (λ g' m' rely. ended_right h args k g' m' rely.tree (unseen_stays h (holding [] TrInsert true false) k g m g' m' unseen rely) is)
+    tree_give_last h (OfTree Insert) true k g m lock (returns 1) tree unseen
+    (λ g' m' rely. ended_right h args k g' m' rely.tree (unseen_stays h (holding [] (OfTree Insert) true false) k g m g' m' unseen rely) is)
 
 pub still_ascending : (h : Header) (s : Situation) (k : TreeLocals) (g : Shape) (m : Memory) (g' : Shape) (m' : Memory) (called : Called) (level key node : ℕ)
     → OwnsUnseen h k g m → Ascending k g m called level key node → TreeRely h s k g m g' m' → Ascending k g' m' called level key node
@@ -134,7 +135,7 @@ key_apart h k g m called level key node n tree unseen up linked above =
 -- what an ascent knows where it has arrived
 pub record Above (h : Header) (args : Args) (k : TreeLocals) (g : Shape) (m : Memory) (level key node n : ℕ) : Type 0 where
   pub tree : IsLinked h.size g m
-  pub at : AtNode h (holding (lock_of h n ∷ []) TrInsert true false) k g m n
+  pub at : AtNode h (holding (lock_of h n ∷ []) (OfTree Insert) true false) k g m n
   pub is : IsIn g m (level + 1) n key
   pub up : Ascending k g m (insert_of args) level key node
   pub low_level : level_at m n ≤ g.top
@@ -172,14 +173,14 @@ none_leads k g m node n key front back mine linked same x other hangs some =
 -- in a node with room
 pub room_right : (h : Header) (args : Args) (k : TreeLocals) (g : Shape) (m : Memory) (level key node n : ℕ) → Above h args k g m level key node n
     → length (entries_at m n) < 4
-    → Onward h (holding (lock_of h n ∷ []) TrInsert true false) k g m (add_entry h (loaded_at m n) key node BlockClose (returns 1))
+    → Onward h (holding (lock_of h n ∷ []) (OfTree Insert) true false) k g m (add_entry h (loaded_at m n) key node BlockClose (returns 1))
 room_right h args k g m level key node n ab room = with_place place.0 place.1 place.2
   where
     s : Situation
-    s = holding (lock_of h n ∷ []) TrInsert true false
+    s = holding (lock_of h n ∷ []) (OfTree Insert) true false
 
     inside : Situation
-    inside = holding (lock_of h n ∷ []) TrInsert true true
+    inside = holding (lock_of h n ∷ []) (OfTree Insert) true true
 
     place : (front : Entries) × (back : Entries) × IsBetween key (entries_at m n) front back
     place = between key (entries_at m n) (ab.tree.entries n ab.at.linked).rise
@@ -194,9 +195,9 @@ room_right h args k g m level key node n ab room = with_place place.0 place.1 pl
         (λ b y r.
         subst (λ ys. TreeRight h s k b y (perform (Mark BlockOpen) (write_entries n (length front) ys counted)))
         (sym (drop_front front ((key, node) ∷ back)))
-        (tree_open h (lock_of h n ∷ []) TrInsert true k b y (write_entries n (length front) ((key, node) ∷ back) counted) r.tree
+        (tree_open h (lock_of h n ∷ []) (OfTree Insert) true k b y (write_entries n (length front) ((key, node) ∷ back) counted) r.tree
         (unseen_stays h s k g m b y ab.at.unseen r)
-        (λ c z r'. block c z (tree_rely_more h s k g b c m y z r (rely_with h (lock_of h n ∷ []) TrInsert true true false k [] b c y z r'))))))
+        (λ c z r'. block c z (tree_rely_more h s k g b c m y z r (rely_with h (lock_of h n ∷ []) (OfTree Insert) true true false k [] b c y z r'))))))
       where
         new : Entries
         new = front ++ (key, node) ∷ back
@@ -216,7 +217,7 @@ room_right h args k g m level key node n ab room = with_place place.0 place.1 pl
         fits : length front + length ((key, node) ∷ back) ≤ 4
         fits = (let p = length_join front ((key, node) ∷ back) in omega (arith, p, few))
 
-        close : InBlock h TrInsert true k g m n (node_writes n front ((key, node) ∷ back)) closing
+        close : InBlock h (OfTree Insert) true k g m n (node_writes n front ((key, node) ∷ back)) closing
         close c z r = (
           let_go,
           c,
@@ -270,28 +271,28 @@ room_right h args k g m level key node n ab room = with_place place.0 place.1 pl
                 (new_entries h k c z (insert_of args) level key node n front back (entries_at m n) r.tree unseen_c up_c is_c same_c parts))
                 (λ x of_x other hangs some. none_leads k c z node n key front back ab.up.hanging is_c.linked (same_c ∙ parts.parts) x other hangs some)
 
-        block : InBlock h TrInsert true k g m n [] (write_entries n (length front) ((key, node) ∷ back) counted)
-        block = store_entries h TrInsert true k g m n (length front) ((key, node) ∷ back) [] counted ab.tree ab.at ab.low_level fits
-            (store_in_node h TrInsert true k g m n 1 (length (front ++ (key, node) ∷ back)) (entry_writes n (length front) ((key, node) ∷ back) []) closing
+        block : InBlock h (OfTree Insert) true k g m n [] (write_entries n (length front) ((key, node) ∷ back) counted)
+        block = store_entries h (OfTree Insert) true k g m n (length front) ((key, node) ∷ back) [] counted ab.tree ab.at ab.low_level fits
+            (store_in_node h (OfTree Insert) true k g m n 1 (length (front ++ (key, node) ∷ back)) (entry_writes n (length front) ((key, node) ∷ back) []) closing
             ab.tree ab.at ab.low_level (omega arith) (λ e. omega (arith, e)) close)
 
 -- an ascent of this script does right from any node that hangs
 pub record RoundsRight (h : Header) (args : Args) (next : ℕ → ℕ → ℕ → Script) : Type 0 where
   pub right : (k : TreeLocals) (g : Shape) (m : Memory) (level key node : ℕ) → IsLinked h.size g m → OwnsUnseen h k g m
-      → Ascending k g m (insert_of args) level key node → TreeRight h (holding [] TrInsert true false) k g m (next level key node)
+      → Ascending k g m (insert_of args) level key node → TreeRight h (holding [] (OfTree Insert) true false) k g m (next level key node)
 
 -- in a full node
 pub full_above : (h : Header) (args : Args) (k : TreeLocals) (g : Shape) (m : Memory) (level key node n : ℕ) (next : ℕ → ℕ → ℕ → Script)
     → Above h args k g m level key node n → length (entries_at m n) ≡ 4 → RoundsRight h args next
-    → Onward h (holding (lock_of h n ∷ []) TrInsert true false) k g m (with_unused h (unlock_node h n (returns 1)) (λ new.
+    → Onward h (holding (lock_of h n ∷ []) (OfTree Insert) true false) k g m (with_unused h (unlock_node h n (returns 1)) (λ new.
     split_entry h (loaded_at m n) key node new BlockClose (next (level + 1) (split_key (loaded_at m n) key node) new)))
 full_above h args k g m level key node n next ab full rounds =
-    unused_right h TrInsert true (lock_of h n) k g m (unlock_node h n (returns 1)) splitting below ab.tree ab.at.unseen ab.up.fresh
+    unused_right h (OfTree Insert) true (lock_of h n) k g m (unlock_node h n (returns 1)) splitting below ab.tree ab.at.unseen ab.up.fresh
     (λ b y r. unlocked_end h args k b y (lock_of h n) r.tree (unseen_stays h s k g m b y ab.at.unseen r) ab.up.called_is)
     some_right
   where
     s : Situation
-    s = holding (lock_of h n ∷ []) TrInsert true false
+    s = holding (lock_of h n ∷ []) (OfTree Insert) true false
 
     splitting : ℕ → Script
     splitting u = split_entry h (loaded_at m n) key node u BlockClose (next (level + 1) (split_key (loaded_at m n) key node) u)
@@ -343,8 +344,8 @@ full_above h args k g m level key node n next ab full rounds =
             (subst (λ xs. TreeRight h s k' b y (perform (Mark BlockOpen) (split (loaded_at y n) (length front) xs u
             (perform (Mark BlockClose) (unlock_node h n (next (level + 1) (first_key (upper_half xs)) u))))))
             (sym (with_entry_is (entries_at y n) front back key node parts))
-            (tree_open h (lock_of h n ∷ []) TrInsert true k' b y (split (loaded_at y n) (length front) (front ++ (key, node) ∷ back) u closing) r.tree unseen
-            (λ c z r'. block c z (rely_with h (lock_of h n ∷ []) TrInsert true true false k' [] b c y z r'))))
+            (tree_open h (lock_of h n ∷ []) (OfTree Insert) true k' b y (split (loaded_at y n) (length front) (front ++ (key, node) ∷ back) u closing) r.tree unseen
+            (λ c z r'. block c z (rely_with h (lock_of h n ∷ []) (OfTree Insert) true true false k' [] b c y z r'))))
           where
             new_key : ℕ
             new_key = first_key (upper_half (front ++ (key, node) ∷ back))
@@ -367,7 +368,7 @@ full_above h args k g m level key node n next ab full rounds =
             lengths : (length (lower_half (front ++ (key, node) ∷ back)) ≡ 3) × (length (upper_half (front ++ (key, node) ∷ back)) ≡ 2)
             lengths = three_two (front ++ (key, node) ∷ back) five_long
 
-            close : InBlock h TrInsert true k' b y n (split_writes n u (level_at y n) (bound_at y n) (right_at y n) (length front) (front ++ (key, node) ∷ back)) closing
+            close : InBlock h (OfTree Insert) true k' b y n (split_writes n u (level_at y n) (bound_at y n) (right_at y n) (length front) (front ++ (key, node) ∷ back)) closing
             close c z r' = (
               hung_locals,
               with_node c u (first_key (upper_half (front ++ (key, node) ∷ back))),
@@ -393,10 +394,10 @@ full_above h args k g m level key node n next ab full rounds =
                 called = refl;
                 answers = refl;
               },
-              λ d v r''. tree_give_last h TrInsert true hung_locals d v (lock_of h n) (next (level + 1) new_key u) r''.tree
+              λ d v r''. tree_give_last h (OfTree Insert) true hung_locals d v (lock_of h n) (next (level + 1) new_key u) r''.tree
                   (unseen_stays h s hung_locals (with_node c u new_key) end d v unseen_after r'')
                   (λ e t r3. rounds.right hung_locals e t (level + 1) new_key u r3.tree
-                  (unseen_stays h (holding [] TrInsert true false) hung_locals d v e t
+                  (unseen_stays h (holding [] (OfTree Insert) true false) hung_locals d v e t
                   (unseen_stays h s hung_locals (with_node c u new_key) end d v unseen_after r'') r3)
                   (record {
                     called_is = ab.up.called_is;
@@ -422,7 +423,7 @@ full_above h args k g m level key node n next ab full rounds =
                 end = written (split_writes n u (level_at y n) (bound_at y n) (right_at y n) (length front) (front ++ (key, node) ∷ back)) z
 
                 inside : Situation
-                inside = holding (lock_of h n ∷ []) TrInsert true true
+                inside = holding (lock_of h n ∷ []) (OfTree Insert) true true
 
                 unseen_now : OwnsUnseen h k' c z
                 unseen_now = unseen_stays h s k' b y c z unseen r'
@@ -479,5 +480,5 @@ full_above h args k g m level key node n next ab full rounds =
                   quiet = refl;
                 }
 
-            block : InBlock h TrInsert true k' b y n [] (split (loaded_at y n) (length front) (front ++ (key, node) ∷ back) u closing)
-            block = split_stores h TrInsert true k' b y n u front back (key, node) closing r.tree at' low_level refl u_low four lengths.0 lengths.1 close
+            block : InBlock h (OfTree Insert) true k' b y n [] (split (loaded_at y n) (length front) (front ++ (key, node) ∷ back) u closing)
+            block = split_stores h (OfTree Insert) true k' b y n u front back (key, node) closing r.tree at' low_level refl u_low four lengths.0 lengths.1 close

@@ -3,7 +3,8 @@ use Rattle.std.proofs.Common.{◌≡◌, ◌≢◌, ℕ, ◌+◌, ◌<◌, ◌�
 use Rattle.std.specs.Bool.{then_some}
 use Rattle.std.specs.List.{AllByRecursion as Each}
 use Rattle.vyrd_base.specs.declared.header.Header.{Header}
-use Rattle.vyrd_base.specs.declared.subject.Method.TheVariants.{TrInsert}
+use Rattle.vyrd_base.specs.declared.subject.Method.TheVariants.{Tree as OfTree}
+use Rattle.vyrd_base.specs.declared.tree.TreeMethod.TheVariants.{Insert}
 use Rattle.vyrd_base.specs.declared.subject.Args.{Args}
 use Rattle.vyrd_base.specs.declared.log.Kind.TheVariants.{BlockOpen, BlockCommit}
 use Rattle.vyrd_base.specs.Callers.{Called}
@@ -63,8 +64,8 @@ pub record Ascending (k : TreeLocals) (g : Shape) (m : Memory) (called : Called)
 -- an ascent of an insert does right, and the insert returns 1 after it
 pub record AscentRight (h : Header) (args : Args) : Type 0 where
   pub right : (k : TreeLocals) (g : Shape) (m : Memory) (level key node : ℕ) → IsLinked h.size g m → OwnsUnseen h k g m
-      → Ascending k g m (record { method = TrInsert; args = args }) level key node
-      → TreeRight h (holding [] TrInsert true false) k g m (ascend h Correct 16 level key node (returns 1))
+      → Ascending k g m (record { method = OfTree Insert; args = args }) level key node
+      → TreeRight h (holding [] (OfTree Insert) true false) k g m (ascend h Correct 16 level key node (returns 1))
   pub returns_one : (level key node : ℕ) → WillReturn 1 (ascend h Correct 16 level key node (returns 1))
 
 pub three_two : (five : Entries) → length five ≡ 5 → (length (lower_half five) ≡ 3) × (length (upper_half five) ≡ 2)
@@ -89,17 +90,17 @@ loaded_same h s k g m n g' m' tree at rely =
     put l b r xs = record { node = n; level = l; bound = b; right = r; entries = xs }
 
 pub full_right : (h : Header) (args : Args) (k : TreeLocals) (g : Shape) (m : Memory) → args.a < 2 ^ 32 → args.b < 2 ^ 32
-    → IsBare k (record { method = TrInsert; args = args }) → AscentRight h args → FullRight h args k g m
+    → IsBare k (record { method = OfTree Insert; args = args }) → AscentRight h args → FullRight h args k g m
 full_right h args k g m small_key small bare ascent n a x begun at is full apart =
-    unused_right h TrInsert false (lock_of h n) k a x (changes_nothing h n) splitting below begun.tree at.unseen bare.fresh
+    unused_right h (OfTree Insert) false (lock_of h n) k a x (changes_nothing h n) splitting below begun.tree at.unseen bare.fresh
     (λ b y r. nothing_right h called k b y n r.tree (unseen_stays h s k a x b y at.unseen r) bare refl (λ state shows. refl))
     some_right
   where
     called : Called
-    called = record { method = TrInsert; args = args }
+    called = record { method = OfTree Insert; args = args }
 
     s : Situation
-    s = holding (lock_of h n ∷ []) TrInsert false false
+    s = holding (lock_of h n ∷ []) (OfTree Insert) false false
 
     after : ℕ → ℕ → Script
     after key u = ascend h Correct 16 0 key u (returns 1)
@@ -153,8 +154,8 @@ full_right h args k g m small_key small bare ascent n a x begun at is full apart
             (subst (λ xs. TreeRight h s k' b y (perform (Mark BlockOpen) (split (loaded_at y n) (length front) xs u
             (perform (Mark BlockCommit) (unlock_node h n (after (first_key (upper_half xs)) u))))))
             (sym (with_entry_is (entries_at y n) front back args.a args.b parts))
-            (tree_open h (lock_of h n ∷ []) TrInsert false k' b y (split (loaded_at y n) (length front) five u closing) r.tree unseen
-            (λ c z r'. block c z (rely_with h (lock_of h n ∷ []) TrInsert false true false k' [] b c y z r'))))
+            (tree_open h (lock_of h n ∷ []) (OfTree Insert) false k' b y (split (loaded_at y n) (length front) five u closing) r.tree unseen
+            (λ c z r'. block c z (rely_with h (lock_of h n ∷ []) (OfTree Insert) false true false k' [] b c y z r'))))
           where
             five : Entries
             five = front ++ (args.a, args.b) ∷ back
@@ -198,7 +199,7 @@ full_right h args k g m small_key small bare ascent n a x begun at is full apart
                 let p = ap (gives q) parts.parts in
                 omega (arith, around, it, p)
 
-            close : InBlock h TrInsert false k' b y n (split_writes n u (level_at y n) (bound_at y n) (right_at y n) (length front) (front ++ (args.a, args.b) ∷ back)) closing
+            close : InBlock h (OfTree Insert) false k' b y n (split_writes n u (level_at y n) (bound_at y n) (right_at y n) (length front) (front ++ (args.a, args.b) ∷ back)) closing
             close c z r' = (
               hung_locals,
               with_node c u (first_key (upper_half (front ++ (args.a, args.b) ∷ back))),
@@ -238,11 +239,11 @@ full_right h args k g m small_key small bare ascent n a x begun at is full apart
                 called = refl;
                 answers = refl;
               },
-              λ d v r''. tree_give_last h TrInsert true hung_locals d v (lock_of h n) (after key u) r''.tree
-                  (unseen_stays h (holding (lock_of h n ∷ []) TrInsert true false) hung_locals (with_node c u key) end d v unseen_after r'')
+              λ d v r''. tree_give_last h (OfTree Insert) true hung_locals d v (lock_of h n) (after key u) r''.tree
+                  (unseen_stays h (holding (lock_of h n ∷ []) (OfTree Insert) true false) hung_locals (with_node c u key) end d v unseen_after r'')
                   (λ e t r3. ascent.right hung_locals e t 0 key u r3.tree
-                  (unseen_stays h (holding [] TrInsert true false) hung_locals d v e t
-                  (unseen_stays h (holding (lock_of h n ∷ []) TrInsert true false) hung_locals (with_node c u key) end d v unseen_after r'') r3)
+                  (unseen_stays h (holding [] (OfTree Insert) true false) hung_locals d v e t
+                  (unseen_stays h (holding (lock_of h n ∷ []) (OfTree Insert) true false) hung_locals (with_node c u key) end d v unseen_after r'') r3)
                   (record {
                     called_is = bare.called_is;
                     fresh = refl;
@@ -270,7 +271,7 @@ full_right h args k g m small_key small bare ascent n a x begun at is full apart
                 some_same p q e = cc
 
                 inside : Situation
-                inside = holding (lock_of h n ∷ []) TrInsert false true
+                inside = holding (lock_of h n ∷ []) (OfTree Insert) false true
 
                 unseen_c : OwnsUnseen h (with_pending k' writes) c z
                 unseen_c = unseen_with h k' writes c z (unseen_stays h s k' b y c z unseen r')
@@ -310,5 +311,5 @@ full_right h args k g m small_key small bare ascent n a x begun at is full apart
                   quiet = refl;
                 }
 
-            block : InBlock h TrInsert false k' b y n [] (split (loaded_at y n) (length front) (front ++ (args.a, args.b) ∷ back) u closing)
-            block = split_stores h TrInsert false k' b y n u front back (args.a, args.b) closing r.tree at' low_level refl u_low four lengths.0 lengths.1 close
+            block : InBlock h (OfTree Insert) false k' b y n [] (split (loaded_at y n) (length front) (front ++ (args.a, args.b) ∷ back) u closing)
+            block = split_stores h (OfTree Insert) false k' b y n u front back (args.a, args.b) closing r.tree at' low_level refl u_low four lengths.0 lengths.1 close

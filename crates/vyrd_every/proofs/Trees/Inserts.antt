@@ -5,7 +5,8 @@ use Rattle.std.specs.Prelude.{nat_lt}
 use Rattle.std.specs.Bool.{then_some}
 use Rattle.std.specs.List.{AllByRecursion as Each}
 use Rattle.vyrd_base.specs.declared.header.Header.{Header}
-use Rattle.vyrd_base.specs.declared.subject.Method.TheVariants.{TrInsert}
+use Rattle.vyrd_base.specs.declared.subject.Method.TheVariants.{Tree as OfTree}
+use Rattle.vyrd_base.specs.declared.tree.TreeMethod.TheVariants.{Insert}
 use Rattle.vyrd_base.specs.declared.subject.Args.{Args}
 use Rattle.vyrd_base.specs.declared.log.Kind.TheVariants.{BlockCommit}
 use Rattle.vyrd_base.specs.Callers.{Called}
@@ -51,27 +52,27 @@ use Rattle.vyrd_every.proofs.Trees.Leafs.{IsIn, still_in, present_in, absent_in,
 
 -- what an insert does in a full leaf of its key, where the key isn't there
 abbrev pub FullRight : Header → Args → TreeLocals → Shape → Memory → Type 0
-FullRight h args k g m = (n : ℕ) (a : Shape) (x : Memory) → TreeRely h (holding [] TrInsert false false) k g m a x
-    → AtNode h (holding (lock_of h n ∷ []) TrInsert false false) k a x n → IsIn a x 0 n args.a → length (entries_at x n) ≡ 4
+FullRight h args k g m = (n : ℕ) (a : Shape) (x : Memory) → TreeRely h (holding [] (OfTree Insert) false false) k g m a x
+    → AtNode h (holding (lock_of h n ∷ []) (OfTree Insert) false false) k a x n → IsIn a x 0 n args.a → length (entries_at x n) ≡ 4
     → Each (λ entry. entry.0 ≢ args.a) (entries_at x n)
-    → Onward h (holding (lock_of h n ∷ []) TrInsert false false) k a x (with_unused h (changes_nothing h n) (λ new.
+    → Onward h (holding (lock_of h n ∷ []) (OfTree Insert) false false) k a x (with_unused h (changes_nothing h n) (λ new.
     split_entry h (loaded_at x n) args.a args.b new BlockCommit (ascend h Correct 16 0 (split_key (loaded_at x n) args.a args.b) new (returns 1))))
 
 -- an insert, where it does right in a full leaf
 pub insert_right : (h : Header) (args : Args) (k : TreeLocals) (g : Shape) (m : Memory) → args.a < 2 ^ 32 → args.b < 2 ^ 32 → IsLinked h.size g m → OwnsUnseen h k g m
-    → IsBare k (record { method = TrInsert; args = args }) → FullRight h args k g m
-    → TreeRight h (holding [] TrInsert false false) k g m (insert_entry h Correct args.a args.b)
+    → IsBare k (record { method = OfTree Insert; args = args }) → FullRight h args k g m
+    → TreeRight h (holding [] (OfTree Insert) false false) k g m (insert_entry h Correct args.a args.b)
 insert_right h args k g m small_key small tree unseen bare full =
-    walk_down_right h TrInsert false args.a k g m gives_up (λ at. insert_in h Correct args.a args.b at (place_of args.a at.entries)) tree unseen arrives
+    walk_down_right h (OfTree Insert) false args.a k g m gives_up (λ at. insert_in h Correct args.a args.b at (place_of args.a at.entries)) tree unseen arrives
   where
     called : Called
-    called = record { method = TrInsert; args = args }
+    called = record { method = OfTree Insert; args = args }
 
-    arrives : Arrives h TrInsert false k g m args.a 0 (λ at. insert_in h Correct args.a args.b at (place_of args.a at.entries))
+    arrives : Arrives h (OfTree Insert) false k g m args.a 0 (λ at. insert_in h Correct args.a args.b at (place_of args.a at.entries))
     arrives n a x begun at leaf over = by_place (place_of args.a (entries_at x n)) refl
       where
         s : Situation
-        s = holding (lock_of h n ∷ []) TrInsert false false
+        s = holding (lock_of h n ∷ []) (OfTree Insert) false false
 
         is : IsIn a x 0 n args.a
         is = record { linked = at.linked; level_is = leaf; covers = over }
@@ -83,7 +84,7 @@ insert_right h args k g m small_key small tree unseen bare full =
         few = begun.tree.few n at.linked
 
         done : (reply : ℕ) (ws : List (ℕ × ℕ)) (b : Shape) (y : Memory) → IsLinked h.size b y → OwnsUnseen h (with_pending k ws) b y
-            → TreeRight h (holding [] TrInsert true false) (with_pending k ws) b y (returns reply)
+            → TreeRight h (holding [] (OfTree Insert) true false) (with_pending k ws) b y (returns reply)
         done reply ws b y t unseen' = tree_returns h (with_pending k ws) b y true called reply t unseen'
             (record { fresh = bare.fresh; hanging = bare.hanging; called_is = bare.called_is })
             (tree_mutates (with_pending k ws) called reply bare.called_is refl)
@@ -93,10 +94,10 @@ insert_right h args k g m small_key small tree unseen bare full =
         replaced i front entry back len around =
             subst (λ i. Onward h s k a x (replace_value h n i args.b)) len
             (λ b y r.
-            tree_open h (lock_of h n ∷ []) TrInsert false k b y (perform (Store (value_cell n (length front)) args.b) closing) r.tree (unseen_stays h s k a x b y at.unseen r)
-            (λ c z r'. store_in_node h TrInsert false k a x n (8 + length front) args.b [] closing begun.tree at low_level (omega (arith, place)) (λ e. omega (arith, e))
+            tree_open h (lock_of h n ∷ []) (OfTree Insert) false k b y (perform (Store (value_cell n (length front)) args.b) closing) r.tree (unseen_stays h s k a x b y at.unseen r)
+            (λ c z r'. store_in_node h (OfTree Insert) false k a x n (8 + length front) args.b [] closing begun.tree at low_level (omega (arith, place)) (λ e. omega (arith, e))
             (commit_block h called k a x n (front ++ (entry.0, args.b) ∷ back) ws (returns 2) begun.tree at leaf rewritten right commits (done 2 ws))
-            c z (tree_rely_more h s k a b c x y z r (rely_with h (lock_of h n ∷ []) TrInsert false true false k [] b c y z r'))))
+            c z (tree_rely_more h s k a b c x y z r (rely_with h (lock_of h n ∷ []) (OfTree Insert) false true false k [] b c y z r'))))
           where
             closing : Script
             closing = perform (Mark BlockCommit) (unlock_node h n (returns 2))

@@ -6,7 +6,8 @@ use Rattle.std.specs.Bool.{then_some}
 use Rattle.std.specs.List.{AllByRecursion as Each}
 use Rattle.vyrd_base.specs.declared.header.Header.{Header}
 use Rattle.vyrd_base.specs.declared.subject.Method.{Method}
-use Rattle.vyrd_base.specs.declared.subject.Method.TheVariants.{TrDelete, TrLookup}
+use Rattle.vyrd_base.specs.declared.subject.Method.TheVariants.{Tree as OfTree}
+use Rattle.vyrd_base.specs.declared.tree.TreeMethod.TheVariants.{Delete, Lookup}
 use Rattle.vyrd_base.specs.declared.subject.Args.{Args}
 use Rattle.vyrd_base.specs.declared.log.Kind.TheVariants.{BlockOpen, BlockCommit}
 use Rattle.vyrd_base.specs.Callers.{Called}
@@ -331,18 +332,18 @@ walk_down_right h method committed key k g m lost arrived tree unseen there =
 
 -- a lookup
 pub lookup_right : (h : Header) (args : Args) (k : TreeLocals) (g : Shape) (m : Memory) → IsLinked h.size g m → OwnsUnseen h k g m
-    → IsBare k (record { method = TrLookup; args = args })
-    → TreeRight h (holding [] TrLookup false false) k g m (lookup h Correct args.a)
+    → IsBare k (record { method = OfTree Lookup; args = args })
+    → TreeRight h (holding [] (OfTree Lookup) false false) k g m (lookup h Correct args.a)
 lookup_right h args k g m tree unseen bare =
-    walk_down_right h TrLookup false args.a k g m (returns 0) (λ at. look_in h at (place_of args.a at.entries)) tree unseen arrives
+    walk_down_right h (OfTree Lookup) false args.a k g m (returns 0) (λ at. look_in h at (place_of args.a at.entries)) tree unseen arrives
   where
     called : Called
-    called = record { method = TrLookup; args = args }
+    called = record { method = OfTree Lookup; args = args }
 
     free : Situation
-    free = holding [] TrLookup false false
+    free = holding [] (OfTree Lookup) false false
 
-    arrives : Arrives h TrLookup false k g m args.a 0 (λ at. look_in h at (place_of args.a at.entries))
+    arrives : Arrives h (OfTree Lookup) false k g m args.a 0 (λ at. look_in h at (place_of args.a at.entries))
     arrives n a x begun at leaf over b y r = (
       answered,
       b,
@@ -375,7 +376,7 @@ lookup_right h args k g m tree unseen bare =
     )
       where
         s : Situation
-        s = holding (lock_of h n ∷ []) TrLookup false false
+        s = holding (lock_of h n ∷ []) (OfTree Lookup) false false
 
         reply : ℕ
         reply = reply_of (entries_at x n) (place_of args.a (entries_at x n))
@@ -407,7 +408,7 @@ lookup_right h args k g m tree unseen bare =
         same = entries_kept h s k a x n b y begun.tree at r
 
         by_place : (state : Amounts) → ShowsState b y state → (o : Option ℕ) → place_of args.a (entries_at x n) ≡ o
-            → answer_in state TrLookup args ≡ reply_of (entries_at x n) (place_of args.a (entries_at x n))
+            → answer_in state (OfTree Lookup) args ≡ reply_of (entries_at x n) (place_of args.a (entries_at x n))
         by_place state shows None e =
             ap (λ b. cond b (amount_of state args.a - 2 ^ 32 + 1) 0) (isnt_there state args.a
             (absent_in h.size b y state n args.a r.tree shows is (subst (Each (λ x. x.0 ≢ args.a)) (sym same) (not_found args.a (entries_at x n) e))))
@@ -426,8 +427,8 @@ lookup_right h args k g m tree unseen bare =
             plus_one value amount e = omega arith
 
         Later : List ℕ → Type 0
-        Later locks = (g' : Shape) → (now : Memory) → TreeRely h (holding locks TrLookup false false) answered b y g' now
-            → TreeRight h (holding locks TrLookup false false) answered g' now (returns reply)
+        Later locks = (g' : Shape) → (now : Memory) → TreeRely h (holding locks (OfTree Lookup) false false) answered b y g' now
+            → TreeRight h (holding locks (OfTree Lookup) false false) answered g' now (returns reply)
 
         later : Later []
         later g' now r' = tree_returns h answered g' now false called reply r'.tree
@@ -436,19 +437,19 @@ lookup_right h args k g m tree unseen bare =
 
 -- a delete
 pub delete_right : (h : Header) (args : Args) (k : TreeLocals) (g : Shape) (m : Memory) → IsLinked h.size g m → OwnsUnseen h k g m
-    → IsBare k (record { method = TrDelete; args = args })
-    → TreeRight h (holding [] TrDelete false false) k g m (delete h Correct args.a)
+    → IsBare k (record { method = OfTree Delete; args = args })
+    → TreeRight h (holding [] (OfTree Delete) false false) k g m (delete h Correct args.a)
 delete_right h args k g m tree unseen bare =
-    walk_down_right h TrDelete false args.a k g m gives_up (λ at. delete_in h at (place_of args.a at.entries)) tree unseen arrives
+    walk_down_right h (OfTree Delete) false args.a k g m gives_up (λ at. delete_in h at (place_of args.a at.entries)) tree unseen arrives
   where
     called : Called
-    called = record { method = TrDelete; args = args }
+    called = record { method = OfTree Delete; args = args }
 
-    arrives : Arrives h TrDelete false k g m args.a 0 (λ at. delete_in h at (place_of args.a at.entries))
+    arrives : Arrives h (OfTree Delete) false k g m args.a 0 (λ at. delete_in h at (place_of args.a at.entries))
     arrives n a x begun at leaf over = by_place (place_of args.a (entries_at x n)) refl
       where
         s : Situation
-        s = holding (lock_of h n ∷ []) TrDelete false false
+        s = holding (lock_of h n ∷ []) (OfTree Delete) false false
 
         is : IsIn a x 0 n args.a
         is = record { linked = at.linked; level_is = leaf; covers = over }

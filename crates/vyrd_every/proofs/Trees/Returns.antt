@@ -2,7 +2,8 @@
 use Rattle.std.proofs.Common.{ℕ, zero, suc, ◌+◌, ◌<◌, ◌^◌, Bool, true, false, cond, List, [], ◌∷◌, length, refl}
 use Rattle.std.specs.Prelude.{◌==◌, nat_lt, nat_le, min, drop}
 use Rattle.vyrd_base.specs.declared.header.Header.{Header}
-use Rattle.vyrd_base.specs.declared.subject.Method.TheVariants.{TrInsert}
+use Rattle.vyrd_base.specs.declared.subject.Method.TheVariants.{Tree as OfTree}
+use Rattle.vyrd_base.specs.declared.tree.TreeMethod.TheVariants.{Insert}
 use Rattle.vyrd_base.specs.declared.subject.Args.{Args}
 use Rattle.vyrd_base.specs.declared.log.Kind.TheVariants.{BlockOpen, BlockClose}
 use Rattle.vyrd_memory.specs.declared.op.Variant.TheVariants.{Correct}
@@ -112,6 +113,6 @@ ascent_right h args = record {
 
 -- every insert does right, whatever the others do
 pub every_insert : (h : Header) (args : Args) (k : TreeLocals) (g : Shape) (m : Memory) → args.a < 2 ^ 32 → args.b < 2 ^ 32 → IsLinked h.size g m → OwnsUnseen h k g m
-    → IsBare k (insert_of args) → TreeRight h (holding [] TrInsert false false) k g m (insert_entry h Correct args.a args.b)
+    → IsBare k (insert_of args) → TreeRight h (holding [] (OfTree Insert) false false) k g m (insert_entry h Correct args.a args.b)
 every_insert h args k g m small_key small tree unseen bare =
     insert_right h args k g m small_key small tree unseen bare (full_right h args k g m small_key small bare (ascent_right h args))

@@ -3,7 +3,8 @@ use Rattle.std.proofs.Common.{◌≡◌, ◌≢◌, ℕ, ◌+◌, ◌*◌, ◌<�
 use Rattle.std.specs.Prelude.{◌==◌, ◌||◌}
 use Rattle.std.specs.List.{AllByRecursion as Each}
 use Rattle.vyrd_base.specs.declared.header.Header.{Header}
-use Rattle.vyrd_base.specs.declared.subject.Method.TheVariants.{TrInsert}
+use Rattle.vyrd_base.specs.declared.subject.Method.TheVariants.{Tree as OfTree}
+use Rattle.vyrd_base.specs.declared.tree.TreeMethod.TheVariants.{Insert}
 use Rattle.vyrd_base.specs.declared.subject.Args.{Args}
 use Rattle.vyrd_base.specs.declared.log.Kind.TheVariants.{BlockOpen, BlockClose}
 use Rattle.vyrd_base.specs.Amounts.{Amounts, amount_of}
@@ -252,8 +253,8 @@ top_linked size g m t = record {
 
 -- In an open block of the caller, with this lock held since memory m: what comes next does right, with these writes so far.
 abbrev pub Inside : Header → TreeLocals → Shape → Memory → ℕ → List (ℕ × ℕ) → Script → Type 0
-Inside h k g m lock ws script = (g' : Shape) (m' : Memory) → TreeRely h (holding (lock ∷ []) TrInsert true false) k g m g' m'
-    → TreeRight h (holding (lock ∷ []) TrInsert true true) (with_pending k ws) g' m' script
+Inside h k g m lock ws script = (g' : Shape) (m' : Memory) → TreeRely h (holding (lock ∷ []) (OfTree Insert) true false) k g m g' m'
+    → TreeRight h (holding (lock ∷ []) (OfTree Insert) true true) (with_pending k ws) g' m' script
 
 pub store_word : (h : Header) (k : TreeLocals) (g : Shape) (m : Memory) (lock u place value : ℕ) (ws : List (ℕ × ℕ)) (later : Script) → OwnsUnseen h k g m
     → k.fresh ≡ Some u → u < h.size → place < 12
@@ -281,15 +282,15 @@ store_word h k g m lock u place value ws later unseen mine fits low rest g' m' r
     answers = refl;
   },
   λ g'' m'' rely'. rest g'' m'' (tree_rely_more h s k g g' g'' m m' m'' rely
-      (rely_with h (lock ∷ []) TrInsert true true false k ((12 * u + place, value) ∷ ws) g' g'' m' m''
+      (rely_with h (lock ∷ []) (OfTree Insert) true true false k ((12 * u + place, value) ∷ ws) g' g'' m' m''
       (subst (λ x. TreeRely h inside (with_pending k ((12 * u + place, value) ∷ ws)) g' x g'' m'') same rely'))),
 )
   where
     s : Situation
-    s = holding (lock ∷ []) TrInsert true false
+    s = holding (lock ∷ []) (OfTree Insert) true false
 
     inside : Situation
-    inside = holding (lock ∷ []) TrInsert true true
+    inside = holding (lock ∷ []) (OfTree Insert) true true
 
     c : Changeless h inside (with_pending k ws) g' m'
     c = changeless h inside (with_pending k ws) g' m' (unseen_with h k ws g' m' (unseen_stays h s k g m g' m' unseen rely))
@@ -333,19 +334,19 @@ pub growth_right : (h : Header) (args : Args) → GrowthRight h args
 growth_right h args = record { right = grow }
   where
     s : Situation
-    s = holding (root_lock h ∷ []) TrInsert true false
+    s = holding (root_lock h ∷ []) (OfTree Insert) true false
 
     inside : Situation
-    inside = holding (root_lock h ∷ []) TrInsert true true
+    inside = holding (root_lock h ∷ []) (OfTree Insert) true true
 
-    root_held : holds (holding (root_lock h ∷ []) TrInsert true true) (root_lock h) ≡ true
+    root_held : holds (holding (root_lock h ∷ []) (OfTree Insert) true true) (root_lock h) ≡ true
     root_held = ap (λ b. b || false) (same_number (root_lock h))
 
     grow : (k : TreeLocals) (g : Shape) (m : Memory) (level key node root : ℕ) → IsLinked h.size g m → OwnsUnseen h k g m
         → Ascending k g m (insert_of args) level key node → m (root_cell h) ≡ root → level_at m root ≡ level → g.top ≡ level_at m (root_in h.size m)
         → TreeRight h s k g m (grow_root h level key node root (returns 1))
     grow k g m level key node root tree unseen up is level_is calm =
-        unused_right h TrInsert true (root_lock h) k g m (unlock_root h (returns 1)) growing (omega arith) tree unseen up.fresh
+        unused_right h (OfTree Insert) true (root_lock h) k g m (unlock_root h (returns 1)) growing (omega arith) tree unseen up.fresh
         (λ b y r. unlocked_end h args k b y (root_lock h) r.tree (unseen_stays h s k g m b y unseen r) up.called_is)
         some_right g m (record {
           grows = record { linked = λ n l. l; low = λ n l. refl; level = λ n l. refl; top = omega arith };
@@ -368,8 +369,8 @@ growth_right h args = record { right = grow }
         some_right : (u : ℕ) (ws : List (ℕ × ℕ)) (b : Shape) (y : Memory) → TreeRely h s k g m b y → OwnsUnseen h (with_fresh k u ws) b y
             → TreeRight h s (with_fresh k u ws) b y (growing u)
         some_right u ws b y r unseen' =
-            tree_open h (root_lock h ∷ []) TrInsert true k' b y (write_node u (level + 1) 0 0 ((0, root) ∷ (key, node) ∷ []) (closing u)) r.tree unseen'
-            (λ c z r'. block c z (rely_with h (root_lock h ∷ []) TrInsert true true false k' [] b c y z r'))
+            tree_open h (root_lock h ∷ []) (OfTree Insert) true k' b y (write_node u (level + 1) 0 0 ((0, root) ∷ (key, node) ∷ []) (closing u)) r.tree unseen'
+            (λ c z r'. block c z (rely_with h (root_lock h ∷ []) (OfTree Insert) true true false k' [] b c y z r'))
           where
             k' : TreeLocals
             k' = with_fresh k u ws

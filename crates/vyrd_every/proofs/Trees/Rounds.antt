@@ -2,7 +2,8 @@
 use Rattle.std.proofs.Common.{◌≡◌, ℕ, zero, suc, ◌+◌, ◌<◌, ◌≤◌, ◌⊎◌, inl, inr, Bool, true, false, cond, [], ◌∷◌, length, refl, ap, ◌∙◌, sym, subst, arith}
 use Rattle.std.specs.Prelude.{◌||◌, nat_lt, nat_le}
 use Rattle.vyrd_base.specs.declared.header.Header.{Header}
-use Rattle.vyrd_base.specs.declared.subject.Method.TheVariants.{TrInsert}
+use Rattle.vyrd_base.specs.declared.subject.Method.TheVariants.{Tree as OfTree}
+use Rattle.vyrd_base.specs.declared.tree.TreeMethod.TheVariants.{Insert}
 use Rattle.vyrd_base.specs.declared.subject.Args.{Args}
 use Rattle.vyrd_base.specs.declared.log.Kind.TheVariants.{BlockClose}
 use Rattle.vyrd_base.proofs.TestLaws.{is_at_most, same_number, is_below, isnt_below, isnt_at_most}
@@ -34,18 +35,18 @@ use Rattle.vyrd_every.proofs.Trees.Ascents.{insert_of, ended_right, still_ascend
 pub record GrowthRight (h : Header) (args : Args) : Type 0 where
   pub right : (k : TreeLocals) (g : Shape) (m : Memory) (level key node root : ℕ) → IsLinked h.size g m → OwnsUnseen h k g m
       → Ascending k g m (insert_of args) level key node → m (root_cell h) ≡ root → level_at m root ≡ level → g.top ≡ level_at m (root_in h.size m)
-      → TreeRight h (holding (root_lock h ∷ []) TrInsert true false) k g m (grow_root h level key node root (returns 1))
+      → TreeRight h (holding (root_lock h ∷ []) (OfTree Insert) true false) k g m (grow_root h level key node root (returns 1))
 
 -- where the walk of a round has arrived
 arrived_right : (h : Header) (args : Args) (k : TreeLocals) (g : Shape) (m : Memory) (level key node n : ℕ) (next : ℕ → ℕ → ℕ → Script)
     → Above h args k g m level key node n → RoundsRight h args next
-    → Onward h (holding (lock_of h n ∷ []) TrInsert true false) k g m (add_child h level key node (loaded_at m n) (returns 1) next)
+    → Onward h (holding (lock_of h n ∷ []) (OfTree Insert) true false) k g m (add_child h level key node (loaded_at m n) (returns 1) next)
 arrived_right h args k g m level key node n next ab rounds =
     subst (Goal (nat_lt (length (entries_at m n)) 4)) (sym (isnt_at_most (level_at m n) level (let e = ab.is.level_is in omega arith)))
     (by_room (le_or 4 (length (entries_at m n))))
   where
     s : Situation
-    s = holding (lock_of h n ∷ []) TrInsert true false
+    s = holding (lock_of h n ∷ []) (OfTree Insert) true false
 
     Goal : Bool → Bool → Type 0
     Goal room low = Onward h s k g m (cond low (unlock_node h n (returns 1)) (cond room (add_entry h (loaded_at m n) key node BlockClose (returns 1))
@@ -68,7 +69,7 @@ round_right h args next growth rounds = record { right = begin }
   where
     begin : (k : TreeLocals) (g : Shape) (m : Memory) (level key node : ℕ) → IsLinked h.size g m → OwnsUnseen h k g m
         → Ascending k g m (insert_of args) level key node
-        → TreeRight h (holding [] TrInsert true false) k g m (ascend_once h Correct level key node (returns 1) next)
+        → TreeRight h (holding [] (OfTree Insert) true false) k g m (ascend_once h Correct level key node (returns 1) next)
     begin k g m level key node tree unseen up =
         tree_take h free k g m (root_lock h) under tree unseen (λ held e. cc)
         (λ a x r.
@@ -79,10 +80,10 @@ round_right h args next growth rounds = record { right = begin }
         (still_ascending h s k a x b y (insert_of args) level key node unseen_a up_a r') (r'.root root_held).0))
       where
         free : Situation
-        free = holding [] TrInsert true false
+        free = holding [] (OfTree Insert) true false
 
         s : Situation
-        s = holding (root_lock h ∷ []) TrInsert true false
+        s = holding (root_lock h ∷ []) (OfTree Insert) true false
 
         root_held : holds s (root_lock h) ≡ true
         root_held = ap (λ b. b || false) (same_number (root_lock h))
@@ -132,8 +133,8 @@ round_right h args next growth rounds = record { right = begin }
                     (growth.right k c z level key node root tree unseen up is
                     (let high = tree.highest node (unseen.hanging node up.hanging).0 in let at = up.level_is in omega (arith, low, root_level, top_is, high, at)) calm)
                 by_level (inr above) = subst Goal (sym (isnt_at_most top level above))
-                    (tree_give_last h TrInsert true k c z (root_lock h) (walk root) tree unseen
-                    (λ d w r. walk_right h TrInsert true key (level + 1) k d w (returns 1) (λ at. add_child h level key node at (returns 1) next)
+                    (tree_give_last h (OfTree Insert) true k c z (root_lock h) (walk root) tree unseen
+                    (λ d w r. walk_right h (OfTree Insert) true key (level + 1) k d w (returns 1) (λ at. add_child h level key node at (returns 1) next)
                     (unseen_stays h free k c z d w unseen r)
                     (λ n e v r' at level_is over. arrived_right h args k e v level key node n next (record {
                       tree = r'.tree;

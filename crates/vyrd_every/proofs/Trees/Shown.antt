@@ -13,7 +13,8 @@ use Rattle.vyrd_base.specs.Layout.{plain_words, plain_words_of}
 use Rattle.vyrd_base.specs.Amounts.{Amounts, amount_of, collected, given}
 use Rattle.vyrd_base.specs.FirstVersion.{old_effects, old_value_after, old_words_after}
 use Rattle.vyrd_base.specs.Views.{view_of_words, parts_of}
-use Rattle.vyrd_base.specs.TreeView.{right_of, node_word, entry_parts, node_parts, damage, chain_parts_from, chain_parts}
+use Rattle.vyrd_base.specs.Tree.{right_of, node_word, entry_parts, node_parts, damage}
+use Rattle.vyrd_base.specs.Tree.{chain_parts_from, chain_parts}
 use Rattle.vyrd_base.proofs.BlockLaws.{wrote, wrote_is}
 use Rattle.vyrd_base.proofs.TestLaws.{is_same}
 use Rattle.vyrd_memory.specs.Alone.{Memory}

@@ -12,7 +12,7 @@ use Rattle.vyrd_base.specs.Layout.{plain_words, plain_words_of}
 use Rattle.vyrd_base.specs.Amounts.{Amounts, amount_of, collected, given}
 use Rattle.vyrd_base.specs.FirstVersion.{old_effects, old_value_after, old_words_after}
 use Rattle.vyrd_base.specs.Views.{view_of_words, parts_of}
-use Rattle.vyrd_base.specs.TreeView.{right_of, entry_parts, node_parts, chain_parts_from, chain_parts}
+use Rattle.vyrd_base.specs.Tree.{right_of, entry_parts, node_parts, chain_parts_from, chain_parts}
 use Rattle.vyrd_base.proofs.TestLaws.{isnt_same, isnt_at_most}
 use Rattle.vyrd_memory.specs.Alone.{Memory}
 use Rattle.vyrd_memory.proofs.NumberLists.{element_below}

@@ -4,7 +4,10 @@ use Rattle.std.specs.Prelude.{◌||◌, ◌&&◌, nat_lt}
 use Rattle.vyrd_base.specs.declared.header.Header.{Header}
 use Rattle.vyrd_base.specs.declared.subject.Subject.TheVariants.{Tree}
 use Rattle.vyrd_base.specs.declared.subject.Method.{Method}
-use Rattle.vyrd_base.specs.declared.subject.Method.TheVariants.{MsInsert, MsInsertPair, MsDelete, MsLookup, CaWrite, CaFlush, CaEvict, CaRead, TrInsert, TrDelete, TrLookup, BuAppend, BuAppendFrom, BuCut, BuLength, BuRead}
+use Rattle.vyrd_base.specs.declared.subject.Method.TheVariants.{Multiset as OfMultiset}
+use Rattle.vyrd_base.specs.declared.subject.Method.TheVariants.{Cache as OfCache, Tree as OfTree}
+use Rattle.vyrd_base.specs.declared.subject.Method.TheVariants.{Buffers as OfBuffers}
+use Rattle.vyrd_base.specs.declared.tree.TreeMethod.TheVariants.{Insert, Delete, Lookup}
 use Rattle.vyrd_base.specs.declared.subject.Args.{Args}
 use Rattle.vyrd_base.specs.declared.log.Kind.TheVariants.{Call, Return, Write, Commit, BlockOpen, BlockClose, BlockCommit}
 use Rattle.vyrd_base.specs.Subjects.{subject_of}
@@ -41,22 +44,12 @@ use Rattle.vyrd_every.proofs.Trees.Returns.{every_insert}
 procedure_right : (h : Header) (k : TreeLocals) (g : Shape) (m : Memory) (method : Method) (args : Args) → subject_of method ≡ Tree
     → args.a < 2 ^ 32 → args.b < 2 ^ 32 → IsLinked h.size g m → OwnsUnseen h k g m → IsBare k (record { method = method; args = args })
     → TreeRight h (just_called method) k g m (procedure_of h Correct method args)
-procedure_right h k g m TrInsert args of small_key small tree unseen bare = every_insert h args k g m small_key small tree unseen bare
-procedure_right h k g m TrDelete args of small_key small tree unseen bare = delete_right h args k g m tree unseen bare
-procedure_right h k g m TrLookup args of small_key small tree unseen bare = lookup_right h args k g m tree unseen bare
-procedure_right h k g m MsInsert args of small_key small tree unseen bare = cc
-procedure_right h k g m MsInsertPair args of small_key small tree unseen bare = cc
-procedure_right h k g m MsDelete args of small_key small tree unseen bare = cc
-procedure_right h k g m MsLookup args of small_key small tree unseen bare = cc
-procedure_right h k g m CaWrite args of small_key small tree unseen bare = cc
-procedure_right h k g m CaFlush args of small_key small tree unseen bare = cc
-procedure_right h k g m CaEvict args of small_key small tree unseen bare = cc
-procedure_right h k g m CaRead args of small_key small tree unseen bare = cc
-procedure_right h k g m BuAppend args of small_key small tree unseen bare = cc
-procedure_right h k g m BuAppendFrom args of small_key small tree unseen bare = cc
-procedure_right h k g m BuCut args of small_key small tree unseen bare = cc
-procedure_right h k g m BuLength args of small_key small tree unseen bare = cc
-procedure_right h k g m BuRead args of small_key small tree unseen bare = cc
+procedure_right h k g m (OfTree Insert) args of small_key small tree unseen bare = every_insert h args k g m small_key small tree unseen bare
+procedure_right h k g m (OfTree Delete) args of small_key small tree unseen bare = delete_right h args k g m tree unseen bare
+procedure_right h k g m (OfTree Lookup) args of small_key small tree unseen bare = lookup_right h args k g m tree unseen bare
+procedure_right h k g m (OfMultiset other) args of small_key small tree unseen bare = cc
+procedure_right h k g m (OfCache other) args of small_key small tree unseen bare = cc
+procedure_right h k g m (OfBuffers other) args of small_key small tree unseen bare = cc
 
 follows_commit : (k : TreeLocals) (rest later : Script) (g : Shape) (m : Memory) (state : Amounts) → TreeCommits k rest g m state
     → TreeCommits k (followed_by rest later) g m state

@@ -10,12 +10,10 @@ use Rattle.vyrd_base.specs.declared.header.Header.{Header}
 use Rattle.vyrd_base.specs.declared.subject.Subject.{Subject}
 use Rattle.vyrd_base.specs.declared.subject.Subject.TheVariants.{Multiset, Cache, Tree, Buffers}
 use Rattle.vyrd_base.specs.declared.subject.Method.{Method}
-use Rattle.vyrd_base.specs.declared.subject.Method.TheVariants.{MsInsert, MsInsertPair, MsDelete}
-use Rattle.vyrd_base.specs.declared.subject.Method.TheVariants.{MsLookup, CaWrite, CaFlush, CaEvict}
-use Rattle.vyrd_base.specs.declared.subject.Method.TheVariants.{CaRead, TrInsert, TrDelete}
-use Rattle.vyrd_base.specs.declared.subject.Method.TheVariants.{BuAppend, BuAppendFrom, BuCut}
-use Rattle.vyrd_base.specs.declared.subject.Method.TheVariants.{BuLength, BuRead}
-use Rattle.vyrd_base.specs.declared.subject.Method.TheVariants.{TrLookup}
+use Rattle.vyrd_base.specs.declared.subject.Method.TheVariants.{Multiset as OfMultiset}
+use Rattle.vyrd_base.specs.declared.subject.Method.TheVariants.{Cache as OfCache, Tree as OfTree}
+use Rattle.vyrd_base.specs.declared.subject.Method.TheVariants.{Buffers as OfBuffers}
+use Rattle.vyrd_base.specs.declared.tree.TreeMethod.TheVariants.{Insert, Delete, Lookup}
 use Rattle.vyrd_base.specs.declared.subject.Args.{Args}
 use Rattle.vyrd_base.specs.declared.log.Kind.TheVariants.{Call, Return, Write, Commit, BlockOpen}
 use Rattle.vyrd_base.specs.declared.log.Kind.TheVariants.{BlockClose, BlockCommit}
@@ -113,22 +111,12 @@ pub bound_is_some : (subject : Subject) (n : ℕ) (method : Method) → 1 ≤ bo
 bound_is_some Multiset n method = omega arith
 bound_is_some Cache n method = omega arith
 bound_is_some Buffers n method = omega arith
-bound_is_some Tree n MsInsert = omega arith
-bound_is_some Tree n MsInsertPair = omega arith
-bound_is_some Tree n MsDelete = omega arith
-bound_is_some Tree n MsLookup = omega arith
-bound_is_some Tree n CaWrite = omega arith
-bound_is_some Tree n CaFlush = omega arith
-bound_is_some Tree n CaEvict = omega arith
-bound_is_some Tree n CaRead = omega arith
-bound_is_some Tree n TrInsert = omega arith
-bound_is_some Tree n TrDelete = omega arith
-bound_is_some Tree n TrLookup = omega arith
-bound_is_some Tree n BuAppend = omega arith
-bound_is_some Tree n BuAppendFrom = omega arith
-bound_is_some Tree n BuCut = omega arith
-bound_is_some Tree n BuLength = omega arith
-bound_is_some Tree n BuRead = omega arith
+bound_is_some Tree n (OfMultiset other) = omega arith
+bound_is_some Tree n (OfCache other) = omega arith
+bound_is_some Tree n (OfTree Insert) = omega arith
+bound_is_some Tree n (OfTree Delete) = omega arith
+bound_is_some Tree n (OfTree Lookup) = omega arith
+bound_is_some Tree n (OfBuffers other) = omega arith
 
 pub operations-in_time : (h : Header) (body : Op → Script) (ops : List Op) → AreBounded h body
     → are_callable h ops ≡ true

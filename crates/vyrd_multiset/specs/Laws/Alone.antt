@@ -11,15 +11,25 @@ use Rattle.std.specs.Bool.{then_some}
 use Rattle.vyrd_base.specs.declared.header.Header.{Header}
 use Rattle.vyrd_base.specs.declared.subject.Subject.TheVariants.{Multiset}
 use Rattle.vyrd_base.specs.declared.subject.Method.{Method}
-use Rattle.vyrd_base.specs.declared.subject.Method.TheVariants.{MsInsert, MsInsertPair, MsDelete}
-use Rattle.vyrd_base.specs.declared.subject.Method.TheVariants.{MsLookup, CaWrite, CaFlush, CaEvict}
-use Rattle.vyrd_base.specs.declared.subject.Method.TheVariants.{CaRead, TrInsert, TrDelete}
-use Rattle.vyrd_base.specs.declared.subject.Method.TheVariants.{TrLookup, BuAppend, BuAppendFrom}
-use Rattle.vyrd_base.specs.declared.subject.Method.TheVariants.{BuCut, BuLength, BuRead}
+use Rattle.vyrd_base.specs.declared.subject.Method.TheVariants.{Multiset as OfMultiset}
+use Rattle.vyrd_base.specs.declared.subject.Method.TheVariants.{Cache as OfCache, Tree as OfTree}
+use Rattle.vyrd_base.specs.declared.subject.Method.TheVariants.{Buffers as OfBuffers}
+use Rattle.vyrd_base.specs.declared.multiset.MultisetMethod.TheVariants.{Insert as MsInsert}
+use Rattle.vyrd_base.specs.declared.multiset.MultisetMethod.TheVariants.{InsertPair}
+use Rattle.vyrd_base.specs.declared.multiset.MultisetMethod.TheVariants.{Delete as MsDelete}
+use Rattle.vyrd_base.specs.declared.multiset.MultisetMethod.TheVariants.{Lookup as MsLookup}
+use Rattle.vyrd_base.specs.declared.cache.CacheMethod.TheVariants.{Write, Flush, Evict}
+use Rattle.vyrd_base.specs.declared.cache.CacheMethod.TheVariants.{Read as CaRead}
+use Rattle.vyrd_base.specs.declared.tree.TreeMethod.TheVariants.{Insert as TrInsert}
+use Rattle.vyrd_base.specs.declared.tree.TreeMethod.TheVariants.{Delete as TrDelete}
+use Rattle.vyrd_base.specs.declared.tree.TreeMethod.TheVariants.{Lookup as TrLookup}
+use Rattle.vyrd_base.specs.declared.buffers.BuffersMethod.TheVariants.{Append, AppendFrom, Cut}
+use Rattle.vyrd_base.specs.declared.buffers.BuffersMethod.TheVariants.{Length, Read as BuRead}
 use Rattle.vyrd_base.specs.declared.subject.Args.{Args}
 use Rattle.vyrd_base.specs.Subjects.{subject_of, is_observer}
 use Rattle.vyrd_base.specs.Amounts.{Amounts, amount_of, with_amount, plus_amount}
-use Rattle.vyrd_base.specs.Specification.{by_reply, next_state}
+use Rattle.vyrd_base.specs.Structures.{by_reply}
+use Rattle.vyrd_base.specs.Specification.{next_state}
 use Rattle.vyrd_memory.specs.declared.op.Op.{Op}
 use Rattle.vyrd_memory.specs.declared.op.Variant.TheVariants.{Correct}
 use Rattle.vyrd_memory.specs.Scripts.{Script}
@@ -58,13 +68,13 @@ by_method_right : (h : Header) (method : Method) (args : Args) → h.subject ≡
     → subject_of method ≡ Multiset → (c : ℕ) (memory : Memory) (s : Amounts) → IsMultiset h memory s
     → MeetsSpecification h (record { method = method; args = args })
     (procedure_of h Correct method args) c memory s
-by_method_right h MsInsert args is of c memory s m =
-    meets h (record { method = MsInsert; args = args }) (insert h Correct args.a) c memory s is
+by_method_right h (OfMultiset MsInsert) args is of c memory s m =
+    meets h (record { method = OfMultiset MsInsert; args = args }) (insert h Correct args.a) c memory s is
     (InsertDone h memory s args.a)
     (insert_done h c memory s args.a m) says
   where
     says : (reply : ℕ) (after : Memory) → InsertDone h memory s args.a reply after
-        → Meets h (record { method = MsInsert; args = args }) s reply after
+        → Meets h (record { method = OfMultiset MsInsert; args = args }) s reply after
     says reply after (inl d) = record {
       state = plus_amount s args.a 1;
       says = ap (λ r. by_reply r (Some s) (Some (plus_amount s args.a 1)) None) d.0;
@@ -75,13 +85,13 @@ by_method_right h MsInsert args is of c memory s m =
       says = ap (λ r. by_reply r (Some s) (Some (plus_amount s args.a 1)) None) d.0;
       is = d.1;
     }
-by_method_right h MsInsertPair args is of c memory s m =
-    meets h (record { method = MsInsertPair; args = args }) (insert_pair h Correct args.a args.b) c
+by_method_right h (OfMultiset InsertPair) args is of c memory s m =
+    meets h (record { method = OfMultiset InsertPair; args = args }) (insert_pair h Correct args.a args.b) c
     memory s is (PairDone h memory s args.a args.b)
     (pair_done h c memory s args.a args.b m) says
   where
     says : (reply : ℕ) (after : Memory) → PairDone h memory s args.a args.b reply after
-        → Meets h (record { method = MsInsertPair; args = args }) s reply after
+        → Meets h (record { method = OfMultiset InsertPair; args = args }) s reply after
     says reply after (inl d) = record {
       state = plus_amount (plus_amount s args.a 1) args.b 1;
       says =
@@ -96,8 +106,8 @@ by_method_right h MsInsertPair args is of c memory s m =
           d.0;
       is = d.1;
     }
-by_method_right h MsDelete args is of c memory s m =
-    meets h (record { method = MsDelete; args = args }) (delete h args.a) c memory s is
+by_method_right h (OfMultiset MsDelete) args is of c memory s m =
+    meets h (record { method = OfMultiset MsDelete; args = args }) (delete h args.a) c memory s is
     (DeleteDone h s args.a)
     (delete_done h c memory s args.a m) says
   where
@@ -105,52 +115,52 @@ by_method_right h MsDelete args is of c memory s m =
     fewer = with_amount s args.a (amount_of s args.a - 1)
 
     says : (reply : ℕ) (after : Memory) → DeleteDone h s args.a reply after
-        → Meets h (record { method = MsDelete; args = args }) s reply after
+        → Meets h (record { method = OfMultiset MsDelete; args = args }) s reply after
     says reply after (inl d) = record {
       state = with_amount s args.a (amount_of s args.a - 1);
-      says = ap (λ r. next_state MsDelete args r s) d.0
+      says = ap (λ r. next_state (OfMultiset MsDelete) args r s) d.0
           ∙ ap (λ b. then_some b (with_amount s args.a (amount_of s args.a - 1)))
           (is_there s args.a (let some = d.2 in omega (arith, some)));
       is = d.1;
     }
     says reply after (inr d) = record {
       state = s;
-      says = ap (λ r. next_state MsDelete args r s) d.0
+      says = ap (λ r. next_state (OfMultiset MsDelete) args r s) d.0
           ∙ ap (λ b. then_some (not b) s) (isnt_there s args.a d.2);
       is = d.1;
     }
-by_method_right h MsLookup args is of c memory s m =
-    meets h (record { method = MsLookup; args = args }) (lookup h args.a) c memory s is
+by_method_right h (OfMultiset MsLookup) args is of c memory s m =
+    meets h (record { method = OfMultiset MsLookup; args = args }) (lookup h args.a) c memory s is
     (LookupDone h s args.a)
     (lookup_done h c memory s args.a m) says
   where
     says : (reply : ℕ) (after : Memory) → LookupDone h s args.a reply after
-        → Meets h (record { method = MsLookup; args = args }) s reply after
+        → Meets h (record { method = OfMultiset MsLookup; args = args }) s reply after
     says reply after (m', inl d) = record {
       state = s;
-      says = ap (λ r. state_after true (record { method = MsLookup; args = args }) r s) d.0
+      says = ap (λ r. state_after true (record { method = OfMultiset MsLookup; args = args }) r s) d.0
           ∙ ap (λ b. cond (1 == cond b 1 0) (Some s) None)
           (is_there s args.a (let some = d.1 in omega (arith, some)));
       is = m';
     }
     says reply after (m', inr d) = record {
       state = s;
-      says = ap (λ r. state_after true (record { method = MsLookup; args = args }) r s) d.0
+      says = ap (λ r. state_after true (record { method = OfMultiset MsLookup; args = args }) r s) d.0
           ∙ ap (λ b. cond (0 == cond b 1 0) (Some s) None) (isnt_there s args.a d.1);
       is = m';
     }
-by_method_right h CaWrite args is of c memory s m = absurd (cc)
-by_method_right h CaFlush args is of c memory s m = absurd (cc)
-by_method_right h CaEvict args is of c memory s m = absurd (cc)
-by_method_right h CaRead args is of c memory s m = absurd (cc)
-by_method_right h TrInsert args is of c memory s m = absurd (cc)
-by_method_right h TrDelete args is of c memory s m = absurd (cc)
-by_method_right h TrLookup args is of c memory s m = absurd (cc)
-by_method_right h BuAppend args is of c memory s m = absurd (cc)
-by_method_right h BuAppendFrom args is of c memory s m = absurd (cc)
-by_method_right h BuCut args is of c memory s m = absurd (cc)
-by_method_right h BuLength args is of c memory s m = absurd (cc)
-by_method_right h BuRead args is of c memory s m = absurd (cc)
+by_method_right h (OfCache Write) args is of c memory s m = absurd (cc)
+by_method_right h (OfCache Flush) args is of c memory s m = absurd (cc)
+by_method_right h (OfCache Evict) args is of c memory s m = absurd (cc)
+by_method_right h (OfCache CaRead) args is of c memory s m = absurd (cc)
+by_method_right h (OfTree TrInsert) args is of c memory s m = absurd (cc)
+by_method_right h (OfTree TrDelete) args is of c memory s m = absurd (cc)
+by_method_right h (OfTree TrLookup) args is of c memory s m = absurd (cc)
+by_method_right h (OfBuffers Append) args is of c memory s m = absurd (cc)
+by_method_right h (OfBuffers AppendFrom) args is of c memory s m = absurd (cc)
+by_method_right h (OfBuffers Cut) args is of c memory s m = absurd (cc)
+by_method_right h (OfBuffers Length) args is of c memory s m = absurd (cc)
+by_method_right h (OfBuffers BuRead) args is of c memory s m = absurd (cc)
 
 pub procedure_right_alone : (h : Header) (method : Method) (args : Args)
     → h.subject ≡ Multiset → subject_of method ≡ Multiset

@@ -6,11 +6,11 @@ use Rattle.std.specs.Prelude.{◌==◌, is_some}
 use Rattle.vyrd_base.specs.declared.header.Header.{Header}
 use Rattle.vyrd_base.specs.declared.subject.Subject.TheVariants.{Multiset}
 use Rattle.vyrd_base.specs.declared.subject.Method.{Method}
-use Rattle.vyrd_base.specs.declared.subject.Method.TheVariants.{MsInsert, MsInsertPair, MsDelete}
-use Rattle.vyrd_base.specs.declared.subject.Method.TheVariants.{MsLookup, CaWrite, CaFlush, CaEvict}
-use Rattle.vyrd_base.specs.declared.subject.Method.TheVariants.{CaRead, TrInsert, TrDelete}
-use Rattle.vyrd_base.specs.declared.subject.Method.TheVariants.{TrLookup, BuAppend, BuAppendFrom}
-use Rattle.vyrd_base.specs.declared.subject.Method.TheVariants.{BuCut, BuLength, BuRead}
+use Rattle.vyrd_base.specs.declared.subject.Method.TheVariants.{Multiset as OfMultiset}
+use Rattle.vyrd_base.specs.declared.subject.Method.TheVariants.{Cache as OfCache, Tree as OfTree}
+use Rattle.vyrd_base.specs.declared.subject.Method.TheVariants.{Buffers as OfBuffers}
+use Rattle.vyrd_base.specs.declared.multiset.MultisetMethod.TheVariants.{Insert, InsertPair, Delete}
+use Rattle.vyrd_base.specs.declared.multiset.MultisetMethod.TheVariants.{Lookup}
 use Rattle.vyrd_base.specs.declared.subject.Args.{Args}
 use Rattle.vyrd_base.specs.declared.log.Kind.TheVariants.{Commit, BlockOpen, BlockCommit}
 use Rattle.vyrd_base.specs.Subjects.{subject_of}
@@ -201,31 +201,22 @@ looked_up_ends h x slot =
 
 by_method_ends : (h : Header) (variant : Variant) (method : Method) (args : Args)
     → subject_of method ≡ Multiset → EndsByReturn 31 (procedure_of h variant method args)
-by_method_ends h variant MsInsert args of =
+by_method_ends h variant (OfMultiset Insert) args of =
     in_more (6 + 8) 31 (insert h variant args.a) (omega arith)
     (find_ends 6 h variant args.a (inserted h args.a) (inserted_ends h args.a))
-by_method_ends h variant MsInsertPair args of =
+by_method_ends h variant (OfMultiset InsertPair) args of =
     in_more (17 + 8) 31 (insert_pair h variant args.a args.b) (omega arith)
     (find_ends 17 h variant args.a (first_found h variant args.a args.b)
     (first_found_ends h variant args.a args.b))
-by_method_ends h variant MsDelete args of =
+by_method_ends h variant (OfMultiset Delete) args of =
     in_more (5 + 9) 31 (delete h args.a) (omega arith)
     (search_in_ends 5 h args.a (deleted h args.a) (deleted_ends h args.a))
-by_method_ends h variant MsLookup args of =
+by_method_ends h variant (OfMultiset Lookup) args of =
     in_more (2 + 9) 31 (lookup h args.a) (omega arith)
     (search_in_ends 2 h args.a (looked_up h args.a) (looked_up_ends h args.a))
-by_method_ends h variant CaWrite args of = cc
-by_method_ends h variant CaFlush args of = cc
-by_method_ends h variant CaEvict args of = cc
-by_method_ends h variant CaRead args of = cc
-by_method_ends h variant TrInsert args of = cc
-by_method_ends h variant TrDelete args of = cc
-by_method_ends h variant TrLookup args of = cc
-by_method_ends h variant BuAppend args of = cc
-by_method_ends h variant BuAppendFrom args of = cc
-by_method_ends h variant BuCut args of = cc
-by_method_ends h variant BuLength args of = cc
-by_method_ends h variant BuRead args of = cc
+by_method_ends h variant (OfCache other) args of = cc
+by_method_ends h variant (OfTree other) args of = cc
+by_method_ends h variant (OfBuffers other) args of = cc
 
 pub procedure_ends : (h : Header) (variant : Variant) (method : Method) (args : Args)
     → h.subject ≡ Multiset → subject_of method ≡ Multiset

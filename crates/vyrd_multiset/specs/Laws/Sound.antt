@@ -8,11 +8,11 @@ use Rattle.std.proofs.lemmas.Bool.Decides.{nat_tests}
 use Rattle.vyrd_base.specs.declared.header.Header.{Header}
 use Rattle.vyrd_base.specs.declared.subject.Subject.TheVariants.{Multiset}
 use Rattle.vyrd_base.specs.declared.subject.Method.{Method}
-use Rattle.vyrd_base.specs.declared.subject.Method.TheVariants.{MsInsert, MsInsertPair, MsDelete}
-use Rattle.vyrd_base.specs.declared.subject.Method.TheVariants.{MsLookup, CaWrite, CaFlush, CaEvict}
-use Rattle.vyrd_base.specs.declared.subject.Method.TheVariants.{CaRead, TrInsert, TrDelete}
-use Rattle.vyrd_base.specs.declared.subject.Method.TheVariants.{TrLookup, BuAppend, BuAppendFrom}
-use Rattle.vyrd_base.specs.declared.subject.Method.TheVariants.{BuCut, BuLength, BuRead}
+use Rattle.vyrd_base.specs.declared.subject.Method.TheVariants.{Multiset as OfMultiset}
+use Rattle.vyrd_base.specs.declared.subject.Method.TheVariants.{Cache as OfCache, Tree as OfTree}
+use Rattle.vyrd_base.specs.declared.subject.Method.TheVariants.{Buffers as OfBuffers}
+use Rattle.vyrd_base.specs.declared.multiset.MultisetMethod.TheVariants.{Insert, InsertPair, Delete}
+use Rattle.vyrd_base.specs.declared.multiset.MultisetMethod.TheVariants.{Lookup}
 use Rattle.vyrd_base.specs.declared.subject.Args.{Args}
 use Rattle.vyrd_base.specs.declared.log.Kind.TheVariants.{BlockCommit}
 use Rattle.vyrd_base.specs.Subjects.{subject_of, is_observer}
@@ -324,33 +324,24 @@ looked_up_sound h method x is observes slot =
 by_method_sound : (h : Header) (variant : Variant) (method : Method) (args : Args)
     → h.subject ≡ Multiset → subject_of method ≡ Multiset → args.a < 2 ^ 63 → args.b < 2 ^ 63
     → IsSound h (just_called method) (procedure_of h variant method args)
-by_method_sound h variant MsInsert args is of small_x small_y =
-    find_sound h variant MsInsert args.a (inserted h args.a) is small_x
-    (inserted_sound h MsInsert args.a is refl) (gives_up_sound h MsInsert refl)
-by_method_sound h variant MsInsertPair args is of small_x small_y =
-    find_sound h variant MsInsertPair args.a (first_found h variant args.a args.b) is small_x
-    (first_found_sound h variant MsInsertPair args.a args.b is refl small_y)
-    (gives_up_sound h MsInsertPair refl)
-by_method_sound h variant MsDelete args is of small_x small_y =
-    search_in_sound h MsDelete args.a (deleted h args.a) is
-    (λ slot low. commit_state_sound h MsDelete args.a slot 0 is refl low (omega arith))
-    (absent_sound h MsDelete args.a is refl)
-by_method_sound h variant MsLookup args is of small_x small_y =
-    search_in_sound h MsLookup args.a (looked_up h args.a) is
-    (λ slot low. looked_up_sound h MsLookup args.a is refl (Some slot))
-    (looked_up_sound h MsLookup args.a is refl None)
-by_method_sound h variant CaWrite args is of small_x small_y = cc
-by_method_sound h variant CaFlush args is of small_x small_y = cc
-by_method_sound h variant CaEvict args is of small_x small_y = cc
-by_method_sound h variant CaRead args is of small_x small_y = cc
-by_method_sound h variant TrInsert args is of small_x small_y = cc
-by_method_sound h variant TrDelete args is of small_x small_y = cc
-by_method_sound h variant TrLookup args is of small_x small_y = cc
-by_method_sound h variant BuAppend args is of small_x small_y = cc
-by_method_sound h variant BuAppendFrom args is of small_x small_y = cc
-by_method_sound h variant BuCut args is of small_x small_y = cc
-by_method_sound h variant BuLength args is of small_x small_y = cc
-by_method_sound h variant BuRead args is of small_x small_y = cc
+by_method_sound h variant (OfMultiset Insert) args is of small_x small_y =
+    find_sound h variant (OfMultiset Insert) args.a (inserted h args.a) is small_x
+    (inserted_sound h (OfMultiset Insert) args.a is refl) (gives_up_sound h (OfMultiset Insert) refl)
+by_method_sound h variant (OfMultiset InsertPair) args is of small_x small_y =
+    find_sound h variant (OfMultiset InsertPair) args.a (first_found h variant args.a args.b) is small_x
+    (first_found_sound h variant (OfMultiset InsertPair) args.a args.b is refl small_y)
+    (gives_up_sound h (OfMultiset InsertPair) refl)
+by_method_sound h variant (OfMultiset Delete) args is of small_x small_y =
+    search_in_sound h (OfMultiset Delete) args.a (deleted h args.a) is
+    (λ slot low. commit_state_sound h (OfMultiset Delete) args.a slot 0 is refl low (omega arith))
+    (absent_sound h (OfMultiset Delete) args.a is refl)
+by_method_sound h variant (OfMultiset Lookup) args is of small_x small_y =
+    search_in_sound h (OfMultiset Lookup) args.a (looked_up h args.a) is
+    (λ slot low. looked_up_sound h (OfMultiset Lookup) args.a is refl (Some slot))
+    (looked_up_sound h (OfMultiset Lookup) args.a is refl None)
+by_method_sound h variant (OfCache other) args is of small_x small_y = cc
+by_method_sound h variant (OfTree other) args is of small_x small_y = cc
+by_method_sound h variant (OfBuffers other) args is of small_x small_y = cc
 
 pub procedure_sound : (h : Header) (variant : Variant) (method : Method) (args : Args)
     → h.subject ≡ Multiset → subject_of method ≡ Multiset → are_small args ≡ true

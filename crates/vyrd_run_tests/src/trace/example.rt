@@ -8,7 +8,7 @@ use super::{close_two, two};
 use std::sync::Wait;
 use std::test::Fail;
 use std::thread::{Threads, join};
-use vyrd_base::{Args, Kind, Method};
+use vyrd_base::{Args, Kind, Method, MultisetMethod};
 use vyrd_trace::{Hand, Seen, Traced};
 
 // The slot is free while its state is 0, and has its value while that is 2.
@@ -83,7 +83,10 @@ fn insert<R: Wait>(rt: &R, traced: &Traced, hand: &mut Hand, value: u32) -> u64
         b: 0,
         c: 0,
     };
-    traced.mark(hand, Kind::Call(Method::MsInsert, args));
+    traced.mark(
+        hand,
+        Kind::Call(Method::Multiset(MultisetMethod::Insert), args),
+    );
     take_again(rt, traced, hand, LOCK);
     let free = load_again(rt, traced, hand, STATE).value == 0;
     if free {

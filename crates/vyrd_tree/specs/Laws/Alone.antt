@@ -33,11 +33,20 @@ use Rattle.std.specs.Bool.{then_some}
 use Rattle.vyrd_base.specs.declared.header.Header.{Header}
 use Rattle.vyrd_base.specs.declared.subject.Subject.TheVariants.{Tree}
 use Rattle.vyrd_base.specs.declared.subject.Method.{Method}
-use Rattle.vyrd_base.specs.declared.subject.Method.TheVariants.{MsInsert, MsInsertPair, MsDelete}
-use Rattle.vyrd_base.specs.declared.subject.Method.TheVariants.{MsLookup, CaWrite, CaFlush}
-use Rattle.vyrd_base.specs.declared.subject.Method.TheVariants.{CaEvict, CaRead, TrInsert, TrDelete}
-use Rattle.vyrd_base.specs.declared.subject.Method.TheVariants.{TrLookup, BuAppend, BuAppendFrom}
-use Rattle.vyrd_base.specs.declared.subject.Method.TheVariants.{BuCut, BuLength, BuRead}
+use Rattle.vyrd_base.specs.declared.subject.Method.TheVariants.{Multiset as OfMultiset}
+use Rattle.vyrd_base.specs.declared.subject.Method.TheVariants.{Cache as OfCache, Tree as OfTree}
+use Rattle.vyrd_base.specs.declared.subject.Method.TheVariants.{Buffers as OfBuffers}
+use Rattle.vyrd_base.specs.declared.multiset.MultisetMethod.TheVariants.{Insert as MsInsert}
+use Rattle.vyrd_base.specs.declared.multiset.MultisetMethod.TheVariants.{InsertPair}
+use Rattle.vyrd_base.specs.declared.multiset.MultisetMethod.TheVariants.{Delete as MsDelete}
+use Rattle.vyrd_base.specs.declared.multiset.MultisetMethod.TheVariants.{Lookup as MsLookup}
+use Rattle.vyrd_base.specs.declared.cache.CacheMethod.TheVariants.{Write, Flush, Evict}
+use Rattle.vyrd_base.specs.declared.cache.CacheMethod.TheVariants.{Read as CaRead}
+use Rattle.vyrd_base.specs.declared.tree.TreeMethod.TheVariants.{Insert as TrInsert}
+use Rattle.vyrd_base.specs.declared.tree.TreeMethod.TheVariants.{Delete as TrDelete}
+use Rattle.vyrd_base.specs.declared.tree.TreeMethod.TheVariants.{Lookup as TrLookup}
+use Rattle.vyrd_base.specs.declared.buffers.BuffersMethod.TheVariants.{Append, AppendFrom, Cut}
+use Rattle.vyrd_base.specs.declared.buffers.BuffersMethod.TheVariants.{Length, Read as BuRead}
 use Rattle.vyrd_base.specs.declared.subject.Args.{Args}
 use Rattle.vyrd_base.specs.Subjects.{subject_of, is_observer}
 use Rattle.vyrd_base.specs.Amounts.{Amounts, amount_of, with_amount}
@@ -82,8 +91,8 @@ by_method_right : (h : Header) (method : Method) (args : Args) → h.subject ≡
     → (c : ℕ) (memory : Memory) (s : Amounts) → TreeRepresents h memory s
     → MeetsSpecification h (record { method = method; args = args })
     (procedure_of h Correct method args) c memory s
-by_method_right h TrInsert args is of small_key small c memory s st =
-    meets h (record { method = TrInsert; args = args }) (insert_entry h Correct args.a args.b) c
+by_method_right h (OfTree TrInsert) args is of small_key small c memory s st =
+    meets h (record { method = OfTree TrInsert; args = args }) (insert_entry h Correct args.a args.b) c
     memory s is (InsertDone h memory s args.a args.b)
     (insert_alone h c memory s args.a args.b st small_key small) says
   where
@@ -91,52 +100,52 @@ by_method_right h TrInsert args is of small_key small c memory s st =
     next = with_amount s args.a (2 ^ 32 + args.b)
 
     says : (reply : ℕ) (after : Memory) → InsertDone h memory s args.a args.b reply after
-        → Meets h (says_of (record { method = TrInsert; args = args }) s) reply after
+        → Meets h (says_of (record { method = OfTree TrInsert; args = args }) s) reply after
     says reply after (inl d) =
-        record { state = s; allowed = ap (λ r. next_state TrInsert args r s) d.0; represents = d.2 }
+        record { state = s; allowed = ap (λ r. next_state (OfTree TrInsert) args r s) d.0; represents = d.2 }
     says reply after (inr (inl d)) = record {
       state = next;
-      allowed = ap (λ r. next_state TrInsert args r s) d.0
+      allowed = ap (λ r. next_state (OfTree TrInsert) args r s) d.0
           ∙ ap (λ b. then_some (not b) (with_amount s args.a (2 ^ 32 + args.b)))
           (isnt_there s args.a d.1);
       represents = d.2;
     }
     says reply after (inr (inr d)) = record {
       state = next;
-      allowed = ap (λ r. next_state TrInsert args r s) d.0
+      allowed = ap (λ r. next_state (OfTree TrInsert) args r s) d.0
           ∙ ap (λ b. then_some b (with_amount s args.a (2 ^ 32 + args.b))) (is_there s args.a d.1);
       represents = d.2;
     }
-by_method_right h TrDelete args is of small_key small c memory s st =
-    meets h (record { method = TrDelete; args = args }) (delete h Correct args.a) c memory s is _
+by_method_right h (OfTree TrDelete) args is of small_key small c memory s st =
+    meets h (record { method = OfTree TrDelete; args = args }) (delete h Correct args.a) c memory s is _
     (delete_alone h c memory s args.a st)
     (λ reply after d. elim d as
-    (λ d. Meets h (says_of (record { method = TrDelete; args = args }) s) reply after) [
+    (λ d. Meets h (says_of (record { method = OfTree TrDelete; args = args }) s) reply after) [
       | inl d ↦ record {
         state = s;
-        allowed = ap (λ r. next_state TrDelete args r s) d.1
+        allowed = ap (λ r. next_state (OfTree TrDelete) args r s) d.1
             ∙ ap (λ b. then_some (not b) s) (isnt_there s args.a d.0);
         represents = d.2;
       }
       | inr d ↦ record {
         state = with_amount s args.a 0;
-        allowed = ap (λ r. next_state TrDelete args r s) d.1
+        allowed = ap (λ r. next_state (OfTree TrDelete) args r s) d.1
             ∙ ap (λ b. then_some b (with_amount s args.a 0)) (is_there s args.a d.0);
         represents = d.2;
       }
     ])
-by_method_right h TrLookup args is of small_key small c memory s st =
-    meets h (record { method = TrLookup; args = args }) (lookup h Correct args.a) c memory s is _
+by_method_right h (OfTree TrLookup) args is of small_key small c memory s st =
+    meets h (record { method = OfTree TrLookup; args = args }) (lookup h Correct args.a) c memory s is _
     (lookup_alone h c memory s args.a st)
     (λ reply after d. record { state = s; allowed = answered reply d.1; represents = d.0 })
   where
-    answers : (reply : ℕ) → reply ≡ answer_in s TrLookup args
-        → cond (reply == answer_in s TrLookup args) (Some s) None ≡ Some s
-    answers reply e = ap (λ b. cond b (Some s) None) (is_same reply (answer_in s TrLookup args) e)
+    answers : (reply : ℕ) → reply ≡ answer_in s (OfTree TrLookup) args
+        → cond (reply == answer_in s (OfTree TrLookup) args) (Some s) None ≡ Some s
+    answers reply e = ap (λ b. cond b (Some s) None) (is_same reply (answer_in s (OfTree TrLookup) args) e)
 
     answered : (reply : ℕ) → Rattle.std.proofs.Common.◌⊎◌ ((amount_of s args.a ≡ 0) × (reply ≡ 0))
         ((value : ℕ) × (amount_of s args.a ≡ 2 ^ 32 + value) × (reply ≡ value + 1))
-        → cond (reply == answer_in s TrLookup args) (Some s) None ≡ Some s
+        → cond (reply == answer_in s (OfTree TrLookup) args) (Some s) None ≡ Some s
     answered reply (inl d) = answers reply
         (d.1 ∙ sym (ap (λ b. cond b (amount_of s args.a - 2 ^ 32 + 1) 0) (isnt_there s args.a d.0)))
     answered reply (inr d) =
@@ -146,19 +155,19 @@ by_method_right h TrLookup args is of small_key small c memory s st =
       where
         plus_one : (value amount : ℕ) → amount ≡ 2 ^ 32 + value → value + 1 ≡ amount - 2 ^ 32 + 1
         plus_one value amount e = omega arith
-by_method_right h MsInsert args is of small_key small c memory s st = absurd (cc)
-by_method_right h MsInsertPair args is of small_key small c memory s st = absurd (cc)
-by_method_right h MsDelete args is of small_key small c memory s st = absurd (cc)
-by_method_right h MsLookup args is of small_key small c memory s st = absurd (cc)
-by_method_right h CaWrite args is of small_key small c memory s st = absurd (cc)
-by_method_right h CaFlush args is of small_key small c memory s st = absurd (cc)
-by_method_right h CaEvict args is of small_key small c memory s st = absurd (cc)
-by_method_right h CaRead args is of small_key small c memory s st = absurd (cc)
-by_method_right h BuAppend args is of small_key small c memory s st = absurd (cc)
-by_method_right h BuAppendFrom args is of small_key small c memory s st = absurd (cc)
-by_method_right h BuCut args is of small_key small c memory s st = absurd (cc)
-by_method_right h BuLength args is of small_key small c memory s st = absurd (cc)
-by_method_right h BuRead args is of small_key small c memory s st = absurd (cc)
+by_method_right h (OfMultiset MsInsert) args is of small_key small c memory s st = absurd (cc)
+by_method_right h (OfMultiset InsertPair) args is of small_key small c memory s st = absurd (cc)
+by_method_right h (OfMultiset MsDelete) args is of small_key small c memory s st = absurd (cc)
+by_method_right h (OfMultiset MsLookup) args is of small_key small c memory s st = absurd (cc)
+by_method_right h (OfCache Write) args is of small_key small c memory s st = absurd (cc)
+by_method_right h (OfCache Flush) args is of small_key small c memory s st = absurd (cc)
+by_method_right h (OfCache Evict) args is of small_key small c memory s st = absurd (cc)
+by_method_right h (OfCache CaRead) args is of small_key small c memory s st = absurd (cc)
+by_method_right h (OfBuffers Append) args is of small_key small c memory s st = absurd (cc)
+by_method_right h (OfBuffers AppendFrom) args is of small_key small c memory s st = absurd (cc)
+by_method_right h (OfBuffers Cut) args is of small_key small c memory s st = absurd (cc)
+by_method_right h (OfBuffers Length) args is of small_key small c memory s st = absurd (cc)
+by_method_right h (OfBuffers BuRead) args is of small_key small c memory s st = absurd (cc)
 
 pub procedure_right_alone : (h : Header) (method : Method) (args : Args)
     → h.subject ≡ Tree → subject_of method ≡ Tree → are_small args ≡ true

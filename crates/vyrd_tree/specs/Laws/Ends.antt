@@ -9,12 +9,10 @@ use Rattle.std.proofs.lemmas.List.{length-drop}
 use Rattle.vyrd_base.specs.declared.header.Header.{Header}
 use Rattle.vyrd_base.specs.declared.subject.Subject.TheVariants.{Tree}
 use Rattle.vyrd_base.specs.declared.subject.Method.{Method}
-use Rattle.vyrd_base.specs.declared.subject.Method.TheVariants.{MsInsert, MsInsertPair, MsDelete}
-use Rattle.vyrd_base.specs.declared.subject.Method.TheVariants.{MsLookup, CaWrite, CaFlush, CaEvict}
-use Rattle.vyrd_base.specs.declared.subject.Method.TheVariants.{CaRead, TrInsert}
-use Rattle.vyrd_base.specs.declared.subject.Method.TheVariants.{TrDelete, TrLookup, BuAppend}
-use Rattle.vyrd_base.specs.declared.subject.Method.TheVariants.{BuAppendFrom, BuCut, BuLength}
-use Rattle.vyrd_base.specs.declared.subject.Method.TheVariants.{BuRead}
+use Rattle.vyrd_base.specs.declared.subject.Method.TheVariants.{Multiset as OfMultiset}
+use Rattle.vyrd_base.specs.declared.subject.Method.TheVariants.{Cache as OfCache, Tree as OfTree}
+use Rattle.vyrd_base.specs.declared.subject.Method.TheVariants.{Buffers as OfBuffers}
+use Rattle.vyrd_base.specs.declared.tree.TreeMethod.TheVariants.{Insert, Delete, Lookup}
 use Rattle.vyrd_base.specs.declared.log.Kind.{Kind}
 use Rattle.vyrd_base.specs.declared.log.Kind.TheVariants.{Commit, BlockOpen, BlockClose}
 use Rattle.vyrd_base.specs.declared.log.Kind.TheVariants.{BlockCommit}
@@ -315,38 +313,28 @@ delete_in_time h at (Some place) few =
 by_method_ends : (h : Header) (variant : Variant) (method : Method) (args : Args)
     → subject_of method ≡ Tree
     → EndsByReturn (tree_bound h.size method - 1) (procedure_of h variant method args)
-by_method_ends h variant TrInsert args of =
+by_method_ends h variant (OfTree Insert) args of =
     in_more (after_arrival h.size + 24 + 13 * h.size + 1) (17 * (16 * h.size + 40) - 1)
     (insert_entry h variant args.a args.b) (omega arith)
     (down_in (after_arrival h.size + 24) h variant args.a gives_up
     (λ at. insert_in h variant args.a args.b at (place_of args.a at.entries))
     (in_more 2 (after_arrival h.size + 24) gives_up (omega arith) gives_up_in)
     (λ at few. insert_in_time h variant args.a args.b at (place_of args.a at.entries) few))
-by_method_ends h variant TrDelete args of =
+by_method_ends h variant (OfTree Delete) args of =
     in_more (13 + 13 * h.size + 1) (16 * h.size + 40 - 1) (delete h variant args.a) (omega arith)
     (down_in 13 h variant args.a gives_up (λ at. delete_in h at (place_of args.a at.entries))
     (in_more 2 13 gives_up (omega arith) gives_up_in)
     (λ at few. delete_in_time h at (place_of args.a at.entries) few))
-by_method_ends h variant TrLookup args of =
+by_method_ends h variant (OfTree Lookup) args of =
     in_more (2 + 13 * h.size + 1) (16 * h.size + 40 - 1) (lookup h variant args.a) (omega arith)
     (down_in 2 h variant args.a (returns 0) (λ at. look_in h at (place_of args.a at.entries))
     (in_more 1 2 (returns 0) (omega arith) (returns_in 0))
     (λ at few. acts_in 1 (Give (lock_of h at.node))
     (returns (reply_of at.entries (place_of args.a at.entries))) refl
     (returns_in (reply_of at.entries (place_of args.a at.entries)))))
-by_method_ends h variant MsInsert args of = cc
-by_method_ends h variant MsInsertPair args of = cc
-by_method_ends h variant MsDelete args of = cc
-by_method_ends h variant MsLookup args of = cc
-by_method_ends h variant CaWrite args of = cc
-by_method_ends h variant CaFlush args of = cc
-by_method_ends h variant CaEvict args of = cc
-by_method_ends h variant CaRead args of = cc
-by_method_ends h variant BuAppend args of = cc
-by_method_ends h variant BuAppendFrom args of = cc
-by_method_ends h variant BuCut args of = cc
-by_method_ends h variant BuLength args of = cc
-by_method_ends h variant BuRead args of = cc
+by_method_ends h variant (OfMultiset other) args of = cc
+by_method_ends h variant (OfCache other) args of = cc
+by_method_ends h variant (OfBuffers other) args of = cc
 
 pub procedure_ends : (h : Header) (variant : Variant) (method : Method) (args : Args)
     → h.subject ≡ Tree → subject_of method ≡ Tree

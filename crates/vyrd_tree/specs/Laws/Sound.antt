@@ -10,12 +10,10 @@ use Rattle.std.proofs.lemmas.Bool.Decides.{nat_tests}
 use Rattle.vyrd_base.specs.declared.header.Header.{Header}
 use Rattle.vyrd_base.specs.declared.subject.Subject.TheVariants.{Tree}
 use Rattle.vyrd_base.specs.declared.subject.Method.{Method}
-use Rattle.vyrd_base.specs.declared.subject.Method.TheVariants.{MsInsert, MsInsertPair, MsDelete}
-use Rattle.vyrd_base.specs.declared.subject.Method.TheVariants.{MsLookup, CaWrite, CaFlush, CaEvict}
-use Rattle.vyrd_base.specs.declared.subject.Method.TheVariants.{CaRead, TrInsert}
-use Rattle.vyrd_base.specs.declared.subject.Method.TheVariants.{TrDelete, TrLookup, BuAppend}
-use Rattle.vyrd_base.specs.declared.subject.Method.TheVariants.{BuAppendFrom, BuCut, BuLength}
-use Rattle.vyrd_base.specs.declared.subject.Method.TheVariants.{BuRead}
+use Rattle.vyrd_base.specs.declared.subject.Method.TheVariants.{Multiset as OfMultiset}
+use Rattle.vyrd_base.specs.declared.subject.Method.TheVariants.{Cache as OfCache, Tree as OfTree}
+use Rattle.vyrd_base.specs.declared.subject.Method.TheVariants.{Buffers as OfBuffers}
+use Rattle.vyrd_base.specs.declared.tree.TreeMethod.TheVariants.{Insert, Delete, Lookup}
 use Rattle.vyrd_base.specs.declared.subject.Args.{Args}
 use Rattle.vyrd_base.specs.declared.log.Kind.{Kind}
 use Rattle.vyrd_base.specs.declared.log.Kind.TheVariants.{BlockOpen, BlockClose, BlockCommit}
@@ -421,37 +419,27 @@ down_sound h variant method key lost arrived is lost_sound sound =
 by_method_sound : (h : Header) (variant : Variant) (method : Method) (args : Args)
     → h.subject ≡ Tree → subject_of method ≡ Tree → args.a < 2 ^ 63 → args.b < 2 ^ 63
     → IsSound h (just_called method) (procedure_of h variant method args)
-by_method_sound h variant TrInsert args is of k v =
-    down_sound h variant TrInsert args.a gives_up
+by_method_sound h variant (OfTree Insert) args is of k v =
+    down_sound h variant (OfTree Insert) args.a gives_up
     (λ at. insert_in h variant args.a args.b at (place_of args.a at.entries)) is
-    (gave_up h TrInsert refl)
-    (λ at loaded. insert_sound h variant TrInsert args.a args.b at (place_of args.a at.entries)
+    (gave_up h (OfTree Insert) refl)
+    (λ at loaded. insert_sound h variant (OfTree Insert) args.a args.b at (place_of args.a at.entries)
     is refl k v loaded refl)
-by_method_sound h variant TrDelete args is of k v =
-    down_sound h variant TrDelete args.a gives_up
-    (λ at. delete_in h at (place_of args.a at.entries)) is (gave_up h TrDelete refl)
-    (λ at loaded. delete_sound h TrDelete args.a at
+by_method_sound h variant (OfTree Delete) args is of k v =
+    down_sound h variant (OfTree Delete) args.a gives_up
+    (λ at. delete_in h at (place_of args.a at.entries)) is (gave_up h (OfTree Delete) refl)
+    (λ at loaded. delete_sound h (OfTree Delete) args.a at
     (place_of args.a at.entries) is refl loaded refl)
-by_method_sound h variant TrLookup args is of k v =
-    down_sound h variant TrLookup args.a (returns 0)
-    (λ at. look_in h at (place_of args.a at.entries)) is (returned h TrLookup false 0 refl)
-    (λ at loaded. gives_last h TrLookup false false (lock_of h at.node)
+by_method_sound h variant (OfTree Lookup) args is of k v =
+    down_sound h variant (OfTree Lookup) args.a (returns 0)
+    (λ at. look_in h at (place_of args.a at.entries)) is (returned h (OfTree Lookup) false 0 refl)
+    (λ at loaded. gives_last h (OfTree Lookup) false false (lock_of h at.node)
     (returns (reply_of at.entries (place_of args.a at.entries))) is
     (node_lock h at.node loaded.node)
-    (returned h TrLookup false (reply_of at.entries (place_of args.a at.entries)) refl))
-by_method_sound h variant MsInsert args is of k v = cc
-by_method_sound h variant MsInsertPair args is of k v = cc
-by_method_sound h variant MsDelete args is of k v = cc
-by_method_sound h variant MsLookup args is of k v = cc
-by_method_sound h variant CaWrite args is of k v = cc
-by_method_sound h variant CaFlush args is of k v = cc
-by_method_sound h variant CaEvict args is of k v = cc
-by_method_sound h variant CaRead args is of k v = cc
-by_method_sound h variant BuAppend args is of k v = cc
-by_method_sound h variant BuAppendFrom args is of k v = cc
-by_method_sound h variant BuCut args is of k v = cc
-by_method_sound h variant BuLength args is of k v = cc
-by_method_sound h variant BuRead args is of k v = cc
+    (returned h (OfTree Lookup) false (reply_of at.entries (place_of args.a at.entries)) refl))
+by_method_sound h variant (OfMultiset other) args is of k v = cc
+by_method_sound h variant (OfCache other) args is of k v = cc
+by_method_sound h variant (OfBuffers other) args is of k v = cc
 
 pub procedure_sound : (h : Header) (variant : Variant) (method : Method) (args : Args)
     → h.subject ≡ Tree → subject_of method ≡ Tree → are_small args ≡ true

@@ -10,7 +10,8 @@ use Rattle.vyrd_base.specs.Subjects.{is_observer}
 use Rattle.vyrd_base.specs.Layout.{plain_words, lock_words, plain_words_of, lock_words_of}
 use Rattle.vyrd_base.specs.Amounts.{Amounts, amount_of, with_amount}
 use Rattle.vyrd_base.specs.Buffers.{text_of, has_room, joined, cut_to, are_characters, is_buffer}
-use Rattle.vyrd_base.specs.Specification.{after_append, answer_in}
+use Rattle.vyrd_base.specs.Buffers.{after_append}
+use Rattle.vyrd_base.specs.Specification.{answer_in}
 use Rattle.vyrd_base.proofs.TestLaws.{same_number}
 use Rattle.vyrd_memory.specs.declared.op.Op.{Op}
 use Rattle.vyrd_memory.specs.Scripts.{Script}

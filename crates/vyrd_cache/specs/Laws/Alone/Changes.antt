@@ -8,9 +8,10 @@ use Rattle.vyrd_base.specs.declared.subject.Subject.TheVariants.{Cache}
 use Rattle.vyrd_base.specs.Places.{numbers_from, numbers_below}
 use Rattle.vyrd_base.specs.Layout.{plain_words, lock_words, plain_words_of, lock_words_of}
 use Rattle.vyrd_base.specs.Amounts.{Amounts, amount_of, with_amount, collected, given}
-use Rattle.vyrd_base.specs.Views.{Chunk, chunk_at, is_chunk, cached_pair, stored_pair, chunk_parts}
+use Rattle.vyrd_base.specs.Cache.{Chunk, chunk_at, is_chunk, cached_pair, stored_pair, chunk_parts}
 use Rattle.vyrd_base.specs.Views.{parts_of, view_of_words}
-use Rattle.vyrd_base.specs.Represented.{is_sound, is_sound_chunk}
+use Rattle.vyrd_base.specs.Represented.{is_sound}
+use Rattle.vyrd_base.specs.Cache.{is_sound_chunk}
 use Rattle.vyrd_base.proofs.AmountLaws.{amount_of-with_amount, IsAmounts-with_amount, same_amount}
 use Rattle.vyrd_base.proofs.SumLaws.{given_nothing, amount_of-collected}
 use Rattle.vyrd_base.proofs.TestLaws.{first_true, second_true, same_number, isnt_same, same_of}

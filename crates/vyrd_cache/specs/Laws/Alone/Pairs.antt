@@ -4,8 +4,8 @@ use Rattle.std.proofs.Common.{◌≡◌, ℕ, ◌+◌, ◌*◌, ◌%◌, ◌<◌
 use Rattle.std.proofs.Common.{arith}
 use Rattle.std.specs.Prelude.{◌==◌, ◌||◌, not, nat_lt, nat_le}
 use Rattle.std.proofs.lemmas.Bool.Decides.{nat_tests}
-use Rattle.vyrd_base.specs.Views.{Chunk, is_chunk, pair_amount, cached_pair, stored_pair}
-use Rattle.vyrd_base.specs.Represented.{is_sound_chunk}
+use Rattle.vyrd_base.specs.Cache.{Chunk, is_chunk, pair_amount, cached_pair, stored_pair}
+use Rattle.vyrd_base.specs.Cache.{is_sound_chunk}
 use Rattle.vyrd_base.proofs.TestLaws.{first_true, second_true, same_number, same_of}
 use Rattle.vyrd_cache.specs.Procedures.{joined}
 use Rattle.vyrd_cache.specs.Contents.{shown}

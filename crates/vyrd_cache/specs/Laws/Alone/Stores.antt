@@ -2,7 +2,7 @@
 -- The cells of a memory after an operation of a cache, and its chunk.
 use Rattle.std.proofs.Common.{◌≡◌, ℕ, ◌+◌, ◌*◌, ◌<◌, ◌∙◌, arith}
 use Rattle.std.specs.Prelude.{◌≢◌}
-use Rattle.vyrd_base.specs.Views.{Chunk}
+use Rattle.vyrd_base.specs.Cache.{Chunk}
 use Rattle.vyrd_memory.specs.Alone.{Memory, with_cell}
 use Rattle.vyrd_memory.proofs.Memories.{changed_cell, other_cell}
 use Rattle.vyrd_cache.specs.Contents.{chunk_of}

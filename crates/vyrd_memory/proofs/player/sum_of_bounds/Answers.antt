@@ -1,12 +1,13 @@
 use Rattle.std.proofs.Common.{arith}
-use Rattle.vyrd_base.specs.declared.subject.Method.TheVariants.{MsInsert}
+use Rattle.vyrd_base.specs.declared.subject.Method.TheVariants.{Multiset as OfMultiset}
+use Rattle.vyrd_base.specs.declared.multiset.MultisetMethod.TheVariants.{Insert}
 use Rattle.vyrd_memory.specs.declared.op.Op.{Op}
 use Rattle.vyrd_memory.proofs.BoundSums.{sum_more}
 use Rattle.vyrd_memory.proofs.player.sum_of_bounds.Goals as goal
 
 -- what stands for the operation past the end
 abbrev past : Op
-past = record { method = MsInsert; args = record { a = 0; b = 0; c = 0 } }
+past = record { method = OfMultiset Insert; args = record { a = 0; b = 0; c = 0 } }
 
 pub loop-op-preserved : goal.loop-op-preserved
 loop-op-preserved c = (

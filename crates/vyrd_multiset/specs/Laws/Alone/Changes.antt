@@ -11,8 +11,10 @@ use Rattle.vyrd_base.specs.Places.{numbers_below, numbers_from}
 use Rattle.vyrd_base.specs.Layout.{plain_words, lock_words, plain_words_of, lock_words_of}
 use Rattle.vyrd_base.specs.Amounts.{Amounts, IsAmounts, amount_of, with_amount, plus_amount}
 use Rattle.vyrd_base.specs.Amounts.{collected, given, part_given}
-use Rattle.vyrd_base.specs.Views.{slot_parts, parts_of, view_of_words}
-use Rattle.vyrd_base.specs.Represented.{is_sound_slot, is_sound}
+use Rattle.vyrd_base.specs.Multiset.{slot_parts}
+use Rattle.vyrd_base.specs.Views.{parts_of, view_of_words}
+use Rattle.vyrd_base.specs.Multiset.{is_sound_slot}
+use Rattle.vyrd_base.specs.Represented.{is_sound}
 use Rattle.vyrd_base.proofs.AmountLaws.{amount_of-with_amount, IsAmounts-with_amount}
 use Rattle.vyrd_base.proofs.SumLaws.{given-append, amount_of-collected, amount_of-plus}
 use Rattle.vyrd_base.proofs.SumLaws.{IsAmounts-collected, given_nothing}

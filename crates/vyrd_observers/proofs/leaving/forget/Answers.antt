@@ -1,6 +1,6 @@
 use Rattle.std.proofs.Common.{drop, get_or, set, map, subst, ap, sym, ◌∙◌}
 use Rattle.std.proofs.lemmas.Option.{slice_get-get_or}
-use Rattle.vyrd_base.specs.Subjects.{is_observer}
+use Rattle.vyrd_base.specs.Subjects.{must_commit}
 use Rattle.vyrd_base.specs.Entries.{has_method}
 use Rattle.vyrd_observers.specs.Trails.{AreOn, seen_by}
 use Rattle.vyrd_observers.proofs.TrailLaws.{seen_moved, on_moved, asking_set, old_except_set, stay_set}
@@ -32,7 +32,7 @@ returns-clause-asking c = λ h all.
     (λ is. let was = all c.args.trail t (slice_get-get_or trails c.args.trail c.index-trails-trail.result c.requires.trail)
     (ap (λ u. u.is_asked) (sym c.forget.ensures) ∙ is) in (
       ap (λ u. has_method h u.method u.args) c.forget.ensures ∙ was.0,
-      ap (λ u. is_observer u.method) c.forget.ensures ∙ was.1,
+      ap (λ u. must_commit u.method) c.forget.ensures ∙ was.1,
     ))
     all
 

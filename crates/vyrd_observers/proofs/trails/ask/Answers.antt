@@ -2,13 +2,13 @@ use Rattle.std.proofs.Common.{inr, ap, sym, ◌∙◌, arith}
 use Rattle.std.proofs.lemmas.Option.{slice_get_within, same_Some}
 use Rattle.vyrd_base.specs.Entries.{has_method}
 use Rattle.vyrd_base.proofs.ListLaws.{slice_get-set_same}
-use Rattle.vyrd_base.specs.Subjects.{is_observer}
+use Rattle.vyrd_base.specs.Subjects.{must_commit}
 use Rattle.vyrd_observers.specs.Trails.{Asked}
 use Rattle.vyrd_observers.proofs.TrailLaws.{asking_set, keeps_set, old_except_then}
 use Rattle.vyrd_observers.proofs.trails.ask.Goals as goal
 
 pub returns-in_err-i-clause-asking : goal.returns-in_err-i-clause-asking
-returns-in_err-i-clause-asking c = λ h may observes all. c.free.ensures.asking h all
+returns-in_err-i-clause-asking c = λ h may answers all. c.free.ensures.asking h all
 
 pub index_mut-requires : goal.index_mut-requires
 index_mut-requires c = let there = c.in_ok-i.ensures.free in
@@ -31,11 +31,11 @@ returns-clause-kept c = λ i t here is_asked. let there = c.in_ok-i.ensures.free
     keeps_set c.free.new.trails.items c.in_ok-i.i there.0 c.begin.new.self there.1 there.2 i t (c.free.ensures.kept i t here is_asked) is_asked
 
 pub returns-clause-asking : goal.returns-clause-asking
-returns-clause-asking c = λ h may observes all. let there = c.in_ok-i.ensures.free in
+returns-clause-asking c = λ h may answers all. let there = c.in_ok-i.ensures.free in
     asking_set h c.free.new.trails.items c.in_ok-i.i c.begin.new.self (slice_get_within c.free.new.trails.items c.in_ok-i.i there.0 there.1)
     (λ is. (
       ap (λ t. has_method h t.method t.args) c.begin.ensures ∙ may,
-      ap (λ t. is_observer t.method) c.begin.ensures ∙ observes,
+      ap (λ t. must_commit t.method) c.begin.ensures ∙ answers,
     ))
     (c.free.ensures.asking h all)
 

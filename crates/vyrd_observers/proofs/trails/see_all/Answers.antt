@@ -9,7 +9,7 @@ use Rattle.vyrd_observers.proofs.trails.see_all.Goals as goal
 
 pub see-requires-clause-allowed : goal.see-requires-clause-allowed
 see-requires-clause-allowed g c = λ is_asked.
-    let f = after_state (g.S.Spec.affects c.args.touched) ((rules_by (g.S.Spec.charter c.args.spec.now)).answer (g.S.Spec.state c.args.spec.now)) in
+    let f = after_state (g.S.Spec.affects c.args.spec.now) ((rules_by (g.S.Spec.charter c.args.spec.now)).answer (g.S.Spec.state c.args.spec.now)) in
     let old = c.args.trails.now.items in
     let i = c.loop-i.i in
     let within : i < length c.loop-i.trails.items = omega (
@@ -21,13 +21,13 @@ see-requires-clause-allowed g c = λ is_asked.
       length-changed f i old,
     ) in
     ((subst (AreAsking (rules_by (g.S.Spec.charter c.args.spec.now)).header) (sym c.loop-i.invariant)
-    (asking_after (rules_by (g.S.Spec.charter c.args.spec.now)).header (g.S.Spec.affects c.args.touched) ((rules_by (g.S.Spec.charter c.args.spec.now)).answer (g.S.Spec.state c.args.spec.now)) i old c.requires.asking))
+    (asking_after (rules_by (g.S.Spec.charter c.args.spec.now)).header (g.S.Spec.affects c.args.spec.now) ((rules_by (g.S.Spec.charter c.args.spec.now)).answer (g.S.Spec.state c.args.spec.now)) i old c.requires.asking))
     i c.index_mut.result.now
     (slice_get-get_or c.loop-i.trails.items i c.index_mut.result.now within ∙ ap Some (sym c.index_mut.ensures.value)) is_asked).0
 
-pub see-requires-clause-observer : goal.see-requires-clause-observer
-see-requires-clause-observer g c = λ is_asked.
-    let f = after_state (g.S.Spec.affects c.args.touched) ((rules_by (g.S.Spec.charter c.args.spec.now)).answer (g.S.Spec.state c.args.spec.now)) in
+pub see-requires-clause-may_answer : goal.see-requires-clause-may_answer
+see-requires-clause-may_answer g c = λ is_asked.
+    let f = after_state (g.S.Spec.affects c.args.spec.now) ((rules_by (g.S.Spec.charter c.args.spec.now)).answer (g.S.Spec.state c.args.spec.now)) in
     let old = c.args.trails.now.items in
     let i = c.loop-i.i in
     let within : i < length c.loop-i.trails.items = omega (
@@ -39,7 +39,7 @@ see-requires-clause-observer g c = λ is_asked.
       length-changed f i old,
     ) in
     ((subst (AreAsking (rules_by (g.S.Spec.charter c.args.spec.now)).header) (sym c.loop-i.invariant)
-    (asking_after (rules_by (g.S.Spec.charter c.args.spec.now)).header (g.S.Spec.affects c.args.touched) ((rules_by (g.S.Spec.charter c.args.spec.now)).answer (g.S.Spec.state c.args.spec.now)) i old c.requires.asking))
+    (asking_after (rules_by (g.S.Spec.charter c.args.spec.now)).header (g.S.Spec.affects c.args.spec.now) ((rules_by (g.S.Spec.charter c.args.spec.now)).answer (g.S.Spec.state c.args.spec.now)) i old c.requires.asking))
     i c.index_mut.result.now
     (slice_get-get_or c.loop-i.trails.items i c.index_mut.result.now within ∙ ap Some (sym c.index_mut.ensures.value)) is_asked).1
 
@@ -48,11 +48,11 @@ returns-in_err-see-clause-order g c = λ h watches order.
     let unchanged = ap (set c.loop-i.trails.items c.loop-i.i) (c.in_err-see.ensures.unchanged ∙ c.index_mut.ensures.value)
     ∙ set-get_or c.loop-i.trails.items c.loop-i.i c.index_mut.result.now ∙ c.loop-i.invariant in
     subst (λ ts. AreInOrder h ts watches) (sym unchanged)
-    (order_after h (g.S.Spec.affects c.args.touched) ((rules_by (g.S.Spec.charter c.args.spec.now)).answer (g.S.Spec.state c.args.spec.now)) c.loop-i.i c.args.trails.now.items watches order)
+    (order_after h (g.S.Spec.affects c.args.spec.now) ((rules_by (g.S.Spec.charter c.args.spec.now)).answer (g.S.Spec.state c.args.spec.now)) c.loop-i.i c.args.trails.now.items watches order)
 
 pub loop-i-preserved : goal.loop-i-preserved
 loop-i-preserved g c =
-    let f = after_state (g.S.Spec.affects c.args.touched) ((rules_by (g.S.Spec.charter c.args.spec.now)).answer (g.S.Spec.state c.args.spec.now)) in
+    let f = after_state (g.S.Spec.affects c.args.spec.now) ((rules_by (g.S.Spec.charter c.args.spec.now)).answer (g.S.Spec.state c.args.spec.now)) in
     let within : c.loop-i.i < length c.args.trails.now.items = omega (arith, c.loop-i-test.true, c.len-i-end.ensures, c.args.trails.now.ok.0) in
     changed_next f c.loop-i.i c.args.trails.now.items c.loop-i.trails.items c.index_mut.result.now c.see.new.trail within c.loop-i.invariant
     (c.in_ok-see.ensures.saw ∙ ap f c.index_mut.ensures.value)
@@ -60,8 +60,8 @@ loop-i-preserved g c =
 pub returns-clause-saw : goal.returns-clause-saw
 returns-clause-saw g c =
     let past : length c.args.trails.now.items ≤ c.loop-i.i = omega (arith, c.loop-i-test.false, c.len-i-end.ensures, c.args.trails.now.ok.0) in
-    c.loop-i.invariant ∙ changed_all (after_state (g.S.Spec.affects c.args.touched) ((rules_by (g.S.Spec.charter c.args.spec.now)).answer (g.S.Spec.state c.args.spec.now))) c.loop-i.i c.args.trails.now.items past
+    c.loop-i.invariant ∙ changed_all (after_state (g.S.Spec.affects c.args.spec.now) ((rules_by (g.S.Spec.charter c.args.spec.now)).answer (g.S.Spec.state c.args.spec.now))) c.loop-i.i c.args.trails.now.items past
 
 pub returns-clause-order : goal.returns-clause-order
 returns-clause-order g c = λ h watches order. subst (λ ts. AreInOrder h ts watches) (sym c.loop-i.invariant)
-    (order_after h (g.S.Spec.affects c.args.touched) ((rules_by (g.S.Spec.charter c.args.spec.now)).answer (g.S.Spec.state c.args.spec.now)) c.loop-i.i c.args.trails.now.items watches order)
+    (order_after h (g.S.Spec.affects c.args.spec.now) ((rules_by (g.S.Spec.charter c.args.spec.now)).answer (g.S.Spec.state c.args.spec.now)) c.loop-i.i c.args.trails.now.items watches order)

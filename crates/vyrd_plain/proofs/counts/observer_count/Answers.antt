@@ -1,6 +1,6 @@
 use Rattle.std.proofs.Common.{◌≡◌, ◌+◌, ◌<◌, cond, sym, ap, subst, ◌∙◌, arith}
 use Rattle.vyrd_base.specs.Verdicts.{observer_count}
-use Rattle.vyrd_plain.proofs.CountLaws.{observers_from, observers_step, observing_step, counted_true, counted_false}
+use Rattle.vyrd_plain.proofs.CountLaws.{observers_from, observers_step, committed_step, counted_true, counted_false}
 use Rattle.vyrd_plain.proofs.counts.observer_count.Goals as goal
 use Rattle.vyrd_plain.proofs.counts.observer_count.Goals.{then-observer_returns, else-observer_returns}
 
@@ -8,7 +8,7 @@ pub loop-at-preserved : goal.loop-at-preserved
 loop-at-preserved c =
     let es = c.args.entries.now in
     let r = c.entry_at-entry.result in
-    let so = c.loop-at.invariant.observing in
+    let so = c.loop-at.invariant.committed in
     let low = c.entry_at-entry.ensures.caller c.args.header c.requires in
     let next = observers_step es c.loop-at.at r c.observer_returns.result c.loop-at-test.true (c.entry_at-entry.ensures.entry r)
     (c.observer_returns.ensures.returns _ (so r.caller low)) in
@@ -17,7 +17,7 @@ loop-at-preserved c =
     ap (λ n. c.loop-at.count + n) (sym next) ∙ c.loop-at.invariant.counted in
     record {
       all = c.observer_returns.ensures.all ∙ c.loop-at.invariant.all;
-      observing = observing_step c.args.header es c.loop-at.at r c.loop-at.observing.items c.observer_returns.new.observing.items c.loop-at-test.true
+      committed = committed_step c.args.header es c.loop-at.at r c.loop-at.committed.items c.observer_returns.new.committed.items c.loop-at-test.true
           (c.entry_at-entry.ensures.entry r) low so c.observer_returns.ensures.after;
       few = elim c.if-observer_returns.branch [
         | then-observer_returns w ↦ omega (

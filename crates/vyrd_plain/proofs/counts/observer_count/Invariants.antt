@@ -1,14 +1,14 @@
 use Rattle.std.proofs.Common.{◌≡◌, ◌≤◌, ◌+◌, take, vec_len}
 use Rattle.vyrd_base.specs.Places.{newest_first}
 use Rattle.vyrd_base.specs.Verdicts.{observer_count}
-use Rattle.vyrd_plain.specs.Observing.{AreObserving}
+use Rattle.vyrd_plain.specs.Committed.{AreCommitted}
 use Rattle.vyrd_plain.proofs.CountLaws.{observers_from}
 use Rattle.vyrd_plain.proofs.counts.observer_count.Given as goal
 
 abbrev pub invariant-loop-at : goal.invariant-loop-at
 invariant-loop-at l = record {
-  all : vec_len l.observing ≡ l.fn.header.callers;
-  observing : AreObserving l.fn.header (newest_first (take l.at l.entries)) l.observing.items;
+  all : vec_len l.committed ≡ l.fn.header.callers;
+  committed : AreCommitted l.fn.header (newest_first (take l.at l.entries)) l.committed.items;
   few : l.count ≤ l.at;
   counted : l.count + observers_from l.entries l.at ≡ observer_count l.entries;
 }

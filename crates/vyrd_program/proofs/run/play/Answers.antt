@@ -1,4 +1,4 @@
-use Rattle.std.proofs.Common.{◌∙◌, ◌<◌, ap, subst, inl, inr}
+use Rattle.std.proofs.Common.{◌∙◌, ◌<◌, ap, subst, inl, inr, Some, None}
 use Rattle.std.specs.Prelude.{IfSome}
 use Rattle.vyrd_memory.specs.Bounds.{bounds_of}
 use Rattle.vyrd_trace.specs.Hands.{most_events}
@@ -11,24 +11,27 @@ use Rattle.vyrd_program.proofs.TellingLaws.{tells_live}
 use Rattle.vyrd_program.proofs.run.play.Goals as goal
 
 pub returns : goal.returns
-returns g c =
+returns g c = λ most.
     let w = workload_of c.args.work in
     let played = c.in_ok-played.played in
     let fixed = c.in_ok-played.ensures.fixed in
-    let run = subst (λ spent. LeavesRun w.header most_events (work_scripts w) HasTaken played.sink played.words.items spent) c.in-None.is
-    c.in_ok-played.ensures.run in
+    let run = subst (λ limit. LeavesRun w.header limit (work_scripts w) HasTaken played.sink played.words.items None) most
+    (subst (λ spent. LeavesRun w.header c.args.limit (work_scripts w) HasTaken played.sink played.words.items spent) c.in-None.is
+    c.in_ok-played.ensures.run) in
     both_ok c.told_of.result (c.told_of.ensures.status run.history run.taken) (c.told_of.ensures.text run.history run.taken)
-    (λ answer status text. inl (tells_live c.args.show w played.sink played.words.items answer.status answer.text.items c.requires run
+    (λ answer status text. inl (tells_live c.args.show w played.sink played.words.items answer.status answer.text.items c.requires.limits run
     (ap (λ f. f.0) fixed ∙ c.in_ok-account.ensures.charter) (ap (λ f. f.1) fixed ∙ c.in_ok-account.ensures.show) status text))
 
 pub returns-in-Some : goal.returns-in-Some
-returns-in-Some g c =
+returns-in-Some g c = λ most.
     let w = workload_of c.args.work in
     let played = c.in_ok-played.played in
-    let run = subst (λ spent. LeavesRun w.header most_events (work_scripts w) HasTaken played.sink played.words.items spent) c.in-Some.is
-    c.in_ok-played.ensures.run in
-    let low = subst (λ spent. IfSome spent (λ caller. most_events < bounds_of w.header (ops_of caller w.ops))) c.in-Some.is
-    c.in_ok-played.ensures.too_low in
+    let run = subst (λ limit. LeavesRun w.header limit (work_scripts w) HasTaken played.sink played.words.items (Some c.in-Some.caller)) most
+    (subst (λ spent. LeavesRun w.header c.args.limit (work_scripts w) HasTaken played.sink played.words.items spent) c.in-Some.is
+    c.in_ok-played.ensures.run) in
+    let low = subst (λ limit. limit < bounds_of w.header (ops_of c.in-Some.caller w.ops)) most
+    (subst (λ spent. IfSome spent (λ caller. c.args.limit < bounds_of w.header (ops_of caller w.ops))) c.in-Some.is
+    c.in_ok-played.ensures.too_low) in
     both_ok c.overrun.result c.overrun.ensures.status c.overrun.ensures.text (λ answer status text. inr (record {
       caller = c.in-Some.caller;
       history = run.history;

@@ -3,7 +3,7 @@ use Rattle.std.specs.Prelude.{flat_map, slice_index}
 use Rattle.vyrd_base.specs.Added.{added}
 use Rattle.vyrd_base.specs.Places.{numbers_below}
 use Rattle.vyrd_base.specs.Amounts.{amount_of}
-use Rattle.vyrd_base.specs.TreeView.{count_of}
+use Rattle.vyrd_base.specs.Tree.{count_of}
 use Rattle.vyrd_base.proofs.AddedLaws.{added-push, amount_of-added}
 use Rattle.vyrd_base.proofs.PartLaws.{place_parts, places_at_most, node_parts-places, place_is}
 use Rattle.vyrd_spec.proofs.LeafLaws.{entry_sound}

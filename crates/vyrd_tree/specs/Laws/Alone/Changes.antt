@@ -8,8 +8,8 @@ use Rattle.vyrd_base.specs.declared.subject.Subject.TheVariants.{Tree}
 use Rattle.vyrd_base.specs.Layout.{plain_words, lock_words, plain_words_of, lock_words_of}
 use Rattle.vyrd_base.specs.Amounts.{Amounts, IsAmounts, amount_of, collected, given}
 use Rattle.vyrd_base.specs.Represented.{is_sound}
-use Rattle.vyrd_base.specs.TreeView.{chain_parts}
-use Rattle.vyrd_base.specs.Trees.{is_tree, last_of, low_of}
+use Rattle.vyrd_base.specs.Tree.{chain_parts}
+use Rattle.vyrd_base.specs.Tree.{is_tree, last_of, low_of}
 use Rattle.vyrd_base.specs.Views.{view_of_words, parts_of}
 use Rattle.vyrd_base.proofs.SumLaws.{amount_of-collected, IsAmounts-collected}
 use Rattle.vyrd_memory.specs.Alone.{Memory, words_in, state_in}

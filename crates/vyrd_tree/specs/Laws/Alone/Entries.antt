@@ -9,7 +9,7 @@ use Rattle.std.specs.Prelude.{◌==◌, ◌&&◌, nat_lt, length, take, drop, po
 use Rattle.std.specs.List.{AllByRecursion as Each, position_or_len}
 use Rattle.std.proofs.lemmas.Bool.Decides.{nat_tests}
 use Rattle.std.proofs.lemmas.List.Recursion.{is_count_by}
-use Rattle.vyrd_base.specs.TreeView.{entry_parts}
+use Rattle.vyrd_base.specs.Tree.{entry_parts}
 use Rattle.vyrd_base.specs.Amounts.{given}
 use Rattle.vyrd_base.proofs.SumLaws.{given-append}
 use Rattle.vyrd_base.proofs.TestLaws.{same_of, apart_of, is_same, isnt_same}

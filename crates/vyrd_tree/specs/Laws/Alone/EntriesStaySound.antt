@@ -4,7 +4,7 @@ use Rattle.std.proofs.Common.{◌≡◌, ◌≢◌, ℕ, ◌+◌, ◌<◌, ◌�
 use Rattle.std.proofs.Common.{arith}
 use Rattle.std.specs.Prelude.{length, drop, insert, flat_map}
 use Rattle.std.specs.List.{AllByRecursion as Each}
-use Rattle.vyrd_base.specs.TreeView.{entry_parts}
+use Rattle.vyrd_base.specs.Tree.{entry_parts}
 use Rattle.vyrd_base.specs.Amounts.{given}
 use Rattle.vyrd_base.proofs.SumLaws.{given-append}
 use Rattle.vyrd_tree.specs.Contents.{IsLeafEntry, Rising, InRange, Below, BeginsAt, AreEntries}

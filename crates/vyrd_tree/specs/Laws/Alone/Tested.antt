@@ -11,11 +11,11 @@ use Rattle.std.proofs.lemmas.Bool.Decides.{nat_tests}
 use Rattle.std.proofs.lemmas.List.Folds.{list_all-map}
 use Rattle.std.proofs.lemmas.List.{length-map}
 use Rattle.vyrd_base.specs.Places.{numbers_from}
-use Rattle.vyrd_base.specs.TreeView.{level_of, count_of, bound_of, right_of, entries_of}
-use Rattle.vyrd_base.specs.Trees.{root_of, last_of, nodes, leads_to, left_of as find_left, is_first}
-use Rattle.vyrd_base.specs.Trees.{low_of, is_linked, is_bounded, rises, keys_at, has_sound_keys}
-use Rattle.vyrd_base.specs.Trees.{is_leaf_entry, is_child_entry, begins_with, has_sound_entries}
-use Rattle.vyrd_base.specs.Trees.{is_only_first, is_sound_node, is_tree}
+use Rattle.vyrd_base.specs.Tree.{level_of, count_of, bound_of, right_of, entries_of}
+use Rattle.vyrd_base.specs.Tree.{root_of, last_of, nodes, leads_to, left_of as find_left, is_first}
+use Rattle.vyrd_base.specs.Tree.{low_of, is_linked, is_bounded, rises, keys_at, has_sound_keys}
+use Rattle.vyrd_base.specs.Tree.{is_leaf_entry, is_child_entry, begins_with, has_sound_entries}
+use Rattle.vyrd_base.specs.Tree.{is_only_first, is_sound_node, is_tree}
 use Rattle.vyrd_base.proofs.TestLaws.{both_true, first_true, second_true, same_of, is_same}
 use Rattle.vyrd_base.proofs.TestLaws.{isnt_same, below_of, is_below, is_at_most, at_most_of}
 use Rattle.vyrd_base.proofs.PlaceLaws.{pass_all}

@@ -7,8 +7,8 @@ use Rattle.std.specs.Prelude.{◌==◌, ◌||◌, nat_le, flat_map}
 use Rattle.std.specs.Prelude.{slice_index}
 use Rattle.std.specs.List.{list_any}
 use Rattle.vyrd_base.specs.Places.{numbers_from}
-use Rattle.vyrd_base.specs.TreeView.{right_of, entry_parts, node_parts, chain_parts_from}
-use Rattle.vyrd_base.specs.TreeView.{chain_parts}
+use Rattle.vyrd_base.specs.Tree.{right_of, entry_parts, node_parts, chain_parts_from}
+use Rattle.vyrd_base.specs.Tree.{chain_parts}
 use Rattle.vyrd_base.specs.Amounts.{given}
 use Rattle.vyrd_base.proofs.PartLaws.{parts_after}
 use Rattle.vyrd_base.proofs.SumLaws.{given-append}

@@ -1,6 +1,6 @@
 use Rattle.std.proofs.Common.{◌≡◌, ℕ, List, Bool, true, false, get_or, length-set, arith, rules, ap, ◌∙◌, ◌-◌, ◌+◌, set, sym}
 use Rattle.vyrd_base.specs.Amounts.{amount_of}
-use Rattle.vyrd_base.specs.TreeView.{right_of}
+use Rattle.vyrd_base.specs.Tree.{right_of}
 use Rattle.vyrd_base.proofs.PartLaws.{node_grows}
 use Rattle.vyrd_view.proofs.ChainLaws.{walk_begins, walk_left, walk_ends, walk_breaks, walk_goes_on, unseen_within}
 use Rattle.vyrd_view.proofs.chain.chain.Goals as goal

@@ -1,6 +1,6 @@
 use Rattle.std.proofs.Common.{arith, ap, ◌+◌, ◌∙◌}
 use Rattle.vyrd_base.specs.Amounts.{amount_of}
-use Rattle.vyrd_base.specs.Views.{chunk_parts, chunk_at}
+use Rattle.vyrd_base.specs.Cache.{chunk_parts, chunk_at}
 use Rattle.vyrd_base.specs.Added.{added}
 use Rattle.vyrd_base.proofs.AddedLaws.{collected-push}
 use Rattle.vyrd_view.proofs.PartLaws.{chunk_is_new, past_is_new}

@@ -1,6 +1,6 @@
 use Rattle.std.proofs.Common.{arith, ap, get_or, ◌+◌, ◌*◌}
 use Rattle.vyrd_base.specs.Amounts.{amount_of}
-use Rattle.vyrd_base.specs.Views.{slot_parts}
+use Rattle.vyrd_base.specs.Multiset.{slot_parts}
 use Rattle.vyrd_base.proofs.AddedLaws.{collected-push}
 use Rattle.vyrd_base.proofs.PartLaws.{slots_at_most}
 use Rattle.vyrd_view.proofs.slots.slots.Goals as goal

@@ -1,5 +1,5 @@
 use Rattle.std.proofs.Common.{◌≡◌, ◌+◌, ◌-◌, true, false, length, length-set, get_or, set, subst, sym, ◌∙◌, arith}
-use Rattle.vyrd_base.specs.TreeView.{right_of}
+use Rattle.vyrd_base.specs.Tree.{right_of}
 use Rattle.vyrd_view.proofs.ChainLaws.{unseen_within}
 use Rattle.vyrd_view.proofs.WalkLaws.{Walks, walks_begin, walks_left, walk_over, unbroken_over, walk_stops, unbroken_stops, walk_breaks_off, broken_off, walk_on}
 use Rattle.vyrd_view.proofs.tree.walk.Goals as goal

@@ -11,6 +11,7 @@ loop-word-init g c = record {
   specified = refl;
   sound = c.requires.sound;
   header = refl;
+  shows = refl;
   steps = omega arith;
 }
 
@@ -37,6 +38,7 @@ loop-word-preserved g c =
       specified = c.in_ok-effect.ensures.specified ∙ c.loop-word.invariant.specified;
       sound = c.in_ok-effect.ensures.sound;
       header = c.effect.ensures.header ∙ c.loop-word.invariant.header;
+      shows = c.effect.ensures.shows ∙ c.loop-word.invariant.shows;
       steps = omega (arith, c.tick.ensures, c.loop-word.invariant.steps);
     }
 

@@ -9,5 +9,6 @@ invariant-loop-word g l = record {
   specified : l.views.specified ≡ l.initial.views.specified;
   sound : l.views.refused ≡ false;
   header : l.views.header ≡ l.initial.views.header;
+  shows : l.views.shows ≡ l.initial.views.shows;
   steps : l.steps ≡ l.initial.steps + l.word-index;
 }

@@ -1,7 +1,8 @@
 use Rattle.std.proofs.Common.{◌++◌, [], ◌∷◌, take, ap, ◌∙◌, sym, append-nil}
 use Rattle.std.specs.Prelude.{get_or}
 use Rattle.std.specs.List.{cons_option}
-use Rattle.vyrd_base.specs.declared.subject.Method.TheVariants.{MsInsert}
+use Rattle.vyrd_base.specs.declared.subject.Method.TheVariants.{Multiset as OfMultiset}
+use Rattle.vyrd_base.specs.declared.multiset.MultisetMethod.TheVariants.{Insert}
 use Rattle.vyrd_work.specs.declared.work.WorkOp.{WorkOp}
 use Rattle.vyrd_work.specs.WorkScripts.{ops_of}
 use Rattle.vyrd_work.proofs.ScriptLaws.{ops_more, own_op, other_op}
@@ -10,7 +11,7 @@ use Rattle.vyrd_work.proofs.machine.own_ops.Goals as goal
 
 -- what stands for the operation past the end
 abbrev past : WorkOp
-past = record { caller = 0; op = record { method = MsInsert; args = record { a = 0; b = 0; c = 0 } } }
+past = record { caller = 0; op = record { method = OfMultiset Insert; args = record { a = 0; b = 0; c = 0 } } }
 
 pub loop-op-preserved : goal.loop-op-preserved
 loop-op-preserved c =

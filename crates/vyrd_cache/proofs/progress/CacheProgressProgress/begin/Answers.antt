@@ -1,14 +1,13 @@
-use Rattle.vyrd_cache.proofs.Steps.{begun_flush, begun_evict, begun_read, begun_write, begun_broken_write}
+use Rattle.std.proofs.Common.{ap, ◌∙◌, sym}
+use Rattle.vyrd_cache.specs.declared.place.Place.TheVariants.{Lock}
+use Rattle.vyrd_cache.specs.Procedures.{procedure_of}
+use Rattle.vyrd_cache.specs.Rests.{rest_at}
+use Rattle.vyrd_cache.proofs.Steps.{begun}
 use Rattle.vyrd_cache.proofs.progress.CacheProgressProgress.begin.Goals as goal
-use Rattle.vyrd_cache.proofs.progress.CacheProgressProgress.begin.Goals.{in-CaFlush, in-CaEvict, in-CaRead, in_default+in-Correct, in_default+in-Broken}
 
 pub returns : goal.returns
-returns c = elim c.match-op.branch [
-  | in-CaFlush w ↦ begun_flush c.args._header.now c.args.variant c.args.op.method c.args.op.args c.match-op.action c.from.result c.from-2.result w.in-CaFlush.is w.action-is
-  | in-CaEvict w ↦ begun_evict c.args._header.now c.args.variant c.args.op.method c.args.op.args c.match-op.action c.from.result c.from-2.result w.in-CaEvict.is w.action-is
-  | in-CaRead w ↦ begun_read c.args._header.now c.args.variant c.args.op.method c.args.op.args c.match-op.action c.from.result c.from-2.result w.in-CaRead.is w.action-is
-  | in_default+in-Correct w ↦ begun_write c.args._header.now c.args.variant c.args.op.method c.args.op.args c.match-op.action c.from.result c.from-2.result
-      c.requires.method w.in_default.not-CaFlush w.in_default.not-CaEvict w.in_default.not-CaRead w.in-Correct.is w.action-is c.from.ensures c.from-2.ensures
-  | in_default+in-Broken w ↦ begun_broken_write c.args._header.now c.args.variant c.args.op.method c.args.op.args c.match-op.action c.from.result c.from-2.result
-      c.requires.method w.in_default.not-CaFlush w.in_default.not-CaEvict w.in_default.not-CaRead w.in-Broken.is w.action-is c.from.ensures c.from-2.ensures
-]
+returns c =
+    ap (λ action. rest_at c.args._header.now
+    (record { action = action; chunk = c.args.op.args.a; low = c.from.result; high = c.from-2.result }) Lock) c.new-action.ensures
+    ∙ begun c.args._header.now c.args.variant c.in-Cache.method c.args.op.args c.from.result c.from-2.result c.from.ensures c.from-2.ensures
+    ∙ ap (λ method. procedure_of c.args._header.now c.args.variant method c.args.op.args) (sym c.in-Cache.is)

@@ -5,6 +5,7 @@ use Rattle.vyrd_base.specs.Layout.{plain_words}
 use Rattle.vyrd_base.specs.Starts.{words_at_start}
 use Rattle.vyrd_judge.specs.Queued.{HasQueued}
 use Rattle.vyrd_view.specs.Comparing.{AgreeElsewhere}
+use Rattle.vyrd_view.specs.Known.{IsNew, view_by}
 use Rattle.vyrd_observers.specs.Watching.{AreCurrent}
 use Rattle.vyrd_base.proofs.HeaderLaws.{few_words}
 use Rattle.vyrd_words.proofs.StartWords.{start_within, start_few, length-words_at_start, small_at_start, zero_elsewhere}
@@ -27,6 +28,11 @@ new-requires-2-clause-elsewhere g c =
     subst (AgreeElsewhere (replicate (plain_words c.args.header) 0) c.args.words.now) (sym c.in_ok-changed.ensures)
     (subst (λ ws. AgreeElsewhere (replicate (plain_words c.args.header) 0) ws (map (λ s. s.word) c.args.start.now)) (sym c.requires.words)
     (zero_elsewhere c.args.header c.args.start.now))
+
+pub new-requires-2-clause-compared : goal.new-requires-2-clause-compared
+new-requires-2-clause-compared g c =
+    subst (λ h. IsNew (plain_words h) (g.S.Compared.Compare.known c.in_ok-compared.compared))
+    c.requires.spec_header c.in_ok-compared.ensures.new
 
 pub returns-clause-taken_in : goal.returns-clause-taken_in
 returns-clause-taken_in g c =
@@ -54,4 +60,6 @@ invariant_of-result g c =
       omega (arith, start_few c.args.header c.args.start.now c.requires.may_start, few_words c.args.header),
       omega arith,
       c.in_ok-new-2.ensures.views_header ∙ named,
+      ap view_by c.in_ok-new-2.ensures.shows ∙ c.in_ok-compared.ensures.view
+          ∙ ap (λ s. (rules_by (g.S.Spec.charter s)).view) (sym c.in_ok-new-4.ensures.spec),
     )

@@ -7,7 +7,7 @@ use Rattle.vyrd_judge.proofs.QueueLaws.{write_up, open_up, close_up, call_up, co
 use Rattle.vyrd_judge.proofs.queue.Queue.follow.Goals as goal
 
 pub give_back-requires-clause-pending : goal.give_back-requires-clause-pending
-give_back-requires-clause-pending c = λ called here mutates. queue_pending called c.in-Return.is here mutates c.requires.may
+give_back-requires-clause-pending c = λ called here has. queue_pending called c.in-Return.is here has c.requires.may
 
 pub commit-requires-clause-caller : goal.commit-requires-clause-caller
 commit-requires-clause-caller c = queue_caller c.requires.may
@@ -33,7 +33,7 @@ pub returns-in-Return-clause-taken_up : goal.returns-in-Return-clause-taken_up
 returns-in-Return-clause-taken_up c = λ earlier q keeps at.
     on_ok_weaker c.give_back.result (λ up. taken_kind c.args.entry c.in-Return.is up)
     (return_up c.give_back.result c.give_back.new.self.waiting.items c.give_back.new.self.taken c.give_back.new.self.callers.items c.args.entry.caller c.args.position c.in-Return.reply at (keeps_as c.in-Return.is keeps) q
-    c.give_back.ensures.observer c.give_back.ensures.mutator c.give_back.ensures.callers c.give_back.ensures.taken)
+    c.give_back.ensures.uncommitted c.give_back.ensures.committed c.give_back.ensures.callers c.give_back.ensures.taken)
 
 pub returns-in-Commit-clause-taken_up : goal.returns-in-Commit-clause-taken_up
 returns-in-Commit-clause-taken_up c = λ earlier q keeps at.

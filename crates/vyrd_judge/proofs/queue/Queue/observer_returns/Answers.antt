@@ -1,7 +1,6 @@
-use Rattle.std.proofs.Common.{◌∙◌}
 use Rattle.vyrd_judge.proofs.QueueLaws.{observer_is}
 use Rattle.vyrd_judge.proofs.queue.Queue.observer_returns.Goals as goal
 
 pub returns-in-Return : goal.returns-in-Return
 returns-in-Return c = λ earlier q keeps.
-    c.is_observer.ensures ∙ observer_is c.index-called.result.now c.in-Return.is c.index-called.ensures keeps q
+    observer_is c.index-called.result.now c.in-Return.is c.index-called.ensures keeps q

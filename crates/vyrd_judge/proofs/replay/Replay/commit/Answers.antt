@@ -1,26 +1,31 @@
-use Rattle.std.proofs.Common.{◌≡◌, Ok, ap, sym, subst, ◌∙◌, arith}
+use Rattle.std.proofs.Common.{◌≡◌, ℕ, List, Ok, set, ap, sym, subst, ◌∙◌, arith}
 use Rattle.std.specs.Prelude.{option_map}
 use Rattle.vyrd_base.specs.Amounts.{Amounts, first_difference}
 use Rattle.vyrd_base.specs.Rules.{Rules, rules_by}
-use Rattle.vyrd_base.specs.Views.{view_of_words}
 use Rattle.vyrd_base.specs.declared.verdict.Why.TheVariants.{View}
 use Rattle.vyrd_base.proofs.ListLaws.{is_none}
 use Rattle.vyrd_judge.proofs.ReachedFaults.{by_next}
-use Rattle.vyrd_spec.specs.declared.touched.Touched.{Touched}
+use Rattle.vyrd_judge.proofs.JudgingLaws.{current_closed}
 use Rattle.vyrd_spec.specs.Touching.{with_touched}
-use Rattle.vyrd_observers.specs.Watching.{AllSee, AreCurrent}
+use Rattle.vyrd_view.specs.Known.{view_by}
+use Rattle.vyrd_observers.specs.Watching.{AllSee, AreCurrent, unwatched}
 use Rattle.vyrd_observers.proofs.SeeingLaws.{still_current}
-use Rattle.vyrd_base.proofs.KeptLaws.{method_args}
+use Rattle.vyrd_base.proofs.KeptLaws.{method_subject, method_args}
 use Rattle.vyrd_judge.proofs.replay.Replay.commit.Goals as goal
 
 -- What the comparison knows goes on to the next state. Rules that are the same have two names: those
 -- of the specification before its step and after it.
-known_on : (r q : Rules) (t k : Touched) (before after known : Amounts) → q ≡ r → known ≡ r.shown before → t ≡ k
-    → with_touched k (r.shown after) (r.shown before) ≡ r.shown after
-    → with_touched t (q.shown after) known ≡ q.shown after
-known_on r q t k before after known same is keys makes =
-    subst (λ p. with_touched t (p.shown after) known ≡ p.shown after) (sym same)
-    (ap (with_touched t (r.shown after)) is ∙ ap (λ u. with_touched u (r.shown after) (r.shown before)) keys ∙ makes)
+known_on : (r q : Rules) (keys : List ℕ) (before after known : Amounts) → q ≡ r → known ≡ r.shown before
+    → with_touched keys (r.shown after) (r.shown before) ≡ r.shown after
+    → with_touched keys (q.shown after) known ≡ q.shown after
+known_on r q keys before after known same is makes =
+    subst (λ p. with_touched keys (p.shown after) known ≡ p.shown after) (sym same)
+    (ap (with_touched keys (r.shown after)) is ∙ makes)
+
+pub step-requires-clause-subject : goal.step-requires-clause-subject
+step-requires-clause-subject g c =
+    method_subject (rules_by (g.S.Spec.charter c.args.self.now.spec)).header c.args.method c.args.args
+    c.requires.may
 
 pub step-requires-clause-args : goal.step-requires-clause-args
 step-requires-clause-args g c = method_args (rules_by (g.S.Spec.charter c.args.self.now.spec)).header c.args.method c.args.args c.requires.may
@@ -35,39 +40,42 @@ returns-in-Some-clause-leads g c = λ part rest is known.
     let r = rules_by (g.S.Spec.charter c.args.self.now.spec) in
     let after = g.S.Spec.state c.step.new.self in
     let first = c.args.words.now.views.first in
-    let makes = known_on r (rules_by (g.S.Spec.charter c.step.new.self)) c.touched-touched.result _ (g.S.Spec.state c.args.self.now.spec) after _
-    (ap rules_by c.step.ensures.charter) known c.touched-touched.ensures (c.in_ok-step.ensures.touched (ap Ok c.if-not-branch.false)) in
+    let makes = known_on r (rules_by (g.S.Spec.charter c.step.new.self)) (g.S.Spec.touched c.step.new.self) (g.S.Spec.state c.args.self.now.spec) after _
+    (ap rules_by c.step.ensures.charter) known (c.in_ok-step.ensures.touched (ap Ok c.if-not-branch.false)) in
     ap (by_next r (r.view first) c.args.reply) (c.in_ok-step.ensures.allowed (ap Ok c.if-not-branch.false))
     ∙ ap (λ v. option_map View (first_difference v (r.shown after)))
-    (g.met.S.Spec.shows_words c.args.self.now.spec first ∙ ap (λ h. view_of_words h first) (sym c.requires.header))
-    ∙ ap (λ (p : Rules). option_map View (first_difference (view_of_words c.args.words.now.views.header first) (p.shown after))) (sym (ap rules_by c.step.ensures.charter))
+    (ap (λ (view : List ℕ → Amounts). view first) (sym c.requires.shows))
+    ∙ ap (λ (p : Rules). option_map View (first_difference (view_by c.args.words.now.views.shows first) (p.shown after))) (sym (ap rules_by c.step.ensures.charter))
     ∙ ap (option_map View) (sym (c.in_ok-key.ensures.difference part rest is makes) ∙ c.in-Some.is)
 
 pub see_all-requires-clause-current : goal.see_all-requires-clause-current
 see_all-requires-clause-current g c = λ d seen here is_open none.
     let r = rules_by (g.S.Spec.charter c.args.self.now.spec) in
     let q = rules_by (g.S.Spec.charter c.step.new.self) in
-    still_current (r.answer (g.S.Spec.state c.args.self.now.spec)) (q.answer (g.S.Spec.state c.step.new.self)) c.args.self.now.watches.by_caller
-    (g.S.Spec.affects c.touched-touched.result)
+    still_current (r.answer (g.S.Spec.state c.args.self.now.spec)) (q.answer (g.S.Spec.state c.step.new.self)) c.close.new.self.by_caller
+    (g.S.Spec.affects c.step.new.self)
     (λ m a apart. ap (λ (p : Rules). p.answer (g.S.Spec.state c.step.new.self) m a) (ap rules_by c.step.ensures.charter)
-    ∙ c.in_ok-step.ensures.answers (ap Ok c.if-not-branch.false) m a (ap (λ t. g.S.Spec.affects t m a) (sym c.touched-touched.ensures) ∙ apart))
-    c.requires.current d seen here is_open none
+    ∙ c.in_ok-step.ensures.answers (ap Ok c.if-not-branch.false) m a apart)
+    (subst (AreCurrent (r.answer (g.S.Spec.state c.args.self.now.spec))) (sym c.close.ensures.watches)
+    (current_closed r (g.S.Spec.state c.args.self.now.spec) c.args.caller c.args.self.now.watches.by_caller
+    (omega (arith, c.requires.caller, c.args.self.now.callers)) c.requires.current)) d seen here is_open none
 
 pub returns-clause-leads : goal.returns-clause-leads
 returns-clause-leads g c = λ part rest is known.
     let r = rules_by (g.S.Spec.charter c.args.self.now.spec) in
     let after = g.S.Spec.state c.step.new.self in
     let first = c.args.words.now.views.first in
-    let makes = known_on r (rules_by (g.S.Spec.charter c.step.new.self)) c.touched-touched.result _ (g.S.Spec.state c.args.self.now.spec) after _
-    (ap rules_by c.step.ensures.charter) known c.touched-touched.ensures (c.in_ok-step.ensures.touched (ap Ok c.if-not-branch.false)) in
+    let makes = known_on r (rules_by (g.S.Spec.charter c.step.new.self)) (g.S.Spec.touched c.step.new.self) (g.S.Spec.state c.args.self.now.spec) after _
+    (ap rules_by c.step.ensures.charter) known (c.in_ok-step.ensures.touched (ap Ok c.if-not-branch.false)) in
     record {
       next = c.in_ok-step.ensures.allowed (ap Ok c.if-not-branch.false);
       same = ap (λ v. first_difference v (r.shown after))
-          (g.met.S.Spec.shows_words c.args.self.now.spec first ∙ ap (λ h. view_of_words h first) (sym c.requires.header))
-          ∙ ap (λ (p : Rules). first_difference (view_of_words c.args.words.now.views.header first) (p.shown after)) (sym (ap rules_by c.step.ensures.charter))
+          (ap (λ (view : List ℕ → Amounts). view first) (sym c.requires.shows))
+          ∙ ap (λ (p : Rules). first_difference (view_by c.args.words.now.views.shows first) (p.shown after)) (sym (ap rules_by c.step.ensures.charter))
           ∙ sym (c.in_ok-key.ensures.difference part rest is makes) ∙ is_none _ c.in_default.not-Some;
       count = omega (arith, c.in_ok-step.ensures.counted (ap Ok c.if-not-branch.false));
-      seen = subst (λ (p : Rules). AllSee (p.answer after) c.args.self.now.watches.by_caller c.see_all.new.self.by_caller) (ap rules_by c.step.ensures.charter) c.in_ok-see_all.ensures.seen;
+      seen = subst (λ (p : Rules). AllSee (p.answer after) (set c.args.self.now.watches.by_caller c.args.caller unwatched) c.see_all.new.self.by_caller) (ap rules_by c.step.ensures.charter)
+          (subst (λ ws. AllSee ((rules_by (g.S.Spec.charter c.step.new.self)).answer after) ws c.see_all.new.self.by_caller) c.close.ensures.watches c.in_ok-see_all.ensures.seen);
       current = subst (λ (p : Rules). AreCurrent (p.answer after) c.see_all.new.self.by_caller) (ap rules_by c.step.ensures.charter) c.in_ok-see_all.ensures.current;
       words = c.in_ok-key.ensures.first part rest is;
       since = c.in_ok-key.ensures.since part rest is;
@@ -76,8 +84,8 @@ returns-clause-leads g c = λ part rest is known.
 pub returns-clause-known : goal.returns-clause-known
 returns-clause-known g c = λ known. (
   c.in_ok-key.ensures.specified
-      ∙ known_on (rules_by (g.S.Spec.charter c.args.self.now.spec)) (rules_by (g.S.Spec.charter c.step.new.self)) c.touched-touched.result _ (g.S.Spec.state c.args.self.now.spec)
-      (g.S.Spec.state c.step.new.self) _ (ap rules_by c.step.ensures.charter) known c.touched-touched.ensures (c.in_ok-step.ensures.touched (ap Ok c.if-not-branch.false))
+      ∙ known_on (rules_by (g.S.Spec.charter c.args.self.now.spec)) (rules_by (g.S.Spec.charter c.step.new.self)) (g.S.Spec.touched c.step.new.self) (g.S.Spec.state c.args.self.now.spec)
+      (g.S.Spec.state c.step.new.self) _ (ap rules_by c.step.ensures.charter) known (c.in_ok-step.ensures.touched (ap Ok c.if-not-branch.false))
       ∙ ap (λ (p : Rules). p.shown (g.S.Spec.state c.step.new.self)) (ap rules_by c.step.ensures.charter),
   c.in_ok-key.ensures.sound,
 )

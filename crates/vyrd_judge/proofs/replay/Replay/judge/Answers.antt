@@ -2,7 +2,7 @@ use Rattle.vyrd_base.specs.Rules.{rules_by}
 use Rattle.std.proofs.Common.{ap, sym, subst, ◌∙◌}
 use Rattle.vyrd_judge.specs.declared.waiting.Event.TheVariants.{Commits}
 use Rattle.vyrd_judge.specs.Judged.{Judged}
-use Rattle.vyrd_judge.proofs.JudgingLaws.{begins_caller, begins_may, begins_observes, commits_may, commits_mutates, returns_caller, steps_few, judged_current, judged_begins, watch_there, judged_answered, judged_unanswered, judged_waits, judged_commits}
+use Rattle.vyrd_judge.proofs.JudgingLaws.{begins_caller, begins_may, begins_free, commits_caller, commits_may, commits_mutates, returns_caller, steps_few, judged_current, judged_begins, watch_there, judged_answered, judged_unanswered, judged_waits, judged_commits}
 use Rattle.vyrd_judge.proofs.replay.Replay.judge.Goals as goal
 
 pub begin-requires-clause-caller : goal.begin-requires-clause-caller
@@ -11,8 +11,12 @@ begin-requires-clause-caller g c = rw c.caller.ensures.is (begins_caller (sym c.
 pub begin-requires-clause-allowed : goal.begin-requires-clause-allowed
 begin-requires-clause-allowed g c = begins_may (sym c.event.ensures ∙ c.in-Begins.is) c.requires.may
 
-pub begin-requires-clause-observer : goal.begin-requires-clause-observer
-begin-requires-clause-observer g c = begins_observes (sym c.event.ensures ∙ c.in-Begins.is) c.requires.may
+pub begin-requires-clause-may_answer : goal.begin-requires-clause-may_answer
+begin-requires-clause-may_answer g c = begins_free (sym c.event.ensures ∙ c.in-Begins.is) c.requires.may
+
+pub commit-requires-clause-caller : goal.commit-requires-clause-caller
+commit-requires-clause-caller g c =
+    rw c.caller-in-Some.ensures.is (commits_caller (sym c.event.ensures ∙ c.in-Commits.is) c.requires.may)
 
 pub commit-requires-clause-may : goal.commit-requires-clause-may
 commit-requires-clause-may g c = commits_may (sym c.event.ensures ∙ c.in-Commits.is) c.requires.may
@@ -46,7 +50,7 @@ pub returns-in-Some-clause-gives : goal.returns-in-Some-clause-gives
 returns-in-Some-clause-gives g c = λ starting log xs j known.
     judged_commits (g.S.Spec.state c.commit.new.self.spec) (g.S.Spec.made c.commit.new.self.spec) c.commit.new.self.watches.by_caller c.commit.new.words.views.first c.commit.new.words.views.since
     c.commit.result (sym c.event.ensures ∙ c.in-Commits.is ∙ ap (Commits c.in-Commits.method c.in-Commits.args) c.in-Some.is) j
-    (λ part rest is. c.commit.ensures.leads part rest is known)
+    (λ part rest is. rw c.caller-in-Some.ensures.is at c.commit.ensures.leads part rest is known)
 
 pub returns-then-end-clause-gives : goal.returns-then-end-clause-gives
 returns-then-end-clause-gives g c = λ starting log xs j known.

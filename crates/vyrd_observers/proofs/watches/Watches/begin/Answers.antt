@@ -1,5 +1,5 @@
 use Rattle.std.proofs.Common.{◌≡◌, ⊎_elim, Some, true, List, [], ◌∷◌, length, map, set, slice_get, refl, subst, ap, sym, ◌∙◌, arith}
-use Rattle.std.proofs.lemmas.List.{set-set}
+use Rattle.std.proofs.lemmas.List.{set-set, length-set}
 use Rattle.std.proofs.lemmas.Option.{slice_get_within}
 use Rattle.vyrd_base.specs.Entries.{has_method}
 use Rattle.vyrd_observers.specs.Watching.{Watched, Seen, unwatched, open_count}
@@ -46,7 +46,7 @@ module _ (c : goal.After-self-1) where
       c.len.result there.0 order c.close.ensures.none c.ask.ensures.kept
       (c.ask.ensures.asking c.self.inside.header
       (ap (λ (k : Watched). has_method k.header c.args.method c.args.args) c.self.view_is ∙ c.requires.allowed)
-      c.requires.observer order.asking)
+      c.requires.may_answer order.asking)
       c.in_ok-trail.ensures.only.0 there.1 there.2.0 at_end c.in_ok-trail.ensures.only.1
       (few_begun c.self.inside.header c.close.new.trails.items c.ask.new.trails.items c.close.new.watches.items c.args.caller begun order
       c.close.ensures.none refl c.ask.ensures.reused c.ask.ensures.one)
@@ -69,6 +69,9 @@ returns-clause-watches c =
     ∙ ap (λ ws. set ws c.args.caller (begun c)) c.close.ensures.seen
     ∙ set-set (map (seen_by c.self.inside.trails.items) c.self.inside.by_caller.items) c.args.caller unwatched (begun c)
     ∙ ap (λ (k : Watched). set k.by_caller c.args.caller (begun c)) c.self.view_is
+
+pub returns-clause-len : goal.returns-clause-len
+returns-clause-len c = ap length (returns-clause-watches c) ∙ length-set c.args.self.now.by_caller c.args.caller (begun c)
 
 pub returns-clause-shared : goal.returns-clause-shared
 returns-clause-shared c = λ d seen before here is_open same_method same_args same_answers.

@@ -33,11 +33,11 @@ returns-clause-seen g c =
     let told = (rules_by (g.S.Spec.charter c.args.spec.now)).answer (g.S.Spec.state c.args.spec.now) in
     let watches = c.self.inside.by_caller.items in
     let old = map (seen_by c.self.inside.trails.items) watches in
-    let see = callers_see (g.S.Spec.affects c.args.touched) told c.self.inside.trails.items watches c.self.invariant.on
+    let see = callers_see (g.S.Spec.affects c.args.spec.now) told c.self.inside.trails.items watches c.self.invariant.on
     (λ d seen here is_open untouched. c.requires.current d seen (ap (λ (k : Watched). slice_get k.by_caller d) (sym c.self.view_is) ∙ here) is_open untouched) in
     subst (λ (k : Watched). AllSee told k.by_caller (map (seen_by c.see_all.new.trails.items) watches)) c.self.view_is
     (subst (λ ts. AllSee told old (map (seen_by ts) watches)) (sym c.in_ok-see_all.ensures.saw)
-    (seen_all told (length watches) old (map (seen_by (map (after_state (g.S.Spec.affects c.args.touched) told) c.self.inside.trails.items)) watches)
+    (seen_all told (length watches) old (map (seen_by (map (after_state (g.S.Spec.affects c.args.spec.now) told) c.self.inside.trails.items)) watches)
     (omega (arith, length-map watches (seen_by c.self.inside.trails.items))) see))
 
 pub returns-clause-current : goal.returns-clause-current
@@ -46,10 +46,10 @@ returns-clause-current g c =
     let watches = c.self.inside.by_caller.items in
     let trails = c.self.inside.trails.items in
     let old = map (seen_by trails) watches in
-    let new = map (seen_by (map (after_state (g.S.Spec.affects c.args.touched) told) trails)) watches in
-    let see = callers_see (g.S.Spec.affects c.args.touched) told trails watches c.self.invariant.on
+    let new = map (seen_by (map (after_state (g.S.Spec.affects c.args.spec.now) told) trails)) watches in
+    let see = callers_see (g.S.Spec.affects c.args.spec.now) told trails watches c.self.invariant.on
     (λ d seen here is_open untouched. c.requires.current d seen (ap (λ (k : Watched). slice_get k.by_caller d) (sym c.self.view_is) ∙ here) is_open untouched) in
     subst (λ ts. AreCurrent told (map (seen_by ts) watches)) (sym c.in_ok-see_all.ensures.saw)
     (seen_current told (length watches) old new
     (omega (arith, length-map watches (seen_by trails)))
-    (length-map watches (seen_by (map (after_state (g.S.Spec.affects c.args.touched) told) trails)) ∙ sym (length-map watches (seen_by trails))) see)
+    (length-map watches (seen_by (map (after_state (g.S.Spec.affects c.args.spec.now) told) trails)) ∙ sym (length-map watches (seen_by trails))) see)

@@ -1,7 +1,7 @@
-use Rattle.std.proofs.Common.{◌≡◌, Ok, Some, sym, ap, ◌∙◌, slice_get}
+use Rattle.std.proofs.Common.{◌≡◌, Ok, Some, sym, ap, subst, ◌∙◌, slice_get}
 use Rattle.vyrd_base.specs.Rules.{Rules, rules_by}
-use Rattle.std.specs.Prelude.{map}
-use Rattle.vyrd_plain.specs.Executions.{seeing}
+use Rattle.std.specs.Prelude.{map, set}
+use Rattle.vyrd_plain.specs.Executions.{seeing, with_commit}
 use Rattle.vyrd_base.specs.Amounts.{first_difference}
 use Rattle.vyrd_base.specs.Views.{view_of_words}
 use Rattle.vyrd_plain.specs.Outcomes.{CommitFaults, CommitGoes}
@@ -39,7 +39,8 @@ returns-in-Some-first_difference-clause-gives g c = λ x is.
     let next = c.in_ok-step.ensures.allowed (ap Ok c.if-not-branch.false) in
     let named = c.header.ensures ∙ ap (λ (q : Rules). q.header) (ap rules_by c.step.ensures.charter) in
     let shown : c.in_ok-shown.shown ≡ r.view c.args.self.now.effects.words.items =
-    c.in_ok-shown.ensures ∙ (λ i. view_of_words (named i) (c.words.ensures i)) ∙ sym (g.met.S.Spec.shows_words c.args.self.now.spec c.args.self.now.effects.words.items) in
+    c.in_ok-shown.ensures ∙ (λ i. view_of_words (named i) (c.words.ensures i)) ∙ sym (ap (λ charter. (rules_by charter).view c.args.self.now.effects.words.items)
+    (g.met.S.BuiltIn.has_built_in_rules c.args.self.now.spec)) in
     let first : first_difference (r.view c.args.self.now.effects.words.items) (r.shown after) ≡ Some c.in-Some-first_difference.key =
     (λ i. first_difference (sym shown i) ((sym (ap rules_by c.step.ensures.charter) i).shown after)) ∙ ap (first_difference c.in_ok-shown.shown) (sym c.in_ok-after.ensures) ∙ sym c.in-Some-first_difference.ensures in
     for_execution (λ y. CommitFaults r (r.view c.args.self.now.effects.words.items) y before (View c.in-Some-first_difference.key))
@@ -56,9 +57,12 @@ returns-clause-gives g c = λ x is.
     let next = c.in_ok-step.ensures.allowed (ap Ok c.if-not-branch.false) in
     let named = c.header.ensures ∙ ap (λ (q : Rules). q.header) (ap rules_by c.step.ensures.charter) in
     let shown : c.in_ok-shown.shown ≡ r.view c.args.self.now.effects.words.items =
-    c.in_ok-shown.ensures ∙ (λ i. view_of_words (named i) (c.words.ensures i)) ∙ sym (g.met.S.Spec.shows_words c.args.self.now.spec c.args.self.now.effects.words.items) in
+    c.in_ok-shown.ensures ∙ (λ i. view_of_words (named i) (c.words.ensures i)) ∙ sym (ap (λ charter. (rules_by charter).view c.args.self.now.effects.words.items)
+    (g.met.S.BuiltIn.has_built_in_rules c.args.self.now.spec)) in
     let none = is_none c.first_difference.result c.in_default-first_difference.not-Some in
-    for_execution (λ y. CommitGoes r (r.view c.args.self.now.effects.words.items) y before after old c.see.new.executions.items)
+    subst (λ s. CommitGoes r (r.view c.args.self.now.effects.words.items) c.args.caller x before (g.S.Spec.state s) old c.mark_committed.new.self.executions.items)
+    (sym c.mark_committed.ensures.spec)
+    (for_execution (λ y. CommitGoes r (r.view c.args.self.now.effects.words.items) c.args.caller y before after old c.mark_committed.new.self.executions.items)
     (slice_get old c.args.caller)
     c.in-Some.execution x c.in-Some.ensures is
     (record {
@@ -66,5 +70,6 @@ returns-clause-gives g c = λ x is.
       returned = c.in-Some-reply.is;
       next = next;
       same = (λ i. first_difference (sym shown i) ((sym (ap rules_by c.step.ensures.charter) i).shown after)) ∙ ap (first_difference c.in_ok-shown.shown) (sym c.in_ok-after.ensures) ∙ sym c.first_difference.ensures ∙ none;
-      seen = c.see.ensures.seen ∙ ap (λ (q : Rules). map (seeing q after) old) (ap rules_by c.step.ensures.charter);
-    })
+      seen = c.mark_committed.ensures.executions
+          ∙ ap (λ (q : Rules). map (seeing q after) (set old c.args.caller (Some (with_commit c.in-Some.execution)))) (ap rules_by c.step.ensures.charter);
+    }))

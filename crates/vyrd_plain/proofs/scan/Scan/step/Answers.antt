@@ -65,7 +65,7 @@ returns-in-Commit-clause-gives g c = λ e is.
     (subst (λ k. HasEffects k c.step.new.self.words.items c.step.new.self.open_blocks.items
     (take (c.args.at + 1) c.args.front.now) (drop (c.args.at + 1) c.args.front.now)) c.args.self.now.effects_header c.step.ensures.next) in
     commit_leads c.commit.result _ _ commits here ran.2 (same_entry c.entry_at-entry.ensures refl is)
-    (subst (λ ws. IfOk c.commit.result (CommitGives rules (rules.view ws) ran.0 (g.S.Spec.state c.args.self.now.spec)
+    (subst (λ ws. IfOk c.commit.result (CommitGives rules (rules.view ws) c.entry_at-entry.result.caller ran.0 (g.S.Spec.state c.args.self.now.spec)
     (g.S.Spec.state c.commit.new.self.spec) c.args.self.now.executions.items c.commit.new.self.executions.items)) words
     (c.commit.ensures.gives ran.0 ran.1))
 

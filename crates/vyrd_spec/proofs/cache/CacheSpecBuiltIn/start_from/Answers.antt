@@ -2,7 +2,8 @@ use Rattle.std.proofs.Common.{◌≡◌, Some, None, rules, ap, ◌∙◌, ◌^�
 use Rattle.vyrd_base.specs.declared.subject.Subject.TheVariants.{Cache}
 use Rattle.vyrd_base.specs.Amounts.{collected}
 use Rattle.vyrd_base.specs.Represented.{is_sound}
-use Rattle.vyrd_base.specs.Views.{chunk_at, chunk_parts, parts_of}
+use Rattle.vyrd_base.specs.Cache.{chunk_at, chunk_parts}
+use Rattle.vyrd_base.specs.Views.{parts_of}
 use Rattle.vyrd_spec.specs.Rows.{row_amounts}
 use Rattle.vyrd_spec.specs.Chunks.{sound_pairs}
 use Rattle.vyrd_spec.proofs.ChunkWordLaws.{is_sound_at, pair_shown, given_pair, small_pair}

@@ -1,5 +1,6 @@
-use Rattle.std.proofs.Common.{arith, ◌∙◌}
+use Rattle.std.proofs.Common.{arith, ap, ◌∙◌}
 use Rattle.vyrd_spec.specs.Rows.{row_amounts, row_formed}
+use Rattle.vyrd_spec.specs.Touching.{with_touched}
 use Rattle.vyrd_spec.proofs.TouchLaws.{touched_makes}
 use Rattle.vyrd_spec.proofs.StepLaws.{next_state-pairs}
 use Rattle.vyrd_spec.proofs.cache.CacheSpecSpec.step.Goals as goal
@@ -15,4 +16,5 @@ invariant_of-self-clause-small c =
 
 pub returns-then-allowed-clause-touched : goal.returns-then-allowed-clause-touched
 returns-then-allowed-clause-touched c = λ is.
-    touched_makes c.args.method c.args.args c.args.reply _ _ (row_formed c.args.self.now.pairs.items) (c.next-allowed.ensures.allowed c.if-allowed.true)
+    ap (λ keys. with_touched keys (row_amounts c.next-allowed.new.pairs.items) (row_amounts c.args.self.now.pairs.items)) c.touched_by-self.ensures
+    ∙ touched_makes c.args.method c.args.args c.args.reply _ _ (row_formed c.args.self.now.pairs.items) (c.next-allowed.ensures.allowed c.if-allowed.true)

@@ -1,5 +1,5 @@
 use Rattle.std.proofs.Common.{arith, ◌∙◌, sym}
-use Rattle.vyrd_base.specs.Trees.{is_child_entry}
+use Rattle.vyrd_base.specs.Tree.{is_child_entry}
 use Rattle.vyrd_spec.specs.NodeKeys.{entry_at}
 use Rattle.vyrd_spec.proofs.NodeLaws.{entries_fail, entries_pass}
 use Rattle.vyrd_spec.proofs.RowLaws.{passes_more}

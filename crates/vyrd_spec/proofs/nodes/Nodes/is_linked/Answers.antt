@@ -1,6 +1,6 @@
 use Rattle.std.proofs.Common.{arith, ap, ◌∙◌, sym}
 use Rattle.std.specs.Prelude.{◌==◌}
-use Rattle.vyrd_base.specs.TreeView.{level_of}
+use Rattle.vyrd_base.specs.Tree.{level_of}
 use Rattle.vyrd_base.proofs.TestLaws.{is_same}
 use Rattle.vyrd_spec.proofs.NodeLaws.{linked_end, linked_on}
 use Rattle.vyrd_spec.proofs.nodes.Nodes.is_linked.Goals as goal

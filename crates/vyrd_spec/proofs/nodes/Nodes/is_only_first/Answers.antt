@@ -1,7 +1,7 @@
 use Rattle.std.proofs.Common.{◌≡◌, ◌+◌, arith, ap, ◌∙◌, sym}
 use Rattle.std.specs.Prelude.{◌==◌, count_by}
 use Rattle.vyrd_base.specs.Places.{numbers_below}
-use Rattle.vyrd_base.specs.Trees.{nodes}
+use Rattle.vyrd_base.specs.Tree.{nodes}
 use Rattle.vyrd_spec.specs.NodeKeys.{is_first_of}
 use Rattle.vyrd_spec.proofs.RowLaws.{count_at_most, counted_one, counted_none}
 use Rattle.vyrd_spec.proofs.nodes.Nodes.is_only_first.Goals as goal

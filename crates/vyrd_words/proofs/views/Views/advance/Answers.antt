@@ -5,23 +5,23 @@ use Rattle.vyrd_words.proofs.CutLaws.{sum-cons, advanced_both, first_taken, firs
 use Rattle.vyrd_words.proofs.views.Views.advance.Goals as goal
 
 pub invariant_of-self-2 : goal.invariant_of-self-2
-invariant_of-self-2 c =
+invariant_of-self-2 g c =
     let i = c.self.inside in
     let is : i.counts ≡ c.in-Some.count ∷ c.pop.new.self =
     first_taken i.counts c.pop.new.self c.in-Some.count (sym c.in-Some.ensures) c.pop.ensures in
     rw (c.catch_up.ensures.words, c.catch_up.ensures.writes, c.catch_up.ensures.changed, c.in_ok-reserve.ensures.items)
-    (advanced_both i.header i.words.items c.in-Some.count c.pop.new.self i.writes.items i.tail i.changed.items i.compared
-    (subst (λ ks. AreCuts i.header i.words.items ks i.writes.items i.tail × AreKnown i.header i.words.items i.changed.items i.compared) is c.self.invariant))
+    (advanced_both i.header i.words.items c.in-Some.count c.pop.new.self i.writes.items i.tail i.changed.items (g.C.Compare.known i.compared)
+    (subst (λ ks. AreCuts i.header i.words.items ks i.writes.items i.tail × AreKnown i.header i.words.items i.changed.items (g.C.Compare.known i.compared)) is c.self.invariant))
 
 pub returns-clause-base : goal.returns-clause-base
-returns-clause-base c = λ part rest waits.
+returns-clause-base g c = λ part rest waits.
     let i = c.self.inside in
     let is : i.counts ≡ c.in-Some.count ∷ c.pop.new.self =
     first_taken i.counts c.pop.new.self c.in-Some.count (sym c.in-Some.ensures) c.pop.ensures in
     c.catch_up.ensures.words ∙ ap (λ ks. first_of i.words.items ks i.writes.items) (sym is) ∙ ap (λ (v : Cuts). v.first) c.self.view_is
 
 pub returns-clause-first : goal.returns-clause-first
-returns-clause-first c = λ part rest waits.
+returns-clause-first g c = λ part rest waits.
     let i = c.self.inside in
     let is : i.counts ≡ c.in-Some.count ∷ c.pop.new.self =
     first_taken i.counts c.pop.new.self c.in-Some.count (sym c.in-Some.ensures) c.pop.ensures in
@@ -32,7 +32,7 @@ returns-clause-first c = λ part rest waits.
     (c.catch_up.ensures.words ∙ ap (λ ks. first_of i.words.items ks i.writes.items) (sym is) ∙ ap (λ (v : Cuts). v.first) c.self.view_is)
 
 pub returns-clause-since : goal.returns-clause-since
-returns-clause-since c = λ part rest waits.
+returns-clause-since g c = λ part rest waits.
     let i = c.self.inside in
     let is : i.counts ≡ c.in-Some.count ∷ c.pop.new.self =
     first_taken i.counts c.pop.new.self c.in-Some.count (sym c.in-Some.ensures) c.pop.ensures in
@@ -41,7 +41,7 @@ returns-clause-since c = λ part rest waits.
     (ap (λ ks. since_of ks i.writes.items) (sym is) ∙ ap (λ (v : Cuts). v.since) c.self.view_is ∙ waits)
 
 pub catch_up-requires-clause-count : goal.catch_up-requires-clause-count
-catch_up-requires-clause-count c =
+catch_up-requires-clause-count g c =
     let i = c.self.inside in
     let is : i.counts ≡ c.in-Some.count ∷ c.pop.new.self =
     first_taken i.counts c.pop.new.self c.in-Some.count (sym c.in-Some.ensures) c.pop.ensures in

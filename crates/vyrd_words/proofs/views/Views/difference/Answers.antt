@@ -3,4 +3,4 @@ use Rattle.vyrd_words.proofs.views.Views.difference.Goals as goal
 
 pub returns-clause-first : goal.returns-clause-first
 returns-clause-first g c = λ part rest waits.
-    c.specify-2.ensures.first ∙ c.specify.ensures.first ∙ c.compare_words.ensures.first ∙ c.in_ok-advance.ensures.first part rest waits
+    c.specify.ensures.first ∙ c.compare_words.ensures.first ∙ c.in_ok-advance.ensures.first part rest waits

@@ -5,25 +5,25 @@ use Rattle.vyrd_words.proofs.CutLaws.{at_once_both, now_at_once, none_waits, all
 use Rattle.vyrd_words.proofs.views.Views.take_effect.Goals as goal
 
 pub invariant_of-self-then-len-ge-MOST_CHANGED : goal.invariant_of-self-then-len-ge-MOST_CHANGED
-invariant_of-self-then-len-ge-MOST_CHANGED c =
+invariant_of-self-then-len-ge-MOST_CHANGED g c =
     let i = c.self.inside in
     let none : i.counts ≡ [] = none_waits i.counts i.writes.items (ap (λ (v : Cuts). v.since) c.self.view_is ∙ c.requires.none_waits) in
     rw (c.note.ensures.items, c.catch_up.ensures.words, c.catch_up.ensures.writes, c.catch_up.ensures.changed, c.in_ok-reserve.ensures.items, none)
-    (at_once_both i.header i.words.items i.writes.items i.tail c.args.word c.args.value i.changed.items i.compared
+    (at_once_both i.header i.words.items i.writes.items i.tail c.args.word c.args.value i.changed.items (g.C.Compare.known i.compared)
     (subst (λ (v : Cuts). c.args.word < plain_words v.header) (sym c.self.view_is) c.requires.word) c.requires.value
-    (subst (λ ks. AreCuts i.header i.words.items ks i.writes.items i.tail × AreKnown i.header i.words.items i.changed.items i.compared) none c.self.invariant))
+    (subst (λ ks. AreCuts i.header i.words.items ks i.writes.items i.tail × AreKnown i.header i.words.items i.changed.items (g.C.Compare.known i.compared)) none c.self.invariant))
 
 pub invariant_of-self-else-len-ge-MOST_CHANGED : goal.invariant_of-self-else-len-ge-MOST_CHANGED
-invariant_of-self-else-len-ge-MOST_CHANGED c =
+invariant_of-self-else-len-ge-MOST_CHANGED g c =
     let i = c.self.inside in
     let none : i.counts ≡ [] = none_waits i.counts i.writes.items (ap (λ (v : Cuts). v.since) c.self.view_is ∙ c.requires.none_waits) in
     rw (c.note.ensures.items, c.catch_up.ensures.words, c.catch_up.ensures.writes, c.catch_up.ensures.changed, c.in_ok-reserve.ensures.items, none)
-    (at_once_both i.header i.words.items i.writes.items i.tail c.args.word c.args.value i.changed.items i.compared
+    (at_once_both i.header i.words.items i.writes.items i.tail c.args.word c.args.value i.changed.items (g.C.Compare.known i.compared)
     (subst (λ (v : Cuts). c.args.word < plain_words v.header) (sym c.self.view_is) c.requires.word) c.requires.value
-    (subst (λ ks. AreCuts i.header i.words.items ks i.writes.items i.tail × AreKnown i.header i.words.items i.changed.items i.compared) none c.self.invariant))
+    (subst (λ ks. AreCuts i.header i.words.items ks i.writes.items i.tail × AreKnown i.header i.words.items i.changed.items (g.C.Compare.known i.compared)) none c.self.invariant))
 
 pub returns-clause-first : goal.returns-clause-first
-returns-clause-first c =
+returns-clause-first g c =
     let i = c.self.inside in
     let none : i.counts ≡ [] = none_waits i.counts i.writes.items (ap (λ (v : Cuts). v.since) c.self.view_is ∙ c.requires.none_waits) in
     ap (λ ks. first_of (set c.catch_up.new.words.items c.args.word c.args.value) ks c.catch_up.new.writes.items) none
@@ -33,13 +33,13 @@ returns-clause-first c =
     ∙ ap (λ (v : Cuts). set v.first c.args.word c.args.value) c.self.view_is
 
 pub returns-clause-since : goal.returns-clause-since
-returns-clause-since c =
+returns-clause-since g c =
     let i = c.self.inside in
     let none : i.counts ≡ [] = none_waits i.counts i.writes.items (ap (λ (v : Cuts). v.since) c.self.view_is ∙ c.requires.none_waits) in
     ap (λ ks. since_of ks c.catch_up.new.writes.items) none
 
 pub returns-then-len-ge-MOST_CHANGED-clause-first : goal.returns-then-len-ge-MOST_CHANGED-clause-first
-returns-then-len-ge-MOST_CHANGED-clause-first c =
+returns-then-len-ge-MOST_CHANGED-clause-first g c =
     let i = c.self.inside in
     let none : i.counts ≡ [] = none_waits i.counts i.writes.items (ap (λ (v : Cuts). v.since) c.self.view_is ∙ c.requires.none_waits) in
     always c.compare_words.result (c.compare_words.ensures.first
@@ -50,7 +50,7 @@ returns-then-len-ge-MOST_CHANGED-clause-first c =
     ∙ ap (λ (v : Cuts). set v.first c.args.word c.args.value) c.self.view_is)
 
 pub returns-then-len-ge-MOST_CHANGED-clause-since : goal.returns-then-len-ge-MOST_CHANGED-clause-since
-returns-then-len-ge-MOST_CHANGED-clause-since c =
+returns-then-len-ge-MOST_CHANGED-clause-since g c =
     let i = c.self.inside in
     let none : i.counts ≡ [] = none_waits i.counts i.writes.items (ap (λ (v : Cuts). v.since) c.self.view_is ∙ c.requires.none_waits) in
     always c.compare_words.result (c.compare_words.ensures.since ∙ ap (λ ks. since_of ks c.catch_up.new.writes.items) none)

@@ -1,4 +1,4 @@
 use Rattle.vyrd_words.proofs.words.Words.follow.Given as goal
 
 abbrev pub ghosts-follow_alone : goal.ghosts-follow_alone
-ghosts-follow_alone a = record { name = a.blank.name; parts = a.blank.parts }
+ghosts-follow_alone g a = record { name = a.blank.name; parts = a.blank.parts }

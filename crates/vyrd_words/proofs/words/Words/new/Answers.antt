@@ -4,7 +4,7 @@ use Rattle.vyrd_words.proofs.WordsLaws.{HasNumbers, numbers_first}
 use Rattle.vyrd_words.proofs.words.Words.new.Goals as goal
 
 pub returns-clause-words : goal.returns-clause-words
-returns-clause-words c = λ starting is. record {
+returns-clause-words g c = λ starting is. record {
   followed = c.in_ok-start_from.ensures.followed starting is;
   unchanged = c.in_ok-start_from.ensures.changed;
   numbers = subst (λ xs. HasNumbers c.in_ok-start_from.field-0.header.callers xs [])

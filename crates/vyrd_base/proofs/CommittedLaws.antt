@@ -1,0 +1,197 @@
+-- Executions that have committed: how one more entry changes that, what was called in them, and
+-- that those of the built-in subjects' methods commit once or never.
+use Rattle.std.proofs.Common.{◌≡◌, ℕ, Bool, true, false, not, cond, ◌&&◌, ◌||◌, List, [], ◌∷◌, ◌++◌, Some, None, refl, ap, subst, ◌∙◌, sym}
+use Rattle.std.specs.Prelude.{◌==◌, unwrap_or}
+use Rattle.std.specs.List.{list_any}
+use Rattle.std.specs.Option.{option_or, option_map_or}
+use Rattle.vyrd_base.specs.declared.header.Header.{Header}
+use Rattle.vyrd_base.specs.declared.subject.Method.{Method}
+use Rattle.vyrd_base.specs.declared.multiset.MultisetMethod.TheVariants.{Insert as MsInsert}
+use Rattle.vyrd_base.specs.declared.multiset.MultisetMethod.TheVariants.{InsertPair}
+use Rattle.vyrd_base.specs.declared.multiset.MultisetMethod.TheVariants.{Delete as MsDelete}
+use Rattle.vyrd_base.specs.declared.multiset.MultisetMethod.TheVariants.{Lookup as MsLookup}
+use Rattle.vyrd_base.specs.declared.cache.CacheMethod.TheVariants.{Write as CaWrite, Flush, Evict}
+use Rattle.vyrd_base.specs.declared.cache.CacheMethod.TheVariants.{Read as CaRead}
+use Rattle.vyrd_base.specs.declared.tree.TreeMethod.TheVariants.{Insert as TrInsert}
+use Rattle.vyrd_base.specs.declared.tree.TreeMethod.TheVariants.{Delete as TrDelete}
+use Rattle.vyrd_base.specs.declared.tree.TreeMethod.TheVariants.{Lookup as TrLookup}
+use Rattle.vyrd_base.specs.declared.buffers.BuffersMethod.TheVariants.{Append, AppendFrom, Cut}
+use Rattle.vyrd_base.specs.declared.buffers.BuffersMethod.TheVariants.{Length, Read as BuRead}
+use Rattle.vyrd_base.specs.declared.log.Kind.{Kind}
+use Rattle.vyrd_base.specs.declared.log.Kind.TheVariants.{Call, Return, Write, Commit, BlockOpen, BlockClose, BlockCommit}
+use Rattle.vyrd_base.specs.declared.log.Entry.{Entry}
+use Rattle.vyrd_base.specs.declared.verdict.Why.TheVariants.{Observer}
+use Rattle.vyrd_base.specs.Places.{newest_first, first_answer}
+use Rattle.vyrd_base.specs.Subjects.{is_observer, must_commit}
+use Rattle.vyrd_base.specs.Callers.{Called, by_caller, open_call, call_or_return, has_committed, commit_or_call}
+use Rattle.vyrd_base.specs.Shape.{broken_rule, checks_at, is_observing, owes_commit}
+use Rattle.vyrd_base.specs.Front.{first_break, WellFormed}
+use Rattle.vyrd_base.specs.Amounts.{Amounts}
+use Rattle.vyrd_base.specs.Rules.{Rules}
+use Rattle.vyrd_base.specs.Faults.{observer_fault}
+use Rattle.vyrd_base.proofs.PlaceLaws.{newest_first-push}
+use Rattle.vyrd_base.proofs.BlockLaws.{entry, by_same, own_answer, other_answer, no_answer, open_call-quiet}
+use Rattle.vyrd_base.proofs.ShadowLaws.{all_kept, well_formed-first_break}
+use Rattle.vyrd_base.proofs.StateLaws.{open_call-other}
+use Rattle.vyrd_base.proofs.StructureLaws.{once_or_never}
+use Rattle.vyrd_base.proofs.KeptLaws.{commit_kept, block_commit_runs, return_kept}
+
+-- another caller's entry, one that neither begins, commits nor ends an execution, and the caller's
+-- own
+pub committed-other : (c d : ℕ) (kind : Kind) (earlier : List Entry) → (d == c) ≡ false
+    → has_committed c (entry d kind ∷ earlier) ≡ has_committed c earlier
+committed-other c d kind earlier other =
+    ap (λ o. unwrap_or o false) (other_answer c d commit_or_call kind earlier other)
+
+pub committed-quiet : (c d : ℕ) (kind : Kind) (earlier : List Entry) → commit_or_call kind ≡ None
+    → has_committed c (entry d kind ∷ earlier) ≡ has_committed c earlier
+committed-quiet c d kind earlier quiet =
+    ap (λ o. unwrap_or o false) (no_answer c d commit_or_call kind earlier quiet)
+
+pub committed-own : (c : ℕ) (kind : Kind) (earlier : List Entry) (b : Bool)
+    → commit_or_call kind ≡ Some b → has_committed c (entry c kind ∷ earlier) ≡ b
+committed-own c kind earlier b is =
+    ap (λ o. unwrap_or o false) (own_answer c commit_or_call kind earlier
+    ∙ ap (λ o. option_or o (first_answer (by_caller c commit_or_call) earlier)) is)
+
+-- a method that commits in an execution that is open
+abbrev Mutates : ℕ → List Entry → Type 0
+Mutates c earlier = (called : Called) × (open_call c earlier ≡ Some called)
+    × (is_observer called.method ≡ false)
+
+goes_on : (c d : ℕ) (kind : Kind) (earlier : List Entry) → call_or_return kind ≡ None
+    → Mutates c earlier → Mutates c (entry d kind ∷ earlier)
+goes_on c d kind earlier inside was =
+    (was.0, open_call-quiet c d kind earlier inside ∙ was.1, was.2)
+
+-- an execution that has committed is open, and not an observer's
+own_runs : (h : Header) (c : ℕ) (kind : Kind) (earlier : List Entry)
+    → broken_rule h earlier (entry c kind) ≡ None
+    → (has_committed c earlier ≡ true → Mutates c earlier)
+    → has_committed c (entry c kind ∷ earlier) ≡ true → Mutates c (entry c kind ∷ earlier)
+own_runs h c (Call method args) earlier kept so is =
+    absurd (never (committed-own c (Call method args) earlier false refl) is)
+  where
+    never : {b : Bool} → b ≡ false → b ≡ true → ⊥
+    never p q = cc
+own_runs h c (Return reply) earlier kept so is =
+    absurd (never (committed-own c (Return reply) earlier false refl) is)
+  where
+    never : {b : Bool} → b ≡ false → b ≡ true → ⊥
+    never p q = cc
+own_runs h c (Write word value) earlier kept so is = goes_on c c (Write word value) earlier refl
+    (so (sym (committed-quiet c c (Write word value) earlier refl) ∙ is))
+own_runs h c Commit earlier kept so is =
+    goes_on c c Commit earlier refl (commit_kept h c earlier kept)
+own_runs h c BlockOpen earlier kept so is = goes_on c c BlockOpen earlier refl
+    (so (sym (committed-quiet c c BlockOpen earlier refl) ∙ is))
+own_runs h c BlockClose earlier kept so is = goes_on c c BlockClose earlier refl
+    (so (sym (committed-quiet c c BlockClose earlier refl) ∙ is))
+own_runs h c BlockCommit earlier kept so is =
+    goes_on c c BlockCommit earlier refl (block_commit_runs h c earlier kept)
+
+pub committed_runs : (h : Header) (c : ℕ) (earlier : List Entry) → WellFormed h earlier
+    → has_committed c earlier ≡ true
+    → (called : Called) × (open_call c earlier ≡ Some called) × (is_observer called.method ≡ false)
+committed_runs h c [] wf = λ is. cc
+committed_runs h c (e ∷ earlier) wf = step (committed_runs h c earlier wf.1)
+  where
+    step : (has_committed c earlier ≡ true → Mutates c earlier)
+        → has_committed c (e ∷ earlier) ≡ true → Mutates c (e ∷ earlier)
+    step so = by_same e.caller c
+        (λ same. subst (λ d. broken_rule h earlier (entry d e.kind) ≡ None
+        → has_committed c (entry d e.kind ∷ earlier) ≡ true → Mutates c (entry d e.kind ∷ earlier))
+        (sym same) (λ kept. own_runs h c e.kind earlier kept so) wf.0)
+        (λ other. λ is.
+        let was = so (sym (committed-other c e.caller e.kind earlier other) ∙ is) in
+        (was.0, open_call-other c e.caller e.kind earlier other ∙ was.1, was.2))
+
+-- an execution that returns without a commit need not have one
+pub return_free : (h : Header) (c reply : ℕ) (earlier : List Entry) (called : Called)
+    → broken_rule h earlier (entry c (Return reply)) ≡ None → open_call c earlier ≡ Some called
+    → has_committed c earlier ≡ false → must_commit called.method ≡ false
+return_free h c reply earlier called kept opened none =
+    free (must_commit called.method) (has_committed c earlier) none
+    (ap (λ o. option_map_or (λ k. must_commit k.method) o false && not (has_committed c earlier))
+    (sym opened)
+    ∙ (all_kept (checks_at h earlier (entry c (Return reply))) kept).1.1.1.0)
+  where
+    free : (a b : Bool) → b ≡ false → (a && not b) ≡ false → a ≡ false
+    free true true e f = cc
+    free true false e f = cc
+    free false b e f = refl
+
+-- Each method of the built-in subjects commits once or never. So a return lacks a commit if its execution has none and isn't an observer's
+pub lacks_commit : (c : ℕ) (earlier : List Entry) (called : Called)
+    → open_call c earlier ≡ Some called
+    → (owes_commit c earlier && not (has_committed c earlier))
+    ≡ not (is_observing c earlier || has_committed c earlier)
+lacks_commit c earlier called opened =
+    ap (λ o. option_map_or (λ k. must_commit k.method) o false && not (has_committed c earlier)) opened
+    ∙ ap (λ b. b && not (has_committed c earlier)) (once_or_never called.method)
+    ∙ by_truth (is_observer called.method) (has_committed c earlier)
+    ∙ ap (λ o. not (option_map_or (λ k. is_observer k.method) o false || has_committed c earlier))
+    (sym opened)
+  where
+    by_truth : (a b : Bool) → (not a && not b) ≡ not (a || b)
+    by_truth true b = refl
+    by_truth false b = refl
+
+-- and those that return without a commit are the observers'
+pub returns_committed : (h : Header) (c reply : ℕ) (earlier : List Entry) → WellFormed h earlier
+    → broken_rule h earlier (entry c (Return reply)) ≡ None
+    → has_committed c earlier ≡ not (is_observing c earlier)
+returns_committed h c reply earlier wf kept = by_truth (has_committed c earlier) refl
+  where
+    called : (k : Called) × (open_call c earlier ≡ Some k)
+    called = return_kept h c reply earlier kept
+
+    observing : {k : Called} {b : Bool} → open_call c earlier ≡ Some k → is_observer k.method ≡ b
+        → is_observing c earlier ≡ b
+    observing opened is = ap (λ o. option_map_or (λ k. is_observer k.method) o false) opened ∙ is
+
+    looks : (a : Bool) → not a ≡ false → a ≡ true
+    looks true e = refl
+    looks false e = cc
+
+    by_truth : (b : Bool) → has_committed c earlier ≡ b
+        → has_committed c earlier ≡ not (is_observing c earlier)
+    by_truth true is = let runs = committed_runs h c earlier wf is in
+        is ∙ ap not (sym (observing runs.1 runs.2))
+    by_truth false is =
+        is ∙ ap not (sym (observing called.1 (looks (is_observer called.0.method)
+        (sym (once_or_never called.0.method)
+        ∙ return_free h c reply earlier called.0 kept called.1 is))))
+
+-- the same of a log
+returns_last : (h : Header) (es : List Entry) (c reply : ℕ)
+    → first_break h (es ++ entry c (Return reply) ∷ []) ≡ None
+    → has_committed c (newest_first es) ≡ not (is_observing c (newest_first es))
+returns_last h es c reply kept =
+    let wf : WellFormed h (entry c (Return reply) ∷ newest_first es) =
+    subst (WellFormed h) (newest_first-push es (entry c (Return reply)))
+    (well_formed-first_break h (es ++ entry c (Return reply) ∷ []) kept) in
+    returns_committed h c reply (newest_first es) wf.1 wf.0
+
+pub returns_observed : (h : Header) (es : List Entry) (c reply : ℕ)
+    → first_break h (es ++ record { caller = c; kind = Return reply } ∷ []) ≡ None
+    → not (has_committed c (newest_first es)) ≡ is_observing c (newest_first es)
+returns_observed h es c reply kept = ap not (returns_last h es c reply kept) ∙ twice _
+  where
+    twice : (b : Bool) → not (not b) ≡ b
+    twice true = refl
+    twice false = refl
+
+-- so the fault of a return goes by its method
+pub fault_by_method : (r : Rules) (window : List Amounts) (es : List Entry) (c reply : ℕ)
+    (called : Called)
+    → first_break r.header (es ++ record { caller = c; kind = Return reply } ∷ []) ≡ None
+    → open_call c (newest_first es) ≡ Some called
+    → observer_fault r window (has_committed c (newest_first es)) reply called
+    ≡ cond (not (is_observer called.method)
+    || list_any (λ state. r.answer state called.method called.args == reply) window)
+    None (Some (Observer reply))
+fault_by_method r window es c reply called kept opened =
+    ap (λ b. observer_fault r window b reply called)
+    (returns_last r.header es c reply kept
+    ∙ ap (λ o. not (option_map_or (λ k. is_observer k.method) o false)) opened)

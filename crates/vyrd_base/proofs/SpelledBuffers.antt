@@ -1,0 +1,82 @@
+-- String buffers are spelled on lines, and their words are few.
+use Rattle.std.proofs.Common.{◌≡◌, ℕ, ◌+◌, ◌<◌, ◌≤◌, ◌^◌, true, not, length, Some, refl, arith}
+use Rattle.std.specs.Prelude.{find, slice_get}
+use Rattle.std.specs.Str.{bytes_eq}
+use Rattle.vyrd_base.specs.declared.buffers.BuffersMethod.{BuffersMethod}
+use Rattle.vyrd_base.specs.declared.buffers.BuffersMethod.TheVariants.{Append, AppendFrom, Cut}
+use Rattle.vyrd_base.specs.declared.buffers.BuffersMethod.TheVariants.{Length, Read}
+use Rattle.vyrd_base.specs.Buffers.{buffers}
+use Rattle.vyrd_base.specs.Subjects.{never_commits, always_commits}
+use Rattle.vyrd_base.proofs.SplitLaws.{is_plain_field}
+use Rattle.vyrd_base.proofs.Spelled.{IsSpelled}
+
+plain : (m : BuffersMethod) → is_plain_field (buffers.called m) ≡ true
+plain Append = refl
+plain AppendFrom = refl
+plain Cut = refl
+plain Length = refl
+plain Read = refl
+
+short : (m : BuffersMethod) → length (buffers.called m) ≤ 11
+short Append = omega arith
+short AppendFrom = omega arith
+short Cut = omega arith
+short Length = omega arith
+short Read = omega arith
+
+found : (m : BuffersMethod) → find (λ x. bytes_eq (buffers.called x) (buffers.called m)) buffers.methods ≡ Some m
+found Append = refl
+found AppendFrom = refl
+found Cut = refl
+found Length = refl
+found Read = refl
+
+abbrev place : BuffersMethod → ℕ
+place Append = 0
+place AppendFrom = 1
+place Cut = 2
+place Length = 3
+place Read = 4
+
+listed : (m : BuffersMethod) → slice_get buffers.methods (place m) ≡ Some m
+listed Append = refl
+listed AppendFrom = refl
+listed Cut = refl
+listed Length = refl
+listed Read = refl
+
+some_arguments : (m : BuffersMethod) → 1 ≤ buffers.arity m
+some_arguments Append = omega arith
+some_arguments AppendFrom = omega arith
+some_arguments Cut = omega arith
+some_arguments Length = omega arith
+some_arguments Read = omega arith
+
+few_arguments : (m : BuffersMethod) → buffers.arity m ≤ 3
+few_arguments Append = omega arith
+few_arguments AppendFrom = omega arith
+few_arguments Cut = omega arith
+few_arguments Length = omega arith
+few_arguments Read = omega arith
+
+once_or_never : (m : BuffersMethod) → always_commits (buffers.commits m) ≡ not (never_commits (buffers.commits m))
+once_or_never Append = refl
+once_or_never AppendFrom = refl
+once_or_never Cut = refl
+once_or_never Length = refl
+once_or_never Read = refl
+
+pub buffers_is : IsSpelled buffers
+buffers_is = record {
+  plain = plain;
+  short = short;
+  found = found;
+  place = place;
+  listed = listed;
+  some_arguments = some_arguments;
+  few_arguments = few_arguments;
+  once_or_never = once_or_never;
+  plain_name = refl;
+  short_name = omega arith;
+  few_words = λ size low. omega (arith, low);
+}

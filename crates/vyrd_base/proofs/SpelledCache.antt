@@ -1,0 +1,73 @@
+-- The cache is spelled on lines, and its words are few.
+use Rattle.std.proofs.Common.{◌≡◌, ℕ, ◌+◌, ◌<◌, ◌≤◌, ◌^◌, true, not, length, Some, refl, arith}
+use Rattle.std.specs.Prelude.{find, slice_get}
+use Rattle.std.specs.Str.{bytes_eq}
+use Rattle.vyrd_base.specs.declared.cache.CacheMethod.{CacheMethod}
+use Rattle.vyrd_base.specs.declared.cache.CacheMethod.TheVariants.{Write, Flush, Evict, Read}
+use Rattle.vyrd_base.specs.Cache.{cache}
+use Rattle.vyrd_base.specs.Subjects.{never_commits, always_commits}
+use Rattle.vyrd_base.proofs.SplitLaws.{is_plain_field}
+use Rattle.vyrd_base.proofs.Spelled.{IsSpelled}
+
+plain : (m : CacheMethod) → is_plain_field (cache.called m) ≡ true
+plain Write = refl
+plain Flush = refl
+plain Evict = refl
+plain Read = refl
+
+short : (m : CacheMethod) → length (cache.called m) ≤ 11
+short Write = omega arith
+short Flush = omega arith
+short Evict = omega arith
+short Read = omega arith
+
+found : (m : CacheMethod) → find (λ x. bytes_eq (cache.called x) (cache.called m)) cache.methods ≡ Some m
+found Write = refl
+found Flush = refl
+found Evict = refl
+found Read = refl
+
+abbrev place : CacheMethod → ℕ
+place Write = 0
+place Flush = 1
+place Evict = 2
+place Read = 3
+
+listed : (m : CacheMethod) → slice_get cache.methods (place m) ≡ Some m
+listed Write = refl
+listed Flush = refl
+listed Evict = refl
+listed Read = refl
+
+some_arguments : (m : CacheMethod) → 1 ≤ cache.arity m
+some_arguments Write = omega arith
+some_arguments Flush = omega arith
+some_arguments Evict = omega arith
+some_arguments Read = omega arith
+
+few_arguments : (m : CacheMethod) → cache.arity m ≤ 3
+few_arguments Write = omega arith
+few_arguments Flush = omega arith
+few_arguments Evict = omega arith
+few_arguments Read = omega arith
+
+once_or_never : (m : CacheMethod) → always_commits (cache.commits m) ≡ not (never_commits (cache.commits m))
+once_or_never Write = refl
+once_or_never Flush = refl
+once_or_never Evict = refl
+once_or_never Read = refl
+
+pub cache_is : IsSpelled cache
+cache_is = record {
+  plain = plain;
+  short = short;
+  found = found;
+  place = place;
+  listed = listed;
+  some_arguments = some_arguments;
+  few_arguments = few_arguments;
+  once_or_never = once_or_never;
+  plain_name = refl;
+  short_name = omega arith;
+  few_words = λ size low. omega (arith, low);
+}

@@ -1,0 +1,74 @@
+-- The multiset is spelled on lines, and its words are few.
+use Rattle.std.proofs.Common.{◌≡◌, ℕ, ◌+◌, ◌<◌, ◌≤◌, ◌^◌, true, not, length, Some, refl, arith}
+use Rattle.std.specs.Prelude.{find, slice_get}
+use Rattle.std.specs.Str.{bytes_eq}
+use Rattle.vyrd_base.specs.declared.multiset.MultisetMethod.{MultisetMethod}
+use Rattle.vyrd_base.specs.declared.multiset.MultisetMethod.TheVariants.{Insert, InsertPair, Delete}
+use Rattle.vyrd_base.specs.declared.multiset.MultisetMethod.TheVariants.{Lookup}
+use Rattle.vyrd_base.specs.Multiset.{multiset}
+use Rattle.vyrd_base.specs.Subjects.{never_commits, always_commits}
+use Rattle.vyrd_base.proofs.SplitLaws.{is_plain_field}
+use Rattle.vyrd_base.proofs.Spelled.{IsSpelled}
+
+plain : (m : MultisetMethod) → is_plain_field (multiset.called m) ≡ true
+plain Insert = refl
+plain InsertPair = refl
+plain Delete = refl
+plain Lookup = refl
+
+short : (m : MultisetMethod) → length (multiset.called m) ≤ 11
+short Insert = omega arith
+short InsertPair = omega arith
+short Delete = omega arith
+short Lookup = omega arith
+
+found : (m : MultisetMethod) → find (λ x. bytes_eq (multiset.called x) (multiset.called m)) multiset.methods ≡ Some m
+found Insert = refl
+found InsertPair = refl
+found Delete = refl
+found Lookup = refl
+
+abbrev place : MultisetMethod → ℕ
+place Insert = 0
+place InsertPair = 1
+place Delete = 2
+place Lookup = 3
+
+listed : (m : MultisetMethod) → slice_get multiset.methods (place m) ≡ Some m
+listed Insert = refl
+listed InsertPair = refl
+listed Delete = refl
+listed Lookup = refl
+
+some_arguments : (m : MultisetMethod) → 1 ≤ multiset.arity m
+some_arguments Insert = omega arith
+some_arguments InsertPair = omega arith
+some_arguments Delete = omega arith
+some_arguments Lookup = omega arith
+
+few_arguments : (m : MultisetMethod) → multiset.arity m ≤ 3
+few_arguments Insert = omega arith
+few_arguments InsertPair = omega arith
+few_arguments Delete = omega arith
+few_arguments Lookup = omega arith
+
+once_or_never : (m : MultisetMethod) → always_commits (multiset.commits m) ≡ not (never_commits (multiset.commits m))
+once_or_never Insert = refl
+once_or_never InsertPair = refl
+once_or_never Delete = refl
+once_or_never Lookup = refl
+
+pub multiset_is : IsSpelled multiset
+multiset_is = record {
+  plain = plain;
+  short = short;
+  found = found;
+  place = place;
+  listed = listed;
+  some_arguments = some_arguments;
+  few_arguments = few_arguments;
+  once_or_never = once_or_never;
+  plain_name = refl;
+  short_name = omega arith;
+  few_words = λ size low. omega (arith, low);
+}

@@ -1,0 +1,65 @@
+-- The tree is spelled on lines, and its words are few.
+use Rattle.std.proofs.Common.{◌≡◌, ℕ, ◌+◌, ◌<◌, ◌≤◌, ◌^◌, true, not, length, Some, refl, arith}
+use Rattle.std.specs.Prelude.{find, slice_get}
+use Rattle.std.specs.Str.{bytes_eq}
+use Rattle.vyrd_base.specs.declared.tree.TreeMethod.{TreeMethod}
+use Rattle.vyrd_base.specs.declared.tree.TreeMethod.TheVariants.{Insert, Delete, Lookup}
+use Rattle.vyrd_base.specs.Tree.{tree}
+use Rattle.vyrd_base.specs.Subjects.{never_commits, always_commits}
+use Rattle.vyrd_base.proofs.SplitLaws.{is_plain_field}
+use Rattle.vyrd_base.proofs.Spelled.{IsSpelled}
+
+plain : (m : TreeMethod) → is_plain_field (tree.called m) ≡ true
+plain Insert = refl
+plain Delete = refl
+plain Lookup = refl
+
+short : (m : TreeMethod) → length (tree.called m) ≤ 11
+short Insert = omega arith
+short Delete = omega arith
+short Lookup = omega arith
+
+found : (m : TreeMethod) → find (λ x. bytes_eq (tree.called x) (tree.called m)) tree.methods ≡ Some m
+found Insert = refl
+found Delete = refl
+found Lookup = refl
+
+abbrev place : TreeMethod → ℕ
+place Insert = 0
+place Delete = 1
+place Lookup = 2
+
+listed : (m : TreeMethod) → slice_get tree.methods (place m) ≡ Some m
+listed Insert = refl
+listed Delete = refl
+listed Lookup = refl
+
+some_arguments : (m : TreeMethod) → 1 ≤ tree.arity m
+some_arguments Insert = omega arith
+some_arguments Delete = omega arith
+some_arguments Lookup = omega arith
+
+few_arguments : (m : TreeMethod) → tree.arity m ≤ 3
+few_arguments Insert = omega arith
+few_arguments Delete = omega arith
+few_arguments Lookup = omega arith
+
+once_or_never : (m : TreeMethod) → always_commits (tree.commits m) ≡ not (never_commits (tree.commits m))
+once_or_never Insert = refl
+once_or_never Delete = refl
+once_or_never Lookup = refl
+
+pub tree_is : IsSpelled tree
+tree_is = record {
+  plain = plain;
+  short = short;
+  found = found;
+  place = place;
+  listed = listed;
+  some_arguments = some_arguments;
+  few_arguments = few_arguments;
+  once_or_never = once_or_never;
+  plain_name = refl;
+  short_name = omega arith;
+  few_words = λ size low. omega (arith, low);
+}

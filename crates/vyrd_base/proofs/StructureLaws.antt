@@ -1,0 +1,135 @@
+-- What every method and every subject meets: calls are written on lines and read again.
+use Rattle.std.proofs.Common.{◌≡◌, ℕ, ◌+◌, ◌<◌, ◌≤◌, ◌^◌, Bool, true, false, not, cond, List, [], ◌∷◌, length, map}
+use Rattle.std.proofs.Common.{Option, Some, None, refl, ap, ◌∙◌, sym}
+use Rattle.std.specs.Prelude.{find, option_map, slice_get}
+use Rattle.std.specs.Str.{bytes_eq}
+use Rattle.std.proofs.lemmas.Option.{slice_get-map}
+use Rattle.vyrd_base.specs.declared.subject.Subject.{Subject}
+use Rattle.vyrd_base.specs.declared.subject.Subject.TheVariants.{Multiset, Cache, Tree, Buffers}
+use Rattle.vyrd_base.specs.declared.subject.Method.{Method}
+use Rattle.vyrd_base.specs.declared.subject.Method.TheVariants.{Multiset as OfMultiset}
+use Rattle.vyrd_base.specs.declared.subject.Method.TheVariants.{Cache as OfCache, Tree as OfTree}
+use Rattle.vyrd_base.specs.declared.subject.Method.TheVariants.{Buffers as OfBuffers}
+use Rattle.vyrd_base.specs.declared.multiset.MultisetMethod.{MultisetMethod}
+use Rattle.vyrd_base.specs.Multiset.{multiset}
+use Rattle.vyrd_base.specs.declared.cache.CacheMethod.{CacheMethod}
+use Rattle.vyrd_base.specs.Cache.{cache}
+use Rattle.vyrd_base.specs.declared.tree.TreeMethod.{TreeMethod}
+use Rattle.vyrd_base.specs.Tree.{tree}
+use Rattle.vyrd_base.specs.declared.buffers.BuffersMethod.{BuffersMethod}
+use Rattle.vyrd_base.specs.Buffers.{buffers}
+use Rattle.vyrd_base.specs.Subjects.{arity_of, subject_of, same_subject, methods_of, is_observer, must_commit}
+use Rattle.vyrd_base.specs.Layout.{plain_words_of, lock_words_of}
+use Rattle.vyrd_base.specs.Spelling.{subject_name, method_name}
+use Rattle.vyrd_base.specs.Lines.{method_called}
+use Rattle.vyrd_base.proofs.SplitLaws.{is_plain_field}
+use Rattle.vyrd_base.proofs.SpelledMultiset.{multiset_is}
+use Rattle.vyrd_base.proofs.SpelledCache.{cache_is}
+use Rattle.vyrd_base.proofs.SpelledTree.{tree_is}
+use Rattle.vyrd_base.proofs.SpelledBuffers.{buffers_is}
+
+pub plain_method : (method : Method) → is_plain_field (method_name method) ≡ true
+plain_method (OfMultiset m) = multiset_is.plain m
+plain_method (OfCache m) = cache_is.plain m
+plain_method (OfTree m) = tree_is.plain m
+plain_method (OfBuffers m) = buffers_is.plain m
+
+pub short_method : (method : Method) → length (method_name method) ≤ 11
+short_method (OfMultiset m) = multiset_is.short m
+short_method (OfCache m) = cache_is.short m
+short_method (OfTree m) = tree_is.short m
+short_method (OfBuffers m) = buffers_is.short m
+
+pub some_arguments : (method : Method) → 1 ≤ arity_of method
+some_arguments (OfMultiset m) = multiset_is.some_arguments m
+some_arguments (OfCache m) = cache_is.some_arguments m
+some_arguments (OfTree m) = tree_is.some_arguments m
+some_arguments (OfBuffers m) = buffers_is.some_arguments m
+
+pub few_arguments : (method : Method) → arity_of method ≤ 3
+few_arguments (OfMultiset m) = multiset_is.few_arguments m
+few_arguments (OfCache m) = cache_is.few_arguments m
+few_arguments (OfTree m) = tree_is.few_arguments m
+few_arguments (OfBuffers m) = buffers_is.few_arguments m
+
+pub once_or_never : (method : Method) → must_commit method ≡ not (is_observer method)
+once_or_never (OfMultiset m) = multiset_is.once_or_never m
+once_or_never (OfCache m) = cache_is.once_or_never m
+once_or_never (OfTree m) = tree_is.once_or_never m
+once_or_never (OfBuffers m) = buffers_is.once_or_never m
+
+-- a search among other names of the same things
+find_mapped : {A B : Type 0} (f : A → B) (p : B → Bool) (xs : List A) → find p (map f xs) ≡ option_map f (find (λ x. p (f x)) xs)
+find_mapped f p [] = refl
+find_mapped f p (x ∷ xs) = by_test (p (f x)) (find_mapped f p xs)
+  where
+    by_test : (b : Bool) → find p (map f xs) ≡ option_map f (find (λ y. p (f y)) xs)
+        → cond b (Some (f x)) (find p (map f xs)) ≡ option_map f (cond b (Some x) (find (λ y. p (f y)) xs))
+    by_test true rest = refl
+    by_test false rest = rest
+
+-- the method of that name is the only one of its subject
+pub method_found : (subject : Subject) (method : Method) → same_subject (subject_of method) subject ≡ true
+    → method_called subject (method_name method) ≡ Some method
+method_found Multiset (OfMultiset m) e = find_mapped OfMultiset (λ x. bytes_eq (method_name x) (multiset.called m)) multiset.methods ∙ ap (option_map OfMultiset) (multiset_is.found m)
+method_found Cache (OfCache m) e = find_mapped OfCache (λ x. bytes_eq (method_name x) (cache.called m)) cache.methods ∙ ap (option_map OfCache) (cache_is.found m)
+method_found Tree (OfTree m) e = find_mapped OfTree (λ x. bytes_eq (method_name x) (tree.called m)) tree.methods ∙ ap (option_map OfTree) (tree_is.found m)
+method_found Buffers (OfBuffers m) e = find_mapped OfBuffers (λ x. bytes_eq (method_name x) (buffers.called m)) buffers.methods ∙ ap (option_map OfBuffers) (buffers_is.found m)
+method_found _ _ e = cc
+
+-- a method's place among those of its subject
+abbrev pub place_of : Method → ℕ
+place_of (OfMultiset m) = multiset_is.place m
+place_of (OfCache m) = cache_is.place m
+place_of (OfTree m) = tree_is.place m
+place_of (OfBuffers m) = buffers_is.place m
+
+pub method_listed : (subject : Subject) (method : Method) → same_subject (subject_of method) subject ≡ true
+    → slice_get (methods_of subject) (place_of method) ≡ Some method
+method_listed Multiset (OfMultiset m) e = slice_get-map OfMultiset multiset.methods (multiset_is.place m) ∙ ap (option_map OfMultiset) (multiset_is.listed m)
+method_listed Cache (OfCache m) e = slice_get-map OfCache cache.methods (cache_is.place m) ∙ ap (option_map OfCache) (cache_is.listed m)
+method_listed Tree (OfTree m) e = slice_get-map OfTree tree.methods (tree_is.place m) ∙ ap (option_map OfTree) (tree_is.listed m)
+method_listed Buffers (OfBuffers m) e = slice_get-map OfBuffers buffers.methods (buffers_is.place m) ∙ ap (option_map OfBuffers) (buffers_is.listed m)
+method_listed _ _ e = cc
+
+-- a method that stands among those of a subject is the subject's
+pub subject_listed : (subject : Subject) (i : ℕ) (method : Method) → slice_get (methods_of subject) i ≡ Some method
+    → same_subject (subject_of method) subject ≡ true
+subject_listed Multiset i method e = by_place (slice_get multiset.methods i) (sym (slice_get-map OfMultiset multiset.methods i) ∙ e)
+  where
+    by_place : (o : Option MultisetMethod) → option_map OfMultiset o ≡ Some method → same_subject (subject_of method) Multiset ≡ true
+    by_place None f = cc
+    by_place (Some m) f = cc
+subject_listed Cache i method e = by_place (slice_get cache.methods i) (sym (slice_get-map OfCache cache.methods i) ∙ e)
+  where
+    by_place : (o : Option CacheMethod) → option_map OfCache o ≡ Some method → same_subject (subject_of method) Cache ≡ true
+    by_place None f = cc
+    by_place (Some m) f = cc
+subject_listed Tree i method e = by_place (slice_get tree.methods i) (sym (slice_get-map OfTree tree.methods i) ∙ e)
+  where
+    by_place : (o : Option TreeMethod) → option_map OfTree o ≡ Some method → same_subject (subject_of method) Tree ≡ true
+    by_place None f = cc
+    by_place (Some m) f = cc
+subject_listed Buffers i method e = by_place (slice_get buffers.methods i) (sym (slice_get-map OfBuffers buffers.methods i) ∙ e)
+  where
+    by_place : (o : Option BuffersMethod) → option_map OfBuffers o ≡ Some method → same_subject (subject_of method) Buffers ≡ true
+    by_place None f = cc
+    by_place (Some m) f = cc
+
+pub plain_subject : (subject : Subject) → is_plain_field (subject_name subject) ≡ true
+plain_subject Multiset = multiset_is.plain_name
+plain_subject Cache = cache_is.plain_name
+plain_subject Tree = tree_is.plain_name
+plain_subject Buffers = buffers_is.plain_name
+
+pub short_subject : (subject : Subject) → length (subject_name subject) ≤ 8
+short_subject Multiset = multiset_is.short_name
+short_subject Cache = cache_is.short_name
+short_subject Tree = tree_is.short_name
+short_subject Buffers = buffers_is.short_name
+
+pub words_within : (subject : Subject) → (size : ℕ) → size ≤ 1024 → plain_words_of subject size + lock_words_of subject size < 2 ^ 16
+words_within Multiset = multiset_is.few_words
+words_within Cache = cache_is.few_words
+words_within Tree = tree_is.few_words
+words_within Buffers = buffers_is.few_words

@@ -1,0 +1,10 @@
+use Rattle.std.proofs.Common.{◌≡◌, ℕ, List, ◌∷◌, ◌++◌, ◌<◌, Some}
+use Rattle.std.specs.Prelude.{slice_get}
+use Rattle.vyrd_base.specs.declared.subject.Method.{Method}
+use Rattle.vyrd_base.specs.Spelling.{method_name}
+use Rattle.vyrd_text.proofs.line.read_method.Given as goal
+
+-- none of the methods so far has its name there
+abbrev pub invariant-loop-method : goal.invariant-loop-method
+invariant-loop-method l = (i : ℕ) (method : Method) (rest : List ℕ) → i < l.method-index
+    → slice_get l.method-items i ≡ Some method → l.text ≡ method_name method ++ 32 ∷ rest → ⊥

@@ -1,0 +1,55 @@
+use Rattle.std.proofs.Common.{ℕ, ◌+◌, take, get_or, ap, sym, ◌∙◌}
+use Rattle.std.proofs.lemmas.List.{take_all}
+use Rattle.vyrd_base.specs.Amounts.{Amounts, amount_of, with_amount}
+use Rattle.vyrd_base.specs.Rules.{rules_by}
+use Rattle.vyrd_spec.specs.Touching.{with_touched}
+use Rattle.vyrd_view.specs.Known.{Known}
+use Rattle.vyrd_words.proofs.TouchedLaws.{touched_more}
+use Rattle.vyrd_words.proofs.views.tell_touched.Goals as goal
+
+pub loop-key-preserved : goal.loop-key-preserved
+loop-key-preserved g c =
+    let i = c.loop-key.key-index in
+    let items = c.touched-key-items.result.now in
+    let same = c.touched-key-items.ensures in
+    let known : Known = g.C.Compare.known c.args.compared.now in
+    let shown : Amounts =
+    (rules_by (g.S.Spec.charter c.args.spec.now)).shown (g.S.Spec.state c.args.spec.now) in
+    let key : ℕ = get_or items i 0 in
+    record {
+      told = c.in_ok-spec_changed.ensures.ok
+          ∙ ap (λ (k : Known). record k { specified = with_amount k.specified key c.amount.result })
+          c.loop-key.invariant.told
+          ∙ ap (λ a. record known {
+            specified = with_amount
+                (with_touched (take i (g.S.Spec.touched c.args.spec.now)) shown known.specified)
+                key a;
+          }) c.amount.ensures
+          ∙ ap (λ ks. record known {
+            specified = with_amount (with_touched (take i ks) shown known.specified) key
+                (amount_of shown key);
+          }) (sym same)
+          ∙ ap (λ (s : Amounts). record known { specified = s })
+          (touched_more items i shown known.specified c.loop-key-test.true)
+          ∙ ap (λ ks. record known {
+            specified = with_touched (take (i + 1) ks) shown known.specified;
+          }) same;
+    }
+
+pub returns-clause-ok : goal.returns-clause-ok
+returns-clause-ok g c =
+    let items = c.touched-key-items.result.now in
+    let same = c.touched-key-items.ensures in
+    let known : Known = g.C.Compare.known c.args.compared.now in
+    let shown : Amounts =
+    (rules_by (g.S.Spec.charter c.args.spec.now)).shown (g.S.Spec.state c.args.spec.now) in
+    c.loop-key.invariant.told
+    ∙ ap (λ ks. record known {
+      specified = with_touched (take c.loop-key.key-index ks) shown known.specified;
+    }) (sym same)
+    ∙ ap (λ ks. record known { specified = with_touched ks shown known.specified })
+    (take_all c.loop-key.key-index items c.loop-key-test.false ∙ same)
+
+pub returns-clause-refused : goal.returns-clause-refused
+returns-clause-refused g c =
+    ap (λ (k : Known). k.refused) c.loop-key.invariant.told ∙ c.requires.sound
