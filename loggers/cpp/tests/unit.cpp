@@ -1,0 +1,207 @@
+// What stands in a log byte by byte, and what is refused.
+#include "../vyrd_log.hpp"
+
+#include <cstdio>
+#include <fstream>
+#include <iostream>
+#include <iterator>
+
+namespace {
+
+int failed = 0;
+
+void expect(bool holds, const std::string &what) {
+    if (holds) return;
+    failed++;
+    std::cout << "failed: " << what << '\n';
+}
+
+template <class Action>
+void refuses(const std::string &start, Action action) {
+    try {
+        action();
+        expect(false, "not refused: " + start);
+    } catch (const vyrd::Error &error) {
+        expect(std::string(error.what()).rfind(start, 0) == 0, start + ", but: " + error.what());
+    }
+}
+
+// What the log of `body` has.
+template <class Body>
+std::string written(const vyrd::Header &header, Body body, vyrd::Options options = {}) {
+    std::string path = "unit.log"; // the tests run in a folder of their own
+    {
+        vyrd::Log log(header, path, options);
+        body(log);
+    }
+    std::ifstream file(path);
+    std::string text{std::istreambuf_iterator<char>(file), {}};
+    std::remove(path.c_str());
+    return text;
+}
+
+void each_line() {
+    std::string text = written(vyrd::Header(1, "tree", 2, 3), [](vyrd::Log &log) {
+        vyrd::Caller first = log.caller(), second = log.caller();
+        first.call("insert", 4294967295, 0);
+        first.step([](vyrd::Lines &lines) {
+            lines.open();
+            lines.write(4, 4294967295u);
+            lines.write(1, 1);
+            lines.close();
+            lines.close_commit();
+            lines.commit();
+            lines.entry("commit");
+        });
+        first.returns(18446744073709551615u);
+        int reply = second.step([](vyrd::Lines &lines) {
+            lines.observed(1, "lookup", 7);
+            lines.call("delete", 7);
+            lines.helping(2, [](vyrd::Lines &of) { of.commit(); });
+            lines.commit();
+            lines.returns(false);
+            return 3;
+        });
+        expect(reply == 3, "a step gives back what its action gives");
+        log.finish();
+    });
+    expect(text == "vyrd 1 tree 2 3\n"
+                   "0 call insert 4294967295 0\n"
+                   "0 open\n0 write 4 4294967295\n0 write 1 1\n0 close\n0 close commit\n"
+                   "0 commit\n0 commit\n0 return 18446744073709551615\n"
+                   "1 call lookup 7\n1 return 1\n1 call delete 7\n2 commit\n1 commit\n1 return 0\n"
+                   "end\n",
+           "each line: " + text);
+}
+
+void headers() {
+    vyrd::Header header(2, "multiset", 1, 1);
+    header.start(3, 0).start(1, 5).start(0, 2);
+    expect(header.lines() == "vyrd 2 multiset 1 1\nstart 0 2\nstart 1 5\n", "starting lines");
+    refuses("two values of word 1", [&] { header.start(1, 6); });
+    refuses("words at the start", [] { vyrd::Header(1, "multiset", 1, 1).start(0, 2); });
+    refuses("the version", [] { vyrd::Header(3, "multiset", 1, 1); });
+    refuses("no subject", [] { vyrd::Header(1, "queue", 1, 1); });
+    refuses("the size", [] { vyrd::Header(1, "tree", 0, 1); });
+    refuses("the size", [] { vyrd::Header(1, "tree", 1025, 1); });
+    refuses("the callers", [] { vyrd::Header(1, "tree", 1, 0); });
+    refuses("the callers", [] { vyrd::Header(1, "tree", 1, 65); });
+    refuses("a log has a header", [] { vyrd::Header::text("", 1); });
+    refuses("the callers", [] { vyrd::Header::text("vyrd 3 own 0 0", 0); });
+    vyrd::Header own = vyrd::Header::text("vyrd 3 own 0 100\nlog", 100);
+    expect(own.lines() == "vyrd 3 own 0 100\nlog\n" && own.callers() == 100, "a header as text");
+}
+
+void handles() {
+    written(vyrd::Header(1, "multiset", 1, 2), [](vyrd::Log &log) {
+        std::optional<vyrd::Caller> first(log.caller());
+        vyrd::Caller second = log.caller();
+        refuses("no caller is free: all 2 of the header are handed out", [&] { log.caller(); });
+        first.reset();
+        vyrd::Caller third = log.caller();
+        expect(third.number() == 0 && second.number() == 1, "the least number that is free");
+        vyrd::Caller moved = std::move(third);
+        expect(moved.number() == 0, "a handle that is moved keeps its number");
+        refuses("no caller is free", [&] { log.caller(); });
+    });
+}
+
+void refused_steps() {
+    std::string text = written(vyrd::Header(1, "multiset", 1, 1), [](vyrd::Log &log) {
+        vyrd::Caller caller = log.caller();
+        refuses("a step inside a step", [&] {
+            caller.step([&](vyrd::Lines &lines) {
+                lines.commit();
+                caller.returns(1);
+            });
+        });
+        std::string longest(64 - std::strlen("0 call "), 'x');
+        caller.call(longest);
+        refuses("a line of a log has more than 64 bytes", [&] { caller.call(longest + 'x'); });
+        refuses("a line of a log has more than 64 bytes",
+                [&] { caller.call(std::string(44, 'x'), 18446744073709551615u); });
+        refuses("a number of a log is negative: -1", [&] { caller.call("insert", 5, -1); });
+        log.finish();
+        refuses("a step of a log that is finished", [&] { caller.returns(1); });
+        refuses("a log is finished twice", [&] { log.finish(); });
+    });
+    expect(text == "vyrd 1 multiset 1 1\n0 commit\n0 call " + std::string(57, 'x') + "\nend\n",
+           "the lines before a refusal stay: " + text);
+    refuses("can't open no/such/folder/log: ",
+            [] { vyrd::Log(vyrd::Header(1, "multiset", 1, 1), "no/such/folder/log"); });
+    vyrd::Log full(vyrd::Header(1, "multiset", 1, 1), "/dev/full");
+    refuses("the log can't be written: ", [&] { full.finish(); });
+}
+
+// A buffer that is too small for two lines, threads that meet, and pauses by a seed.
+void threads(vyrd::Order order) {
+    vyrd::Options options;
+    options.order = order;
+    options.buffer = 8;
+    options.seed = 3;
+    options.watched = false;
+    std::string text = written(
+        vyrd::Header(1, "cache", 1, 8),
+        [](vyrd::Log &log) {
+            std::vector<std::thread> all;
+            for (unsigned n = 0; n < 8; n++)
+                all.emplace_back([&] {
+                    vyrd::Caller caller = log.caller();
+                    log.start_together(8);
+                    for (unsigned m = 0; m < 5000; m++)
+                        caller.step([](vyrd::Lines &lines) { lines.observed(0, "read", 0); });
+                });
+            for (std::thread &thread : all)
+                thread.join();
+        },
+        options);
+    std::size_t pairs = 0, at = text.find('\n') + 1;
+    for (; at < text.size(); pairs++) {
+        std::string number(1, text[at]);
+        std::string wanted = number + " call read 0\n" + number + " return 0\n";
+        if (text.compare(at, wanted.size(), wanted) != 0) break;
+        at += wanted.size();
+    }
+    expect(pairs == 40000 && at == text.size(), "the lines of a step stand together");
+}
+
+// A lock of the program gives the order; each caller's number stands in its lines.
+void numbers() {
+    vyrd::Options options;
+    options.order = vyrd::Order::numbers;
+    std::string wanted = "vyrd 1 cache 1 4\n";
+    std::mutex order;
+    std::string text = written(
+        vyrd::Header(1, "cache", 1, 4),
+        [&](vyrd::Log &log) {
+            std::vector<std::thread> all;
+            for (unsigned n = 0; n < 4; n++)
+                all.emplace_back([&] {
+                    vyrd::Caller caller = log.caller();
+                    for (unsigned m = 0; m < 3000; m++) {
+                        std::lock_guard<std::mutex> held(order);
+                        caller.step([&](vyrd::Lines &lines) { lines.write(0, m); });
+                        wanted += std::to_string(caller.number()) + " write 0 " +
+                                  std::to_string(m) + '\n';
+                    }
+                });
+            for (std::thread &thread : all)
+                thread.join();
+            log.finish();
+        },
+        options);
+    expect(text == wanted + "end\n", "numbers keep the order of the program's lock");
+}
+
+} // namespace
+
+int main() {
+    each_line();
+    headers();
+    handles();
+    refused_steps();
+    threads(vyrd::Order::lock);
+    threads(vyrd::Order::numbers);
+    numbers();
+    return failed == 0 ? 0 : 1;
+}

@@ -1,0 +1,145 @@
+"""What stands in a log byte by byte, and what is refused."""
+
+import io
+import sys
+import threading
+import unittest
+from pathlib import Path
+
+sys.path.insert(0, str(Path(__file__).resolve().parent.parent))
+from vyrd_log import Header, Log, LogError  # noqa: E402
+
+
+class Full(io.RawIOBase):
+    """A device that is full."""
+
+    def write(self, data):
+        raise OSError("full")
+
+
+class OneByte(io.BytesIO):
+    """A file that takes a byte at a time."""
+
+    def write(self, data):
+        return super().write(bytes(data[:1]))
+
+
+class Tests(unittest.TestCase):
+    def test_each_line(self):
+        file = OneByte()
+        with Log(Header(1, "tree", 2, 3), file, watched=False) as log:
+            first, second = log.caller(), log.caller()
+            first.call("insert", 4294967295, 0)
+            with first.step() as lines:
+                lines.open()
+                lines.write(4, 2**62)
+                lines.close()
+                lines.close_commit()
+                lines.entry("commit")
+            first.commit()
+            first.returns(2**64 - 1)
+            with second.step() as lines:
+                lines.observed("lookup", 7, reply=1)
+                lines.call("delete", 7)
+                lines.helping(2).commit()
+                lines.commit()
+                lines.returns(False)
+        wanted = (
+            "vyrd 1 tree 2 3|0 call insert 4294967295 0|0 open|0 write 4 4611686018427387904|0 close|"
+            "0 close commit|0 commit|0 commit|0 return 18446744073709551615|1 call lookup 7|"
+            "1 return 1|1 call delete 7|2 commit|1 commit|1 return 0|end|"
+        )
+        self.assertEqual(file.getvalue().decode(), wanted.replace("|", "\n"))
+
+    def test_headers(self):
+        header = Header(2, "multiset", 1, 1, {3: 0, 1: 5, 0: 2})
+        self.assertEqual(header.lines, "vyrd 2 multiset 1 1\nstart 0 2\nstart 1 5\n")
+        header = Header.text("vyrd 3 own 0 100\nlog", 100)
+        self.assertEqual((header.lines, header.callers), ("vyrd 3 own 0 100\nlog\n", 100))
+        refused = [
+            (lambda: Header(3, "tree", 1, 1), "the version of a log is 1 or 2"),
+            (lambda: Header(1, "queue", 1, 1), "no subject of a log: queue"),
+            (lambda: Header(1, "tree", 0, 1), "the size of a log is from 1 to 1,024"),
+            (lambda: Header(1, "tree", 1025, 1), "the size of a log is from 1 to 1,024"),
+            (lambda: Header(1, "tree", 1, 0), "the callers of a log are from 1 to 64"),
+            (lambda: Header(1, "tree", 1, 65), "the callers of a log are from 1 to 64"),
+            (lambda: Header(1, "tree", 1, 1, {0: 1}), "words at the start are of version 2"),
+            (lambda: Header.text("", 1), "a log has a header"),
+            (lambda: Header.text("vyrd 3 own 0 0", 0), "the callers of a log are from 1 on"),
+        ]
+        for make, sentence in refused:
+            self.refuses(make, sentence)
+
+    def test_handles(self):
+        log = Log(Header(1, "tree", 1, 2), io.BytesIO(), watched=False)
+        first, second = log.caller(), log.caller()
+        self.refuses(log.caller, "no caller is free: all 2 of the header are handed out")
+        first.give_back()
+        first.give_back()
+        self.refuses(first.commit, "a step of a caller that is given back")
+        self.assertEqual((log.caller().number, second.number), (0, 1))
+        self.refuses(log.caller, "no caller is free: all 2 of the header are handed out")
+
+    def test_refused_steps(self):
+        file = io.BytesIO()
+        log = Log(Header(1, "tree", 1, 1), file, watched=False)
+        caller = log.caller()
+        with self.assertRaisesRegex(LogError, "a step inside a step"), caller.step() as lines:
+            lines.commit()
+            caller.commit()
+        longest = "x" * (64 - len("0 call "))
+        caller.call(longest)
+        self.refuses(lambda: caller.call(longest + "x"), f"a line of a log has more than 64 bytes: 0 call {longest}x")
+        self.refuses(lambda: caller.call("delete", -1), "a number of a log is negative: -1")
+        log.finish()
+        self.refuses(caller.commit, "a step of a log that is finished")
+        self.refuses(log.finish, "a log is finished twice")
+        self.assertEqual(file.getvalue().decode(), f"vyrd 1 tree 1 1\n0 commit\n0 call {longest}\nend\n")
+
+    def test_a_block_that_raises_leaves_no_end(self):
+        file = io.BytesIO()
+        with self.assertRaises(ZeroDivisionError):
+            with Log(Header(1, "tree", 1, 1), file, watched=False) as log:
+                log.caller().commit()
+                raise ZeroDivisionError
+        self.assertEqual(file.getvalue(), b"vyrd 1 tree 1 1\n0 commit\n")
+
+    def test_a_write_that_fails_is_said_at_the_end(self):
+        log = Log(Header(1, "tree", 1, 1), Full(), watched=False)
+        log.caller().commit()
+        with self.assertRaisesRegex(OSError, "full"):
+            log.finish()
+        with self.assertRaises(OSError):
+            Log(Header(1, "tree", 1, 1), "no/such/folder/log")
+
+    def test_threads(self):
+        """A buffer that is too small for two lines, threads that meet, and pauses by a seed."""
+        file = io.BytesIO()
+        log = Log(Header(1, "cache", 1, 8), file, seed=3, buffer=8, watched=False)
+
+        def play():
+            with log.caller() as caller:
+                log.start_together(8)
+                for _ in range(100):
+                    with caller.step() as lines:
+                        lines.observed("read", 0, reply=0)
+
+        threads = [threading.Thread(target=play) for _ in range(8)]
+        for thread in threads:
+            thread.start()
+        for thread in threads:
+            thread.join()
+        log.close()
+        lines = file.getvalue().decode().splitlines()[1:]
+        self.assertEqual(len(lines), 1600)
+        for call, back in zip(lines[::2], lines[1::2]):
+            self.assertEqual(call.replace("call read 0", "return 0"), back)
+
+    def refuses(self, action, sentence):
+        with self.assertRaises(LogError) as refused:
+            action()
+        self.assertEqual(str(refused.exception), sentence)
+
+
+if __name__ == "__main__":
+    unittest.main()

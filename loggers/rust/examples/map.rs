@@ -1,0 +1,166 @@
+//! A map behind a lock, logged as a tree that has a leaf for each key.
+//!
+//!     map correct     an insert looks for its key and sets it under one hold of the lock
+//!     map numbered    the same, with steps that are ordered by numbers
+//!     map broken      it looks with one hold and sets with another: two find the key absent
+//!
+//! A key's leaf is the node of its number, and the leaves are linked where the log begins.
+//! `HashMap` shows no store of its own, so the words are what the map should hold.
+
+use std::collections::HashMap;
+use std::sync::{mpsc, Mutex};
+use std::{env, io, process, thread};
+use vyrd_log::{Caller, Header, Lines, Log, Options, Order};
+
+const KEYS: u32 = 8; // one leaf each
+const CALLERS: usize = 4;
+const COUNT: u32 = 1; // where a leaf's words stand among its twelve
+const BOUND: u32 = 2;
+const RIGHT: u32 = 3;
+const KEY: u32 = 4;
+const VALUE: u32 = 8;
+
+#[derive(Default)]
+struct Map(Mutex<HashMap<u32, u32>>);
+
+impl Map {
+    /// Whether the key was new.
+    fn insert(&self, caller: &mut Caller, key: u32, value: u32) -> bool {
+        caller.call("insert", &[key.into(), value.into()]);
+        let mut map = self.0.lock().unwrap();
+        let new = !map.contains_key(&key);
+        caller.step(|lines| {
+            map.insert(key, value);
+            set(lines, key, value);
+        });
+        drop(map);
+        caller.returns(if new { 1 } else { 2 });
+        new
+    }
+
+    /// The mistake: the lock is given back between the look and the store, where `between` comes.
+    fn insert_late(
+        &self,
+        caller: &mut Caller,
+        key: u32,
+        value: u32,
+        between: impl FnOnce(),
+    ) -> bool {
+        caller.call("insert", &[key.into(), value.into()]);
+        let new = !self.0.lock().unwrap().contains_key(&key);
+        between();
+        let mut map = self.0.lock().unwrap();
+        caller.step(|lines| {
+            map.insert(key, value);
+            set(lines, key, value);
+        });
+        drop(map);
+        caller.returns(if new { 1 } else { 2 });
+        new
+    }
+
+    /// The value that the key had. It is an observer and a delete in one step.
+    fn remove(&self, caller: &mut Caller, key: u32) -> Option<u32> {
+        let mut map = self.0.lock().unwrap();
+        caller.step(|lines| {
+            let value = map.remove(&key);
+            lines.observed("lookup", &[key.into()], value.map_or(0, |v| u64::from(v) + 1));
+            lines.call("delete", &[key.into()]);
+            lines.write(12 * key + COUNT, 0);
+            lines.commit();
+            lines.returns(value.is_some().into());
+            value
+        })
+    }
+
+    fn get(&self, caller: &mut Caller, key: u32) -> Option<u32> {
+        caller.call("lookup", &[key.into()]);
+        let value = self.0.lock().unwrap().get(&key).copied();
+        caller.returns(value.map_or(0, |v| u64::from(v) + 1));
+        value
+    }
+}
+
+fn set(lines: &mut Lines, key: u32, value: u32) {
+    lines.open();
+    lines.write(12 * key + KEY, key.into());
+    lines.write(12 * key + VALUE, value.into());
+    lines.write(12 * key + COUNT, 1);
+    lines.close_commit();
+}
+
+/// The leaves of all keys in a chain, with nothing in them.
+fn leaves() -> impl Iterator<Item = (u32, u64)> {
+    let links = (0..KEYS - 1).flat_map(|node| {
+        let next = u64::from(node) + 1;
+        [(12 * node + BOUND, next + 1), (12 * node + RIGHT, next)]
+    });
+    links.chain([(12 * KEYS + 1, u64::from(KEYS) - 1)])
+}
+
+fn play(map: &Map, caller: &mut Caller) {
+    let mut draw = caller.number() as u32 + 1;
+    for _ in 0..500 {
+        draw ^= draw << 13;
+        draw ^= draw >> 17;
+        draw ^= draw << 5;
+        let key = draw / 8 % KEYS;
+        match draw % 4 {
+            0 => drop(map.remove(caller, key)),
+            1 => drop(map.get(caller, key)),
+            _ => drop(map.insert(caller, key, draw / 64 % 1000)),
+        }
+    }
+}
+
+fn run_correct(order: Order) -> Result<(), vyrd_log::Error> {
+    let header = Header::with_start("tree", KEYS, CALLERS, leaves())?;
+    let log =
+        Log::new(header, io::stdout(), Options { order, seed: Some(7), ..Options::default() })?;
+    let map = Map::default();
+    thread::scope(|scope| {
+        for _ in 0..CALLERS {
+            scope.spawn(|| {
+                let mut caller = log.caller().expect("a caller for each thread");
+                log.start_together(CALLERS);
+                play(&map, &mut caller);
+            });
+        }
+    });
+    log.finish()
+}
+
+/// Caller 0 finds no key 3. Before it sets it, caller 1 does so, with its whole insert.
+fn run_broken() -> Result<(), vyrd_log::Error> {
+    let header = Header::with_start("tree", KEYS, 2, leaves())?;
+    let log = Log::new(header, io::stdout(), Options::default())?;
+    let (mut first, mut second) = (log.caller()?, log.caller()?);
+    let map = Map::default();
+    let (looked, after_the_look) = mpsc::channel();
+    let (set, after_the_store) = mpsc::channel();
+    thread::scope(|scope| {
+        let map = &map;
+        scope.spawn(move || {
+            map.insert_late(&mut first, 3, 10, || {
+                looked.send(()).unwrap();
+                after_the_store.recv().unwrap();
+            })
+        });
+        after_the_look.recv().unwrap();
+        map.insert_late(&mut second, 3, 20, || {});
+        set.send(()).unwrap();
+    });
+    log.finish()
+}
+
+fn main() -> Result<(), vyrd_log::Error> {
+    match env::args().nth(1).as_deref() {
+        Some("correct") => run_correct(Order::Lock),
+        Some("numbered") => run_correct(Order::Numbers),
+        Some("broken") => run_broken(),
+        _ => {
+            eprintln!("usage: map correct | numbered | broken");
+            process::exit(64);
+        }
+    }
+}

@@ -1,0 +1,130 @@
+/// The most bytes of a line, without its line feed.
+const LINE_BYTES: usize = 64;
+
+/// The lines of one step. They stand in the log one after the other.
+///
+/// # Panics
+///
+/// A line that would have more than 64 bytes panics and isn't written. All else is for `vyrd check`
+/// to judge.
+#[derive(Debug)]
+pub struct Lines {
+    text: Vec<u8>,
+    caller: usize,
+}
+
+impl Lines {
+    pub(crate) fn new(caller: usize) -> Self {
+        Lines { text: Vec::with_capacity(512), caller }
+    }
+
+    /// `call METHOD ARGUMENTS`: arguments are below 2^32.
+    ///
+    /// In the step of an action whose outcome says which method it was, call and return may stand
+    /// side by side, and lines of several calls too.
+    pub fn call(&mut self, method: &str, arguments: &[u64]) {
+        self.line(|text| {
+            text.extend_from_slice(b"call ");
+            text.extend_from_slice(method.as_bytes());
+            arguments.iter().for_each(|argument| number(text, *argument));
+        });
+    }
+
+    /// `return REPLY`: a reply is any number, and `u64::from(true)` is 1.
+    pub fn returns(&mut self, reply: u64) {
+        self.line(|text| {
+            text.extend_from_slice(b"return");
+            number(text, reply);
+        });
+    }
+
+    /// `write WORD VALUE`: the word is one of the subject's, and the value below 2^63.
+    pub fn write(&mut self, word: u32, value: u64) {
+        self.line(|text| {
+            text.extend_from_slice(b"write");
+            number(text, u64::from(word));
+            number(text, value);
+        });
+    }
+
+    /// `commit`: the operation takes effect here.
+    pub fn commit(&mut self) {
+        self.entry("commit");
+    }
+
+    /// `open`: writes that take effect together begin.
+    pub fn open(&mut self) {
+        self.entry("open");
+    }
+
+    /// `close`: they end.
+    pub fn close(&mut self) {
+        self.entry("close");
+    }
+
+    /// `close commit`: they end, and the operation takes effect with them.
+    pub fn close_commit(&mut self) {
+        self.entry("close commit");
+    }
+
+    /// An observer whole, its call and its return side by side: it is judged at this one place.
+    pub fn observed(&mut self, method: &str, arguments: &[u64], reply: u64) {
+        self.call(method, arguments);
+        self.returns(reply);
+    }
+
+    /// An entry as it is, without the caller's number: for a form that this crate doesn't know.
+    pub fn entry(&mut self, words: &str) {
+        self.line(|text| text.extend_from_slice(words.as_bytes()));
+    }
+
+    /// Adds the lines of `body` as those of another caller, whose operation this step completes.
+    /// `caller` is its number.
+    pub fn helping(&mut self, caller: usize, body: impl FnOnce(&mut Lines)) {
+        let own = std::mem::replace(&mut self.caller, caller);
+        body(self);
+        self.caller = own;
+    }
+
+    pub(crate) fn text(&self) -> &[u8] {
+        &self.text
+    }
+
+    /// No lines, of this caller.
+    pub(crate) fn clear(&mut self, caller: usize) {
+        self.text.clear();
+        self.caller = caller;
+    }
+
+    fn line(&mut self, words: impl FnOnce(&mut Vec<u8>)) {
+        let begin = self.text.len();
+        digits(&mut self.text, self.caller as u64);
+        self.text.push(b' ');
+        words(&mut self.text);
+        if self.text.len() - begin > LINE_BYTES {
+            let line = String::from_utf8_lossy(&self.text[begin..]).into_owned();
+            self.text.truncate(begin);
+            panic!("a line of a log has more than 64 bytes: {line}");
+        }
+        self.text.push(b'\n');
+    }
+}
+
+fn number(text: &mut Vec<u8>, value: u64) {
+    text.push(b' ');
+    digits(text, value);
+}
+
+fn digits(text: &mut Vec<u8>, mut value: u64) {
+    let mut all = [0; 20]; // as many as the greatest value has
+    let mut first = all.len();
+    loop {
+        first -= 1;
+        all[first] = b'0' + (value % 10) as u8;
+        value /= 10;
+        if value == 0 {
+            break;
+        }
+    }
+    text.extend_from_slice(&all[first..]);
+}

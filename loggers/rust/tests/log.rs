@@ -1,0 +1,221 @@
+//! What stands in a log byte by byte, and what is refused.
+
+use std::io::{self, Write};
+use std::panic::{catch_unwind, AssertUnwindSafe};
+use std::sync::{Arc, Mutex};
+use std::thread;
+use vyrd_log::{Error, Header, Log, Options, Order};
+
+/// The bytes that a log writes.
+#[derive(Clone, Default)]
+struct Written(Arc<Mutex<Vec<u8>>>);
+
+impl Written {
+    fn text(&self) -> String {
+        String::from_utf8(self.0.lock().unwrap().clone()).unwrap()
+    }
+}
+
+impl Write for Written {
+    fn write(&mut self, bytes: &[u8]) -> io::Result<usize> {
+        self.0.lock().unwrap().extend_from_slice(bytes);
+        Ok(bytes.len())
+    }
+
+    fn flush(&mut self) -> io::Result<()> {
+        Ok(())
+    }
+}
+
+/// A device that is full.
+struct Full;
+
+impl Write for Full {
+    fn write(&mut self, _: &[u8]) -> io::Result<usize> {
+        Err(io::Error::new(io::ErrorKind::Other, "full"))
+    }
+
+    fn flush(&mut self) -> io::Result<()> {
+        Ok(())
+    }
+}
+
+fn unwatched() -> Options {
+    Options { watched: false, ..Options::default() }
+}
+
+fn log(callers: usize) -> (Log, Written) {
+    let written = Written::default();
+    let header = Header::new(1, "tree", 2, callers).unwrap();
+    (Log::new(header, written.clone(), unwatched()).unwrap(), written)
+}
+
+fn why<T>(refused: Result<T, Error>) -> String {
+    refused.err().expect("refused").to_string()
+}
+
+#[test]
+fn each_line() {
+    let (log, written) = log(3);
+    let (mut first, mut second) = (log.caller().unwrap(), log.caller().unwrap());
+    first.call("insert", &[4_294_967_295, 0]);
+    first.step(|lines| {
+        lines.open();
+        lines.write(4, 1 << 62);
+        lines.close();
+        lines.close_commit();
+        lines.entry("commit");
+    });
+    first.commit();
+    first.returns(u64::MAX);
+    let given = second.step(|lines| {
+        lines.observed("lookup", &[7], 1);
+        lines.call("delete", &[7]);
+        lines.helping(2, |lines| lines.commit());
+        lines.commit();
+        lines.returns(0);
+        3
+    });
+    assert_eq!(given, 3);
+    log.finish().unwrap();
+    let wanted = "vyrd 1 tree 2 3\n0 call insert 4294967295 0\n0 open\n\
+        0 write 4 4611686018427387904\n0 close\n0 close commit\n0 commit\n0 commit\n\
+        0 return 18446744073709551615\n1 call lookup 7\n1 return 1\n1 call delete 7\n2 commit\n\
+        1 commit\n1 return 0\nend\n";
+    assert_eq!(written.text(), wanted);
+}
+
+#[test]
+fn headers() {
+    let start = [(3, 0), (1, 5), (0, 2)];
+    let header = Header::with_start("multiset", 1, 1, start).unwrap();
+    assert_eq!(header.lines(), "vyrd 2 multiset 1 1\nstart 0 2\nstart 1 5\n");
+    let header = Header::text("vyrd 3 own 0 100\nlog", 100).unwrap();
+    assert_eq!(header.lines(), "vyrd 3 own 0 100\nlog\n");
+    assert_eq!(header.callers(), 100);
+    let refused = [
+        (Header::new(3, "tree", 1, 1), "the version of a log is 1 or 2"),
+        (Header::new(1, "queue", 1, 1), "no subject of a log: queue"),
+        (Header::new(1, "tree", 0, 1), "the size of a log is from 1 to 1,024"),
+        (Header::new(1, "tree", 1025, 1), "the size of a log is from 1 to 1,024"),
+        (Header::new(1, "tree", 1, 0), "the callers of a log are from 1 to 64"),
+        (Header::new(1, "tree", 1, 65), "the callers of a log are from 1 to 64"),
+        (Header::text("", 1), "a log has a header"),
+        (Header::text("vyrd 3 own 0 0", 0), "the callers of a log are from 1 on"),
+        (Header::with_start("tree", 1, 1, [(1, 2), (1, 2)]), "two values of word 1 at the start"),
+    ];
+    for (header, sentence) in refused {
+        assert_eq!(why(header), sentence);
+    }
+}
+
+#[test]
+fn a_number_is_handed_out_and_given_back() {
+    let (log, _) = log(2);
+    let (first, second) = (log.caller().unwrap(), log.caller().unwrap());
+    assert_eq!(why(log.caller()), "no caller is free: all 2 of the header are handed out");
+    drop(first);
+    assert_eq!((log.caller().unwrap().number(), second.number()), (0, 1));
+}
+
+#[test]
+fn what_panics_keeps_the_lines_before_it() {
+    let (log, written) = log(2);
+    let mut caller = log.caller().unwrap();
+    let longest = "x".repeat(64 - "0 call ".len());
+    caller.call(&longest, &[]);
+    let panics = catch_unwind(AssertUnwindSafe(|| {
+        caller.step(|lines| {
+            lines.helping(1, |lines| {
+                lines.commit();
+                lines.call(&longest, &[1]);
+            });
+        });
+    }));
+    assert!(panics.is_err());
+    caller.commit();
+    drop(log);
+    let wanted = format!("vyrd 1 tree 2 2\n0 call {longest}\n1 commit\n0 commit\n");
+    drop(caller);
+    assert_eq!(written.text(), wanted);
+}
+
+#[test]
+fn a_log_that_is_finished_takes_no_step() {
+    let (log, written) = log(1);
+    let mut caller = log.caller().unwrap();
+    log.finish().unwrap();
+    assert!(catch_unwind(AssertUnwindSafe(|| caller.commit())).is_err());
+    drop(caller);
+    assert_eq!(written.text(), "vyrd 1 tree 2 1\nend\n");
+}
+
+#[test]
+fn a_write_that_fails_is_said_at_the_end() {
+    let log = Log::new(Header::new(1, "tree", 1, 1).unwrap(), Full, unwatched()).unwrap();
+    log.caller().unwrap().commit();
+    assert_eq!(why(log.finish()), "the log can't be written: full");
+    let nowhere = Log::create(Header::new(1, "tree", 1, 1).unwrap(), "no/such/folder/log");
+    assert!(matches!(nowhere, Err(Error::Io(_))));
+}
+
+/// A buffer that is too small for two lines, threads that meet, and pauses by a seed.
+fn the_lines_of_a_step_stand_together(order: Order) {
+    let written = Written::default();
+    let options = Options { order, seed: Some(3), buffer: 8, watched: false };
+    let header = Header::new(1, "cache", 1, 8).unwrap();
+    let log = Log::new(header, written.clone(), options).unwrap();
+    thread::scope(|scope| {
+        for _ in 0..8 {
+            scope.spawn(|| {
+                let mut caller = log.caller().unwrap();
+                log.start_together(8);
+                (0..5000).for_each(|_| caller.step(|lines| lines.observed("read", &[0], 0)));
+            });
+        }
+    });
+    drop(log);
+    let text = written.text();
+    let lines: Vec<&str> = text.lines().skip(1).collect();
+    assert_eq!(lines.len(), 80_000);
+    for pair in lines.chunks(2) {
+        assert_eq!(pair[0].replace("call read 0", "return 0"), pair[1]);
+    }
+}
+
+#[test]
+fn the_lines_of_a_step_stand_together_by_a_lock() {
+    the_lines_of_a_step_stand_together(Order::Lock);
+}
+
+#[test]
+fn the_lines_of_a_step_stand_together_by_numbers() {
+    the_lines_of_a_step_stand_together(Order::Numbers);
+}
+
+/// A lock of the program gives the order; each caller's number stands in its lines.
+#[test]
+fn numbers_keep_the_order_of_the_programs_lock() {
+    let written = Written::default();
+    let options = Options { order: Order::Numbers, ..Options::default() };
+    let header = Header::new(1, "cache", 1, 4).unwrap();
+    let log = Log::new(header, written.clone(), options).unwrap();
+    let order = Mutex::new(Vec::new());
+    thread::scope(|scope| {
+        for _ in 0..4 {
+            scope.spawn(|| {
+                let mut caller = log.caller().unwrap();
+                for value in 0..3000 {
+                    let mut order = order.lock().unwrap();
+                    caller.step(|lines| lines.write(0, value));
+                    order.push(format!("{} write 0 {value}", caller.number()));
+                }
+            });
+        }
+    });
+    log.finish().unwrap();
+    let text = written.text();
+    let lines: Vec<&str> = text.lines().collect();
+    assert_eq!(lines[1..lines.len() - 1], order.into_inner().unwrap());
+    assert_eq!((lines.len(), lines[lines.len() - 1]), (12_002, "end"));
+}
