@@ -100,7 +100,7 @@ class All(ScriptTest):
         for name in ("all", "common.sh"):
             self.file(f"examples/{name}", (EXAMPLES / name).read_bytes()).chmod(0o755)
         scripts = ["examples/compare", "examples/unproved", "examples/own/check", "tools/check", "examples/caught"]
-        scripts += ["examples/documents", "tools/tests/run"]
+        scripts += ["examples/documents", "tools/tests/run", "examples/many/check"]
         for script in scripts:
             self.program(script, f'echo {script} >>"{self.folder}/ran"', "exit 0")
         (self.folder / "examples/tests").mkdir()
