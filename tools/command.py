@@ -58,8 +58,11 @@ def harmless(text):
     return "".join(letter if letter.isprintable() else f"\\x{ord(letter):02x}" for letter in text)
 
 
-def parsed(words, usage, most, flags=(), numbers=()):
-    """The options by name, and the other words. `--help` prints the usage and ends the script."""
+def parsed(words, usage, most, flags=(), numbers=(), names=()):
+    """The options by name, and the other words. `--help` prints the usage and ends the script.
+
+    A flag stands alone; after one of `numbers` there is a number, and after one of `names` a name.
+    """
     options, others, left = {}, [], list(words)
     while left:
         word = left.pop(0)
@@ -73,6 +76,10 @@ def parsed(words, usage, most, flags=(), numbers=()):
             options[word] = True
         elif word in numbers:
             options[word] = number_in(left.pop(0) if left else "", f"{word} takes a number of at most 9 digits")
+        elif word in names:
+            if not left:
+                raise Ended(f"{word} takes a name")
+            options[word] = left.pop(0)
         elif word.startswith("-") and word != "-":
             raise Ended(f"there is no option {word}; --help says which there are")
         else:

@@ -1,4 +1,4 @@
-"""The command lines of explain, lanes, lint and hunt: help, misuse, inputs that can't be read, outputs that can't be written."""
+"""The command lines of the scripts: help, misuse, inputs that can't be read, outputs that can't be written."""
 
 import os
 import pty
@@ -7,7 +7,7 @@ import unittest
 
 from support import FAULT, FAULT_ANSWER, TOOLS, ScriptTest
 
-SCRIPTS = ("explain", "lanes", "lint", "hunt")
+SCRIPTS = ("explain", "lanes", "lint", "hunt", "shrink")
 JUDGED = FAULT + "end\n" + FAULT_ANSWER
 
 

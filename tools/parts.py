@@ -1,0 +1,235 @@
+"""A log that isn't accepted, taken apart: its executions, the writes of each in the order in which they take effect, and what of
+it can be left out. Of the log no more is kept than what the fault can need."""
+
+from array import array
+from typing import NamedTuple
+
+from answers import other_log
+from command import MISUSE, Ended
+from findings import is_sound
+from logtext import HEADER, START, entry_of
+from walk import Walk
+
+END = "end\n"
+BEFORE, AT_START = (-1, 0), (0, 0)  # where no write takes effect
+OF_HEADER = ("bad header", "unknown version")
+OF_START = ("start out of range", "start word not rising", "start stands for no state")
+
+
+class Write(NamedTuple):
+    """A write that takes effect up to the fault: where it does, with its own line behind that, its word and its value."""
+
+    at: tuple
+    word: int
+    value: int
+
+
+class Unit:
+    """What goes or stays as a whole: an execution, with the first argument of its call as its key; or a line that is in none."""
+
+    __slots__ = ("key", "places", "writes")
+
+    def __init__(self, key):
+        self.key, self.places, self.writes = key, array("I"), []
+
+
+class Less(NamedTuple):
+    """A part of a log: the places of its units in the order of their last lines, and the words that it begins with.
+
+    Of a word at the start there is its value, and where the write took effect that is folded into it, or AT_START.
+    """
+
+    units: tuple
+    start: dict
+
+
+class Parts:
+    """The header, the starting lines and the units of a log, up to the fault and what is still open there."""
+
+    def __init__(self, log):
+        self.log, self.line, self.fault = log, log.marked_line, log.answer.split(": ", 1)[1]
+        self.verdict = log.answer.split(" ", 1)[0]
+        self.header, self.starts, self.ending = "", [], END
+        self.texts, self.lines, self.owners = [], array("Q"), array("I")
+        self.units, self.marked, self.marked_place = [], None, None
+        self._open, self._walk = {}, Walk()
+        self._compare(log.subject)
+        self._read()
+        self._compare(self.marked is not None)
+        self._sort()
+
+    def _read(self):
+        """Takes the lines apart, up to the last one that the fault can need."""
+        may_start = False
+        for line, text, _, is_ended in self.log.lines():
+            if line == 1:
+                self.header, may_start = text, self.log.version == "2"
+                if self.fault in OF_HEADER:
+                    break
+                continue
+            may_start = may_start and START.fullmatch(text) is not None
+            if may_start:
+                self.starts.append(text)
+            elif self.fault in OF_START or not self._take(line, text, is_ended):
+                break
+        self._end()
+
+    def _take(self, line, text, is_ended):
+        """Takes a line, and says whether one after it can be needed."""
+        if text == "end" and is_ended and self.fault != "text after end":
+            return False
+        if self.fault == "text after end" and line >= self.line - 1:
+            self.ending += (text + "\n" * is_ended) if line == self.line else ""
+            return line < self.line
+        if line <= self.line:
+            self._keep(line, text)
+            return line < self.line or (self.verdict == "violation" and self._open != {})
+        entry = entry_of(line, text)
+        if entry and entry.caller in self._open:
+            if entry.kind == "call":
+                return False
+            self._keep(line, text)
+        return entry is not None and self._open != {}
+
+    def _keep(self, line, text):
+        """Puts a line to its unit. One whose text is at fault is in none."""
+        is_text = line == self.line and self.fault in ("bad entry", "no line feed")
+        entry = None if is_text else entry_of(line, text)
+        number = self._open.get(entry.caller) if entry else None
+        if number is None:
+            number = len(self.units)
+            self.units.append(Unit(entry.numbers[0] if entry and entry.kind == "call" and entry.numbers else None))
+            if entry and entry.kind == "call":
+                self._open[entry.caller] = number
+                self._compare(is_sound(self.log, entry))
+        if line == self.line:
+            self.marked, self.marked_place = number, len(self.texts)
+        self.units[number].places.append(len(self.texts))
+        self.texts.append(text)
+        self.lines.append(line)
+        self.owners.append(number)
+        if entry:
+            self._walk.take(entry)
+            self._walk.commits.clear()
+            self._take_effects()
+            if entry.kind == "return":
+                self._open.pop(entry.caller, None)
+
+    def _compare(self, can_be):
+        """Ends the script where a violation can't be about such a log."""
+        if self.verdict == "violation" and not can_be:
+            raise other_log()
+
+    def _take_effects(self):
+        """Puts the writes that are in effect now to their units."""
+        while effect := self._walk.next_effect():
+            for write in effect.writes if effect.at.line <= self.line else ():
+                owner = self.owners[self._place_of(write.line)]
+                self.units[owner].writes.append(Write((effect.at.line, write.line), *write.numbers))
+
+    def _place_of(self, line):
+        """The place of a line that was kept. All up to the fault are, so that only behind it one has to be looked for."""
+        place = line - self.lines[0]
+        return place if place < len(self.lines) and self.lines[place] == line else self.lines.index(line)
+
+    def _end(self):
+        """What stands behind the entries, where that is the fault."""
+        if self.fault == "too many lines":
+            raise Ended("a log with fewer lines can't have too many", MISUSE)
+        if self.fault in ("no end", "no line feed") or self.fault in OF_HEADER:
+            self.ending = ""
+
+    def _sort(self):
+        """Numbers the units by their last lines."""
+        order = sorted(range(len(self.units)), key=lambda number: self.units[number].places[-1])
+        self.units = [self.units[number] for number in order]
+        if self.marked is not None:
+            self.marked = order.index(self.marked)
+
+    def whole(self):
+        """All that was kept."""
+        start = {}
+        for text in self.starts:
+            word, value = map(int, START.fullmatch(text).groups())
+            start[word] = (value, AT_START)
+        return Less(tuple(range(len(self.units))), start)
+
+    def only_marked(self):
+        """What the fault is about, and nothing else."""
+        return Less((self.marked,), {})
+
+    def places(self, less):
+        """The places of the lines that are left, in their order."""
+        return sorted(place for number in less.units for place in self.units[number].places)
+
+    def entries(self, less):
+        """The entries that are left, with the lines that they have in the whole log."""
+        for place in self.places(less):
+            entry = entry_of(self.lines[place], self.texts[place])
+            if entry:
+                yield entry
+
+    def callers(self, less):
+        """New numbers for the callers that are left, in the order in which they come."""
+        numbers = {}
+        for entry in self.entries(less):
+            numbers.setdefault(entry.written.partition(" ")[0], str(len(numbers)))
+        return numbers
+
+    def text(self, less, callers=None):
+        """The log that is left, its callers numbered anew where that is asked for, and the answer that it has to have."""
+        if not self.log.subject:
+            return self._answered([self.header], 1)
+        starts = [f"start {word} {value}" for word, (value, _) in sorted(less.start.items()) if value]
+        return self._lines(starts, less, callers)
+
+    def text_of_starts(self, starts):
+        """The log of these starting lines alone."""
+        return "\n".join([self.header, *starts, END])
+
+    def _lines(self, starts, less, callers):
+        places = self.places(less)
+        lines = [self._header(bool(starts), callers), *starts]
+        if callers is None:
+            lines += [self.texts[place] for place in places]
+        else:
+            for place in places:
+                caller, space, rest = self.texts[place].partition(" ")
+                lines.append(callers.get(caller, caller) + space + rest)
+        if self.marked is None:
+            return self._answered(lines, len(lines) + 1 + (self.fault == "text after end"))
+        return self._answered(lines, 2 + len(starts) + places.index(self.marked_place))
+
+    def _header(self, has_starts, callers):
+        """The header: of version 2 where it has to be, and with as many callers as there are."""
+        found = HEADER.fullmatch(self.header)
+        version = "2" if has_starts else found[1]
+        count = found[4] if callers is None else str(max(1, len(callers)))
+        return f"vyrd {version} {found[2]} {found[3]} {count}"
+
+    def _answered(self, lines, line):
+        text = "\n".join(lines) + ("" if self.fault == "no line feed" else "\n") + self.ending
+        return text, f"{self.verdict} at line {line}: {self.fault}"
+
+
+def without(less, gone):
+    """What is left without these units."""
+    return Less(tuple(number for number in less.units if number not in gone), less.start)
+
+
+def folded(parts, less, gone):
+    """The same, where a word begins with what the last one of these units wrote to it before any that stays does."""
+    left = without(less, gone)
+    written = {write.word for number in gone for write in parts.units[number].writes}
+    first = {}
+    for number in left.units:
+        for write in parts.units[number].writes:
+            if write.word in written:
+                first[write.word] = min(write.at, first.get(write.word, write.at))
+    start = dict(left.start)
+    for number in gone:
+        for write in parts.units[number].writes:
+            is_first = write.word not in first or write.at < first[write.word]
+            if is_first and write.at > start.get(write.word, (0, BEFORE))[1]:
+                start[write.word] = (write.value, write.at)
+    return Less(left.units, start)

@@ -1,0 +1,49 @@
+"""What of the words that a log begins with can be left out, so that those which stay stand for a state of the structure."""
+
+from parts import AT_START
+from words import PART_WORDS, Words
+
+# The words of a tree's node by their offset: the entries are their count, the keys and the values.
+BOUND, RIGHT, ENTRIES, VALUES = 2, 3, (1, *range(4, 12)), range(8, 12)
+
+
+def present(start):
+    """The words that aren't 0."""
+    return [word for word, (value, _) in sorted(start.items()) if value]
+
+
+def parts_of(subject, size, start):
+    """The words that can go together: those of a slot, a chunk or a buffer, or the entries of one of a tree's leaves."""
+    each, parts = PART_WORDS[subject], {}
+    for word in present(start):
+        if subject != "tree" or (word < each * size and word % each in ENTRIES):
+            parts.setdefault(word // each, []).append(word)
+    return list(parts.values())
+
+
+def words_of(subject, size, start):
+    """The words that can go by themselves. Of a tree's leaf they are the values: what else goes would leave no tree."""
+    each = PART_WORDS[subject]
+    return [word for word in present(start) if subject != "tree" or (word < each * size and word % each in VALUES)]
+
+
+def leaves_alone(size, start, written):
+    """A tree of leaves alone, for a log that goes on to write to these nodes.
+
+    Its nodes are those up to the last leaf that is written. What was an inner node becomes an empty leaf behind the others.
+    """
+    words = Words("tree", size, {word: value for word, (value, _) in start.items()})
+    chain, _ = words.chain()
+    last = max(node for node in chain if node in written or node == 0)
+    leaves = [node for node in chain if node <= last]
+    nodes = leaves + [node for node in range(last + 1) if node not in set(leaves)]
+    values, low = {12 * size + 1: last}, 0
+    for place, node in enumerate(nodes):
+        count = min(words[12 * node + 1], 4) if place < len(leaves) else 0
+        if count:
+            values.update({12 * node + offset: words[12 * node + offset] for offset in ENTRIES})
+        bound = words[12 * node + BOUND] if place < len(leaves) else 0
+        low = max([bound, low + 1, *(words[12 * node + 4 + entry] + 1 for entry in range(count))])
+        if place + 1 < len(nodes):
+            values[12 * node + BOUND], values[12 * node + RIGHT] = low, nodes[place + 1]
+    return {word: (value, start.get(word, (0, AT_START))[1]) for word, value in values.items() if value}
