@@ -1,7 +1,5 @@
 """Tests of batch_of. What a batch looks like is said in docs/LOG-FORMAT.md."""
 
-import os
-import shutil
 import unittest
 
 from scripts import ScriptTest
@@ -40,14 +38,17 @@ class BatchOf(ScriptTest):
         self.assert_ended(self.run_shell(slowly), 0, b"batch\nlog 4\nabcdend\n", [])
 
     def test_file_that_grows_while_it_is_copied(self):
-        """Each program that the script calls finds the file longer by one byte."""
+        """One writes to the file for as long as the script runs."""
         self.file("log", b"x")
-        for name in ("cat", "head", "wc"):
-            self.program(f"tools/{name}", f'printf x >>"{self.folder}/log"', f'exec {shutil.which(name)} "$@"')
-        ran = self.batch_of("log", PATH=f"{self.folder}/tools:{os.environ['PATH']}")
-        size, log = ran.stdout.removeprefix(b"batch\nlog ").split(b"\n", 1)
-        self.assertEqual((ran.returncode, ran.stderr, log), (0, b"", int(size) * b"x" + b"end\n"))
-        self.assertGreater(len((self.folder / "log").read_bytes()), int(size))
+        grows = 'while :; do printf x >> log; done & "$examples"/batch_of log log; ended=$?; kill $!; exit $ended'
+        ran = self.run_shell(grows)
+        self.assertEqual((ran.returncode, ran.stderr), (0, b""))
+        left = ran.stdout.removeprefix(b"batch\n")
+        for _ in range(2):
+            size, left = left.removeprefix(b"log ").split(b"\n", 1)
+            self.assertEqual(left[: int(size)], int(size) * b"x")
+            left = left[int(size) :]
+        self.assertEqual(left, b"end\n")
 
     def test_unreadable_files_leave_nothing(self):
         self.file("a", b"x\n")
@@ -60,6 +61,10 @@ class BatchOf(ScriptTest):
     def test_unreadable_list(self):
         self.assert_ended(self.run_shell('"$examples"/batch_of < .'), 64, b"", ["with the names, can't be read"])
         self.assert_ended(self.run_shell('"$examples"/batch_of <&-'), 64, b"", ["with the names, can't be read"])
+
+    def test_folder_as_standard_input_that_is_not_needed(self):
+        self.file("a", b"x\n")
+        self.assert_ended(self.run_shell('"$examples"/batch_of a < .'), 0, b"batch\nlog 2\nx\nend\n", [])
 
     def test_longest_log(self):
         self.file("most", bytes(16_777_216))
@@ -74,9 +79,22 @@ class BatchOf(ScriptTest):
         self.assert_ended(self.run_shell('"$examples"/batch_of a > /dev/full'), 5, b"", ["can't be written to"])
         self.assert_ended(self.run_shell('"$examples"/batch_of a >&-'), 5, b"", ["can't be written to"])
 
-    def test_no_temporary_folder(self):
+    def test_many_small_logs(self):
+        for number in range(1000):
+            self.file(f"{number}", b"%d\n" % number)
+        names = b"".join(b"%d\n" % number for number in range(1000))
+        logs = b"".join(b"log %d\n%d\n" % (len(str(number)) + 1, number) for number in range(1000))
+        self.assert_ended(self.batch_of(stdin=names), 0, b"batch\n" + logs + b"end\n", [])
+
+    def test_output_that_ends_early(self):
+        self.file("a", bytes(1 << 20))
+        ran = self.run_shell('{ "$examples"/batch_of a a; echo $? > status; } | head -c 8')
+        self.assertEqual(ran.stdout, b"batch\nlo")
+        self.assertEqual((self.folder / "status").read_bytes(), b"5\n")
+
+    def test_no_temporary_folder_is_needed(self):
         self.file("a", b"x\n")
-        self.assert_ended(self.batch_of("a", TMPDIR="/missing"), 70, b"", ["mktemp"])
+        self.assert_ended(self.batch_of("a", TMPDIR="/missing"), 0, b"batch\nlog 2\nx\nend\n", [])
 
     def test_nothing_is_left_behind(self):
         self.file("a", b"x\n")
