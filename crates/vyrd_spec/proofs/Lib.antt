@@ -1,8 +1,10 @@
 pub mod AmountSteps
 pub mod StepLaws
-pub mod TouchLaws
+pub mod MultisetSteps
+pub mod CacheSteps
+pub mod TreeSteps
+pub mod BufferSteps
 pub mod StepMeets
-pub mod ChangeLaws
 pub mod RowAmounts
 pub mod RowLaws
 pub mod SoundRows

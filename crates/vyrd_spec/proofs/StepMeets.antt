@@ -1,51 +1,108 @@
 -- What the trait asks of a step, of the specifications that are built in: the touched keys, and the
 -- answers that stay.
-use Rattle.std.proofs.Common.{◌≡◌, ℕ, ◌-◌, ◌+◌, ◌^◌, false, cond, not, Some, refl, ap}
+use Rattle.std.proofs.Common.{◌≡◌, ℕ, Bool, true, false, cond, ◌||◌, List, [], ◌∷◌, Some, refl, ap, ◌∙◌, sym}
 use Rattle.std.specs.Prelude.{◌==◌}
 use Rattle.vyrd_base.specs.declared.subject.Method.{Method}
 use Rattle.vyrd_base.specs.declared.subject.Method.TheVariants.{Multiset as OfMultiset}
 use Rattle.vyrd_base.specs.declared.subject.Method.TheVariants.{Cache as OfCache, Tree as OfTree}
 use Rattle.vyrd_base.specs.declared.subject.Method.TheVariants.{Buffers as OfBuffers}
-use Rattle.vyrd_base.specs.declared.multiset.MultisetMethod.TheVariants.{Insert as MsInsert}
-use Rattle.vyrd_base.specs.declared.multiset.MultisetMethod.TheVariants.{InsertPair}
-use Rattle.vyrd_base.specs.declared.multiset.MultisetMethod.TheVariants.{Delete as MsDelete}
-use Rattle.vyrd_base.specs.declared.multiset.MultisetMethod.TheVariants.{Lookup as MsLookup}
-use Rattle.vyrd_base.specs.declared.cache.CacheMethod.TheVariants.{Write, Flush, Evict}
-use Rattle.vyrd_base.specs.declared.cache.CacheMethod.TheVariants.{Read as CaRead}
-use Rattle.vyrd_base.specs.declared.tree.TreeMethod.TheVariants.{Insert as TrInsert}
-use Rattle.vyrd_base.specs.declared.tree.TreeMethod.TheVariants.{Delete as TrDelete}
-use Rattle.vyrd_base.specs.declared.tree.TreeMethod.TheVariants.{Lookup as TrLookup}
-use Rattle.vyrd_base.specs.declared.buffers.BuffersMethod.TheVariants.{Append, AppendFrom, Cut}
-use Rattle.vyrd_base.specs.declared.buffers.BuffersMethod.TheVariants.{Length, Read as BuRead}
 use Rattle.vyrd_base.specs.declared.subject.Args.{Args}
-use Rattle.vyrd_base.specs.Amounts.{Amounts, amount_of}
-use Rattle.vyrd_base.specs.Buffers.{text_length}
+use Rattle.vyrd_base.specs.Amounts.{Amounts, IsAmounts, amount_of, with_amount}
 use Rattle.vyrd_base.specs.Specification.{next_state, answer_in}
-use Rattle.vyrd_spec.specs.Touching.{touched_by, is_touched}
-use Rattle.vyrd_spec.proofs.TouchLaws.{untouched, touched_makes}
+use Rattle.vyrd_base.proofs.AmountLaws.{amount_of-with_amount, IsAmounts-with_amount, same_amounts}
+use Rattle.vyrd_base.proofs.TestLaws.{same_of, flipped, same_number}
+use Rattle.vyrd_spec.specs.Touching.{touched_by, is_touched, with_touched, CanChange}
+use Rattle.vyrd_spec.proofs.MultisetSteps.{multiset_steps}
+use Rattle.vyrd_spec.proofs.CacheSteps.{cache_steps}
+use Rattle.vyrd_spec.proofs.TreeSteps.{tree_steps}
+use Rattle.vyrd_spec.proofs.BufferSteps.{buffers_steps}
 
--- an observer's answer is by the amount of its key
-answer_by_amount : (s t : Amounts) (method : Method) (args : Args) → amount_of t args.a ≡ amount_of s args.a → answer_in t method args ≡ answer_in s method args
-answer_by_amount s t (OfMultiset MsLookup) args same = ap (λ n. cond (not (n == 0)) 1 0) same
-answer_by_amount s t (OfCache CaRead) args same = same
-answer_by_amount s t (OfTree TrLookup) args same = ap (λ n. cond (not (n == 0)) (n - 2 ^ 32 + 1) 0) same
-answer_by_amount s t (OfBuffers Length) args same = ap text_length same
-answer_by_amount s t (OfBuffers BuRead) args same = same
-answer_by_amount s t (OfMultiset MsInsert) args same = refl
-answer_by_amount s t (OfMultiset InsertPair) args same = refl
-answer_by_amount s t (OfMultiset MsDelete) args same = refl
-answer_by_amount s t (OfCache Write) args same = refl
-answer_by_amount s t (OfCache Flush) args same = refl
-answer_by_amount s t (OfCache Evict) args same = refl
-answer_by_amount s t (OfTree TrInsert) args same = refl
-answer_by_amount s t (OfTree TrDelete) args same = refl
-answer_by_amount s t (OfBuffers Append) args same = refl
-answer_by_amount s t (OfBuffers AppendFrom) args same = refl
-answer_by_amount s t (OfBuffers Cut) args same = refl
+next_state-formed : (method : Method) (args : Args) (reply : ℕ) (s t : Amounts) → IsAmounts s
+    → next_state method args reply s ≡ Some t → IsAmounts t
+next_state-formed (OfMultiset m) = multiset_steps.formed m
+next_state-formed (OfCache m) = cache_steps.formed m
+next_state-formed (OfTree m) = tree_steps.formed m
+next_state-formed (OfBuffers m) = buffers_steps.formed m
+
+pub untouched : (method : Method) (args : Args) (reply key : ℕ) (s t : Amounts)
+    → next_state method args reply s ≡ Some t → is_touched (touched_by method args) key ≡ false
+    → amount_of t key ≡ amount_of s key
+untouched (OfMultiset m) = multiset_steps.untouched m
+untouched (OfCache m) = cache_steps.untouched m
+untouched (OfTree m) = tree_steps.untouched m
+untouched (OfBuffers m) = buffers_steps.untouched m
+
+answer_by_amount : (s t : Amounts) (method : Method) (args : Args)
+    → amount_of t args.a ≡ amount_of s args.a → answer_in t method args ≡ answer_in s method args
+answer_by_amount s t (OfMultiset m) = multiset_steps.answers s t m
+answer_by_amount s t (OfCache m) = cache_steps.answers s t m
+answer_by_amount s t (OfTree m) = tree_steps.answers s t m
+answer_by_amount s t (OfBuffers m) = buffers_steps.answers s t m
+
+pub touched_changes : (method : Method) (args : Args) (key : ℕ)
+    → is_touched (touched_by method args) key ≡ true → CanChange (next_state method args) key
+touched_changes (OfMultiset m) = multiset_steps.changes m
+touched_changes (OfCache m) = cache_steps.changes m
+touched_changes (OfTree m) = tree_steps.changes m
+touched_changes (OfBuffers m) = buffers_steps.changes m
+
+-- the amounts with those of some keys in other amounts
+with_formed : (ks : List ℕ) (t s : Amounts) → IsAmounts s → IsAmounts (with_touched ks t s)
+with_formed [] t s is = is
+with_formed (k ∷ ks) t s is =
+    with_formed ks t (with_amount s k (amount_of t k)) (IsAmounts-with_amount s k (amount_of t k) is)
+
+-- one key with its amount in other amounts, which another key hasn't changed
+key_amount : (k : ℕ) (t s : Amounts) (q : ℕ)
+    → amount_of (with_amount s k (amount_of t k)) q ≡ cond (k == q) (amount_of t q) (amount_of s q)
+key_amount k t s q = amount_of-with_amount s k (amount_of t k) q ∙ by_key (k == q) refl
+  where
+    by_key : (b : Bool) → (k == q) ≡ b
+        → cond (q == k) (amount_of t k) (amount_of s q) ≡ cond b (amount_of t q) (amount_of s q)
+    by_key true e =
+        ap (λ x. cond (x == k) (amount_of t k) (amount_of s q)) (sym (same_of k q e))
+        ∙ ap (λ b. cond b (amount_of t k) (amount_of s q)) (same_number k)
+        ∙ ap (amount_of t) (same_of k q e)
+    by_key false e = ap (λ b. cond b (amount_of t k) (amount_of s q)) (flipped k q e)
+
+-- each of the keys has its amount in the other amounts, and no other key has changed
+with_amounts : (ks : List ℕ) (t s : Amounts) (q : ℕ)
+    → amount_of (with_touched ks t s) q ≡ cond (is_touched ks q) (amount_of t q) (amount_of s q)
+with_amounts [] t s q = refl
+with_amounts (k ∷ ks) t s q =
+    with_amounts ks t (with_amount s k (amount_of t k)) q
+    ∙ ap (cond (is_touched ks q) (amount_of t q)) (key_amount k t s q)
+    ∙ by_tests (k == q) (is_touched ks q)
+  where
+    by_tests : (a b : Bool) → cond b (amount_of t q) (cond a (amount_of t q) (amount_of s q))
+        ≡ cond (a || b) (amount_of t q) (amount_of s q)
+    by_tests true true = refl
+    by_tests true false = refl
+    by_tests false b = refl
+
+-- the next state is the one before with the touched keys' amounts
+pub touched_makes : (method : Method) (args : Args) (reply : ℕ) (s t : Amounts) → IsAmounts s → next_state method args reply s ≡ Some t
+    → with_touched (touched_by method args) t s ≡ t
+touched_makes method args reply s t is e =
+    same_amounts (with_touched keys t s) t (with_formed keys t s is)
+    (next_state-formed method args reply s t is e)
+    (λ q. with_amounts keys t s q ∙ by_test q (is_touched keys q) refl)
+  where
+    keys : List ℕ
+    keys = touched_by method args
+
+    by_test : (q : ℕ) (b : Bool) → is_touched keys q ≡ b
+        → cond b (amount_of t q) (amount_of s q) ≡ amount_of t q
+    by_test q true touched = refl
+    by_test q false none = sym (untouched method args reply q s t e none)
 
 -- after a step that doesn't touch its key an observer answers as before
-pub same_answer : (method : Method) (args : Args) (reply : ℕ) (s t : Amounts) → next_state method args reply s ≡ Some t
-    → (m : Method) (a : Args) → is_touched (touched_by method args) a.a ≡ false → answer_in t m a ≡ answer_in s m a
-same_answer method args reply s t next m a none = answer_by_amount s t m a (untouched method args reply a.a s t next none)
+pub same_answer : (method : Method) (args : Args) (reply : ℕ) (s t : Amounts)
+    → next_state method args reply s ≡ Some t → (m : Method) (a : Args)
+    → is_touched (touched_by method args) a.a ≡ false → answer_in t m a ≡ answer_in s m a
+same_answer method args reply s t next m a none =
+    answer_by_amount s t m a (untouched method args reply a.a s t next none)
+
+pub ruleset touch_laws = (untouched, touched_makes)
 
 pub ruleset step_laws = (touched_makes, same_answer)

@@ -1,9 +1,9 @@
 -- The texts of string buffers: those that the words show, and what a call makes of them.
 use Rattle.std.specs.Prelude.{ℕ, ◌+◌, List, Option, Some, None}
 use Rattle.std.specs.Bool.{then_some}
-use Rattle.vyrd_base.specs.declared.subject.Method.{Method}
-use Rattle.vyrd_base.specs.declared.subject.Method.TheVariants.{Buffers as OfBuffers}
+use Rattle.vyrd_base.specs.declared.buffers.BuffersMethod.{BuffersMethod}
 use Rattle.vyrd_base.specs.declared.buffers.BuffersMethod.TheVariants.{Append, AppendFrom, Cut}
+use Rattle.vyrd_base.specs.declared.buffers.BuffersMethod.TheVariants.{Length, Read}
 use Rattle.vyrd_base.specs.declared.subject.Args.{Args}
 use Rattle.vyrd_base.specs.Amounts.{Amounts, amount_of}
 use Rattle.vyrd_base.specs.Buffers.{Buffer, buffer_at, is_buffer, text_of, has_room, joined, cut_to}
@@ -20,11 +20,12 @@ sound_texts size words =
 
 -- The text of the call's buffer once the call has done its work, and none if the buffer has no room
 -- for that.
-abbrev pub next_text : Method → Args → Amounts → Option ℕ
-next_text (OfBuffers Append) args state = then_some (has_room (amount_of state args.a) (args.b + 1))
+abbrev pub next_text : BuffersMethod → Args → Amounts → Option ℕ
+next_text Append args state = then_some (has_room (amount_of state args.a) (args.b + 1))
     (joined (amount_of state args.a) (args.b + 1))
-next_text (OfBuffers AppendFrom) args state =
+next_text AppendFrom args state =
     then_some (has_room (amount_of state args.a) (amount_of state args.b))
     (joined (amount_of state args.a) (amount_of state args.b))
-next_text (OfBuffers Cut) args state = Some (cut_to args.b (amount_of state args.a))
-next_text _ args state = None
+next_text Cut args state = Some (cut_to args.b (amount_of state args.a))
+next_text Length args state = None
+next_text Read args state = None

@@ -3,9 +3,10 @@
 ghost use Rattle.std.specs.Prelude.{◌≡◌, ◌<◌, ◌≤◌, ◌^◌, true, false, length, Some, None, refl};
 ghost use Rattle.vyrd_base.specs.Rules.{built_in};
 ghost use Rattle.vyrd_base.specs.declared.subject.Subject.TheVariants.{Buffers};
-ghost use Rattle.vyrd_base.specs.Specification.{next_state};
 ghost use Rattle.vyrd_spec.specs.Touching.{touched_by, is_touched};
-ghost use Rattle.vyrd_base.specs.Subjects.{subject_of, is_observer};
+ghost use Rattle.vyrd_spec.specs.Touching.Buffers.{touches};
+ghost use Rattle.vyrd_base.specs.Subjects.{never_commits};
+ghost use Rattle.vyrd_base.specs.Buffers.{commits, next};
 ghost use Rattle.vyrd_spec.specs.Bounds.{AreTexts, small_texts};
 ghost use Rattle.vyrd_spec.specs.Rows.{row_amounts, row_formed};
 ghost use Rattle.vyrd_spec.specs.Texts.{next_text};
@@ -14,7 +15,7 @@ use crate::buffer_words::texts_of;
 use crate::row::{amount_at, empty_row, row_shown, set_amount};
 use crate::spec::{BuiltIn, Spec};
 use crate::text::{cut_to, joined, text_length};
-use crate::touched::{Touched, touched_by};
+use crate::touched::Touched;
 use std::alloc::{AllocError, Global};
 use vyrd_base::{Args, BuffersMethod, Header, Method, View};
 use vyrd_view::Compared;
@@ -54,10 +55,13 @@ impl Spec for BufferSpec {
 
     #[tactic(auto, using(crate::proofs::StepMeets::step_laws))]
     fn step(&mut self, method: Method, args: Args, reply: u64) -> Result<bool, AllocError> {
+        let Method::Buffers(method) = method else {
+            unreachable!()
+        };
         let allowed = next(&mut self.texts, method, args, reply);
         if allowed {
             self.made += 1;
-            self.touched = touched_by(method, args);
+            self.touched = touches(method, args);
         }
         Ok(allowed)
     }
@@ -127,18 +131,29 @@ impl BuiltIn for BufferSpec {
     }
 }
 
+/// The keys that a step with this call can change. A buffer has at most 7 characters, so that a cut
+/// to 7 or more changes none.
+fn touches(method: BuffersMethod, args: Args) -> Touched
+    ensures { result ≡ touches method args }
+{
+    match method {
+        BuffersMethod::Append | BuffersMethod::AppendFrom => Touched::one(args.a),
+        BuffersMethod::Cut if args.b < 7 => Touched::one(args.a),
+        BuffersMethod::Cut | BuffersMethod::Length | BuffersMethod::Read => Touched::none(),
+    }
+}
+
 /// Changes the texts by a mutator's call with its reply, and says whether the reply is allowed: 1
 /// if the call can do its work, and 0 if it can't.
-fn next(texts: &mut Vec<u64>, method: Method, args: Args, reply: u64) -> bool
-    requires subject { subject_of method ≡ Buffers }
-    requires mutator { is_observer method ≡ false }
+fn next(texts: &mut Vec<u64>, method: BuffersMethod, args: Args, reply: u64) -> bool
+    requires mutator { never_commits (commits method) ≡ false }
     requires buffer { args.a < length texts.old.items }
     requires small { AreTexts (row_amounts texts.old.items) }
     ensures allowed { result ≡ true
-        → next_state method args reply (row_amounts texts.old.items)
+        → next method args reply (row_amounts texts.old.items)
         ≡ Some (row_amounts texts.new.items) }
     ensures refused { result ≡ false
-        → next_state method args reply (row_amounts texts.old.items) ≡ None }
+        → next method args reply (row_amounts texts.old.items) ≡ None }
     ensures count { length texts.new.items ≡ length texts.old.items }
     ensures unchanged { result ≡ false → texts.new ≡ texts.old }
 
@@ -157,18 +172,15 @@ fn next(texts: &mut Vec<u64>, method: Method, args: Args, reply: u64) -> bool
 
 /// The text of the call's buffer once a mutator's call has done its work, and `None` if the buffer
 /// has no room for it.
-fn next_text(texts: &[u64], method: Method, args: Args) -> Option<u64>
+fn next_text(texts: &[u64], method: BuffersMethod, args: Args) -> Option<u64>
     requires { AreTexts (row_amounts texts.now) }
     ensures { result ≡ next_text method args (row_amounts texts.now) }
 {
     let text = amount_at(texts, u64::from(args.a));
     match method {
-        Method::Buffers(BuffersMethod::Append) => joined(text, u64::from(args.b) + 1),
-        Method::Buffers(BuffersMethod::AppendFrom) => joined(
-            text,
-            amount_at(texts, u64::from(args.b)),
-        ),
-        Method::Buffers(BuffersMethod::Cut) => Some(cut_to(args.b, text)),
-        _ => None,
+        BuffersMethod::Append => joined(text, u64::from(args.b) + 1),
+        BuffersMethod::AppendFrom => joined(text, amount_at(texts, u64::from(args.b))),
+        BuffersMethod::Cut => Some(cut_to(args.b, text)),
+        BuffersMethod::Length | BuffersMethod::Read => None,
     }
 }

@@ -4,16 +4,17 @@ ghost use Rattle.std.specs.Prelude.{◌≡◌, ◌+◌, ◌*◌, ◌<◌, ◌≤
 ghost use Rattle.std.specs.Prelude.{refl};
 ghost use Rattle.vyrd_base.specs.Rules.{built_in};
 ghost use Rattle.vyrd_base.specs.declared.subject.Subject.TheVariants.{Cache};
-ghost use Rattle.vyrd_base.specs.Specification.{next_state};
 ghost use Rattle.vyrd_spec.specs.Touching.{touched_by, is_touched};
-ghost use Rattle.vyrd_base.specs.Subjects.{subject_of, is_observer};
+ghost use Rattle.vyrd_spec.specs.Touching.Cache.{touches};
+ghost use Rattle.vyrd_base.specs.Subjects.{never_commits};
+ghost use Rattle.vyrd_base.specs.Cache.{commits, next};
 ghost use Rattle.vyrd_spec.specs.Bounds.{AllAmounts, small_chunks};
 ghost use Rattle.vyrd_spec.specs.Rows.{row_amounts, row_formed};
 
 use crate::chunk_words::pairs_of;
 use crate::row::{amount_at, empty_row, row_shown, set_amount};
 use crate::spec::{BuiltIn, Spec};
-use crate::touched::{Touched, touched_by};
+use crate::touched::Touched;
 use std::alloc::{AllocError, Global};
 use vyrd_base::{Args, CacheMethod, Header, Method, View};
 use vyrd_view::Compared;
@@ -55,10 +56,13 @@ impl Spec for CacheSpec {
 
     #[tactic(auto, using(crate::proofs::StepMeets::step_laws))]
     fn step(&mut self, method: Method, args: Args, reply: u64) -> Result<bool, AllocError> {
+        let Method::Cache(method) = method else {
+            unreachable!()
+        };
         let allowed = next(&mut self.pairs, method, args, reply);
         if allowed {
             self.made += 1;
-            self.touched = touched_by(method, args);
+            self.touched = touches(method, args);
         }
         Ok(allowed)
     }
@@ -123,17 +127,26 @@ impl BuiltIn for CacheSpec {
     }
 }
 
+/// The keys that a step with this call can change.
+fn touches(method: CacheMethod, args: Args) -> Touched
+    ensures { result ≡ touches method args }
+{
+    match method {
+        CacheMethod::Write => Touched::one(args.a),
+        CacheMethod::Flush | CacheMethod::Evict | CacheMethod::Read => Touched::none(),
+    }
+}
+
 /// Changes the pairs by a mutator's call with its reply, and says whether the reply is allowed,
 /// which 1 alone is.
-fn next(pairs: &mut Vec<u64>, method: Method, args: Args, reply: u64) -> bool
-    requires subject { subject_of method ≡ Cache }
-    requires mutator { is_observer method ≡ false }
+fn next(pairs: &mut Vec<u64>, method: CacheMethod, args: Args, reply: u64) -> bool
+    requires mutator { never_commits (commits method) ≡ false }
     requires chunk { args.a < length pairs.old.items }
     ensures allowed { result ≡ true
-        → next_state method args reply (row_amounts pairs.old.items)
+        → next method args reply (row_amounts pairs.old.items)
         ≡ Some (row_amounts pairs.new.items) }
     ensures refused { result ≡ false
-        → next_state method args reply (row_amounts pairs.old.items) ≡ None }
+        → next method args reply (row_amounts pairs.old.items) ≡ None }
     ensures count { length pairs.new.items ≡ length pairs.old.items }
     ensures unchanged { result ≡ false → pairs.new ≡ pairs.old }
 
@@ -143,7 +156,7 @@ fn next(pairs: &mut Vec<u64>, method: Method, args: Args, reply: u64) -> bool
     if reply != 1 {
         return false;
     }
-    if method == Method::Cache(CacheMethod::Write) {
+    if method == CacheMethod::Write {
         set_amount(
             pairs,
             args.a as usize,

@@ -12,7 +12,7 @@ ghost use Rattle.vyrd_spec.specs.Touching.{touched_by, is_touched, with_touched,
 
 /// A step leaves each key as it is that it doesn't touch, so that the next state differs in the
 /// touched keys alone.
-#[tactic(auto, using(crate::proofs::TouchLaws::touch_laws))]
+#[tactic(auto, using(crate::proofs::StepMeets::touch_laws))]
 pub fn other_keys_keep_their_amount()
     ensures each { (method : Method) (args : Args) (reply key : ℕ) (s t : Amounts)
         → next_state method args reply s ≡ Some t → is_touched (touched_by method args) key ≡ false
@@ -32,9 +32,9 @@ pub fn zeroed_words_are_the_start()
 
 /// Each key that a call touches is changed by some step with that call, so that no key is named
 /// needlessly.
-#[tactic(auto, using(crate::proofs::ChangeLaws::touched_changes))]
+#[tactic(auto, using(crate::proofs::StepMeets::touched_changes))]
 pub fn touched_keys_can_change()
     ensures { (method : Method) (args : Args) (key : ℕ)
         → is_touched (touched_by method args) key ≡ true
-        → CanChange method args key }
+        → CanChange (next_state method args) key }
 {}

@@ -6,17 +6,18 @@ ghost use Rattle.std.specs.Bool.{then_some};
 ghost use Rattle.vyrd_base.specs.Rules.{built_in};
 ghost use Rattle.vyrd_base.specs.declared.subject.Subject.TheVariants.{Multiset};
 ghost use Rattle.vyrd_base.specs.Amounts.{amount_of, with_amount, plus_amount, IsAmounts};
-ghost use Rattle.vyrd_base.specs.Specification.{next_state};
 ghost use Rattle.vyrd_base.specs.Structures.{by_reply};
 ghost use Rattle.vyrd_base.specs.Amounts.{is_present};
 ghost use Rattle.vyrd_spec.specs.Touching.{touched_by, is_touched};
-ghost use Rattle.vyrd_base.specs.Subjects.{subject_of, is_observer};
+ghost use Rattle.vyrd_spec.specs.Touching.Multiset.{touches};
+ghost use Rattle.vyrd_base.specs.Subjects.{never_commits};
+ghost use Rattle.vyrd_base.specs.Multiset.{commits, next};
 ghost use Rattle.vyrd_spec.specs.Bounds.{AllAmounts, most_after, small_counts};
 ghost use Rattle.vyrd_base.specs.Formed.{IsAmounts-prop};
 
 use crate::slot_words::{are_sound, counts};
 use crate::spec::{BuiltIn, Spec};
-use crate::touched::{Touched, touched_by};
+use crate::touched::Touched;
 use std::alloc::{AllocError, Global};
 use vyrd_base::{AmountTable, Args, Header, Method, MultisetMethod, View};
 use vyrd_view::Compared;
@@ -57,10 +58,13 @@ impl Spec for MultisetSpec {
 
     #[tactic(auto, using(crate::proofs::StepMeets::step_laws))]
     fn step(&mut self, method: Method, args: Args, reply: u64) -> Result<bool, AllocError> {
+        let Method::Multiset(method) = method else {
+            unreachable!()
+        };
         let allowed = next(&mut self.amounts, method, args, reply)?;
         if allowed {
             self.made += 1;
-            self.touched = touched_by(method, args);
+            self.touched = touches(method, args);
         }
         Ok(allowed)
     }
@@ -126,19 +130,29 @@ impl BuiltIn for MultisetSpec {
     }
 }
 
+/// The keys that a step with this call can change.
+fn touches(method: MultisetMethod, args: Args) -> Touched
+    ensures { result ≡ touches method args }
+{
+    match method {
+        MultisetMethod::Insert | MultisetMethod::Delete => Touched::one(args.a),
+        MultisetMethod::InsertPair => Touched::two(args.a, args.b),
+        MultisetMethod::Lookup => Touched::none(),
+    }
+}
+
 /// Changes the multiplicities by a mutator's call with its reply, and says whether the reply is
 /// allowed.
 fn next(
     counts: &mut AmountTable,
-    method: Method,
+    method: MultisetMethod,
     args: Args,
     reply: u64,
 ) -> Result<bool, AllocError>
-    requires subject { subject_of method ≡ Multiset }
-    requires mutator { is_observer method ≡ false }
+    requires mutator { never_commits (commits method) ≡ false }
     requires few { (value : ℕ) → amount_of counts.old value ≤ 2 ^ 63 + 4096 }
-    ensures allowed { result ≡ Ok true → next_state method args reply counts.old ≡ Some counts.new }
-    ensures refused { result ≡ Ok false → next_state method args reply counts.old ≡ None }
+    ensures allowed { result ≡ Ok true → next method args reply counts.old ≡ Some counts.new }
+    ensures refused { result ≡ Ok false → next method args reply counts.old ≡ None }
     ensures unchanged { result ≢ Ok true → counts.new ≡ counts.old }
 
     // Arguments have 32 bits.
@@ -146,15 +160,10 @@ fn next(
 {
     let value = u64::from(args.a);
     match method {
-        Method::Multiset(MultisetMethod::Insert) => insert(counts, value, reply),
-        Method::Multiset(MultisetMethod::InsertPair) => insert_pair(
-            counts,
-            value,
-            u64::from(args.b),
-            reply,
-        ),
-        Method::Multiset(MultisetMethod::Delete) => Ok(delete(counts, value, reply)),
-        _ => unreachable!(),
+        MultisetMethod::Insert => insert(counts, value, reply),
+        MultisetMethod::InsertPair => insert_pair(counts, value, u64::from(args.b), reply),
+        MultisetMethod::Delete => Ok(delete(counts, value, reply)),
+        MultisetMethod::Lookup => unreachable!(),
     }
 }
 

@@ -1,10 +1,9 @@
 //! The keys that a step can change.
 
 ghost use Rattle.std.specs.Prelude.{◌≡◌, [], ◌∷◌};
-ghost use Rattle.vyrd_spec.specs.Touching.{touched_by, is_touched};
+ghost use Rattle.vyrd_spec.specs.Touching.{is_touched};
 
 use std::marker::Model;
-use vyrd_base::{Args, BuffersMethod, CacheMethod, Method, MultisetMethod, TreeMethod};
 
 /// The keys whose amount a step can change: none, one or two.
 #[derive(Drop)]
@@ -35,7 +34,7 @@ impl Touched {
     }
 
     /// One key.
-    fn one(key: u32) -> Touched
+    pub fn one(key: u32) -> Touched
         ensures { result ≡ key ∷ [] }
     {
         Touched {
@@ -45,7 +44,7 @@ impl Touched {
     }
 
     /// One key, and another or the same.
-    fn two(key: u32, other: u32) -> Touched
+    pub fn two(key: u32, other: u32) -> Touched
         ensures { result ≡ key ∷ other ∷ [] }
     {
         Touched {
@@ -67,31 +66,5 @@ impl Touched {
         ensures { result ≡ is_touched self.now key }
     {
         self.keys().iter().any(|k| *k == key)
-    }
-}
-
-/// The keys that a step with this call can change.
-pub(crate) fn touched_by(method: Method, args: Args) -> Touched
-    ensures { result ≡ touched_by method args }
-{
-    match method {
-        Method::Multiset(MultisetMethod::Insert)
-        | Method::Multiset(MultisetMethod::Delete)
-        | Method::Cache(CacheMethod::Write)
-        | Method::Tree(TreeMethod::Insert)
-        | Method::Tree(TreeMethod::Delete)
-        | Method::Buffers(BuffersMethod::Append)
-        | Method::Buffers(BuffersMethod::AppendFrom) => Touched::one(args.a),
-        // A buffer has at most 7 characters, so that a cut to 7 or more changes none.
-        Method::Buffers(BuffersMethod::Cut) if args.b < 7 => Touched::one(args.a),
-        Method::Multiset(MultisetMethod::InsertPair) => Touched::two(args.a, args.b),
-        Method::Multiset(MultisetMethod::Lookup)
-        | Method::Cache(CacheMethod::Flush)
-        | Method::Cache(CacheMethod::Evict)
-        | Method::Cache(CacheMethod::Read)
-        | Method::Tree(TreeMethod::Lookup)
-        | Method::Buffers(BuffersMethod::Cut)
-        | Method::Buffers(BuffersMethod::Length)
-        | Method::Buffers(BuffersMethod::Read) => Touched::none(),
     }
 }

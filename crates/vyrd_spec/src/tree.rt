@@ -6,17 +6,18 @@ ghost use Rattle.std.specs.Bool.{then_some};
 ghost use Rattle.vyrd_base.specs.Rules.{built_in};
 ghost use Rattle.vyrd_base.specs.declared.subject.Subject.TheVariants.{Tree};
 ghost use Rattle.vyrd_base.specs.Amounts.{with_amount, IsAmounts};
-ghost use Rattle.vyrd_base.specs.Specification.{next_state};
 ghost use Rattle.vyrd_base.specs.Structures.{by_reply};
 ghost use Rattle.vyrd_base.specs.Amounts.{is_present};
 ghost use Rattle.vyrd_spec.specs.Touching.{touched_by, is_touched};
-ghost use Rattle.vyrd_base.specs.Subjects.{subject_of, is_observer};
+ghost use Rattle.vyrd_spec.specs.Touching.Tree.{touches};
+ghost use Rattle.vyrd_base.specs.Subjects.{never_commits};
+ghost use Rattle.vyrd_base.specs.Tree.{commits, next};
 ghost use Rattle.vyrd_spec.specs.Bounds.{AllAmounts, small_values};
 ghost use Rattle.vyrd_base.specs.Formed.{IsAmounts-prop};
 
 use crate::leaves::values;
 use crate::spec::{BuiltIn, Spec};
-use crate::touched::{Touched, touched_by};
+use crate::touched::Touched;
 use crate::tree_words::is_tree;
 use std::alloc::{AllocError, Global};
 use vyrd_base::{AmountTable, Args, Header, Method, TreeMethod, View};
@@ -60,10 +61,13 @@ impl Spec for TreeSpec {
 
     #[tactic(auto, using(crate::proofs::StepMeets::step_laws))]
     fn step(&mut self, method: Method, args: Args, reply: u64) -> Result<bool, AllocError> {
+        let Method::Tree(method) = method else {
+            unreachable!()
+        };
         let allowed = next(&mut self.amounts, method, args, reply)?;
         if allowed {
             self.made += 1;
-            self.touched = touched_by(method, args);
+            self.touched = touches(method, args);
         }
         Ok(allowed)
     }
@@ -130,17 +134,26 @@ impl BuiltIn for TreeSpec {
     }
 }
 
+/// The keys that a step with this call can change.
+fn touches(method: TreeMethod, args: Args) -> Touched
+    ensures { result ≡ touches method args }
+{
+    match method {
+        TreeMethod::Insert | TreeMethod::Delete => Touched::one(args.a),
+        TreeMethod::Lookup => Touched::none(),
+    }
+}
+
 /// Changes the values by a mutator's call with its reply, and says whether the reply is allowed.
 fn next(
     values: &mut AmountTable,
-    method: Method,
+    method: TreeMethod,
     args: Args,
     reply: u64,
 ) -> Result<bool, AllocError>
-    requires subject { subject_of method ≡ Tree }
-    requires mutator { is_observer method ≡ false }
-    ensures allowed { result ≡ Ok true → next_state method args reply values.old ≡ Some values.new }
-    ensures refused { result ≡ Ok false → next_state method args reply values.old ≡ None }
+    requires mutator { never_commits (commits method) ≡ false }
+    ensures allowed { result ≡ Ok true → next method args reply values.old ≡ Some values.new }
+    ensures refused { result ≡ Ok false → next method args reply values.old ≡ None }
     ensures unchanged { result ≢ Ok true → values.new ≡ values.old }
 
     // Arguments have 32 bits.
@@ -148,9 +161,9 @@ fn next(
 {
     let key = u64::from(args.a);
     match method {
-        Method::Tree(TreeMethod::Insert) => insert(values, key, u64::from(args.b), reply),
-        Method::Tree(TreeMethod::Delete) => Ok(delete(values, key, reply)),
-        _ => unreachable!(),
+        TreeMethod::Insert => insert(values, key, u64::from(args.b), reply),
+        TreeMethod::Delete => Ok(delete(values, key, reply)),
+        TreeMethod::Lookup => unreachable!(),
     }
 }
 
