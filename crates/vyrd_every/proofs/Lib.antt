@@ -28,3 +28,5 @@ mod Accepted
 mod Unstuck
 -- the laws
 pub mod Workloads
+-- a run by turns that ends is a schedule
+mod Interleaved

@@ -1,5 +1,7 @@
 -- What is claimed:
 pub mod Schedules
+-- Samples of it:
+pub mod Interleaved
 -- How it is proved, in the order in which it reads best:
 pub mod Structures
 pub mod Guarded

@@ -2,6 +2,7 @@
 //! string buffers. Each function does nothing: its contract is the law.
 
 ghost use Rattle.std.specs.Prelude.{◌≡◌, ◌≤◌, ℕ, false, List, [], None};
+ghost use Rattle.vyrd_base.specs.declared.header.Header.{Header};
 ghost use Rattle.vyrd_base.specs.declared.history.Stamped.{Stamped};
 ghost use Rattle.vyrd_base.specs.declared.subject.Subject.TheVariants.{Buffers, Cache, Multiset};
 ghost use Rattle.vyrd_base.specs.Places.{newest_first};
@@ -9,11 +10,16 @@ ghost use Rattle.vyrd_base.specs.Front.{first_break};
 ghost use Rattle.vyrd_base.specs.Commits.{is_commit};
 ghost use Rattle.vyrd_base.specs.Histories.{log_of};
 ghost use Rattle.vyrd_base.specs.Verdicts.{accepted, is_call_open, is_return, verdict};
+ghost use Rattle.vyrd_memory.specs.Alone.{Memory};
 ghost use Rattle.vyrd_memory.specs.Bounds.{bounds_of};
-ghost use Rattle.vyrd_memory.specs.Turns.{GetsStuck};
+ghost use Rattle.vyrd_memory.specs.Soundness.{Situation};
+ghost use Rattle.vyrd_memory.specs.Turns.{GetsStuck, RunsTo};
 ghost use Rattle.vyrd_work.specs.Workloads.{Workload};
 ghost use Rattle.vyrd_work.specs.WorkLimits.{KeepsLimits};
 ghost use Rattle.vyrd_work.specs.WorkScripts.{ops_of, work_scripts};
+ghost use Rattle.vyrd_every.specs.Guarded.{buffers, cache, multiset};
+ghost use Rattle.vyrd_every.specs.Locals.{Locals};
+ghost use Rattle.vyrd_every.specs.Others.{Rely};
 ghost use Rattle.vyrd_every.specs.Schedules.{HasNoFault, IsCorrect, IsSchedule};
 ghost use Rattle.vyrd_every.specs.Schedules.{most_cache_events, most_few_events};
 ghost use Rattle.vyrd_base.specs.Rules.{rules_of};
@@ -52,6 +58,23 @@ pub fn schedules_are_accepted()
 pub fn turns_arent_stuck()
     ensures { (w : Workload) → KeepsLimits w → IsCorrect w → GetsStuck (work_scripts w) w.turns
         → ⊥ }
+{}
+
+/// Whoever does nothing keeps what the others rely on, whatever they hold: what a caller relies on can
+/// be met.
+pub fn nothing_done_is_relied_on()
+    ensures in_a_multiset { (h : Header) (s : Situation) (k : Locals) (m : Memory)
+        → Rely (multiset h) s k m m }
+    ensures in_a_cache { (h : Header) (s : Situation) (k : Locals) (m : Memory)
+        → Rely (cache h) s k m m }
+    ensures in_buffers { (h : Header) (s : Situation) (k : Locals) (m : Memory)
+        → Rely (buffers h) s k m m }
+{}
+
+/// A run by turns that ends is a schedule of its workload, whatever the variant.
+pub fn run_by_turns_is_a_schedule()
+    ensures { (w : Workload) (history : List Stamped) → KeepsLimits w
+        → RunsTo (work_scripts w) w.turns history → IsSchedule w history }
 {}
 
 /// The operations of a caller of the multiset or of string buffers have at most 6,400,000 events,

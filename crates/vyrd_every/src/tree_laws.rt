@@ -74,6 +74,16 @@ pub fn tree_acts_are_relied_on()
         → TreeRely h s k first a third c }
 {}
 
+/// Whoever does nothing keeps what the others rely on, as long as the memory holds a linked tree, and
+/// whoever holds the root's lock and has no new root in an open block sees the root that the log
+/// shows.
+pub fn nothing_done_to_a_tree_is_relied_on()
+    ensures { (h : Header) (s : Situation) (k : TreeLocals) (g : Shape) (m : Memory)
+        → IsLinked h.size g m
+        → (holds s (root_lock h) ≡ true → k.out ≡ false → g.top ≡ level_at m (root_in h.size m))
+        → TreeRely h s k g m g m }
+{}
+
 /// After an act that does right the locals of its caller and of any other one share no node still.
 /// Its own locals are right, and those of any other one stay right.
 pub fn tree_locals_stay_right()

@@ -1,7 +1,7 @@
-//! Steps that don't do right. Each function does nothing: its contract says what the definitions
-//! refuse.
+//! Schedules in which callers meet inside their operations, and steps that don't do right. Each
+//! function does nothing: its contract says what the definitions allow, and what they refuse.
 
-ghost use Rattle.std.specs.Prelude.{◌≡◌, ◌≢◌, ◌≤◌, ℕ, ◌<◌, true, false, None};
+ghost use Rattle.std.specs.Prelude.{◌≡◌, ◌≢◌, ◌≤◌, ℕ, ◌<◌, true, false, [], None};
 ghost use Rattle.vyrd_base.specs.declared.header.Header.{Header};
 ghost use Rattle.vyrd_base.specs.declared.subject.Args.{Args};
 ghost use Rattle.vyrd_base.specs.declared.subject.Method.TheVariants.{Multiset as OfMultiset};
@@ -19,12 +19,50 @@ ghost use Rattle.vyrd_multiset.specs.Procedures.{multiset_procedure};
 ghost use Rattle.vyrd_cache.specs.Procedures.{cache_procedure};
 ghost use Rattle.vyrd_buffers.specs.Procedures.{buffers_procedure};
 ghost use Rattle.vyrd_tree.specs.Cells.{node_cell, root_cell, lock_of, root_lock};
+ghost use Rattle.vyrd_work.specs.WorkLimits.{KeepsLimits};
 ghost use Rattle.vyrd_every.specs.Guarded.{multiset, cache, buffers};
+ghost use Rattle.vyrd_every.specs.Interleaved.{is_interleaved};
+ghost use Rattle.vyrd_every.specs.Interleaved.{inserts, writes, descents, appends};
+ghost use Rattle.vyrd_every.specs.Interleaved.{inserts_history, writes_history};
+ghost use Rattle.vyrd_every.specs.Interleaved.{descents_history, appends_history};
 ghost use Rattle.vyrd_every.specs.Locals.{Locals};
 ghost use Rattle.vyrd_every.specs.RightScripts.{DoesRight, IsRight};
+ghost use Rattle.vyrd_every.specs.Schedules.{IsCorrect, IsSchedule};
 ghost use Rattle.vyrd_every.specs.Trees.Shapes.{Shape};
 ghost use Rattle.vyrd_every.specs.Trees.Locals.{TreeLocals};
 ghost use Rattle.vyrd_every.specs.Trees.RightScripts.{TreeRight};
+
+/// Two inserts into one bucket: the second looks for a slot before the first takes effect.
+pub fn two_inserts()
+    ensures limits { KeepsLimits inserts }
+    ensures correct { IsCorrect inserts }
+    ensures schedule { IsSchedule inserts inserts_history }
+    ensures interleaved { is_interleaved inserts_history ≡ true }
+{}
+
+/// Two writes of a cache: the blocks of both are open at the same time.
+pub fn two_writes()
+    ensures limits { KeepsLimits writes }
+    ensures correct { IsCorrect writes }
+    ensures schedule { IsSchedule writes writes_history }
+    ensures interleaved { is_interleaved writes_history ≡ true }
+{}
+
+/// An insert into a tree and a lookup of its key: each begins before the other ends.
+pub fn insert_and_lookup()
+    ensures limits { KeepsLimits descents }
+    ensures correct { IsCorrect descents }
+    ensures schedule { IsSchedule descents descents_history }
+    ensures interleaved { is_interleaved descents_history ≡ true }
+{}
+
+/// An append to a buffer, whose text another caller is about to append elsewhere.
+pub fn append_while_appended()
+    ensures limits { KeepsLimits appends }
+    ensures correct { IsCorrect appends }
+    ensures schedule { IsSchedule appends appends_history }
+    ensures interleaved { is_interleaved appends_history ≡ true }
+{}
 
 /// A slot that is looked for without its bucket's lock: the broken insert doesn't do right.
 pub fn slot_looked_for_without_the_lock()

@@ -1,0 +1,13 @@
+use Rattle.std.proofs.Common.{refl, rules}
+use Rattle.vyrd_work.specs.WorkLimits.{KeepsLimits}
+use Rattle.vyrd_every.specs.Interleaved.{descents, descents_history}
+use Rattle.vyrd_every.proofs.Interleaved.{run_is_schedule}
+use Rattle.vyrd_every.proofs.worked.insert_and_lookup.Goals as goal
+
+limits : KeepsLimits descents
+limits = search rules
+
+-- some rounds to spare: once all is done they leave the history as it is
+pub returns-clause-schedule : goal.returns-clause-schedule
+returns-clause-schedule c =
+    run_is_schedule descents descents_history limits (record { rounds = 30; history_is = refl; done = refl })
