@@ -28,5 +28,6 @@ mod Accepted
 mod Unstuck
 -- the laws
 pub mod Workloads
--- a run by turns that ends is a schedule
+-- a run by turns ends or gets stuck, and one that ends is a schedule
+mod Ending
 mod Interleaved

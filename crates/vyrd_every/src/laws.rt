@@ -1,7 +1,7 @@
 //! Laws of the schedules of a correct structure: the multiset, the cache, the B-link tree and
 //! string buffers. Each function does nothing: its contract is the law.
 
-ghost use Rattle.std.specs.Prelude.{◌≡◌, ◌≤◌, ℕ, false, List, [], None};
+ghost use Rattle.std.specs.Prelude.{◌≡◌, ◌≤◌, ◌⊎◌, ℕ, false, List, [], None};
 ghost use Rattle.vyrd_base.specs.declared.header.Header.{Header};
 ghost use Rattle.vyrd_base.specs.declared.history.Stamped.{Stamped};
 ghost use Rattle.vyrd_base.specs.declared.subject.Subject.TheVariants.{Buffers, Cache, Multiset};
@@ -13,6 +13,8 @@ ghost use Rattle.vyrd_base.specs.Verdicts.{accepted, is_call_open, is_return, ve
 ghost use Rattle.vyrd_memory.specs.Alone.{Memory};
 ghost use Rattle.vyrd_memory.specs.Bounds.{bounds_of};
 ghost use Rattle.vyrd_memory.specs.Soundness.{Situation};
+ghost use Rattle.vyrd_memory.specs.declared.op.Turn.{Turn};
+ghost use Rattle.vyrd_memory.specs.Scripts.{Script};
 ghost use Rattle.vyrd_memory.specs.Turns.{GetsStuck, RunsTo};
 ghost use Rattle.vyrd_work.specs.Workloads.{Workload};
 ghost use Rattle.vyrd_work.specs.WorkLimits.{KeepsLimits};
@@ -69,6 +71,19 @@ pub fn nothing_done_is_relied_on()
         → Rely (cache h) s k m m }
     ensures in_buffers { (h : Header) (s : Situation) (k : Locals) (m : Memory)
         → Rely (buffers h) s k m m }
+{}
+
+/// A run by turns ends or gets stuck, whatever the scripts are.
+pub fn run_by_turns_ends_or_sticks()
+    ensures { (scripts : List Script) (turns : List Turn)
+        → ∥ (((history : List Stamped) × RunsTo scripts turns history)
+        ⊎ GetsStuck scripts turns) ∥₁ }
+{}
+
+/// So every workload of a correct structure has a schedule.
+pub fn workloads_have_schedules()
+    ensures { (w : Workload) → KeepsLimits w → IsCorrect w
+        → ∥ ((history : List Stamped) × IsSchedule w history) ∥₁ }
 {}
 
 /// A run by turns that ends is a schedule of its workload, whatever the variant.
