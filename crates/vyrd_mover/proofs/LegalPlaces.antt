@@ -1,5 +1,5 @@
 -- What a legal history says of the event at a place.
-use Rattle.std.proofs.Common.{◌≡◌, ℕ, zero, suc, ◌+◌, ◌<◌, true, ◌&&◌, List, [], ◌∷◌, length, take, get_or, subst, arith}
+use Rattle.std.proofs.Common.{◌≡◌, ℕ, zero, suc, ◌+◌, ◌-◌, ◌<◌, ◌≤◌, true, ◌&&◌, List, [], ◌∷◌, length, take, get_or, subst, arith}
 use Rattle.std.specs.Prelude.{◌==◌, nat_le, nat_lt}
 use Rattle.std.specs.List.{list_all}
 use Rattle.vyrd_base.specs.declared.history.Did.{Did}
@@ -7,8 +7,10 @@ use Rattle.vyrd_base.specs.declared.history.Did.TheVariants.{Read, Wrote, Took, 
 use Rattle.vyrd_base.specs.declared.history.Stamped.{Stamped}
 use Rattle.vyrd_base.specs.Places.{places_after, newest_first, newest_first_onto}
 use Rattle.vyrd_base.specs.Histories.{Cells, may_do, is_legal_at, is_legal}
-use Rattle.vyrd_base.proofs.TestLaws.{first_true, second_true, same_of, below_of}
-use Rattle.vyrd_mover.specs.Usage.{IsInRange}
+use Rattle.vyrd_base.proofs.TestLaws.{first_true, second_true, same_of, below_of, at_most_of}
+use Rattle.vyrd_mover.specs.LockSets.{words_for}
+use Rattle.vyrd_mover.specs.Usage.{IsInRange, IsBehind, HasPlaceIn}
+use Rattle.vyrd_mover.proofs.LockLaws.{place_of_lock}
 
 -- the event may come here
 pub record MayCome (cells : Cells) (earlier : List Stamped) (number : ℕ) (e : Stamped) : Type 0 where
@@ -48,3 +50,27 @@ in_range cells earlier caller (Wrote cell value) may = below_of cell cells.plain
 in_range cells earlier caller (Took lock) may = below_of lock (cells.plain + cells.locks) (second_true (nat_le cells.plain lock) _ (first_true _ _ may))
 in_range cells earlier caller (Gave lock) may = below_of lock (cells.plain + cells.locks) (second_true (nat_le cells.plain lock) _ (first_true _ _ may))
 in_range cells earlier caller (Marked kind) may = tt
+
+-- its lock stands behind the plain cells
+pub behind : (cells : Cells) (earlier : List Stamped) (caller : ℕ) (did : Did) → may_do cells earlier caller did ≡ true → IsBehind cells.plain did
+behind cells earlier caller (Read cell value) may = tt
+behind cells earlier caller (Wrote cell value) may = tt
+behind cells earlier caller (Took lock) may = at_most_of cells.plain lock (first_true (nat_le cells.plain lock) _ (first_true _ _ may))
+behind cells earlier caller (Gave lock) may = at_most_of cells.plain lock (first_true (nat_le cells.plain lock) _ (first_true _ _ may))
+behind cells earlier caller (Marked kind) may = tt
+
+-- and has a place in a set for all locks
+pub has_place_in : (plain locks : ℕ) (did : Did) → IsInRange plain (plain + locks) did → IsBehind plain did → HasPlaceIn plain (words_for locks) did
+has_place_in plain locks (Read cell value) range least = tt
+has_place_in plain locks (Wrote cell value) range least = tt
+has_place_in plain locks (Took lock) range least = place_of_lock (lock - plain) locks (omega arith)
+has_place_in plain locks (Gave lock) range least = place_of_lock (lock - plain) locks (omega arith)
+has_place_in plain locks (Marked kind) range least = tt
+
+-- a range with more locks
+pub wider : (plain all more : ℕ) (did : Did) → all ≤ more → IsInRange plain all did → IsInRange plain more did
+wider plain all more (Read cell value) least range = range
+wider plain all more (Wrote cell value) least range = range
+wider plain all more (Took lock) least range = omega arith
+wider plain all more (Gave lock) least range = omega arith
+wider plain all more (Marked kind) least range = tt

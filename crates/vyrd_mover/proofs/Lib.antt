@@ -9,6 +9,7 @@ pub mod Gathers
 pub mod ExchangeLaws
 pub mod GatherLaws
 pub mod Answers
+pub mod LockLaws
 pub mod UsageLaws
 pub mod SeenLaws
 pub mod LegalPlaces

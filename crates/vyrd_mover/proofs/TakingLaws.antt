@@ -1,5 +1,5 @@
 -- A history is taken in event by event.
-use Rattle.std.proofs.Common.{◌≡◌, ℕ, ◌+◌, ◌^◌, ◌<◌, ◌≤◌, true, ◌&&◌, List, [], ◌∷◌, ◌++◌, map, length, replicate, take, drop, drop-cons, get_or, suc, refl, ap, sym, ◌∙◌, subst, arith}
+use Rattle.std.proofs.Common.{◌≡◌, ℕ, ◌+◌, ◌^◌, ◌<◌, true, ◌&&◌, List, [], ◌∷◌, ◌++◌, map, length, replicate, take, drop, drop-cons, get_or, suc, refl, ap, sym, ◌∙◌, subst, arith}
 use Rattle.std.specs.Prelude.{◌==◌, nat_lt}
 use Rattle.std.proofs.lemmas.List.{take-append-drop, take_more, length-map}
 use Rattle.vyrd_base.specs.declared.header.Header.{Header}
@@ -11,19 +11,20 @@ use Rattle.vyrd_base.proofs.HeaderLaws.{few_callers, few_words}
 use Rattle.vyrd_base.proofs.PlaceLaws.{length-newest_first}
 use Rattle.vyrd_base.proofs.TestLaws.{first_true, second_true, same_of, below_of}
 use Rattle.vyrd_mover.specs.Steps.{step_of, step_coded, code_of, IsShort, role_of}
-use Rattle.vyrd_mover.specs.Usage.{Kept, HaveSeen, IsInRange, kept_after, unused}
+use Rattle.vyrd_mover.specs.LockSets.{words_for}
+use Rattle.vyrd_mover.specs.Usage.{Kept, HaveSeen, IsInRange, IsBehind, HasPlaceIn, held_by, kept_after, unused}
 use Rattle.vyrd_mover.specs.Taking.{Taken, HasTaken, IsNext}
 use Rattle.vyrd_mover.proofs.SeenLaws.{have_seen_nothing, have_seen_more}
-use Rattle.vyrd_mover.proofs.LegalPlaces.{MayCome, in_range}
+use Rattle.vyrd_mover.proofs.LegalPlaces.{MayCome, in_range, behind, wider, has_place_in}
 use Rattle.vyrd_mover.proofs.TextLaws.{all_more, all_here, legal_test}
 use Rattle.vyrd_mover.proofs.StepLaws.{steps_more, short_role}
 
-pub taken_nothing : (h : Header) (uses : Kept) → uses.values ≡ replicate (plain_words h + lock_words h) 0 → uses.cells ≡ replicate (plain_words h) unused
+pub taken_nothing : (h : Header) (uses : Kept) → uses.held ≡ replicate h.callers (replicate (words_for (lock_words h)) 0) → uses.cells ≡ replicate (plain_words h) unused
     → HasTaken (record { header = h; uses = uses; steps = [] }) []
 unfolding is_legal
-taken_nothing h uses values cells = record {
+taken_nothing h uses held cells = record {
   legal = refl;
-  seen = subst (HaveSeen (cells_of h) []) (λ i. record { values = sym values i; cells = sym cells i }) (have_seen_nothing (cells_of h));
+  seen = subst (HaveSeen (cells_of h) []) (λ i. record { held = sym held i; cells = sym cells i }) (have_seen_nothing (cells_of h));
   steps_are = refl;
 }
 
@@ -41,10 +42,12 @@ may_come h history e legal =
 pub record Fits (t : Taken) (e : Stamped) : Type 0 where
   pub caller : e.caller < 64
   pub below : e.caller < t.header.callers
-  pub in_range : IsInRange (length t.uses.cells) (length t.uses.values) e.did
+  pub known : e.caller < length t.uses.held
+  pub in_range : IsInRange (length t.uses.cells) (2 ^ 31) e.did
+  pub few : length t.uses.cells < 2 ^ 31
+  pub behind : IsBehind (length t.uses.cells) e.did
+  pub room : HasPlaceIn (length t.uses.cells) (length (held_by t.uses e.caller)) e.did
   pub in_cells : IsInRange (plain_words t.header) (plain_words t.header + lock_words t.header) e.did
-  pub locks : length t.uses.cells ≤ length t.uses.values
-  pub few : length t.uses.values < 2 ^ 31
   pub short : IsShort (role_of e.did)
 
 pub fits : (t : Taken) (history : List Stamped) (e : Stamped) → HasTaken t history → IsNext t.header history e → Fits t e
@@ -54,16 +57,21 @@ fits t history e taken next =
     let callers = few_callers t.header in
     let cells = few_words t.header in
     let low : plain_words t.header < 2 ^ 24 = omega (arith, cells) in
-    let all = taken.seen.all_values in
     let plain = taken.seen.all_cells in
+    let known = taken.seen.all_held in
+    let room = (taken.seen.held e.caller come.caller []).room in
     record {
       caller = omega (arith, come.caller, callers);
       below = come.caller;
-      in_range = subst (λ n. IsInRange (length t.uses.cells) n e.did) (sym all)
-          (subst (λ n. IsInRange n (plain_words t.header + lock_words t.header) e.did) (sym plain) range);
+      known = omega (arith, come.caller, known);
+      in_range = subst (λ n. IsInRange n (2 ^ 31) e.did) (sym plain)
+          (wider (plain_words t.header) (plain_words t.header + lock_words t.header) (2 ^ 31) e.did (omega (arith, cells)) range);
+      few = omega (arith, plain, cells);
+      behind = subst (λ n. IsBehind n e.did) (sym plain) (behind (cells_of t.header) (newest_first history) e.caller e.did come.may);
+      room = subst (λ n. HasPlaceIn n (length (held_by t.uses e.caller)) e.did) (sym plain)
+          (subst (λ n. HasPlaceIn (plain_words t.header) n e.did) (sym room)
+          (has_place_in (plain_words t.header) (lock_words t.header) e.did range (behind (cells_of t.header) (newest_first history) e.caller e.did come.may)));
       in_cells = range;
-      locks = omega (arith, all, plain);
-      few = omega (arith, all, cells);
       short = short_role (plain_words t.header) (plain_words t.header + lock_words t.header) e.did range low;
     }
 

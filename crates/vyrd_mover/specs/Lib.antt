@@ -4,6 +4,7 @@ pub mod Blocks
 pub mod Exchanges
 pub mod Gathering
 pub mod Samples
+pub mod LockSets
 pub mod Usage
 pub mod Ahead
 pub mod Steps

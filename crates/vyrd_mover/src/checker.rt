@@ -20,8 +20,8 @@ use vyrd_base::{Header, Stamped};
 /// (Lipton, CACM 1975).
 ///
 /// It keeps 4 bytes of each event: neither values nor the numbers of locks matter for the answer.
-/// Besides that its memory is in proportion to the cells and the callers of the header, and for
-/// each plain cell to the locks that its first user held.
+/// Besides that its memory is in proportion to the cells and the callers of the header, with a bit
+/// for each lock and each caller, and one for each lock and each plain cell that is used.
 #[derive(Drop)]
 pub struct BlockChecker {
     alloc: Global,
@@ -60,7 +60,12 @@ impl BlockChecker {
         Ok(BlockChecker {
             alloc,
             header,
-            uses: Uses::new(alloc, header.plain_words(), header.lock_words())?,
+            uses: Uses::new(
+                alloc,
+                header.callers(),
+                header.plain_words(),
+                header.lock_words(),
+            )?,
             codes: Vec::new(alloc),
         })
     }
@@ -75,8 +80,8 @@ impl BlockChecker {
     /// Takes in one more event, which is legal after those so far.
     ///
     /// The only error is out of memory, and it leaves the checker unchanged. An event takes
-    /// constant time, except for two things: a read or write looks at the locks that all users of
-    /// its cell held so far, and the first use of a cell looks at all locks.
+    /// constant time, except that a read or write looks at all locks of the header, 64 at a time:
+    /// that is 17 words at most, however many locks are held.
     pub fn take(&mut self, event: &Stamped) -> Result<(), AllocError>
         requires legal { CanTake self.old event.now }
         ensures taken { (history : List Stamped) → HasTaken self.old history
@@ -86,7 +91,7 @@ impl BlockChecker {
         ensures err { OnErr result (self.new ≡ self.old) }
     {
         self.codes.reserve(1)?;
-        self.uses.follow(self.alloc, event)?;
+        self.uses.follow(event)?;
         self.codes.push_reserved(Step::of(event).code());
         Ok(())
     }

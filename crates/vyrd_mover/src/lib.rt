@@ -28,6 +28,7 @@ pub mod laws;
 mod ledger;
 mod line;
 mod lines;
+mod lock_set;
 mod reader;
 mod step;
 mod survey;

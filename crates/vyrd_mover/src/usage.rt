@@ -1,11 +1,12 @@
 //! How a plain cell is used.
 
-ghost use Rattle.std.specs.Prelude.{◌≡◌, ◌+◌, ◌-◌, ◌^◌, ◌<◌, ◌≤◌, ◌||◌, false, length, IfOk, OnOk};
-ghost use Rattle.std.specs.Prelude.{OnErr};
-ghost use Rattle.std.specs.List.{filter};
-ghost use Rattle.vyrd_base.specs.Places.{numbers_from};
-ghost use Rattle.vyrd_mover.specs.Usage.{Use, used_by, unused, joined, has_value, seems_free};
+ghost use Rattle.std.specs.Prelude.{◌≡◌, ℕ, ◌<◌, ◌||◌, List, OnOk, OnErr};
+ghost use Rattle.vyrd_base.specs.declared.history.Stamped.{Stamped};
+ghost use Rattle.vyrd_base.specs.Histories.{Cells};
+ghost use Rattle.vyrd_mover.specs.RaceFree.{is_race_free};
+ghost use Rattle.vyrd_mover.specs.Usage.{IsUse, used_by, unused, joined, is_shared};
 
+use crate::lock_set::LockSet;
 use std::alloc::{AllocError, Global};
 use std::marker::Model;
 
@@ -26,7 +27,7 @@ pub(crate) struct Usage {
     users: Users,
     written: bool,
     /// Once somebody has used the cell: the locks that each user held.
-    guards: Vec<u32>,
+    guards: LockSet,
 }
 
 impl Model for Usage {
@@ -34,7 +35,7 @@ impl Model for Usage {
 
     ghost Value = { Use };
 
-    ghost view = { λ s. record { users = s.users; written = s.written; guards = s.guards.items } };
+    ghost view = { λ s. record { users = s.users; written = s.written; guards = s.guards } };
 }
 
 impl Usage {
@@ -45,32 +46,19 @@ impl Usage {
         Usage {
             users: Users::Nobody,
             written: false,
-            guards: Vec::new(alloc),
+            guards: LockSet::new(alloc),
         }
     }
 
-    /// A caller uses the cell. `values` has the value of each lock by its cell, and the locks begin
-    /// at `first_lock`.
-    pub fn see(
-        &mut self,
-        alloc: Global,
-        caller: u32,
-        is_write: bool,
-        values: &[u32],
-        first_lock: u32,
-    ) -> Result<(), AllocError>
-        requires caller { caller < 2 ^ 31 }
-        requires locks { first_lock ≤ length values.now }
-        requires few { length values.now < 2 ^ 31 }
-        ensures ok { OnOk result
-            (self.new ≡ used_by values.now first_lock caller is_write self.old) }
+    /// A caller, who holds these locks, uses the cell.
+    pub fn see(&mut self, caller: u32, is_write: bool, held: &LockSet) -> Result<(), AllocError>
+        ensures ok { OnOk result (self.new ≡ used_by held.now caller is_write self.old) }
         ensures err { OnErr result (self.new ≡ self.old) }
     {
-        let held = caller + 1;
         if let Users::Nobody = self.users {
-            self.guards = held_locks(alloc, values, first_lock, held)?;
+            self.guards = held.duplicate()?;
         } else {
-            self.guards.retain(|lock| has_value(values, *lock, held));
+            self.guards.intersect_with(held);
         }
         self.users = self.users.join(caller);
         self.written = self.written || is_write;
@@ -80,13 +68,22 @@ impl Usage {
     /// Whether one caller alone has used the cell, or nobody has written it, or some lock was held
     /// by each user.
     pub fn is_race_free(&self) -> bool
-        ensures { result ≡ seems_free self.now }
+        ensures { (cells : Cells) (seen : List Stamped) (cell : ℕ)
+            → IsUse cells seen cell self.now → 0 < cells.callers
+            → result ≡ is_race_free cells seen cell }
     {
-        !matches!(self.users, Users::Many) || !self.written || !self.guards.is_empty()
+        !self.users.are_many() || !self.written || !self.guards.is_empty()
     }
 }
 
 impl Users {
+    /// Whether two callers or more have used the cell.
+    fn are_many(self) -> bool
+        ensures { result ≡ is_shared self }
+    {
+        matches!(self, Users::Many)
+    }
+
     /// One more caller uses the cell.
     fn join(self, caller: u32) -> Users
         ensures { result ≡ joined self caller }
@@ -97,32 +94,4 @@ impl Users {
             _ => Users::Many,
         }
     }
-}
-
-/// Whether the lock has this value.
-fn has_value(values: &[u32], lock: u32, held: u32) -> bool
-    ensures { result ≡ has_value values.now held lock }
-{
-    values.get(lock as usize).copied().unwrap_or(0) == held
-}
-
-/// The locks that have this value, from the lowest on.
-fn held_locks(
-    alloc: Global,
-    values: &[u32],
-    first_lock: u32,
-    held: u32,
-) -> Result<Vec<u32>, AllocError>
-    requires locks { first_lock ≤ length values.now }
-    requires few { length values.now < 2 ^ 31 }
-    ensures { IfOk result (λ locks. locks.items ≡ filter (has_value values.now held)
-        (numbers_from first_lock (length values.now - first_lock))) }
-{
-    let mut locks = Vec::new(alloc);
-    for lock in first_lock..values.len() as u32 {
-        if values[lock as usize] == held {
-            locks.push(lock)?;
-        }
-    }
-    Ok(locks)
 }

@@ -1,16 +1,12 @@
-use Rattle.std.proofs.Common.{rules, ◌≡◌, ◌+◌, ◌-◌, ◌||◌, ◌∙◌, ap, sym, length}
-use Rattle.std.specs.List.{filter}
-use Rattle.std.proofs.lemmas.Fn.{filter_same}
-use Rattle.vyrd_base.specs.Places.{numbers_from}
-use Rattle.vyrd_mover.specs.Usage.{has_value, joined, is_used}
+use Rattle.std.proofs.Common.{◌≡◌, ◌||◌, ◌∙◌, cond, ap, sym}
+use Rattle.vyrd_mover.specs.LockSets.{in_both}
+use Rattle.vyrd_mover.specs.Usage.{joined, is_used}
 use Rattle.vyrd_mover.proofs.UsageLaws.{when_unused, when_used, same_use, or_is_true, or_is_second}
 use Rattle.vyrd_mover.proofs.usage.Usage.see.Goals as goal
 use Rattle.vyrd_mover.proofs.usage.Usage.see.Goals.{in-Nobody+in_ok-self-inside, in_default, then-self, else-self}
 
 pub returns-clause-ok : goal.returns-clause-ok
 returns-clause-ok c =
-    let test = has_value c.args.values.now (c.args.caller + 1) in
-    let all = numbers_from c.args.first_lock (length c.args.values.now - c.args.first_lock) in
     let before = c.self.inside in
     let users_kept : c.match-self.self-inside.users ≡ before.users =
     elim c.match-self.branch [ in-Nobody+in_ok-self-inside w ↦ ap (λ s. s.users) w.self-inside-is | in_default w ↦ ap (λ s. s.users) w.self-inside-is ] in
@@ -22,13 +18,13 @@ returns-clause-ok c =
       | then-self w ↦ w.self-is ∙ w.if-self.true ∙ or_is_true before.written c.args.is_write (sym written_kept ∙ w.if-self.true)
       | else-self w ↦ w.self-is ∙ or_is_second before.written c.args.is_write (sym written_kept ∙ w.if-self.false)
     ] in
-    let guards : c.match-self.self-inside.guards.items ≡ filter test (Rattle.std.specs.Bool.if◌then◌else◌ (is_used before.users) before.guards.items all) =
+    let guards : c.match-self.self-inside.guards ≡ cond (is_used before.users) (in_both before.guards c.args.held.now) c.args.held.now =
     elim c.match-self.branch [
       | in-Nobody+in_ok-self-inside w ↦
-          ap (λ s. s.guards.items) w.self-inside-is ∙ w.in_ok-self-inside.ensures
-          ∙ sym (when_unused test before.users before.guards.items all w.in-Nobody.is)
+          ap (λ s. s.guards) w.self-inside-is ∙ w.in_ok-self-inside.ensures
+          ∙ sym (when_unused before.users (in_both before.guards c.args.held.now) c.args.held.now w.in-Nobody.is)
       | in_default w ↦
-          ap (λ s. s.guards.items) w.self-inside-is ∙ filter_same _ test _ (λ x b f' k. search rules) _ _ w.retain.ensures.filtered
-          ∙ sym (when_used test before.users before.guards.items all w.in_default.not-Nobody)
+          ap (λ s. s.guards) w.self-inside-is ∙ w.intersect_with.ensures
+          ∙ sym (when_used before.users (in_both before.guards c.args.held.now) c.args.held.now w.in_default.not-Nobody)
     ] in
     rw (← c.self.view_is) (same_use _ _ users written guards)

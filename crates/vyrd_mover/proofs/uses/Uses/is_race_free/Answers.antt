@@ -1,6 +1,5 @@
 use Rattle.std.proofs.Common.{◌≡◌, ◌<◌, get_or, arith, ap, ◌∙◌, sym, subst}
 use Rattle.vyrd_mover.specs.Usage.{IsUse}
-use Rattle.vyrd_mover.proofs.SeenLaws.{seems_free_is}
 use Rattle.vyrd_mover.proofs.uses.Uses.is_race_free.Goals as goal
 
 pub returns : goal.returns
@@ -9,5 +8,4 @@ returns c = λ cells seen have some.
     let inside : c.args.cell < cells.plain = omega (arith, c.requires, have.all_cells) in
     let is : get_or c.args.self.now.cells c.args.cell here ≡ here =
     ap (λ s. get_or s.cells c.args.cell here) (sym c.self.view_is) ∙ sym c.index.ensures in
-    c.is_race_free.ensures
-    ∙ seems_free_is cells seen c.args.cell here some (subst (IsUse cells seen c.args.cell) is (have.uses c.args.cell inside here))
+    c.is_race_free.ensures cells seen c.args.cell (subst (IsUse cells seen c.args.cell) is (have.uses c.args.cell inside here)) some
