@@ -9,6 +9,7 @@ mod BoundSums
 mod PlayLaws
 mod PlayedLaws
 mod ShownLaws
+mod UnfinishedLaws
 mod RunLaws
 pub mod Situations
 pub mod LegalEvents

@@ -252,7 +252,7 @@ part_here : (c number : ℕ) (did : Did) (earlier : List Stamped)
     → part_of c (record { number = number; caller = c; did = did } ∷ earlier) ≡ did ∷ part_of c earlier
 part_here c number did earlier = ap (λ b. cons_option (cond b (Some did) None) (part_of c earlier)) (same_number c)
 
-part_there : (i c number : ℕ) (did : Did) (earlier : List Stamped) → (c == i) ≡ false
+pub part_there : (i c number : ℕ) (did : Did) (earlier : List Stamped) → (c == i) ≡ false
     → part_of i (record { number = number; caller = c; did = did } ∷ earlier) ≡ part_of i earlier
 part_there i c number did earlier apart = ap (λ b. cons_option (cond b (Some did) None) (part_of i earlier)) apart
 

@@ -4,6 +4,7 @@ pub mod Soundness
 pub mod Bounds
 pub mod Alone
 pub mod Turns
+pub mod Unfinished
 pub mod StuckThere
 pub mod Underway
 pub mod Players

@@ -2,7 +2,7 @@
 
 ghost use Rattle.std.specs.Prelude.{◌≡◌, ◌<◌, ◌≤◌, ◌+◌, ◌^◌, true, false, MatchOption, IfOk};
 ghost use Rattle.std.specs.Prelude.{All, [], ◌∷◌, ℕ, List, length, vec_len, map, replicate};
-ghost use Rattle.std.specs.Prelude.{Ok, Err, IfSome};
+ghost use Rattle.std.specs.Prelude.{Ok, Err, IfSome, slice_get, slice_index, ◌≢◌};
 ghost use Rattle.std.specs.List.{list_all};
 ghost use Rattle.vyrd_base.specs.Places.{newest_first, numbers_below};
 ghost use Rattle.vyrd_base.specs.Layout.{plain_words, lock_words};
@@ -10,6 +10,7 @@ ghost use Rattle.vyrd_memory.specs.declared.turns.StepFault.TheVariants.{Stuck};
 ghost use Rattle.vyrd_memory.specs.Scripts.{next_act, answer_of};
 ghost use Rattle.vyrd_memory.specs.Turns.{turns_of, is_done, RunsTo};
 ghost use Rattle.vyrd_memory.specs.StuckThere.{AreStuckThere};
+ghost use Rattle.vyrd_memory.specs.Unfinished.{LeavesOut};
 ghost use Rattle.vyrd_base.specs.declared.history.Stamped.{Stamped};
 ghost use Rattle.vyrd_memory.specs.Playing.{event_in, words_after_event, IsWithin, IsReady};
 ghost use Rattle.vyrd_memory.specs.Playing.{memory_after, total};
@@ -103,6 +104,8 @@ fn turn<M: Machine, S: EventSink>(
         ≤ S.count sink.old + total M.ahead machines.old) }
     ensures fixed { IfOk result (λ _. S.fixed sink.new ≡ S.fixed sink.old) }
     ensures rests { IfOk result (λ _. total M.ahead machines.new ≤ total M.ahead machines.old) }
+    ensures others { IfOk result (λ _. (c : ℕ) → caller ≢ c
+        → slice_get machines.new c ≡ slice_get machines.old c) }
 {
     let machine = &mut machines[caller as usize];
     let Some(did) = perform(words, caller, machine.wants()) else {
@@ -127,14 +130,86 @@ fn answer(did: Did) -> u64
     }
 }
 
-/// A round over all callers. `false` says that there was no event.
-fn round<M: Machine, S: EventSink>(
+/// What came of a turn of each of some callers.
+#[derive(Clone, Copy)]
+struct Turned {
+    /// There was an event.
+    moved: bool,
+    /// Some machine had no event because it is done.
+    some_done: bool,
+}
+
+/// A turn of each of these callers, one after the other.
+fn turn_each<M: Machine, S: EventSink>(
     header: &Header,
     machines: &mut [M],
+    callers: &[u32],
+    words: &mut Vec<u64>,
+    sink: &mut S,
+) -> Result<Turned, AllocError>
+    requires callers { (i : ℕ) → i < length callers.now
+        → slice_index callers.now i < length machines.old }
+    requires ready { IsReady header.now M.header_of machines.old words.old.items }
+    requires few { S.count sink.old + total M.ahead machines.old ≤ 2 ^ 62 }
+    ensures shown { IfOk result (λ _. HasShown header.now M.header_of M.script S.has_taken
+        callers.now (stage machines.old words.old.items sink.old)
+        (stage machines.new words.new.items sink.new)) }
+    ensures still { IfOk result
+        (λ turned. turned.moved ≡ false → S.count sink.new ≡ S.count sink.old) }
+    ensures falls { IfOk result (λ turned. turned.moved ≡ true
+        → total M.ahead machines.new < total M.ahead machines.old) }
+    ensures few { IfOk result (λ _. S.count sink.new + total M.ahead machines.new
+        ≤ S.count sink.old + total M.ahead machines.old) }
+    ensures fixed { IfOk result (λ _. S.fixed sink.new ≡ S.fixed sink.old) }
+    ensures others { IfOk result (λ _. (c : ℕ)
+        → ((i : ℕ) → i < length callers.now → slice_index callers.now i ≢ c)
+        → slice_get machines.new c ≡ slice_get machines.old c) }
+{
+    let mut moved = false;
+    let mut some_done = false;
+    for caller in callers {
+        if turn(header, machines, *caller, words, sink)? {
+            moved = true;
+        } else {
+            some_done = some_done || is_done(&machines[*caller as usize]);
+        }
+    }
+    Ok(Turned { moved, some_done })
+}
+
+/// Whether the machine is done.
+fn is_done<M: Machine>(machine: &M) -> bool
+    ensures { result ≡ is_done (next_act (M.script machine.now)) }
+{
+    machine.wants() == Act::Done
+}
+
+/// The callers whose machines aren't done.
+fn unfinished<M: Machine>(alloc: Global, machines: &[M]) -> Result<Vec<u32>, AllocError>
+    requires callers { length machines.now ≤ 64 }
+    ensures { IfOk result (λ callers. LeavesOut M.script machines.now callers.items) }
+{
+    let mut callers = Vec::new(alloc);
+    for caller in 0..machines.len() {
+        if !is_done(&machines[caller]) {
+            callers.push(caller as u32)?;
+        }
+    }
+    Ok(callers)
+}
+
+/// A round over all callers. It asks those in the list, which leaves out only callers that are
+/// done, and leaves out those that it finds done. `false` says that there was no event.
+fn round<M: Machine, S: EventSink>(
+    alloc: Global,
+    header: &Header,
+    machines: &mut [M],
+    callers: &mut Vec<u32>,
     words: &mut Vec<u64>,
     sink: &mut S,
 ) -> Result<bool, AllocError>
     requires callers { length machines.old ≤ 64 }
+    requires left_out { LeavesOut M.script machines.old callers.old.items }
     requires ready { IsReady header.now M.header_of machines.old words.old.items }
     requires few { S.count sink.old + total M.ahead machines.old ≤ 2 ^ 62 }
     ensures shown { IfOk result (λ _. HasShown header.now M.header_of M.script S.has_taken
@@ -145,14 +220,13 @@ fn round<M: Machine, S: EventSink>(
     ensures few { IfOk result (λ _. S.count sink.new + total M.ahead machines.new
         ≤ S.count sink.old + total M.ahead machines.old) }
     ensures fixed { IfOk result (λ _. S.fixed sink.new ≡ S.fixed sink.old) }
+    ensures left_out { IfOk result (λ _. LeavesOut M.script machines.new callers.new.items) }
 {
-    let mut moved = false;
-    for caller in 0..machines.len() {
-        if turn(header, machines, caller as u32, words, sink)? {
-            moved = true;
-        }
+    let turned = turn_each(header, machines, callers, words, sink)?;
+    if turned.some_done {
+        *callers = unfinished(alloc, machines)?;
     }
-    Ok(moved)
+    Ok(turned.moved)
 }
 
 /// That many turns of a caller.
@@ -204,8 +278,10 @@ fn repeat_all<M: Machine, S: EventSink>(
     Ok(())
 }
 
-/// Rounds over all callers, until one has no event.
+/// Rounds over all callers, until one has no event. A caller that is done is found so once, and
+/// then no round asks it again.
 fn play_rounds<M: Machine, S: EventSink>(
+    alloc: Global,
     header: &Header,
     machines: &mut [M],
     words: &mut Vec<u64>,
@@ -220,7 +296,8 @@ fn play_rounds<M: Machine, S: EventSink>(
         (stage machines.new words.new.items sink.new) history) }
     ensures fixed { IfOk result (λ _. S.fixed sink.new ≡ S.fixed sink.old) }
 {
-    while round(header, machines, words, sink)? {}
+    let mut callers = unfinished(alloc, machines)?;
+    while round(alloc, header, machines, &mut callers, words, sink)? {}
     Ok(())
 }
 
@@ -229,7 +306,7 @@ fn are_done<M: Machine>(machines: &[M]) -> bool
     ensures { result ≡ list_all (λ m. is_done (next_act (M.script m))) machines.now }
 {
     for machine in machines {
-        if machine.wants() != Act::Done {
+        if !is_done(machine) {
             return false;
         }
     }
@@ -267,7 +344,7 @@ fn play<M: Machine, S: EventSink>(
 {
     let mut words = zeros(alloc, header)?;
     repeat_all(header, machines, turns, &mut words, sink)?;
-    play_rounds(header, machines, &mut words, sink)?;
+    play_rounds(alloc, header, machines, &mut words, sink)?;
     if are_done(machines) {
         Ok(Some(words))
     } else {
@@ -277,7 +354,8 @@ fn play<M: Machine, S: EventSink>(
 
 /// Plays machines over plain memory, from all words 0 and all locks free: first the turns that are
 /// given, and then rounds over all callers, until all machines are done. Machine i is that of
-/// caller i. A turn of a machine that is done, or that wants a lock which is held, has no event.
+/// caller i. A turn of a machine that is done, or that wants a lock which is held, has no event. A
+/// round takes no time for callers that an earlier one found done.
 ///
 /// The sink, which has taken nothing, takes each event as it is made; no event is kept beside it.
 /// The answer is the memory at the end: the plain words, and then the locks. The events are a

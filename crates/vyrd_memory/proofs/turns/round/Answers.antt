@@ -1,31 +1,33 @@
-use Rattle.std.proofs.Common.{◌+◌, [], ◌∷◌, ap, ◌∙◌, sym, arith, Ok}
-use Rattle.vyrd_base.specs.Places.{numbers_below}
-use Rattle.vyrd_base.proofs.PlaceLaws.{numbers_below-push}
+use Rattle.std.proofs.Common.{◌≡◌, ◌≢◌, ℕ, ◌<◌, length, get_or, slice_get, sym, subst}
+use Rattle.vyrd_memory.specs.Unfinished.{LeavesOut}
 use Rattle.vyrd_memory.specs.Showing.{stage}
-use Rattle.vyrd_memory.proofs.ShownLaws.{shown_more}
-use Rattle.vyrd_memory.proofs.turns.round.Goals.{then-branch, else-branch}
+use Rattle.vyrd_memory.proofs.UnfinishedLaws.{round_shown, callers_below, still_left_out}
 use Rattle.vyrd_memory.proofs.turns.round.Goals as goal
 
-pub loop-caller-preserved : goal.loop-caller-preserved
-loop-caller-preserved g c = record {
-  shown =
-      shown_more c.args.header.now g.M.Machine.header_of g.M.Machine.script g.S.EventSink.has_taken
-      (numbers_below c.loop-caller.caller) (c.loop-caller.caller ∷ []) (numbers_below (c.loop-caller.caller + 1))
-      (stage c.args.machines.now c.args.words.now.items c.args.sink.now)
-      (stage c.loop-caller.machines c.loop-caller.words.items c.loop-caller.sink)
-      (stage c.turn.new.machines c.turn.new.words.items c.turn.new.sink)
-      c.loop-caller.invariant.shown c.in_ok-turn.ensures.shown (numbers_below-push c.loop-caller.caller);
-  few = omega (arith, c.loop-caller.invariant.few, c.in_ok-turn.ensures.few);
-  fixed = c.in_ok-turn.ensures.fixed ∙ c.loop-caller.invariant.fixed;
-  still = λ e. elim c.if-branch.branch [
-    | then-branch w ↦ cc
-    | else-branch w ↦ c.in_ok-turn.ensures.still (ap Ok w.if-branch.false) ∙ c.loop-caller.invariant.still (sym w.moved-is ∙ e)
-  ];
-  rests = omega (arith, c.in_ok-turn.ensures.rests, c.loop-caller.invariant.rests);
-  falls = λ e. elim c.if-branch.branch [
-    | then-branch w ↦ let falls = c.in_ok-turn.ensures.falls (ap Ok w.if-branch.true) in omega (arith, falls, c.loop-caller.invariant.rests)
-    | else-branch w ↦
-        let before = c.loop-caller.invariant.falls (sym w.moved-is ∙ e) in
-        omega (arith, c.in_ok-turn.ensures.rests, before)
-  ];
-}
+pub turn_each-requires-clause-callers : goal.turn_each-requires-clause-callers
+turn_each-requires-clause-callers g c =
+    callers_below g.M.Machine.script c.args.machines.now c.deref.result.now
+    (subst (LeavesOut g.M.Machine.script c.args.machines.now) (sym c.deref.ensures.value) c.requires.left_out)
+
+pub returns-in_ok-callers-clause-shown : goal.returns-in_ok-callers-clause-shown
+returns-in_ok-callers-clause-shown g c =
+    round_shown c.args.header.now g.M.Machine.header_of g.M.Machine.script g.S.EventSink.has_taken c.deref.result.now
+    (stage c.args.machines.now c.args.words.now.items c.args.sink.now)
+    (stage c.turn_each.new.machines c.turn_each.new.words.items c.turn_each.new.sink)
+    (subst (LeavesOut g.M.Machine.script c.args.machines.now) (sym c.deref.ensures.value) c.requires.left_out)
+    c.in_ok-turned.ensures.shown
+
+pub returns-else-turned-clause-shown : goal.returns-else-turned-clause-shown
+returns-else-turned-clause-shown g c =
+    round_shown c.args.header.now g.M.Machine.header_of g.M.Machine.script g.S.EventSink.has_taken c.deref.result.now
+    (stage c.args.machines.now c.args.words.now.items c.args.sink.now)
+    (stage c.turn_each.new.machines c.turn_each.new.words.items c.turn_each.new.sink)
+    (subst (LeavesOut g.M.Machine.script c.args.machines.now) (sym c.deref.ensures.value) c.requires.left_out)
+    c.in_ok-turned.ensures.shown
+
+pub returns-else-turned-clause-left_out : goal.returns-else-turned-clause-left_out
+returns-else-turned-clause-left_out g c =
+    still_left_out g.M.Machine.script c.args.machines.now c.turn_each.new.machines c.args.callers.now.items c.requires.left_out
+    c.in_ok-turned.ensures.shown.count
+    (subst (λ cs. (x : ℕ) → ((i : ℕ) → i < length cs → get_or cs i 0 ≢ x) → slice_get c.turn_each.new.machines x ≡ slice_get c.args.machines.now x)
+    c.deref.ensures.value c.in_ok-turned.ensures.others)

@@ -2,7 +2,7 @@ use Rattle.std.proofs.Common.{◌≡◌, ◌<◌, ◌++◌, vec_len, List, [], �
 use Rattle.std.specs.Prelude.{slice_get, get_or, length, set}
 use Rattle.std.proofs.lemmas.List.{set-get_or, length-set}
 use Rattle.vyrd_base.specs.declared.history.Stamped.{Stamped}
-use Rattle.vyrd_base.proofs.ListLaws.{slice_get-is}
+use Rattle.vyrd_base.proofs.ListLaws.{slice_get-is, slice_get-set_other}
 use Rattle.vyrd_memory.specs.Scripts.{next_act, after_answer}
 use Rattle.vyrd_memory.specs.Playing.{HasPlayed, scene, event_in, words_with, words_after_event, IsWithin, IsReady, total}
 use Rattle.vyrd_memory.proofs.PlayLaws.{IsTurn, machine_within, turn_played, no_turn_played, next_ready, total_falls}
@@ -116,3 +116,13 @@ returns-clause-few g c = omega (arith, c.in_ok-take.ensures.count, ahead_falls g
 
 pub returns-clause-rests : goal.returns-clause-rests
 returns-clause-rests g c = omega (arith, ahead_falls g c)
+
+-- the other machines stay as they are
+pub returns-in_default-clause-others : goal.returns-in_default-clause-others
+returns-in_default-clause-others g c = λ other apart.
+    slice_get-set_other c.args.machines.now c.args.caller other
+    (get_or c.args.machines.now c.args.caller c.index-machines-caller.result) apart
+
+pub returns-clause-others : goal.returns-clause-others
+returns-clause-others g c = λ other apart.
+    slice_get-set_other c.args.machines.now c.args.caller other c.took.new.self apart
