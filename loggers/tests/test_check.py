@@ -19,7 +19,7 @@ class Tests(unittest.TestCase):
     def test_help(self):
         done = run("--help")
         self.assertEqual((done.returncode, done.stderr), (0, ""))
-        self.assertIn("loggers/check [c|cpp|rust|python|java]...", done.stdout)
+        self.assertIn("loggers/check [c|cpp|rust|go|python|java]...", done.stdout)
 
     def test_misuse(self):
         for words in (["ada"], ["-x"], ["cpp", ""], ["--overhead", "ada"]):
@@ -36,11 +36,17 @@ class Tests(unittest.TestCase):
         with tempfile.TemporaryDirectory() as folder:
             for command in NEEDED:
                 os.symlink(shutil.which(command), Path(folder, command))
-            done = run("c", "cpp", "rust", "java", VYRD="true", PATH=folder)
+            done = run("c", "cpp", "rust", "go", "java", VYRD="true", PATH=folder)
         self.assertEqual(done.returncode, 0)
-        said = "c, since there is no C compiler|cpp, since there is no C++ compiler|rust, since there is no cargo or no rustc|java, since there is no javac or no java"
-        skipped = "".join(f"skipped: {one}\n" for one in said.split("|"))
-        self.assertEqual(done.stdout, skipped + "loggers: 0 passed, 0 failed, 4 skipped\n")
+        reasons = {
+            "c": "no C compiler",
+            "cpp": "no C++ compiler",
+            "rust": "no cargo or no rustc",
+            "go": "no go",
+            "java": "no javac or no java",
+        }
+        skipped = "".join(f"skipped: {language}, since there is {reason}\n" for language, reason in reasons.items())
+        self.assertEqual(done.stdout, skipped + "loggers: 0 passed, 0 failed, 5 skipped\n")
 
     def test_a_program_that_judges_otherwise_is_a_failure(self):
         with tempfile.TemporaryDirectory() as folder:

@@ -1,0 +1,3 @@
+module vyrdlog
+
+go 1.19

@@ -1,0 +1,71 @@
+package vyrdlog
+
+import "strconv"
+
+const lineBytes = 64 // the most of a line, without its line feed
+
+// Lines is the lines of one step. They stand in the log one after the other. A line that would have
+// more than 64 bytes panics and isn't written. All else is for `vyrd check` to judge.
+type Lines struct {
+	text   []byte
+	caller int
+}
+
+// Call is `call METHOD ARGUMENTS`: arguments are below 2^32. In the step of an action whose outcome
+// says which method it was, call and return may stand side by side, and lines of several calls too.
+func (l *Lines) Call(method string, arguments ...uint64) { l.line("call "+method, arguments...) }
+
+// Returns is `return REPLY`. For a reply that is a bool there is [Bool].
+func (l *Lines) Returns(reply uint64) { l.line("return", reply) }
+
+// Write is `write WORD VALUE`: the word is one of the subject's, and the value below 2^63.
+func (l *Lines) Write(word uint32, value uint64) { l.line("write", uint64(word), value) }
+
+// Commit is `commit`: the operation takes effect here.
+func (l *Lines) Commit() { l.line("commit") }
+
+// Open is `open`: writes that take effect together begin.
+func (l *Lines) Open() { l.line("open") }
+
+// Close is `close`: they end.
+func (l *Lines) Close() { l.line("close") }
+
+// CloseCommit is `close commit`: they end, and the operation takes effect with them.
+func (l *Lines) CloseCommit() { l.line("close commit") }
+
+// Observed is an observer whole, its call and its return side by side: it is judged at this one
+// place.
+func (l *Lines) Observed(reply uint64, method string, arguments ...uint64) {
+	l.Call(method, arguments...)
+	l.Returns(reply)
+}
+
+// Entry is an entry as it is, without the caller's number: for a form that this package doesn't
+// know.
+func (l *Lines) Entry(words string) { l.line(words) }
+
+// Helping adds the lines of `body` as those of another caller, whose operation this step completes.
+// `caller` is its number.
+func (l *Lines) Helping(caller int, body func(*Lines)) {
+	own := l.caller
+	l.caller = caller
+	defer func() { l.caller = own }()
+	body(l)
+}
+
+func (l *Lines) line(words string, numbers ...uint64) {
+	begin := len(l.text)
+	l.text = strconv.AppendInt(l.text, int64(l.caller), 10)
+	l.text = append(l.text, ' ')
+	l.text = append(l.text, words...)
+	for _, number := range numbers {
+		l.text = append(l.text, ' ')
+		l.text = strconv.AppendUint(l.text, number, 10)
+	}
+	if len(l.text)-begin > lineBytes {
+		line := string(l.text[begin:])
+		l.text = l.text[:begin]
+		panic("a line of a log has more than 64 bytes: " + line)
+	}
+	l.text = append(l.text, '\n')
+}
