@@ -7,10 +7,12 @@
 //! A key's leaf is the node of its number, and the leaves are linked where the log begins.
 //! `HashMap` shows no store of its own, so the words are what the map should hold.
 
+mod common;
+
+use common::{run_by_word, run_interrupted, run_together, Draws};
 use std::collections::HashMap;
-use std::sync::{mpsc, Mutex};
-use std::{env, io, process, thread};
-use vyrd_log::{Caller, Header, Lines, Log, Options, Order};
+use std::sync::Mutex;
+use vyrd_log::{Caller, Error, Header, Lines, Order};
 
 const KEYS: u32 = 8; // one leaf each
 const CALLERS: usize = 4;
@@ -99,11 +101,9 @@ fn leaves() -> impl Iterator<Item = (u32, u64)> {
 }
 
 fn play(map: &Map, caller: &mut Caller) {
-    let mut draw = caller.number() as u32 + 1;
+    let mut draws = Draws::of(caller);
     for _ in 0..500 {
-        draw ^= draw << 13;
-        draw ^= draw >> 17;
-        draw ^= draw << 5;
+        let draw = draws.next();
         let key = draw / 8 % KEYS;
         match draw % 4 {
             0 => drop(map.remove(caller, key)),
@@ -113,54 +113,26 @@ fn play(map: &Map, caller: &mut Caller) {
     }
 }
 
-fn run_correct(order: Order) -> Result<(), vyrd_log::Error> {
-    let header = Header::with_start("tree", KEYS, CALLERS, leaves())?;
-    let log =
-        Log::new(header, io::stdout(), Options { order, seed: Some(7), ..Options::default() })?;
+fn run_correct(order: Order) -> Result<(), Error> {
     let map = Map::default();
-    thread::scope(|scope| {
-        for _ in 0..CALLERS {
-            scope.spawn(|| {
-                let mut caller = log.caller().expect("a caller for each thread");
-                log.start_together(CALLERS);
-                play(&map, &mut caller);
-            });
-        }
-    });
-    log.finish()
+    let header = Header::with_start("tree", KEYS, CALLERS, leaves())?;
+    run_together(header, order, |caller| play(&map, caller))
 }
 
 /// Caller 0 finds no key 3. Before it sets it, caller 1 does so, with its whole insert.
-fn run_broken() -> Result<(), vyrd_log::Error> {
-    let header = Header::with_start("tree", KEYS, 2, leaves())?;
-    let log = Log::new(header, io::stdout(), Options::default())?;
-    let (mut first, mut second) = (log.caller()?, log.caller()?);
+fn run_broken() -> Result<(), Error> {
     let map = Map::default();
-    let (looked, after_the_look) = mpsc::channel();
-    let (set, after_the_store) = mpsc::channel();
-    thread::scope(|scope| {
-        let map = &map;
-        scope.spawn(move || {
-            map.insert_late(&mut first, 3, 10, || {
-                looked.send(()).unwrap();
-                after_the_store.recv().unwrap();
-            })
-        });
-        after_the_look.recv().unwrap();
-        map.insert_late(&mut second, 3, 20, || {});
-        set.send(()).unwrap();
-    });
-    log.finish()
+    run_interrupted(
+        Header::with_start("tree", KEYS, 2, leaves())?,
+        |caller, between| {
+            map.insert_late(caller, 3, 10, between);
+        },
+        |caller| {
+            map.insert_late(caller, 3, 20, || {});
+        },
+    )
 }
 
-fn main() -> Result<(), vyrd_log::Error> {
-    match env::args().nth(1).as_deref() {
-        Some("correct") => run_correct(Order::Lock),
-        Some("numbered") => run_correct(Order::Numbers),
-        Some("broken") => run_broken(),
-        _ => {
-            eprintln!("usage: map correct | numbered | broken");
-            process::exit(64);
-        }
-    }
+fn main() -> Result<(), Error> {
+    run_by_word("map", run_correct, run_broken)
 }

@@ -4,10 +4,12 @@
 //!     multiset numbered    the same, with steps that are ordered by numbers
 //!     multiset broken      it looks for the slot before it takes the lock: two find the same one
 
+mod common;
+
+use common::{run_by_word, run_interrupted, run_together, Draws};
 use std::sync::atomic::{AtomicBool, AtomicU32, Ordering::SeqCst};
-use std::sync::{mpsc, Mutex};
-use std::{env, io, process, thread};
-use vyrd_log::{Caller, Header, Log, Options, Order};
+use std::sync::Mutex;
+use vyrd_log::{Caller, Error, Header, Order};
 
 const SLOTS: usize = 4;
 const CALLERS: usize = 4;
@@ -118,11 +120,9 @@ impl Multiset {
 }
 
 fn play(multiset: &Multiset, caller: &mut Caller) {
-    let mut draw = caller.number() as u32 + 1;
+    let mut draws = Draws::of(caller);
     for _ in 0..500 {
-        draw ^= draw << 13;
-        draw ^= draw >> 17;
-        draw ^= draw << 5;
+        let draw = draws.next();
         let x = draw / 8 % 3;
         match draw % 6 {
             0 => drop(multiset.delete(caller, x)),
@@ -133,52 +133,26 @@ fn play(multiset: &Multiset, caller: &mut Caller) {
     }
 }
 
-fn run_correct(order: Order) -> Result<(), vyrd_log::Error> {
-    let options = Options { order, seed: Some(7), ..Options::default() };
-    let log = Log::new(Header::new(1, "multiset", 1, CALLERS)?, io::stdout(), options)?;
+fn run_correct(order: Order) -> Result<(), Error> {
     let multiset = Multiset::default();
-    thread::scope(|scope| {
-        for _ in 0..CALLERS {
-            scope.spawn(|| {
-                let mut caller = log.caller().expect("a caller for each thread");
-                log.start_together(CALLERS);
-                play(&multiset, &mut caller);
-            });
-        }
-    });
-    log.finish()
+    let header = Header::new(1, "multiset", 1, CALLERS)?;
+    run_together(header, order, |caller| play(&multiset, caller))
 }
 
 /// Caller 0 finds slot 0 free. Before it fills it, caller 1 does so, with its whole insert.
-fn run_broken() -> Result<(), vyrd_log::Error> {
-    let log = Log::new(Header::new(1, "multiset", 1, 2)?, io::stdout(), Options::default())?;
-    let (mut first, mut second) = (log.caller()?, log.caller()?);
+fn run_broken() -> Result<(), Error> {
     let multiset = Multiset::default();
-    let (looked, after_the_look) = mpsc::channel();
-    let (filled, after_the_fill) = mpsc::channel();
-    thread::scope(|scope| {
-        let multiset = &multiset;
-        scope.spawn(move || {
-            multiset.insert_late(&mut first, 5, || {
-                looked.send(()).unwrap();
-                after_the_fill.recv().unwrap();
-            })
-        });
-        after_the_look.recv().unwrap();
-        multiset.insert_late(&mut second, 6, || {});
-        filled.send(()).unwrap();
-    });
-    log.finish()
+    run_interrupted(
+        Header::new(1, "multiset", 1, 2)?,
+        |caller, between| {
+            multiset.insert_late(caller, 5, between);
+        },
+        |caller| {
+            multiset.insert_late(caller, 6, || {});
+        },
+    )
 }
 
-fn main() -> Result<(), vyrd_log::Error> {
-    match env::args().nth(1).as_deref() {
-        Some("correct") => run_correct(Order::Lock),
-        Some("numbered") => run_correct(Order::Numbers),
-        Some("broken") => run_broken(),
-        _ => {
-            eprintln!("usage: multiset correct | numbered | broken");
-            process::exit(64);
-        }
-    }
+fn main() -> Result<(), Error> {
+    run_by_word("multiset", run_correct, run_broken)
 }
