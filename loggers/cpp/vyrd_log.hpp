@@ -39,6 +39,7 @@
 
 #include <fcntl.h>
 #include <poll.h>
+#include <pthread.h>
 #include <sys/types.h>
 #include <unistd.h>
 
@@ -308,6 +309,8 @@ public:
     void add(Output *output) {
         std::lock_guard<std::mutex> held(lock_);
         outputs_.push_back(output);
+        if (!watches_) std::thread([this] { watch(); }).detach();
+        watches_ = true;
     }
 
     void remove(Output *output) {
@@ -331,11 +334,17 @@ private:
     static inline std::atomic<int> ending_{-1};      // the index of another signal that came
 
     Watch() {
-        std::atexit([] {
-            if (::getpid() == get().process_) get().flush();
-        });
+        std::atexit([] { get().flush(); });
         take_signals();
-        std::thread([this] { watch(); }).detach();
+        ::pthread_atfork([] { get().lock_.lock(); }, [] { get().lock_.unlock(); },
+                         [] { get().begin_anew(); });
+    }
+
+    // In a forked process: its parent's logs aren't its own, and the thread isn't there.
+    void begin_anew() {
+        outputs_.clear();
+        watches_ = false;
+        lock_.unlock();
     }
 
     void watch() {
@@ -391,9 +400,9 @@ private:
         errno = saved;
     }
 
-    pid_t process_ = ::getpid();
-    std::mutex lock_;
+    std::mutex lock_; // guards what is below
     std::vector<Output *> outputs_;
+    bool watches_ = false;
 };
 
 // What a log and its callers share.

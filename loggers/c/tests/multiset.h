@@ -125,3 +125,74 @@ static void multiset_play(struct multiset *multiset, struct vyrd_caller *caller,
         }
     }
 }
+
+// A run: a log, and what its threads play with.
+struct multiset_run {
+    struct vyrd_log *log;
+    struct multiset multiset;
+    unsigned count, seed;
+};
+
+static void *multiset_thread(void *data) {
+    struct multiset_run *run = data;
+    struct vyrd_caller *caller = vyrd_caller(run->log);
+    vyrd_start_together(run->log, run->count);
+    multiset_play(&run->multiset, caller, run->seed);
+    vyrd_give_back(caller);
+    return NULL;
+}
+
+// The correct one: each of so many threads plays, and there are at most 16.
+static void multiset_together(struct vyrd_log *log, unsigned count, unsigned seed) {
+    struct multiset_run run = {.log = log, .count = count, .seed = seed};
+    multiset_make(&run.multiset, NULL);
+    pthread_t threads[16];
+    for (unsigned n = 0; n < count; n++)
+        pthread_create(&threads[n], NULL, multiset_thread, &run);
+    for (unsigned n = 0; n < count; n++)
+        pthread_join(threads[n], NULL);
+}
+
+static pthread_mutex_t multiset_lock = PTHREAD_MUTEX_INITIALIZER; // guards the two below
+static bool multiset_looked, multiset_filled;
+static pthread_cond_t multiset_changed = PTHREAD_COND_INITIALIZER;
+
+static void multiset_tell(bool *what) {
+    pthread_mutex_lock(&multiset_lock);
+    *what = true;
+    pthread_cond_broadcast(&multiset_changed);
+    pthread_mutex_unlock(&multiset_lock);
+}
+
+static void multiset_wait_for(const bool *what) {
+    pthread_mutex_lock(&multiset_lock);
+    while (!*what)
+        pthread_cond_wait(&multiset_changed, &multiset_lock);
+    pthread_mutex_unlock(&multiset_lock);
+}
+
+static void multiset_between(unsigned caller) {
+    if (caller != 0) return;
+    multiset_tell(&multiset_looked);
+    multiset_wait_for(&multiset_filled);
+}
+
+static struct multiset multiset_broken;
+
+static void *multiset_insert_first(void *caller) {
+    multiset_insert(&multiset_broken, caller, 5);
+    return NULL;
+}
+
+// The broken one, once: caller 0 finds slot 0 free. Before it fills it, caller 1 does so, with its
+// whole insert.
+static void multiset_interrupted(struct vyrd_log *log) {
+    multiset_make(&multiset_broken, multiset_between);
+    struct vyrd_caller *first = vyrd_caller(log), *second = vyrd_caller(log);
+    pthread_t other;
+    pthread_create(&other, NULL, multiset_insert_first, first);
+    multiset_wait_for(&multiset_looked);
+    multiset_insert(&multiset_broken, second, 6);
+    multiset_tell(&multiset_filled);
+    pthread_join(other, NULL);
+}

@@ -125,10 +125,10 @@ public final class Multiset {
         return i;
     }
 
-    private void play(VyrdLog log, int threads) {
+    private void play(VyrdLog log, int threads, long seed) {
         try (VyrdLog.Caller caller = log.caller()) {
             log.startTogether(threads);
-            Random draw = new Random(caller.number());
+            Random draw = new Random(64 * seed + caller.number());
             for (int n = 0; n < 500; n++) {
                 int x = draw.nextInt(3);
                 switch (draw.nextInt(6)) {
@@ -150,25 +150,21 @@ public final class Multiset {
         }
     }
 
-    private static void runCorrect() throws Exception {
-        int callers = 4;
-        VyrdLog.Options options = new VyrdLog.Options().seed(7);
-        try (VyrdLog log = VyrdLog.to(System.out, VyrdLog.Header.of(1, "multiset", 1, callers), options)) {
-            Multiset multiset = new Multiset(null);
-            List<Thread> threads = new ArrayList<>();
-            for (int n = 0; n < callers; n++) {
-                threads.add(new Thread(() -> multiset.play(log, callers)));
-            }
-            threads.forEach(Thread::start);
-            for (Thread thread : threads) {
-                thread.join();
-            }
-            log.finish();
+    /** The correct one: each of so many threads does operations that the seed gives. */
+    static void together(VyrdLog log, int callers, long seed) throws InterruptedException {
+        Multiset multiset = new Multiset(null);
+        List<Thread> threads = new ArrayList<>();
+        for (int n = 0; n < callers; n++) {
+            threads.add(new Thread(() -> multiset.play(log, callers, seed)));
+        }
+        threads.forEach(Thread::start);
+        for (Thread thread : threads) {
+            thread.join();
         }
     }
 
-    /** Caller 0 finds slot 0 free. Before it fills it, caller 1 does so, with its whole insert. */
-    private static void runBroken() throws Exception {
+    /** The broken one: caller 0 finds slot 0 free. Before it fills it, caller 1 does so, with its whole insert. */
+    static void interrupted(VyrdLog log) throws InterruptedException {
         CountDownLatch looked = new CountDownLatch(1);
         CountDownLatch filled = new CountDownLatch(1);
         Multiset multiset = new Multiset(caller -> {
@@ -177,17 +173,13 @@ public final class Multiset {
                 await(filled);
             }
         });
-        VyrdLog.Header header = VyrdLog.Header.of(1, "multiset", 1, 2);
-        try (VyrdLog log = VyrdLog.to(System.out, header, new VyrdLog.Options());
-                VyrdLog.Caller first = log.caller();
-                VyrdLog.Caller second = log.caller()) {
+        try (VyrdLog.Caller first = log.caller(); VyrdLog.Caller second = log.caller()) {
             Thread other = new Thread(() -> multiset.insert(first, 5));
             other.start();
             looked.await();
             multiset.insert(second, 6);
             filled.countDown();
             other.join();
-            log.finish();
         }
     }
 
@@ -199,15 +191,25 @@ public final class Multiset {
         }
     }
 
+    private static void run(boolean correct) throws Exception {
+        VyrdLog.Options options = correct ? new VyrdLog.Options().seed(7) : new VyrdLog.Options();
+        int callers = correct ? 4 : 2;
+        try (VyrdLog log = VyrdLog.to(System.out, VyrdLog.Header.of(1, "multiset", 1, callers), options)) {
+            if (correct) {
+                together(log, callers, 7);
+            } else {
+                interrupted(log);
+            }
+            log.finish();
+        }
+    }
+
     public static void main(String[] words) throws Exception {
         String word = words.length == 1 ? words[0] : "";
-        if (word.equals("correct")) {
-            runCorrect();
-        } else if (word.equals("broken")) {
-            runBroken();
-        } else {
+        if (!word.equals("correct") && !word.equals("broken")) {
             System.err.println("usage: Multiset correct | broken");
             System.exit(64);
         }
+        run(word.equals("correct"));
     }
 }

@@ -84,10 +84,10 @@ class Multiset:
         return next((i for i in range(SLOTS) if self._valid[i] and self._value[i] == x), None)
 
 
-def play(log, multiset, threads):
+def play(log, multiset, threads, seed):
     with log.caller() as caller:
         log.start_together(threads)
-        draw = random.Random(caller.number)
+        draw = random.Random(64 * seed + caller.number)
         for _ in range(200):
             x = draw.randrange(3)
             kind = draw.randrange(6)
@@ -101,19 +101,17 @@ def play(log, multiset, threads):
                 multiset.insert(caller, x)
 
 
-def run_correct():
-    callers = 4
-    with Log(Header(1, "multiset", 1, callers), sys.stdout.buffer, seed=7) as log:
-        multiset = Multiset()
-        threads = [threading.Thread(target=play, args=(log, multiset, callers)) for _ in range(callers)]
-        for thread in threads:
-            thread.start()
-        for thread in threads:
-            thread.join()
+def together(log, multiset, callers, seed):
+    """Each of so many threads does operations that the seed gives."""
+    threads = [threading.Thread(target=play, args=(log, multiset, callers, seed)) for _ in range(callers)]
+    for thread in threads:
+        thread.start()
+    for thread in threads:
+        thread.join()
 
 
-def run_broken():
-    """Caller 0 finds slot 0 free. Before it fills it, caller 1 does so, with its whole insert."""
+def interrupted(log):
+    """The broken one: caller 0 finds slot 0 free. Before it fills it, caller 1 does so, with its whole insert."""
     looked, filled = threading.Event(), threading.Event()
 
     def between(caller):
@@ -122,14 +120,24 @@ def run_broken():
             filled.wait()
 
     multiset = Multiset(between)
+    first, second = log.caller(), log.caller()
+    other = threading.Thread(target=multiset.insert, args=(first, 5))
+    other.start()
+    looked.wait()
+    multiset.insert(second, 6)
+    filled.set()
+    other.join()
+
+
+def run_correct():
+    callers = 4
+    with Log(Header(1, "multiset", 1, callers), sys.stdout.buffer, seed=7) as log:
+        together(log, Multiset(), callers, 7)
+
+
+def run_broken():
     with Log(Header(1, "multiset", 1, 2), sys.stdout.buffer) as log:
-        first, second = log.caller(), log.caller()
-        other = threading.Thread(target=multiset.insert, args=(first, 5))
-        other.start()
-        looked.wait()
-        multiset.insert(second, 6)
-        filled.set()
-        other.join()
+        interrupted(log)
 
 
 if __name__ == "__main__":

@@ -9,13 +9,12 @@
 
 mod common;
 
-use common::{run_by_word, run_interrupted, run_together, Draws};
+use common::{interrupted, run_by_word, together, Draws, SEED};
 use std::collections::HashMap;
 use std::sync::Mutex;
-use vyrd_log::{Caller, Error, Header, Lines, Order};
+use vyrd_log::{Caller, Error, Header, Lines, Log};
 
 const KEYS: u32 = 8; // one leaf each
-const CALLERS: usize = 4;
 const COUNT: u32 = 1; // where a leaf's words stand among its twelve
 const BOUND: u32 = 2;
 const RIGHT: u32 = 3;
@@ -101,7 +100,7 @@ fn leaves() -> impl Iterator<Item = (u32, u64)> {
 }
 
 fn play(map: &Map, caller: &mut Caller) {
-    let mut draws = Draws::of(caller);
+    let mut draws = Draws::of(caller, SEED);
     for _ in 0..500 {
         let draw = draws.next();
         let key = draw / 8 % KEYS;
@@ -113,17 +112,11 @@ fn play(map: &Map, caller: &mut Caller) {
     }
 }
 
-fn run_correct(order: Order) -> Result<(), Error> {
-    let map = Map::default();
-    let header = Header::with_start("tree", KEYS, CALLERS, leaves())?;
-    run_together(header, order, |caller| play(&map, caller))
-}
-
 /// Caller 0 finds no key 3. Before it sets it, caller 1 does so, with its whole insert.
-fn run_broken() -> Result<(), Error> {
+fn interrupted_insert(log: &Log) {
     let map = Map::default();
-    run_interrupted(
-        Header::with_start("tree", KEYS, 2, leaves())?,
+    interrupted(
+        log,
         |caller, between| {
             map.insert_late(caller, 3, 10, between);
         },
@@ -134,5 +127,11 @@ fn run_broken() -> Result<(), Error> {
 }
 
 fn main() -> Result<(), Error> {
-    run_by_word("map", run_correct, run_broken)
+    let map = Map::default();
+    run_by_word(
+        "map",
+        |callers| Header::with_start("tree", KEYS, callers, leaves()),
+        |log, callers| together(log, callers, |caller| play(&map, caller)),
+        interrupted_insert,
+    )
 }

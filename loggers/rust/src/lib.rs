@@ -32,16 +32,21 @@
 //! What is kept in the buffer is written every 20 milliseconds too, at exit, and, on Unix, before a
 //! fatal signal ends the program. Each write ends with a whole line. So a program that hangs, or
 //! that ends in another way than by [`Log::finish`], leaves a log that `vyrd check` can read.
+//!
+//! In a test, [`check_runs`] makes many runs and lets `vyrd check` judge each log.
 
 #![warn(missing_docs)]
 
+mod check;
 mod header;
+mod judge;
 mod lines;
 mod log;
 mod numbers;
 mod sink;
 mod watch;
 
+pub use crate::check::{check_runs, CheckRuns};
 pub use crate::header::Header;
 pub use crate::lines::Lines;
 pub use crate::log::{Caller, Log, Options, Order};

@@ -165,6 +165,11 @@ impl Log {
     ///
     /// [`Error::Io`] where a write has failed, now or before.
     pub fn finish(self) -> Result<(), Error> {
+        self.end()
+    }
+
+    /// The same, of a log that others hold too.
+    pub(crate) fn end(&self) -> Result<(), Error> {
         let last = locked(&self.0.step);
         self.0.finished.store(true, SeqCst);
         self.0.output.end();

@@ -104,6 +104,52 @@ func (b *Bag) Play(caller *vyrdlog.Caller, seed int64) {
 	}
 }
 
+// Together lets so many goroutines play with one bag.
+func Together(log *vyrdlog.Log, goroutines int, seed int64) {
+	var bag Bag
+	var all sync.WaitGroup
+	for n := 0; n < goroutines; n++ {
+		all.Add(1)
+		go func() {
+			defer all.Done()
+			caller := callerOf(log)
+			defer caller.GiveBack()
+			log.StartTogether(goroutines)
+			bag.Play(caller, seed)
+		}()
+	}
+	all.Wait()
+}
+
+// Interrupted is the broken one: caller 0 finds slot 0 free. Before it fills it, caller 1 does so,
+// with its whole insert.
+func Interrupted(log *vyrdlog.Log) {
+	first, second := callerOf(log), callerOf(log)
+	looked, filled, ended := make(chan bool), make(chan bool), make(chan bool)
+	bag := Bag{Between: func(caller int) {
+		if caller == 0 {
+			close(looked)
+			<-filled
+		}
+	}}
+	go func() {
+		bag.Insert(first, 5)
+		close(ended)
+	}()
+	<-looked
+	bag.Insert(second, 6)
+	close(filled)
+	<-ended
+}
+
+func callerOf(log *vyrdlog.Log) *vyrdlog.Caller {
+	caller, err := log.Caller()
+	if err != nil {
+		panic(err)
+	}
+	return caller
+}
+
 func (b *Bag) fill(caller *vyrdlog.Caller, i int, x uint64) bool {
 	if i == slots {
 		caller.Commit()

@@ -1,15 +1,21 @@
-//! What the programs with a correct and a broken structure share.
+//! What the programs with a correct and a broken structure share, and the tests with them.
+#![allow(dead_code)] // each uses a part
+
+pub mod multiset;
 
 use std::sync::mpsc;
 use std::{env, io, process, thread};
 use vyrd_log::{Caller, Error, Header, Log, Options, Order};
 
-/// Numbers below 2^32 that a caller's number gives.
+/// The seed of a run that is made once.
+pub const SEED: u64 = 7;
+
+/// Numbers that a seed and a caller's number give.
 pub struct Draws(u32);
 
 impl Draws {
-    pub fn of(caller: &Caller) -> Self {
-        Draws(caller.number() as u32 + 1)
+    pub fn of(caller: &Caller, seed: u64) -> Self {
+        Draws(64 * seed as u32 + caller.number() as u32 + 1)
     }
 
     pub fn next(&mut self) -> u32 {
@@ -20,36 +26,28 @@ impl Draws {
     }
 }
 
-/// A run in which each of so many threads plays, and its log on standard output.
-pub fn run_together(
-    header: Header,
-    order: Order,
-    play: impl Fn(&mut Caller) + Sync,
-) -> Result<(), Error> {
-    let callers = header.callers();
-    let log =
-        Log::new(header, io::stdout(), Options { order, seed: Some(7), ..Options::default() })?;
+/// Each of so many threads plays, with a caller of its own.
+pub fn together(log: &Log, threads: usize, play: impl Fn(&mut Caller) + Sync) {
     thread::scope(|scope| {
-        for _ in 0..callers {
+        for _ in 0..threads {
             scope.spawn(|| {
                 let mut caller = log.caller().expect("a caller for each thread");
-                log.start_together(callers);
+                log.start_together(threads);
                 play(&mut caller);
             });
         }
     });
-    log.finish()
 }
 
-/// A run in which caller 0 does `first` up to where that calls what it is given. Then caller 1 does
-/// `second` whole, and caller 0 goes on.
-pub fn run_interrupted(
-    header: Header,
+/// Caller 0 does `first` up to where that calls what it is given. Then caller 1 does `second` whole,
+/// and caller 0 goes on.
+pub fn interrupted(
+    log: &Log,
     first: impl FnOnce(&mut Caller, &dyn Fn()) + Send,
     second: impl FnOnce(&mut Caller),
-) -> Result<(), Error> {
-    let log = Log::new(header, io::stdout(), Options::default())?;
-    let (mut zero, mut one) = (log.caller()?, log.caller()?);
+) {
+    let mut zero = log.caller().expect("a first caller");
+    let mut one = log.caller().expect("a second caller");
     let (looked, after_the_look) = mpsc::channel();
     let (done, after_the_second) = mpsc::channel();
     thread::scope(|scope| {
@@ -63,22 +61,32 @@ pub fn run_interrupted(
         second(&mut one);
         done.send(()).unwrap();
     });
-    log.finish()
 }
 
-/// Does what the program's word asks for.
+/// Does what the program's word asks for: a correct run of four callers or a broken one of two, with
+/// its log on standard output.
 pub fn run_by_word(
     name: &str,
-    correct: impl Fn(Order) -> Result<(), Error>,
-    broken: impl Fn() -> Result<(), Error>,
+    header: impl Fn(usize) -> Result<Header, Error>,
+    correct: impl Fn(&Log, usize),
+    broken: impl Fn(&Log),
 ) -> Result<(), Error> {
-    match env::args().nth(1).as_deref() {
-        Some("correct") => correct(Order::Lock),
-        Some("numbered") => correct(Order::Numbers),
-        Some("broken") => broken(),
+    let word = env::args().nth(1).unwrap_or_default();
+    let (order, callers) = match word.as_str() {
+        "correct" => (Order::Lock, 4),
+        "numbered" => (Order::Numbers, 4),
+        "broken" => (Order::Lock, 2),
         _ => {
             eprintln!("usage: {name} correct | numbered | broken");
             process::exit(64);
         }
+    };
+    let options = Options { order, seed: Some(SEED), ..Options::default() };
+    let log = Log::new(header(callers)?, io::stdout(), options)?;
+    if word == "broken" {
+        broken(&log);
+    } else {
+        correct(&log, callers);
     }
+    log.finish()
 }
