@@ -732,11 +732,11 @@ static void vyrd_pause(struct vyrd_caller *caller) {
 void vyrd_begin(struct vyrd_caller *caller) {
     struct vyrd_log *log = caller->log;
     vyrd_pause(caller);
-    if (caller->inside || log->owner == vyrd_sentence)
+    if (caller->inside || atomic_load_explicit(&log->owner, memory_order_relaxed) == vyrd_sentence)
         vyrd_misused("a step inside a step of the same thread");
     if (log->options.order == VYRD_LOCK) {
         pthread_mutex_lock(&log->order);
-        log->owner = vyrd_sentence;
+        atomic_store_explicit(&log->owner, vyrd_sentence, memory_order_relaxed);
     }
     if (log->finished) vyrd_misused("a step of a log that is finished");
     caller->inside = true;
@@ -753,7 +753,7 @@ void vyrd_end(struct vyrd_caller *caller) {
     caller->writing = caller->number;
     caller->inside = false;
     if (log->options.order == VYRD_LOCK) {
-        log->owner = NULL;
+        atomic_store_explicit(&log->owner, NULL, memory_order_relaxed);
         pthread_mutex_unlock(&log->order);
     }
 }

@@ -41,6 +41,7 @@ def check_runs(body, header, *, runs=20, seed=1, seconds=60, folder=None, progra
     Raises RunsFailed at the first run whose log isn't accepted, whose body raises, or whose body hasn't returned after so many
     seconds. The log is then kept, and judged as it is. A body that doesn't return goes on in its thread, which is a daemon.
     """
+    __tracebackhide__ = True  # pytest shows the test's own line
     judge = _Judge(program, explain)
     kept = Path(folder) if folder is not None else Path(tempfile.mkdtemp(prefix="vyrd_"))
     kept.mkdir(parents=True, exist_ok=True)
