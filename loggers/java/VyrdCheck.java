@@ -23,6 +23,7 @@ public final class VyrdCheck {
     private int runs = 20;
     private long first = 1;
     private double seconds = 60;
+    private VyrdLog.Options options = new VyrdLog.Options();
     private Path folder;
     private String program = System.getenv("VYRD");
     private String explain = System.getenv("VYRD_EXPLAIN");
@@ -59,6 +60,12 @@ public final class VyrdCheck {
         return this;
     }
 
+    /** How the logs are written. Their seed is the run's. */
+    public VyrdCheck log(VyrdLog.Options options) {
+        this.options = options;
+        return this;
+    }
+
     /** The folder of the logs. By default it is a new one in the system's folder for temporary files. */
     public VyrdCheck folder(Path folder) {
         this.folder = folder;
@@ -92,7 +99,7 @@ public final class VyrdCheck {
         Path kept = folder == null ? Files.createTempDirectory("vyrd_") : Files.createDirectories(folder);
         for (int n = 0; n < runs; n++) {
             Path path = kept.resolve(Long.toUnsignedString(first + n) + ".log");
-            Run run = new Run(body, first + n, VyrdLog.create(header, path, new VyrdLog.Options().seed(first + n)));
+            Run run = new Run(body, first + n, VyrdLog.create(header, path, options.seed(first + n)));
             String fault = run.play(seconds);
             String verdict = verdict(judge, path);
             if (!fault.isEmpty() || !verdict.startsWith("accepted: ")) {

@@ -124,7 +124,7 @@ int main(void) {
     a_broken_one_fails_with_what_explain_says();
     ends_otherwise("return", 0, "the body's process ended with status 3");
     ends_otherwise("abort", 0, "the body's process was ended by signal 6");
-    ends_otherwise("hang", 500, "the body hasn't returned after 500 milliseconds");
+    ends_otherwise("hang", 2000, "the body hasn't returned after 2000 milliseconds");
     a_program_that_is_not_there_or_gives_no_verdict();
     message_of(&(struct vyrd_check){.program = "/no/vyrd"}, correct, NULL, 2);
     vyrd_close(own);

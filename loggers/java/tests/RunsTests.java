@@ -82,8 +82,8 @@ public final class RunsTests {
 
     private static void bodyThatHangs() throws Exception {
         CountDownLatch never = new CountDownLatch(1);
-        fails("run 1 of 20, with seed 1: the body hasn't returned after 0.5 seconds; malformed at line 3: no end\n",
-                sentenceOf(check().seconds(0.5), (seed, log) -> {
+        fails("run 1 of 20, with seed 1: the body hasn't returned after 2.0 seconds; malformed at line 3: no end\n",
+                sentenceOf(check().seconds(2), (seed, log) -> {
                     log.caller().call("insert", 5);
                     never.await();
                 }));

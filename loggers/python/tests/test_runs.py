@@ -62,8 +62,8 @@ class Tests(unittest.TestCase):
             log.caller().call("insert", 5)
             go_on.wait()
 
-        said = self.fails(body, seconds=0.5)
-        self.assertIn("with seed 1: the body hasn't returned after 0.5 seconds; malformed at line 3: no end\n", said)
+        said = self.fails(body, seconds=2)
+        self.assertIn("with seed 1: the body hasn't returned after 2 seconds; malformed at line 3: no end\n", said)
         self.assertEqual(self.kept(1), "vyrd 1 multiset 1 4\n0 call insert 5\n")
 
     def test_a_program_that_is_not_there(self):

@@ -80,13 +80,13 @@ fn a_panic_of_the_body_is_said() {
 #[test]
 fn a_body_that_hangs_is_given_up() {
     let (asked, folder) = asked("hang");
-    let said = sentence(CheckRuns { time: Duration::from_millis(500), ..asked }, |_, log| {
+    let said = sentence(CheckRuns { time: Duration::from_secs(2), ..asked }, |_, log| {
         log.caller().unwrap().call("insert", &[5]);
         loop {
             thread::park();
         }
     });
-    let fault = "run 1 of 20, with seed 1: the body hasn't returned after 0.5 seconds; ";
+    let fault = "run 1 of 20, with seed 1: the body hasn't returned after 2 seconds; ";
     contains(&said, &format!("{fault}malformed at line 3: no end\n"));
     assert_eq!(fs::read_to_string(folder.join("1.log")).unwrap(), BEGUN);
 }

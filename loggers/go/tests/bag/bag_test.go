@@ -94,7 +94,7 @@ func fails(t *testing.T, sentence string, check vyrdlog.Check, then func()) {
 func TestABodyThatDoesNotReturn(t *testing.T) {
 	fails(t, "the body panicked: by the test", vyrdlog.Check{}, func() { panic("by the test") })
 	fails(t, "the body ended its goroutine", vyrdlog.Check{}, runtime.Goexit)
-	fails(t, "the body hasn't returned after 500ms", vyrdlog.Check{Time: time.Second / 2},
+	fails(t, "the body hasn't returned after 2s", vyrdlog.Check{Time: 2 * time.Second},
 		func() { select {} })
 }
 
