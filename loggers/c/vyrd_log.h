@@ -210,6 +210,10 @@ void vyrd_call_of(struct vyrd_caller *caller, const char *method, size_t count,
 #include <time.h>
 #include <unistd.h>
 
+#ifndef SA_ONSTACK
+#error "include vyrd_log.h before the file's other headers, or compile with -std=gnu11"
+#endif
+
 enum { VYRD_LINE_BYTES = 64 };        // the most of a line, without its line feed
 enum { VYRD_FULL = 1024 * 1024 };     // what a caller keeps before it merges all numbered steps
 enum { VYRD_TICK_NS = 20 * 1000000 }; // between two looks for what is kept
