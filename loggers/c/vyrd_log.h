@@ -823,6 +823,7 @@ void vyrd_entry(struct vyrd_caller *caller, const char *words) {
 }
 
 void vyrd_helping(struct vyrd_caller *caller, unsigned number) {
+    if (!caller->inside) vyrd_misused("a line outside a step");
     caller->writing = number;
 }
 

@@ -122,6 +122,11 @@ static void outside(struct vyrd_log *log, struct vyrd_caller *caller) {
     vyrd_write(caller, 0, 2);
 }
 
+static void helping_outside(struct vyrd_log *log, struct vyrd_caller *caller) {
+    (void)log;
+    vyrd_helping(caller, 1);
+}
+
 static void late(struct vyrd_log *log, struct vyrd_caller *caller) {
     vyrd_finish(log);
     vyrd_commit(caller);
@@ -166,6 +171,7 @@ static void misuses(void) {
     aborts(inside, "vyrd_log: a step inside a step of the same thread\n");
     aborts(inside_another, "vyrd_log: a step inside a step of the same thread\n");
     aborts(outside, "vyrd_log: a line outside a step\n");
+    aborts(helping_outside, "vyrd_log: a line outside a step\n");
     aborts(late, "vyrd_log: a step of a log that is finished\n");
     aborts(twice, "vyrd_log: a log is finished twice\n");
     aborts(too_long, "vyrd_log: a line of a log has more than 64 bytes\n");
