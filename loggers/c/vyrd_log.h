@@ -169,8 +169,8 @@ void vyrd_commit(struct vyrd_caller *caller);
 void vyrd_write(struct vyrd_caller *caller, uint32_t word, uint64_t value);
 
 /// `open`, in a step: writes that take effect together begin.
-void vyrd_open(struct vyrd_caller *caller);
-/// `close`, in a step: they end. (vyrd_close is about a log.)
+void vyrd_open_block(struct vyrd_caller *caller);
+/// `close`, in a step: they end.
 void vyrd_close_block(struct vyrd_caller *caller);
 /// `close commit`, in a step: they end, and the operation takes effect with them.
 void vyrd_close_commit(struct vyrd_caller *caller);
@@ -808,7 +808,7 @@ void vyrd_write(struct vyrd_caller *caller, uint32_t word, uint64_t value) {
     vyrd_line(caller, "write", 2, (const uint64_t[]){word, value});
 }
 
-void vyrd_open(struct vyrd_caller *caller) {
+void vyrd_open_block(struct vyrd_caller *caller) {
     vyrd_line(caller, "open", 0, NULL);
 }
 void vyrd_close_block(struct vyrd_caller *caller) {

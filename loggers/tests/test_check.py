@@ -53,7 +53,7 @@ class Tests(unittest.TestCase):
             accepts = Path(folder, "accepts")
             accepts.write_text("#!/bin/sh\ncat >/dev/null\necho 'accepted: 0 entries'\n")
             accepts.chmod(0o755)
-            done = run("python", VYRD=str(accepts))
+            done = run("python", VYRD=os.path.relpath(accepts))
         self.assertEqual(done.returncode, 1)
         self.assertIn("failed: python/multiset broken: status 0 and 'accepted: 0 entries', wanted 1 and 'violation", done.stdout)
         self.assertNotIn("failed: python/multiset correct", done.stdout)

@@ -41,7 +41,7 @@ static void each_line(void) {
     struct vyrd_caller *first = vyrd_caller(log), *second = vyrd_caller(log);
     vyrd_call(first, "insert", 4294967295, 0);
     vyrd_begin(first);
-    vyrd_open(first);
+    vyrd_open_block(first);
     vyrd_write(first, 4, UINT64_C(1) << 62);
     vyrd_write(first, 1, 1);
     vyrd_close_block(first);
