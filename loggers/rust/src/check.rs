@@ -70,8 +70,8 @@ impl CheckRuns {
 /// # Panics
 ///
 /// At the first run whose log isn't accepted, whose body panics, or whose body hasn't returned in
-/// time. It says where the log is kept, which is judged as it is. A body that doesn't return goes on
-/// in its thread. It panics too where the program can't be run, or a log can't be written.
+/// time. It says where the log is kept, which is judged as it is. A body that doesn't return goes
+/// on in its thread. It panics too if the program can't be run, or if a log can't be written.
 #[track_caller]
 pub fn check_runs(asked: CheckRuns, body: impl Fn(u64, &Log) + Send + Sync + 'static) {
     if let Err(sentence) = all_runs(&asked, Arc::new(body)) {
