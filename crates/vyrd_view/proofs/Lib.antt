@@ -1,16 +1,12 @@
-pub mod PartLaws
+pub mod DecodedLaws
 pub mod ChainLaws
 pub mod ApartLaws
 pub mod RestLaws
 pub mod PairLaws
 pub mod PlacedLaws
-pub mod SlotLaws
-pub mod ChunkPairLaws
-pub mod BufferLaws
 pub mod NodeLaws
 pub mod WalkLaws
 pub mod TreePairLaws
-pub mod ShowingLaws
 pub mod ShowingTree
 pub mod CurrentLaws
 pub mod ReadyLaws

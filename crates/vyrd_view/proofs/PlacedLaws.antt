@@ -1,19 +1,12 @@
 -- Pairs in places, as a loop over changed words brings them up to date.
-use Rattle.std.proofs.Common.{◌≡◌, ℕ, suc, ◌+◌, ◌*◌, ◌/◌, ◌<◌, ◌≤◌, Bool, true, false, ◌||◌, List, [], ◌∷◌, ◌++◌, length, map, get_or, set, drop, refl, ap, ◌∙◌, sym, arith, get_or-set_same, get_or-set_other}
+use Rattle.std.proofs.Common.{◌≡◌, ℕ, suc, ◌+◌, ◌/◌, ◌<◌, ◌≤◌, Bool, true, false, ◌||◌, List, [], ◌∷◌, length, map, get_or, set, drop, refl, ap, ◌∙◌, sym, arith, get_or-set_same, get_or-set_other}
 use Rattle.std.specs.Prelude.{◌==◌, ◌≢◌}
-use Rattle.std.proofs.lemmas.List.{drop_more, drop_all, map-append}
+use Rattle.std.proofs.lemmas.List.{drop_more, drop_all}
 use Rattle.vyrd_base.specs.Places.{numbers_from, numbers_below}
-use Rattle.vyrd_base.specs.Amounts.{given}
-use Rattle.vyrd_base.proofs.PlaceLaws.{numbers_below-push}
 use Rattle.vyrd_base.proofs.TestLaws.{same_of, apart_of}
 use Rattle.vyrd_view.specs.Pairs.{is_touched, EachAtMost}
-use Rattle.vyrd_base.proofs.SumLaws.{part_at_most}
 
--- pairs that give this much at most
-pub each_bounds : (most q : ℕ) (pairs : List (ℕ × ℕ)) → EachAtMost most pairs → given q pairs ≤ length pairs * most
-each_bounds most q [] each = omega arith
-each_bounds most q (p ∷ pairs) each = omega (arith, each 0, part_at_most q p.0 p.1, each_bounds most q pairs (λ i. each (suc i)))
-
+-- a pair that gives this much at most comes to a place
 pub each-set : (most : ℕ) (pairs : List (ℕ × ℕ)) (place : ℕ) (pair : ℕ × ℕ) → place < length pairs → pair.1 ≤ most → EachAtMost most pairs
     → EachAtMost most (set pairs place pair)
 each-set most pairs place pair low small each i = by_test (i == place) refl
@@ -42,33 +35,6 @@ untouched_rest size i changed index low apart rest =
 pub untouched_end : (size i : ℕ) (changed : List ℕ) (index : ℕ) → length changed ≤ index → is_touched size i (drop index changed) ≡ false
 untouched_end size i changed index high = ap (is_touched size i) (drop_all index changed high)
 
--- the parts with one pair each that none of the words left is in are up to date
-abbrev pub AreFresh : ℕ → (ℕ → ℕ × ℕ) → List (ℕ × ℕ) → List ℕ → Type 0
-AreFresh size f pairs left = (i : ℕ) → i < length pairs → is_touched size i left ≡ false → get_or pairs i (0, 0) ≡ f i
-
-pub fresh_more : (size : ℕ) (f : ℕ → ℕ × ℕ) (pairs : List (ℕ × ℕ)) (changed : List ℕ) (index : ℕ) → index < length changed
-    → get_or changed index 0 / size < length pairs
-    → AreFresh size f pairs (drop index changed)
-    → (i : ℕ) → i < length pairs → is_touched size i (drop (index + 1) changed) ≡ false
-    → get_or (set pairs (get_or changed index 0 / size) (f (get_or changed index 0 / size))) i (0, 0) ≡ f i
-fresh_more size f pairs changed index low within fresh i inside rest = by_test (get_or changed index 0 / size == i) refl
-  where
-    part : ℕ
-    part = get_or changed index 0 / size
-
-    other : (part == i) ≡ false → i ≢ part
-    other e = λ same. apart_of part i e (sym same)
-
-    by_test : (b : Bool) → (get_or changed index 0 / size == i) ≡ b
-        → get_or (set pairs (get_or changed index 0 / size) (f (get_or changed index 0 / size))) i (0, 0) ≡ f i
-    by_test true e =
-        ap (λ k. get_or (set pairs (get_or changed index 0 / size) (f (get_or changed index 0 / size))) k (0, 0)) (sym (same_of (get_or changed index 0 / size) i e))
-        ∙ get_or-set_same pairs (get_or changed index 0 / size) (f (get_or changed index 0 / size)) (0, 0) within
-        ∙ ap f (same_of (get_or changed index 0 / size) i e)
-    by_test false e =
-        get_or-set_other pairs (get_or changed index 0 / size) i (f (get_or changed index 0 / size)) (0, 0) (other e)
-        ∙ fresh i inside (untouched_rest size i changed index low e rest)
-
 -- pairs that are each what a function of their place says
 mapped_from : (f : ℕ → ℕ × ℕ) (pairs : List (ℕ × ℕ)) (k : ℕ) → ((i : ℕ) → i < length pairs → get_or pairs i (0, 0) ≡ f (k + i))
     → pairs ≡ map f (numbers_from k (length pairs))
@@ -84,10 +50,6 @@ pub mapped : (f : ℕ → ℕ × ℕ) (pairs : List (ℕ × ℕ)) (n : ℕ) → 
 mapped f pairs n is each =
     mapped_from f pairs 0 (λ i low. let at : 0 + i ≡ i = omega arith in each i (omega (arith, low)) ∙ ap f (sym at))
     ∙ ap (λ m. map f (numbers_below m)) is
-
--- one place more
-pub mapped-push : (f : ℕ → ℕ × ℕ) (n : ℕ) → map f (numbers_below (n + 1)) ≡ map f (numbers_below n) ++ f n ∷ []
-mapped-push f n = ap (map f) (numbers_below-push n) ∙ map-append f (numbers_below n) (n ∷ [])
 
 -- the places of the parts that none of the words left is in are up to date, where each part has as many places as `places` says
 abbrev pub ArePartsFresh : ℕ → ℕ → (ℕ → ℕ × ℕ) → List (ℕ × ℕ) → List ℕ → Type 0

@@ -11,7 +11,7 @@ use Rattle.vyrd_base.proofs.SumLaws.{given-append, nothing_given}
 use Rattle.vyrd_base.proofs.TestLaws.{same_of, apart_of, isnt_same, below_of, not_below_of, neither_true, above_of}
 use Rattle.vyrd_view.specs.Chains.{chain_nodes_from, chain_breaks_from, is_on_chain, is_broken, entry_pair, end_pair, tree_pair}
 use Rattle.vyrd_base.proofs.PartLaws.{place_parts, node_parts-places, parts_after}
-use Rattle.vyrd_view.proofs.ShowingLaws.{given_map_push, given_flat_push}
+use Rattle.vyrd_view.specs.Laws.Sums.{given_map_push, given_flat_push}
 use Rattle.vyrd_view.proofs.WalkLaws.{nodes_after, breaks_after}
 use Rattle.vyrd_view.proofs.TreePairLaws.{tree_pair_end}
 

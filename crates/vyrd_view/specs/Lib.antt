@@ -2,9 +2,12 @@ pub mod Apart
 pub mod Rests
 pub mod Sided
 pub mod Kept
+pub mod Decoded
 pub mod Pairs
 pub mod Chains
+pub mod Chained
 pub mod Comparing
-pub mod Firsts
 pub mod Homes
 pub mod Known
+pub mod Subjects
+pub mod Laws

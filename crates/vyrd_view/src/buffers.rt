@@ -1,47 +1,74 @@
-//! What string buffers show.
+//! String buffers.
 
-ghost use Rattle.std.specs.Prelude.{◌≡◌, ◌+◌, ◌*◌, ◌<◌, ◌≤◌, length, IfOk, OnOk};
-ghost use Rattle.vyrd_base.specs.declared.subject.Subject.TheVariants.{Buffers};
-ghost use Rattle.vyrd_base.specs.Amounts.{amount_of, collected};
-ghost use Rattle.vyrd_base.specs.Buffers.{buffer_at, buffer_parts};
-ghost use Rattle.vyrd_base.specs.Views.{parts_of};
-ghost use Rattle.vyrd_base.specs.Added.{added};
+ghost use Rattle.std.specs.Prelude.{◌≡◌, ◌≤◌};
 
-use std::alloc::{AllocError, Global};
-use vyrd_base::{AmountMap, buffer_text};
+use crate::decode::{Decode, NOTHING};
+use vyrd_base::{BUFFER_WORDS, buffer_text};
 
-/// The amount of the key past the buffers for words that aren't a buffer.
+/// What words that aren't a buffer give to the key past the buffers.
 const DAMAGED: u64 = 1;
 
-/// The text that each buffer shows, and which are damaged, under a key past the buffers.
-pub(crate) fn buffers(alloc: Global, size: usize, words: &[u64]) -> Result<AmountMap, AllocError>
-    requires count { length words.now ≡ 8 * size }
-    requires small { size ≤ 1024 }
-    ensures { IfOk result (λ sums. sums ≡ collected (parts_of Buffers size words.now)) }
-{
-    let mut sums = AmountMap::new(alloc);
-    for number in 0..size {
-        add_buffer(&mut sums, size, number, words)?;
-    }
-    Ok(sums)
+/// String buffers, as many as the size. A buffer gives its text to its own key, and words that
+/// aren't a buffer give 1 to a key past the buffers.
+#[derive(Clone, Copy)]
+pub(crate) struct Buffers {
+    size: usize,
+    ghost small: { size ≤ 1024 },
 }
 
-/// Adds what one buffer gives.
-fn add_buffer(
-    sums: &mut AmountMap,
-    size: usize,
-    number: usize,
-    words: &[u64],
-) -> Result<(), AllocError>
-    requires within { 8 * number + 7 < length words.now }
-    requires small { size + number ≤ 2048 }
-    requires key { amount_of sums.old number ≡ 0 }
-    requires past { amount_of sums.old (size + number) ≡ 0 }
-    ensures { OnOk result
-        (sums.new ≡ added sums.old (buffer_parts size number (buffer_at words.now number))) }
-{
-    match buffer_text(words, number) {
-        Some(text) => sums.add(number as u64, text),
-        None => sums.add((size + number) as u64, DAMAGED),
+impl Buffers {
+    /// That many buffers.
+    pub(crate) fn new(size: usize) -> Buffers
+        requires { size ≤ 1024 }
+        ensures { result.size ≡ size }
+    {
+        Buffers { size }
+    }
+}
+
+impl Decode for Buffers {
+    ghost use Rattle.vyrd_base.specs.declared.subject.Subject.TheVariants.{Buffers as OfBuffers};
+    ghost use Rattle.std.specs.Prelude.{refl};
+    ghost use Rattle.vyrd_view.specs.Known.{of_subject};
+    ghost use Rattle.vyrd_view.specs.Pairs.{buffer_gives};
+    ghost use Rattle.vyrd_view.specs.Laws.Buffers.{buffers_narrow, buffers_few};
+    ghost use Rattle.vyrd_view.specs.Laws.Buffers.{buffers_fit, buffers_show};
+
+    ghost WIDTH = { 8 };
+
+    ghost PLACES = { 1 };
+
+    ghost parts = { λ buffers. buffers.size };
+
+    ghost gives = { λ buffers. buffer_gives buffers.size };
+
+    ghost shows = { λ buffers. of_subject OfBuffers buffers.size };
+
+    ghost narrow = { buffers_narrow };
+
+    ghost few = { λ buffers. buffers_few buffers.size buffers.small };
+
+    ghost quiet = { λ buffers part j. refl };
+
+    ghost fits = { λ buffers. buffers_fit buffers.size };
+
+    ghost shown = { λ buffers words count. buffers_show buffers.size words };
+
+    const WIDTH: usize = BUFFER_WORDS;
+
+    const PLACES: usize = 1;
+
+    #[inline(always)]
+    fn parts(&self) -> usize {
+        self.size
+    }
+
+    #[inline(always)]
+    fn decode(&self, part: usize, words: &[u64]) -> [(u64, u64); 4] {
+        let pair = match buffer_text(words, 0) {
+            Some(text) => (part as u64, text),
+            None => ((self.size + part) as u64, DAMAGED),
+        };
+        [pair, NOTHING, NOTHING, NOTHING]
     }
 }

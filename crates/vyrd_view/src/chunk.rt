@@ -1,6 +1,6 @@
 //! One chunk of a cache.
 
-ghost use Rattle.std.specs.Prelude.{◌≡◌, ◌+◌, ◌*◌, ◌<◌, ◌==◌, true, length};
+ghost use Rattle.std.specs.Prelude.{◌≡◌, ◌≤◌, ◌==◌, true, length};
 ghost use Rattle.vyrd_base.specs.Cache.{chunk_at, is_chunk, cached_pair, stored_pair};
 
 use std::marker::Model;
@@ -42,18 +42,18 @@ impl Model for Chunk {
 }
 
 impl Chunk {
-    /// The chunk with this number.
-    pub(crate) fn at(words: &[u64], number: usize) -> Chunk
-        requires { 5 * number + 4 < length words.now }
-        ensures { result ≡ chunk_at words.now number }
+    /// The chunk that has these words.
+    #[inline(always)]
+    pub(crate) fn of(words: &[u64]) -> Chunk
+        requires { 5 ≤ length words.now }
+        ensures { result ≡ chunk_at words.now 0 }
     {
-        let first = 5 * number;
         Chunk {
-            state: words[first],
-            cached_lo: words[first + 1],
-            cached_hi: words[first + 2],
-            stored_lo: words[first + 3],
-            stored_hi: words[first + 4],
+            state: words[0],
+            cached_lo: words[1],
+            cached_hi: words[2],
+            stored_lo: words[3],
+            stored_hi: words[4],
         }
     }
 

@@ -1,58 +1,107 @@
-//! What the chunks of a cache show.
+//! The chunks of a cache.
 
-ghost use Rattle.std.specs.Prelude.{◌≡◌, ◌+◌, ◌*◌, ◌<◌, ◌≤◌, length, IfOk, OnOk};
-ghost use Rattle.vyrd_base.specs.declared.subject.Subject.TheVariants.{Cache};
-ghost use Rattle.vyrd_base.specs.Amounts.{amount_of, collected};
-ghost use Rattle.vyrd_base.specs.Views.{parts_of};
-ghost use Rattle.vyrd_base.specs.Cache.{chunk_parts};
-ghost use Rattle.vyrd_base.specs.Added.{added};
+ghost use Rattle.std.specs.Prelude.{◌≡◌, ◌≤◌};
+ghost use Rattle.vyrd_view.specs.Pairs.{chunk_amount, chunk_flaw};
 
 use crate::chunk::Chunk;
-use std::alloc::{AllocError, Global};
-use vyrd_base::AmountMap;
+use crate::decode::{Decode, NOTHING};
 
-/// The amount of the key past the chunks for a clean chunk whose pairs differ.
+/// What is amiss with a clean chunk whose pairs differ.
 const UNEQUAL: u64 = 1;
 
-/// The amount of the key past the chunks for five words that aren't a chunk.
+/// What is amiss with five words that aren't a chunk.
 const DAMAGED: u64 = 2;
 
-/// The pair that each chunk shows, and what is amiss with it, under a key past the chunks.
-pub(crate) fn chunks(alloc: Global, size: usize, words: &[u64]) -> Result<AmountMap, AllocError>
-    requires count { length words.now ≡ 5 * size }
-    requires small { size ≤ 1024 }
-    ensures { IfOk result (λ sums. sums ≡ collected (parts_of Cache size words.now)) }
-{
-    let mut sums = AmountMap::new(alloc);
-    for number in 0..size {
-        add_chunk(&mut sums, size, number, &Chunk::at(words, number))?;
-    }
-    Ok(sums)
+/// The chunks of a cache of this size. A chunk gives its pair to its own key, and what is amiss
+/// with it to a key past the chunks.
+#[derive(Clone, Copy)]
+pub(crate) struct Chunks {
+    size: usize,
+    ghost small: { size ≤ 1024 },
 }
 
-/// Adds what one chunk gives.
-fn add_chunk(
-    sums: &mut AmountMap,
-    size: usize,
-    number: usize,
-    chunk: &Chunk,
-) -> Result<(), AllocError>
-    requires within { number < size }
-    requires small { size ≤ 1024 }
-    requires key { amount_of sums.old number ≡ 0 }
-    requires past { amount_of sums.old (size + number) ≡ 0 }
-    ensures { OnOk result (sums.new ≡ added sums.old (chunk_parts size number chunk.now)) }
+impl Chunks {
+    /// That many chunks.
+    pub(crate) fn new(size: usize) -> Chunks
+        requires { size ≤ 1024 }
+        ensures { result.size ≡ size }
+    {
+        Chunks { size }
+    }
+}
+
+impl Decode for Chunks {
+    ghost use Rattle.vyrd_base.specs.declared.subject.Subject.TheVariants.{Cache};
+    ghost use Rattle.vyrd_view.specs.Known.{of_subject};
+    ghost use Rattle.vyrd_view.specs.Pairs.{chunk_gives};
+    ghost use Rattle.vyrd_view.specs.Laws.Chunks.{chunks_narrow, chunks_few, quiet_chunk};
+    ghost use Rattle.vyrd_view.specs.Laws.Chunks.{chunks_fit, chunks_show};
+
+    ghost WIDTH = { 5 };
+
+    ghost PLACES = { 2 };
+
+    ghost parts = { λ chunks. chunks.size };
+
+    ghost gives = { λ chunks. chunk_gives chunks.size };
+
+    ghost shows = { λ chunks. of_subject Cache chunks.size };
+
+    ghost narrow = { chunks_narrow };
+
+    ghost few = { λ chunks. chunks_few chunks.size chunks.small };
+
+    ghost quiet = { λ chunks. quiet_chunk chunks.size };
+
+    ghost fits = { λ chunks. chunks_fit chunks.size };
+
+    ghost shown = { λ chunks words count. chunks_show chunks.size words };
+
+    const WIDTH: usize = 5;
+
+    const PLACES: usize = 2;
+
+    #[inline(always)]
+    fn parts(&self) -> usize {
+        self.size
+    }
+
+    #[inline(always)]
+    fn decode(&self, part: usize, words: &[u64]) -> [(u64, u64); 4] {
+        let shown = decoded_chunk(&Chunk::of(words));
+        let own = (part as u64, shown.amount);
+        let past = ((self.size + part) as u64, shown.flaw);
+        [own, past, NOTHING, NOTHING]
+    }
+}
+
+/// What a chunk shows under its own key, and under the key past the chunks.
+#[derive(Clone, Copy)]
+struct ShownChunk {
+    amount: u64,
+    flaw: u64,
+}
+
+/// What a chunk shows.
+#[inline(always)]
+fn decoded_chunk(chunk: &Chunk) -> ShownChunk
+    ensures amount { result.amount ≡ chunk_amount chunk.now }
+    ensures flaw { result.flaw ≡ chunk_flaw chunk.now }
 {
-    let past = (size + number) as u64;
     if !chunk.is_chunk() {
-        return sums.add(past, DAMAGED);
+        return ShownChunk {
+            amount: 0,
+            flaw: DAMAGED,
+        };
     }
     let cached = chunk.cached_pair();
     let stored = chunk.stored_pair();
-    let shown = if chunk.is_absent() { stored } else { cached };
-    sums.add(number as u64, shown)?;
-    if chunk.is_clean() && cached != stored {
-        sums.add(past, UNEQUAL)?;
+    ShownChunk {
+        amount: if chunk.is_absent() { stored } else { cached },
+        flaw: if chunk.is_clean() && cached != stored {
+            UNEQUAL
+        } else {
+            0
+        },
     }
-    Ok(())
 }

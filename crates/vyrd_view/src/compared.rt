@@ -7,10 +7,8 @@ ghost use Rattle.vyrd_base.specs.Layout.{plain_words};
 ghost use Rattle.vyrd_base.specs.Views.{view_of_words};
 ghost use Rattle.vyrd_view.specs.Comparing.{AgreeElsewhere, keys_of_part, parts_looked_at};
 
+use crate::any_parts::AnyParts;
 use crate::compare::Compare;
-use crate::current::bring_up_to_date;
-use crate::first::{first_marks, first_pairs, no_marks};
-use crate::parts::Parts;
 use crate::steps::Steps;
 use std::alloc::{AllocError, Global};
 use std::marker::{Brand, Model};
@@ -24,31 +22,23 @@ use vyrd_base::Header;
 #[derive(Drop)]
 pub struct Compared {
     header: Header,
-    words: Vec<u64>,
-    parts: Parts,
-    /// Of a tree: the nodes on the chain of leaves.
-    marks: Vec<bool>,
-    /// Of a tree: room to walk the chain again.
-    next: Vec<bool>,
+    parts: AnyParts,
 }
 
 impl Model for Compared {
-    ghost use Rattle.std.specs.Prelude.{◌≡◌, false, length};
-    ghost use Rattle.vyrd_base.specs.Layout.{plain_words};
-    ghost use Rattle.vyrd_view.specs.Comparing.{Comparison, IsCurrent};
+    ghost use Rattle.vyrd_view.specs.Comparing.{Comparison};
+    ghost use Rattle.vyrd_view.specs.Subjects.{Serves, known_of_any};
 
     ghost Value = { Comparison };
 
     ghost view = { λ c. record {
       header = c.header;
-      words = c.words.items;
-      specified = c.parts.specified;
-      refused = c.parts.refused;
+      words = (known_of_any c.parts).words;
+      specified = (known_of_any c.parts).specified;
+      refused = (known_of_any c.parts).refused;
     } };
 
-    ghost invariant = { λ c. (length c.words.items ≡ plain_words c.header)
-        × (c.parts.refused ≡ false
-        → IsCurrent c.header c.words.items c.parts.pairs c.marks.items c.next.items) };
+    ghost invariant = { λ c. Serves c.header c.parts };
 }
 
 impl Compared {
@@ -64,10 +54,7 @@ impl Compared {
     {
         Ok(Compared {
             header,
-            words: vec![in alloc; 0; header.plain_words() as usize]?,
-            parts: Parts::new(alloc, first_pairs(alloc, header)?)?,
-            marks: first_marks(alloc, header)?,
-            next: no_marks(alloc, header)?,
+            parts: AnyParts::new(alloc, header)?,
         })
     }
 
@@ -92,16 +79,7 @@ impl Compared {
             * (1 + 2 * keys_of_part self.old.header.subject)
             + 2 }
     {
-        bring_up_to_date(
-            self.header,
-            &mut self.words,
-            &mut self.parts,
-            &mut self.marks,
-            &mut self.next,
-            words,
-            changed,
-            steps,
-        )
+        self.parts.words_changed(words, changed, steps)
     }
 
     /// The specification has this amount of the key now; 0 says that the key isn't there. Once
@@ -119,13 +97,14 @@ impl Compared {
         ensures header { self.new.header ≡ self.old.header }
         ensures steps { steps.new ≤ steps.old + 1 }
     {
-        self.parts.specify(key, amount, steps)
+        self.parts.spec_changed(key, amount, steps)
     }
 
     /// The least key at which the words and the specification differ, or none if they are equal. If
     /// they are equal, it takes constant time. Otherwise it goes through all keys, and takes no
     /// memory.
     #[inline(always)]
+    #[tactic(auto, unfolding(vyrd_base::specs::Views::view_of_words))]
     pub fn first_difference(&self) -> Option<u64>
         requires { self.now.refused ≡ false }
         ensures { result

@@ -10,22 +10,29 @@
 //! of a tree costs a look at all nodes. `Steps` counts that cost: one step is one part decoded (a
 //! slot, a chunk, a node or a buffer) or one key compared.
 //!
-//! `view_of` shows words from scratch, as a whole view, and `first_difference` compares two whole
-//! views.
+//! How words are decoded is said for one part alone, by a type with `Decode`: what the part gives
+//! to which keys follows from its number and its own words. The loops over parts are the same for
+//! all such types: `ByParts` compares what they show with a specification's amounts, by what
+//! changes, and `view_of` collects it from scratch, as a whole view. The nodes of a tree are
+//! decoded apart, since a node counts only while it is on the chain of leaves.
+//!
+//! `first_difference` compares two whole views.
 #![tactic(auto)]
 
+mod any_parts;
 mod buffers;
-mod cache;
+mod by_parts;
 mod chain;
+mod changed;
 mod chunk;
 mod chunks;
 mod compare;
 mod compared;
-mod current;
+mod decode;
+mod decoded;
 mod difference;
-mod first;
 mod homes;
-mod multiset;
+mod leaves;
 mod no_parts;
 mod parts;
 mod rest;
@@ -33,12 +40,13 @@ mod shown;
 mod sides;
 mod slots;
 mod steps;
-mod string_buffers;
 mod tree;
 mod words;
 
+pub use by_parts::ByParts;
 pub use compare::Compare;
 pub use compared::Compared;
+pub use decode::Decode;
 pub use difference::first_difference;
 pub use no_parts::NoParts;
 pub use shown::view_of;

@@ -4,10 +4,11 @@ ghost use Rattle.std.specs.Prelude.{◌≡◌, length, IfOk};
 ghost use Rattle.vyrd_base.specs.Layout.{plain_words};
 ghost use Rattle.vyrd_base.specs.Views.{view_of_words};
 
-use crate::buffers::buffers;
+use crate::buffers::Buffers;
 use crate::chain::chain;
-use crate::chunks::chunks;
-use crate::slots::slots;
+use crate::chunks::Chunks;
+use crate::decoded::collect;
+use crate::slots::Slots;
 use std::alloc::{AllocError, Global};
 use vyrd_base::{AmountMap, Header, Subject, View};
 
@@ -29,9 +30,9 @@ fn gathered(alloc: Global, header: Header, words: &[u64]) -> Result<AmountMap, A
 {
     let size = header.size() as usize;
     match header.subject() {
-        Subject::Multiset => slots(alloc, size, words),
-        Subject::Cache => chunks(alloc, size, words),
+        Subject::Multiset => collect(alloc, &Slots::new(size), words),
+        Subject::Cache => collect(alloc, &Chunks::new(size), words),
         Subject::Tree => chain(alloc, size, words),
-        Subject::Buffers => buffers(alloc, size, words),
+        Subject::Buffers => collect(alloc, &Buffers::new(size), words),
     }
 }

@@ -1,39 +1,81 @@
-//! What the slots of a multiset show.
+//! The slots of a multiset.
 
-ghost use Rattle.std.specs.Prelude.{◌≡◌, ◌+◌, ◌*◌, ◌<◌, ◌≤◌, ◌^◌, ◌==◌, length, [], ◌∷◌};
-ghost use Rattle.std.specs.Prelude.{if◌then◌else◌, IfOk, OnOk};
-ghost use Rattle.vyrd_base.specs.declared.subject.Subject.TheVariants.{Multiset};
-ghost use Rattle.vyrd_base.specs.Amounts.{amount_of, collected};
-ghost use Rattle.vyrd_base.specs.Views.{parts_of};
-ghost use Rattle.vyrd_base.specs.Added.{added};
+ghost use Rattle.std.specs.Prelude.{◌≡◌, ◌≤◌};
 
-use std::alloc::{AllocError, Global};
-use vyrd_base::AmountMap;
+use crate::decode::{Decode, NOTHING};
+
+/// Where a slot has its state.
+const STATE: usize = 0;
+
+/// Where a slot has its value.
+const VALUE: usize = 1;
 
 /// The state of a slot that holds a value of the multiset.
 const VALID: u64 = 2;
 
-/// How often each value stands in a valid slot. A bucket has four slots, and a slot two words: its
-/// state and its value.
-pub(crate) fn slots(alloc: Global, size: usize, words: &[u64]) -> Result<AmountMap, AllocError>
-    requires count { length words.now ≡ 8 * size }
-    requires small { size ≤ 1024 }
-    ensures { IfOk result (λ sums. sums ≡ collected (parts_of Multiset size words.now)) }
-{
-    let mut sums = AmountMap::new(alloc);
-    for i in 0..4 * size {
-        add_slot(&mut sums, words[2 * i], words[2 * i + 1])?;
-    }
-    Ok(sums)
+/// How many slots a bucket has.
+const BUCKET_SLOTS: usize = 4;
+
+/// The slots of a multiset of this size. A slot gives 1 to its value if it is valid, and otherwise
+/// it gives nothing.
+#[derive(Clone, Copy)]
+pub(crate) struct Slots {
+    size: usize,
+    ghost small: { size ≤ 1024 },
 }
 
-/// Adds what one slot gives.
-fn add_slot(sums: &mut AmountMap, state: u64, value: u64) -> Result<(), AllocError>
-    requires { amount_of sums.old value + 1 < 2 ^ 64 }
-    ensures { OnOk result (sums.new ≡ added sums.old (if state == 2 then (value, 1) ∷ [] else [])) }
-{
-    if state == VALID {
-        sums.add(value, 1)?;
+impl Slots {
+    /// The slots of a multiset with that many buckets.
+    pub(crate) fn new(size: usize) -> Slots
+        requires { size ≤ 1024 }
+        ensures { result.size ≡ size }
+    {
+        Slots { size }
     }
-    Ok(())
+}
+
+impl Decode for Slots {
+    ghost use Rattle.std.specs.Prelude.{◌*◌, refl};
+    ghost use Rattle.vyrd_base.specs.declared.subject.Subject.TheVariants.{Multiset};
+    ghost use Rattle.vyrd_view.specs.Known.{of_subject};
+    ghost use Rattle.vyrd_view.specs.Pairs.{slot_gives};
+    ghost use Rattle.vyrd_view.specs.Laws.Slots.{slots_narrow, slots_few, slots_fit, slots_show};
+
+    ghost WIDTH = { 2 };
+
+    ghost PLACES = { 1 };
+
+    ghost parts = { λ slots. 4 * slots.size };
+
+    ghost gives = { λ slots. slot_gives };
+
+    ghost shows = { λ slots. of_subject Multiset slots.size };
+
+    ghost narrow = { slots_narrow };
+
+    ghost few = { λ slots. slots_few slots.size slots.small };
+
+    ghost quiet = { λ slots part j. refl };
+
+    ghost fits = { λ slots. slots_fit slots.size slots.small };
+
+    ghost shown = { λ slots words count. slots_show slots.size words };
+
+    const WIDTH: usize = 2;
+
+    const PLACES: usize = 1;
+
+    #[inline(always)]
+    fn parts(&self) -> usize {
+        BUCKET_SLOTS * self.size
+    }
+
+    #[inline(always)]
+    fn decode(&self, _part: usize, words: &[u64]) -> [(u64, u64); 4] {
+        if words[STATE] == VALID {
+            [(words[VALUE], 1), NOTHING, NOTHING, NOTHING]
+        } else {
+            [NOTHING; 4]
+        }
+    }
 }

@@ -14,7 +14,7 @@ use std::alloc::AllocError;
 use std::sync::ledger::Ledger;
 
 /// How many words a node has: level, count, bound and right, then four keys, then four values.
-const NODE_WORDS: usize = 12;
+pub(crate) const NODE_WORDS: usize = 12;
 
 /// Where a node has the count of its entries.
 const COUNT: usize = 1;
@@ -29,7 +29,7 @@ const KEYS: usize = 4;
 const VALUES: usize = 8;
 
 /// How many entries a node has room for.
-const MOST_ENTRIES: usize = 4;
+pub(crate) const ENTRIES: usize = 4;
 
 /// What is added to a value, so that the amount of a key that is there is never 0. Keys and values
 /// are below it.
@@ -80,7 +80,7 @@ pub(crate) fn leaves_changed<L: Ledger>(
     }
     let broken = walk(next, words);
     remark(parts, marks, next, words, steps)?;
-    parts.replace(MOST_ENTRIES * marks.len(), end_pair(broken), steps)
+    parts.replace(ENTRIES * marks.len(), end_pair(broken), steps)
 }
 
 /// Whether a changed word is a right link.
@@ -290,8 +290,8 @@ fn put_node<L: Ledger>(
     ensures refused { OnErr result (parts.new.refused ≡ true) }
     ensures steps { steps.new ≤ steps.old + 8 }
 {
-    for j in 0..MOST_ENTRIES {
-        parts.replace(MOST_ENTRIES * node + j, entries[j], steps)?;
+    for j in 0..ENTRIES {
+        parts.replace(ENTRIES * node + j, entries[j], steps)?;
     }
     Ok(())
 }

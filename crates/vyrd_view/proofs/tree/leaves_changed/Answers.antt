@@ -4,7 +4,8 @@ use Rattle.vyrd_base.specs.Places.{numbers_below}
 use Rattle.vyrd_view.specs.Kept.{Kept}
 use Rattle.vyrd_view.specs.Chains.{tree_pair, end_pair, has_link, is_on_chain, is_broken}
 use Rattle.vyrd_view.proofs.PairLaws.{all_kept}
-use Rattle.vyrd_view.proofs.PlacedLaws.{each_bounds, each-set}
+use Rattle.vyrd_view.specs.Laws.Sums.{each_bounds}
+use Rattle.vyrd_view.proofs.PlacedLaws.{each-set}
 use Rattle.vyrd_view.proofs.TreePairLaws.{tree_pairs, end_at_most}
 use Rattle.vyrd_view.proofs.tree.leaves_changed.Goals as goal
 
@@ -31,7 +32,8 @@ replace-requires-clause-fits g c =
     let most : pair.1 ≤ 2 ^ 33 = omega (arith, ap (λ (p : ℕ × ℕ). p.1) c.end_pair.ensures, end_at_most c.walk-broken.result) in
     omega (
       arith,
-      each_bounds (2 ^ 33) pair.0 (set pairs place pair) (each-set (2 ^ 33) pairs place pair within most c.in_ok-remark.ensures.most),
+      each_bounds (2 ^ 33) pair.0 (set pairs place pair)
+          (λ i inside. each-set (2 ^ 33) pairs place pair within most c.in_ok-remark.ensures.most i),
       length-set pairs place pair,
       count,
       c.requires.small,

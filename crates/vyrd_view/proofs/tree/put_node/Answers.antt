@@ -1,5 +1,6 @@
 use Rattle.std.proofs.Common.{◌+◌, ◌*◌, ◌<◌, ◌≤◌, ◌^◌, length, length-set, get_or, set, arith}
-use Rattle.vyrd_view.proofs.PlacedLaws.{each_bounds, each-set}
+use Rattle.vyrd_view.specs.Laws.Sums.{each_bounds}
+use Rattle.vyrd_view.proofs.PlacedLaws.{each-set}
 use Rattle.vyrd_view.proofs.tree.put_node.Goals as goal
 
 pub replace-requires-clause-fits : goal.replace-requires-clause-fits
@@ -11,7 +12,8 @@ replace-requires-clause-fits g c =
     let most : pair.1 ≤ 2 ^ 33 = c.requires.entries c.loop-j.j c.loop-j-test.true in
     omega (
       arith,
-      each_bounds (2 ^ 33) pair.0 (set pairs place pair) (each-set (2 ^ 33) pairs place pair within most c.loop-j.invariant.most),
+      each_bounds (2 ^ 33) pair.0 (set pairs place pair)
+          (λ i inside. each-set (2 ^ 33) pairs place pair within most c.loop-j.invariant.most i),
       length-set pairs place pair,
       c.loop-j.invariant.places,
       c.requires.few,

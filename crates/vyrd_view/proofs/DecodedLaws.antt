@@ -1,0 +1,313 @@
+-- Words that are decoded part by part: what is in which place, and what a changed word leaves.
+use Rattle.std.proofs.Common.{◌≡◌, ℕ, zero, suc, ◌+◌, ◌-◌, ◌*◌, ◌/◌, ◌%◌, ◌<◌, ◌≤◌, Bool, true}
+use Rattle.std.proofs.Common.{false, ◌||◌, List, [], ◌∷◌, ◌++◌, length, length-set, map, get_or}
+use Rattle.std.proofs.Common.{set, drop}
+use Rattle.std.proofs.Common.{take, replicate, refl, ap, ◌∙◌, sym, subst, arith}
+use Rattle.std.proofs.Common.{get_or-set_same, get_or-set_other}
+use Rattle.std.specs.Prelude.{◌==◌, ◌≢◌}
+use Rattle.std.specs.List.{list_any}
+use Rattle.std.proofs.lemmas.List.{same_lists, take-replicate, drop-replicate, length-take}
+use Rattle.std.proofs.lemmas.List.{length-drop, get_or_default}
+use Rattle.std.proofs.lemmas.Nat.{div-mul-add}
+use Rattle.std.proofs.Math.Nat.{mul-le-mul_right, div-add-mod, div-lt_iff_lt-mul, mod-lt}
+use Rattle.vyrd_base.specs.Places.{numbers_below}
+use Rattle.vyrd_base.specs.Amounts.{Amounts, plus_amount, collected, given, part_given}
+use Rattle.vyrd_base.proofs.AddedLaws.{collected-append}
+use Rattle.vyrd_base.proofs.AmountLaws.{same_amounts}
+use Rattle.vyrd_base.proofs.PlaceLaws.{length_below, element_below}
+use Rattle.vyrd_base.proofs.SumLaws.{own_part, nothing_given, amount_of-collected}
+use Rattle.vyrd_base.proofs.SumLaws.{IsAmounts-collected}
+use Rattle.vyrd_base.proofs.TestLaws.{same_of, apart_of, isnt_same, neither_true}
+use Rattle.vyrd_view.specs.Comparing.{AgreeElsewhere}
+use Rattle.vyrd_view.specs.Decoded.{Gives, words_of, pair_at, pairs_by, IsGiven, AreGiven}
+use Rattle.vyrd_view.specs.Pairs.{is_touched}
+use Rattle.vyrd_view.specs.Laws.Sums.{each_bounds, mapped-push, given_map_push, own_word}
+
+-- a part ends within all parts
+pub part_within : (part parts width : ℕ) → part < parts → part * width + width ≤ parts * width
+part_within part parts width low =
+    let up : (part + 1) * width ≤ parts * width = mul-le-mul_right width (omega (arith, low)) in
+    let next : (part + 1) * width ≡ part * width + width = omega arith in
+    omega (arith, up, next)
+
+-- so does a place of it
+pub place_within : (part parts places j : ℕ) → part < parts → j < places
+    → part * places + j < parts * places
+place_within part parts places j low inside =
+    omega (arith, part_within part parts places low, inside)
+
+-- the words of a part are as many as a part has
+pub own_length : (width part parts : ℕ) (words : List ℕ) → part < parts
+    → length words ≡ parts * width → length (words_of width part words) ≡ width
+own_length width part parts words low count =
+    let all : part * width + width - part * width ≡ width = omega arith in
+    let enough : part * width + width ≤ length words =
+    omega (arith, part_within part parts width low, count) in
+    ap (λ n. length (take n (drop (part * width) words))) all
+    ∙ length-take width (drop (part * width) words)
+    ∙ omega (arith, length-drop (part * width) words, enough)
+
+-- a part of zeroed words
+pub own_zeros : (width part parts : ℕ) → part < parts
+    → words_of width part (replicate (parts * width) 0) ≡ replicate width 0
+own_zeros width part parts low =
+    let all : part * width + width - part * width ≡ width = omega arith in
+    ap (λ n. take n (drop (part * width) (replicate (parts * width) 0))) all
+    ∙ ap (take width) (drop-replicate (part * width) (parts * width) 0)
+    ∙ take-replicate width (parts * width - part * width) 0
+    (omega (arith, part_within part parts width low))
+
+-- the part of a word, and of a place
+pub part_of_within : (n parts width : ℕ) → n < parts * width → n / width < parts
+part_of_within n parts zero low = absurd (omega (arith, low))
+part_of_within n parts (suc w) low = (div-lt_iff_lt-mul (omega arith)).1 low
+
+pub is_place : (places m : ℕ) → (m / places) * places + m % places ≡ m
+is_place places m =
+    let swapped : (m / places) * places ≡ places * (m / places) = omega arith in
+    omega (arith, swapped, div-add-mod m places)
+
+module _ (width places parts : ℕ) (gives : Gives) where
+  -- all pairs are given by some words
+  pub pairs_given : (words : List ℕ) → length words ≡ parts * width
+      → AreGiven width places parts gives (pairs_by width places parts gives words)
+  pairs_given words count = record {
+    count = length_below (pair_at width places gives words) (parts * places);
+    each = λ m low. let inside : m < parts * places =
+        omega (arith, low, length_below (pair_at width places gives words) (parts * places)) in
+        record {
+          own = words_of width (m / places) words;
+          count = own_length width (m / places) parts words (part_of_within m parts places inside)
+              count;
+          is = element_below (pair_at width places gives words) (parts * places) m (0, 0) inside;
+        };
+  }
+
+  -- and what a part's words give may come to its place
+  pub place_given : (words : List ℕ) (m : ℕ) → length words ≡ parts * width → m < parts * places
+      → IsGiven width places gives m (pair_at width places gives words m)
+  place_given words m count inside = record {
+    own = words_of width (m / places) words;
+    count = own_length width (m / places) parts words (part_of_within m parts places inside) count;
+    is = refl;
+  }
+
+  pub given-set : (pairs : List (ℕ × ℕ)) (place : ℕ) (pair : ℕ × ℕ)
+      → IsGiven width places gives place pair → AreGiven width places parts gives pairs
+      → AreGiven width places parts gives (set pairs place pair)
+  given-set pairs place pair one are = record {
+    count = length-set pairs place pair ∙ are.count;
+    each = λ m low. by_test m (omega (arith, low, length-set pairs place pair)) (m == place) refl;
+  }
+    where
+      by_test : (m : ℕ) → m < length pairs → (b : Bool) → (m == place) ≡ b
+          → IsGiven width places gives m (get_or (set pairs place pair) m (0, 0))
+      by_test m low true e =
+          let same : place ≡ m = sym (same_of m place e) in
+          let here : place < length pairs = omega (arith, same, low) in
+          subst (λ k. IsGiven width places gives k (get_or (set pairs place pair) k (0, 0))) same
+          (subst (λ (p : ℕ × ℕ). IsGiven width places gives place p)
+          (sym (get_or-set_same pairs place pair (0, 0) here)) one)
+      by_test m low false e =
+          subst (λ (p : ℕ × ℕ). IsGiven width places gives m p)
+          (sym (get_or-set_other pairs place m pair (0, 0) (apart_of m place e))) (are.each m low)
+
+  -- if all fits, so do the first of them
+  given_grows : (q : ℕ) (f : ℕ → ℕ × ℕ) (m k : ℕ)
+      → given q (map f (numbers_below m)) ≤ given q (map f (numbers_below (m + k)))
+  given_grows q f m zero = let none : m + 0 ≡ m = omega arith in
+      omega (arith, ap (λ n. given q (map f (numbers_below n))) none)
+  given_grows q f m (suc k) =
+      let more : m + suc k ≡ m + k + 1 = omega arith in
+      omega (
+        arith,
+        ap (λ n. given q (map f (numbers_below n))) more,
+        given_map_push q f (m + k),
+        given_grows q f m k,
+      )
+
+  pub place_fits : (words : List ℕ) (m bound : ℕ) → m < parts * places
+      → given (pair_at width places gives words m).0 (pairs_by width places parts gives words)
+      < bound
+      → given (pair_at width places gives words m).0
+      (map (pair_at width places gives words) (numbers_below m))
+      + (pair_at width places gives words m).1 < bound
+  place_fits words m bound low fits =
+      let f : ℕ → ℕ × ℕ = pair_at width places gives words in
+      let key : ℕ = (pair_at width places gives words m).0 in
+      let rest : parts * places ≡ m + 1 + (parts * places - (m + 1)) = omega (arith, low) in
+      omega (
+        arith,
+        fits,
+        ap (λ n. given key (map f (numbers_below n))) rest,
+        given_grows key f (m + 1) (parts * places - (m + 1)),
+        given_map_push key f m,
+        own_part key (f m).1,
+      )
+
+  -- zeroed words give nothing, if each part of zeroed words does
+  pub zeros_give : (q : ℕ)
+      → ((part j : ℕ) → (gives part (replicate width 0) j).1 ≡ 0)
+      → given q (pairs_by width places parts gives (replicate (parts * width) 0)) ≡ 0
+  zeros_give q quiet =
+      let zeroed : List ℕ = replicate (parts * width) 0 in
+      let pairs : List (ℕ × ℕ) = pairs_by width places parts gives zeroed in
+      let most : given q pairs ≤ length pairs * 0 = each_bounds 0 q pairs (λ m low.
+      let inside : m < parts * places =
+      omega (arith, low, length_below (pair_at width places gives zeroed) (parts * places)) in
+      let part : m / places < parts = part_of_within m parts places inside in
+      let none : (get_or pairs m (0, 0)).1 ≡ 0 =
+      ap (λ (p : ℕ × ℕ). p.1)
+      (element_below (pair_at width places gives zeroed) (parts * places) m (0, 0) inside)
+      ∙ ap (λ own. (gives (m / places) own (m % places)).1) (own_zeros width
+      (m / places) parts part)
+      ∙ quiet (m / places) (m % places) in
+      omega (arith, none)) in
+      omega (arith, most)
+
+-- ---- words that have changed
+
+-- a word of a part that no changed word is in hasn't changed
+pub word_untouched : (size part w : ℕ) (changed : List ℕ) → w / size ≡ part
+    → is_touched size part changed ≡ false → list_any (λ x. x == w) changed ≡ false
+word_untouched size part w [] at untouched = refl
+word_untouched size part w (x ∷ changed) at untouched =
+    let both = neither_true (x / size == part) (is_touched size part changed) untouched in
+    let apart : x ≢ w = λ same. apart_of (x / size) part both.0 (ap (λ k. k / size) same ∙ at) in
+    ap (λ b. b || list_any (λ y. y == w) changed) (isnt_same x w apart)
+    ∙ word_untouched size part w changed at both.1
+
+-- so its part has the words of before
+pub own_untouched : (width part parts : ℕ) (before words changed : List ℕ) → part < parts
+    → length before ≡ parts * width → length words ≡ parts * width
+    → AgreeElsewhere before words changed → is_touched width part changed ≡ false
+    → words_of width part words ≡ words_of width part before
+own_untouched width part parts before words changed low old new elsewhere untouched =
+    same_lists (words_of width part words) (words_of width part before)
+    (own_length width part parts words low new ∙ sym (own_length width part parts before low old))
+    (λ i d inside.
+    let within : i < width = omega (arith, inside, own_length width part parts words low new) in
+    let also : i < length (words_of width part before) =
+    omega (arith, within, own_length width part parts before low old) in
+    get_or_default (words_of width part words) i d 0 inside
+    ∙ own_word width part words i within
+    ∙ elsewhere (part * width + i) (word_untouched width part (part * width + i) changed
+    (div-mul-add part width i within) untouched)
+    ∙ sym (own_word width part before i within)
+    ∙ get_or_default (words_of width part before) i 0 d also)
+
+-- ---- one place more
+
+pub pairs_more : (f : ℕ → ℕ × ℕ) (m n : ℕ) (s t : List (ℕ × ℕ)) (p : ℕ × ℕ)
+    → s ≡ map f (numbers_below m) → t ≡ s ++ p ∷ [] → p ≡ f m → n ≡ m + 1
+    → t ≡ map f (numbers_below n)
+pairs_more f m n s t p is more here next =
+    more ∙ ap (λ xs. xs ++ p ∷ []) is ∙ ap (λ q. map f (numbers_below m) ++ q ∷ []) here
+    ∙ sym (mapped-push f m) ∙ ap (λ k. map f (numbers_below k)) (sym next)
+
+pub sums_more : (f : ℕ → ℕ × ℕ) (m n : ℕ) (s t : Amounts) (p : ℕ × ℕ)
+    → s ≡ collected (map f (numbers_below m)) → t ≡ plus_amount s p.0 p.1 → p ≡ f m → n ≡ m + 1
+    → t ≡ collected (map f (numbers_below n))
+sums_more f m n s t p is more here next =
+    more ∙ ap (λ x. plus_amount x p.0 p.1) is
+    ∙ sym (collected-append (map f (numbers_below m)) (p ∷ []))
+    ∙ ap (λ q. collected (map f (numbers_below m) ++ q ∷ [])) here
+    ∙ ap collected (sym (mapped-push f m) ∙ ap (λ k. map f (numbers_below k)) (sym next))
+
+-- and one that gives nothing
+pub sums_same : (f : ℕ → ℕ × ℕ) (m n : ℕ) (s t : Amounts) (p : ℕ × ℕ)
+    → s ≡ collected (map f (numbers_below m)) → t ≡ s → p ≡ f m → p.1 ≡ 0 → n ≡ m + 1
+    → t ≡ collected (map f (numbers_below n))
+sums_same f m n s t p is same here none next =
+    same ∙ is
+    ∙ same_amounts (collected before) (collected after) (IsAmounts-collected before)
+    (IsAmounts-collected after)
+    (λ q. omega (
+      arith,
+      amount_of-collected before q,
+      amount_of-collected after q,
+      ap (λ k. given q (map f (numbers_below k))) next,
+      given_map_push q f m,
+      ap (part_given q) (sym here),
+      ap (λ a. part_given q (p.0, a)) none,
+      nothing_given q p.0,
+    ))
+  where
+    before : List (ℕ × ℕ)
+    before = map f (numbers_below m)
+
+    after : List (ℕ × ℕ)
+    after = map f (numbers_below n)
+
+-- ---- the places of one part, one after another
+
+-- the pair of the next place comes to it
+pub place_inside : (f : ℕ → ℕ × ℕ) (part places place : ℕ) (pairs : List (ℕ × ℕ)) (pair : ℕ × ℕ)
+    → part * places + place < length pairs → pair ≡ f (part * places + place)
+    → ((j : ℕ) → j < place → get_or pairs (part * places + j) (0, 0) ≡ f (part * places + j))
+    → (j : ℕ) → j < place + 1
+    → get_or (set pairs (part * places + place) pair) (part * places + j) (0, 0)
+    ≡ f (part * places + j)
+place_inside f part places place pairs pair within is before j low = by_test (j == place) refl
+  where
+    by_test : (b : Bool) → (j == place) ≡ b
+        → get_or (set pairs (part * places + place) pair) (part * places + j) (0, 0)
+        ≡ f (part * places + j)
+    by_test true e =
+        let same : j ≡ place = same_of j place e in
+        ap (λ k. get_or (set pairs (part * places + place) pair) (part * places + k) (0, 0)) same
+        ∙ get_or-set_same pairs (part * places + place) pair (0, 0) within ∙ is
+        ∙ ap (λ k. f (part * places + k)) (sym same)
+    by_test false e =
+        let other : j ≢ place = apart_of j place e in
+        let apart : part * places + j ≢ part * places + place =
+        λ same. other (omega (arith, same)) in
+        let lower : j < place = omega (arith, low, other) in
+        get_or-set_other pairs (part * places + place) (part * places + j) pair (0, 0) apart
+        ∙ before j lower
+
+-- and no place of another part changes
+pub place_outside : (part places place : ℕ) (pairs : List (ℕ × ℕ)) (pair : ℕ × ℕ)
+    → place < places → (m : ℕ) → m / places ≢ part
+    → get_or (set pairs (part * places + place) pair) m (0, 0) ≡ get_or pairs m (0, 0)
+place_outside part places place pairs pair low m other =
+    get_or-set_other pairs (part * places + place) m pair (0, 0)
+    (λ same. other (ap (λ k. k / places) same ∙ div-mul-add part places place low))
+
+-- the places of a part are all that divide to it
+pub part_places : (f : ℕ → ℕ × ℕ) (now : List (ℕ × ℕ)) (places part : ℕ)
+    → ((j : ℕ) → j < places → get_or now (part * places + j) (0, 0) ≡ f (part * places + j))
+    → (before : List (ℕ × ℕ)) → 1 ≤ places
+    → (m : ℕ) → m < length before → m / places ≡ part → get_or now m (0, 0) ≡ f m
+part_places f now places part each before some m low at =
+    let whole : part * places + m % places ≡ m =
+    ap (λ p. p * places + m % places) (sym at) ∙ is_place places m in
+    subst (λ k. get_or now k (0, 0) ≡ f k) whole (each (m % places) (mod-lt m some))
+
+-- ---- what is kept of the words before
+
+module _ (width places parts : ℕ) (gives : Gives) (before : List ℕ) (pairs : List (ℕ × ℕ))
+    (kept : pairs ≡ pairs_by width places parts gives before)
+    (count : length before ≡ parts * width) where
+  -- it was given by some words
+  pub kept_given : AreGiven width places parts gives pairs
+  kept_given = subst (AreGiven width places parts gives) (sym kept)
+      (pairs_given width places parts gives before count)
+
+  -- and is up to date where no changed word is
+  pub kept_others : (words changed : List ℕ) → length words ≡ parts * width
+      → AgreeElsewhere before words changed → (m : ℕ) → m < length pairs
+      → is_touched width (m / places) changed ≡ false
+      → get_or pairs m (0, 0) ≡ pair_at width places gives words m
+  kept_others words changed new elsewhere m low untouched =
+      let inside : m < parts * places = omega (
+        arith,
+        low,
+        ap length kept,
+        length_below (pair_at width places gives before) (parts * places),
+      ) in
+      ap (λ s. get_or s m (0, 0)) kept
+      ∙ element_below (pair_at width places gives before) (parts * places) m (0, 0) inside
+      ∙ ap (λ own. gives (m / places) own (m % places))
+      (sym (own_untouched width (m / places) parts before words changed
+      (part_of_within m parts places inside) count new elsewhere untouched))

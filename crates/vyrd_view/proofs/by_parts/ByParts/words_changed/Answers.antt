@@ -1,0 +1,28 @@
+use Rattle.std.proofs.Common.{◌≡◌, ◌*◌, false, length, ap, sym, ◌∙◌, subst}
+use Rattle.vyrd_view.specs.Comparing.{AgreeElsewhere}
+use Rattle.vyrd_view.proofs.DecodedLaws.{kept_given, kept_others}
+use Rattle.vyrd_view.proofs.by_parts.ByParts.words_changed.Goals as goal
+
+pub parts_changed-requires-clause-given : goal.parts_changed-requires-clause-given
+parts_changed-requires-clause-given g c =
+    let d = g.D.Decode in
+    let kept = c.self.inside in
+    let sound : kept.parts.refused ≡ false =
+    ap (λ k. k.refused) c.self.view_is ∙ c.requires.sound in
+    kept_given d.WIDTH d.PLACES (d.parts kept.decoder) (d.gives kept.decoder) kept.words.items
+    kept.parts.pairs (c.self.invariant.1 sound) c.self.invariant.0
+
+pub parts_changed-requires-clause-others : goal.parts_changed-requires-clause-others
+parts_changed-requires-clause-others g c =
+    let d = g.D.Decode in
+    let kept = c.self.inside in
+    let sound : kept.parts.refused ≡ false =
+    ap (λ k. k.refused) c.self.view_is ∙ c.requires.sound in
+    let count : length c.args.words.now ≡ d.parts kept.decoder * d.WIDTH =
+    c.requires.count ∙ sym (ap (λ k. k.count) c.self.view_is) in
+    let elsewhere : AgreeElsewhere kept.words.items c.args.words.now c.args.changed.now =
+    subst (λ before. AgreeElsewhere before c.args.words.now c.args.changed.now)
+    (sym (ap (λ k. k.words) c.self.view_is)) c.requires.elsewhere in
+    kept_others d.WIDTH d.PLACES (d.parts kept.decoder) (d.gives kept.decoder) kept.words.items
+    kept.parts.pairs (c.self.invariant.1 sound) c.self.invariant.0 c.args.words.now
+    c.args.changed.now count elsewhere

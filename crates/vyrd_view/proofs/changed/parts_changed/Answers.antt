@@ -1,0 +1,48 @@
+use Rattle.std.proofs.Common.{◌≡◌, ℕ, ◌+◌, ◌*◌, ◌/◌, ◌<◌, get_or, ap, sym, ◌∙◌}
+use Rattle.std.proofs.Common.{subst, arith}
+use Rattle.vyrd_view.specs.Decoded.{pair_at, pairs_by}
+use Rattle.vyrd_view.proofs.DecodedLaws.{part_places}
+use Rattle.vyrd_view.proofs.PairLaws.{all_kept}
+use Rattle.vyrd_view.proofs.PlacedLaws.{parts_fresh_more, untouched_end, mapped}
+use Rattle.vyrd_view.proofs.changed.parts_changed.Goals as goal
+
+pub loop-word-preserved : goal.loop-word-preserved
+loop-word-preserved g c =
+    let d = g.D.Decode in
+    let decoder = c.args.decoder.now in
+    let f : ℕ → ℕ × ℕ = pair_at d.WIDTH d.PLACES (d.gives decoder) c.args.words.now in
+    let word = get_or c.args.changed.now c.loop-word.word-index 0 in
+    let part : word / c.WIDTH.result ≡ word / d.WIDTH = ap (λ w. word / w) c.WIDTH.ensures in
+    let ok = c.in_ok-part_changed.ensures in
+    record {
+      sound = ok.sound;
+      specified = ok.specified ∙ c.loop-word.invariant.specified;
+      given = ok.given;
+      others = parts_fresh_more d.WIDTH d.PLACES f c.loop-word.parts.pairs
+          c.part_changed.new.parts.pairs c.args.changed.now c.loop-word.word-index
+          c.loop-word-test.true (ok.given.count ∙ sym c.loop-word.invariant.given.count)
+          (part_places f c.part_changed.new.parts.pairs d.PLACES (word / d.WIDTH)
+          (subst (λ p. (j : ℕ) → j < d.PLACES
+          → get_or c.part_changed.new.parts.pairs (p * d.PLACES + j) (0, 0) ≡ f (p * d.PLACES + j))
+          part ok.inside) (c.loop-word.parts.pairs) g.met.D.Decode.narrow.2)
+          (λ m other. ok.outside m (λ same. other (same ∙ part)))
+          c.loop-word.invariant.others;
+      counted = omega (arith, c.loop-word.invariant.counted, ok.steps);
+    }
+
+pub returns-clause-ok : goal.returns-clause-ok
+returns-clause-ok g c =
+    let d = g.D.Decode in
+    let decoder = c.args.decoder.now in
+    let pairs = c.loop-word.parts.pairs in
+    let f : ℕ → ℕ × ℕ = pair_at d.WIDTH d.PLACES (d.gives decoder) c.args.words.now in
+    let all : ℕ = d.parts decoder * d.PLACES in
+    all_kept c.loop-word.parts
+    (pairs_by d.WIDTH d.PLACES (d.parts decoder) (d.gives decoder) c.args.words.now)
+    c.args.parts.now.specified c.args.parts.now.refused
+    (mapped f pairs all c.loop-word.invariant.given.count
+    (λ m low. c.loop-word.invariant.others m
+    (omega (arith, low, c.loop-word.invariant.given.count))
+    (untouched_end d.WIDTH (m / d.PLACES) c.args.changed.now c.loop-word.word-index
+    (omega arith))))
+    c.loop-word.invariant.specified (c.loop-word.invariant.sound ∙ sym c.requires.sound)

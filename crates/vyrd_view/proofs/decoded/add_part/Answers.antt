@@ -1,0 +1,54 @@
+use Rattle.std.proofs.Common.{◌≡◌, ℕ, ◌+◌, ◌*◌, ◌^◌, ◌<◌, map, get_or, ap, ◌∙◌, arith}
+use Rattle.vyrd_base.specs.Places.{numbers_below}
+use Rattle.vyrd_base.specs.Amounts.{amount_of, given}
+use Rattle.vyrd_base.proofs.SumLaws.{amount_of-collected}
+use Rattle.vyrd_view.specs.Decoded.{pair_at, pairs_by}
+use Rattle.vyrd_view.proofs.DecodedLaws.{place_within, pairs_given, place_fits, sums_more}
+use Rattle.vyrd_view.proofs.DecodedLaws.{sums_same}
+use Rattle.vyrd_view.proofs.decoded.add_part.Goals as goal
+use Rattle.vyrd_view.proofs.decoded.add_part.Goals.{then-pair-ne0+in_ok-add, else-pair-ne0}
+
+pub add-requires : goal.add-requires
+add-requires g c =
+    let d = g.D.Decode in
+    let decoder = c.args.decoder.now in
+    let m = c.args.part * d.PLACES + c.loop-place.place in
+    let f : ℕ → ℕ × ℕ = pair_at d.WIDTH d.PLACES (d.gives decoder) c.args.words.now in
+    let pair : ℕ × ℕ = get_or c.decoded_part-pairs.result c.loop-place.place (0, 0) in
+    let low : c.loop-place.place < d.PLACES =
+    omega (arith, c.loop-place-test.true, c.PLACES-place-end.ensures) in
+    let is : pair ≡ f m = c.decoded_part-pairs.ensures c.loop-place.place low in
+    let inside : m < d.parts decoder * d.PLACES =
+    place_within c.args.part (d.parts decoder) d.PLACES c.loop-place.place c.requires.part low in
+    let fits : given (f m).0 (pairs_by d.WIDTH d.PLACES (d.parts decoder) (d.gives decoder)
+    c.args.words.now) < 2 ^ 64 =
+    g.met.D.Decode.fits decoder _ (f m).0
+    (pairs_given d.WIDTH d.PLACES (d.parts decoder) (d.gives decoder) c.args.words.now
+    c.requires.count) in
+    omega (
+      arith,
+      ap (λ s. amount_of s pair.0) c.loop-place.invariant,
+      amount_of-collected (map f (numbers_below m)) pair.0,
+      ap (λ (p : ℕ × ℕ). given p.0 (map f (numbers_below m))) is,
+      ap (λ (p : ℕ × ℕ). p.1) is,
+      place_fits d.WIDTH d.PLACES (d.parts decoder) (d.gives decoder) c.args.words.now m (2 ^ 64)
+          inside fits,
+    )
+
+pub loop-place-preserved : goal.loop-place-preserved
+loop-place-preserved g c =
+    let d = g.D.Decode in
+    let m = c.args.part * d.PLACES + c.loop-place.place in
+    let n = c.args.part * d.PLACES + (c.loop-place.place + 1) in
+    let f : ℕ → ℕ × ℕ = pair_at d.WIDTH d.PLACES (d.gives c.args.decoder.now) c.args.words.now in
+    let pair : ℕ × ℕ = get_or c.decoded_part-pairs.result c.loop-place.place (0, 0) in
+    let low : c.loop-place.place < d.PLACES =
+    omega (arith, c.loop-place-test.true, c.PLACES-place-end.ensures) in
+    let is : pair ≡ f m = c.decoded_part-pairs.ensures c.loop-place.place low in
+    let next : n ≡ m + 1 = omega arith in
+    elim c.if-pair-ne0.branch [
+      | then-pair-ne0+in_ok-add w ↦ sums_more f m n c.loop-place.sums c.if-pair-ne0.sums pair
+          c.loop-place.invariant (w.sums-is ∙ w.in_ok-add.ensures.ok) is next
+      | else-pair-ne0 w ↦ sums_same f m n c.loop-place.sums c.if-pair-ne0.sums pair
+          c.loop-place.invariant w.sums-is is (omega (arith, w.if-pair-ne0.false)) next
+    ]

@@ -1,0 +1,37 @@
+-- Words that are decoded part by part. Each part has words of its own, `width` of them, and gives
+-- pairs of a key and an amount in places of its own, `places` of them. What a part gives follows
+-- from its number and its own words.
+use Rattle.std.specs.Prelude.{◌≡◌, ℕ, ◌+◌, ◌*◌, ◌/◌, ◌%◌, ◌<◌, List, length, map, slice_range}
+use Rattle.std.specs.Prelude.{slice_index_or}
+use Rattle.vyrd_base.specs.Places.{numbers_below}
+
+-- what a part gives: by its number, its own words, and the number of the place in the part
+abbrev pub Gives : Type 0
+Gives = ℕ → List ℕ → ℕ → ℕ × ℕ
+
+-- the words of a part
+abbrev pub words_of : ℕ → ℕ → List ℕ → List ℕ
+words_of width part words = slice_range words (part * width) (part * width + width)
+
+-- The places of part p are those from p * `places` on.
+abbrev pub pair_at : ℕ → ℕ → Gives → List ℕ → ℕ → ℕ × ℕ
+pair_at width places gives words m =
+    gives (m / places) (words_of width (m / places) words) (m % places)
+
+-- the pairs of all parts, in their places
+abbrev pub pairs_by : ℕ → ℕ → ℕ → Gives → List ℕ → List (ℕ × ℕ)
+pairs_by width places parts gives words =
+    map (pair_at width places gives words) (numbers_below (parts * places))
+
+-- some words of its part give a place this pair
+pub record IsGiven (width places : ℕ) (gives : Gives) (m : ℕ) (pair : ℕ × ℕ) : Type 0 where
+  pub own : List ℕ
+  pub count : length own ≡ width
+  pub is : pair ≡ gives (m / places) own (m % places)
+
+-- Each place has a pair that some words of its part give, and it needn't be the same words in any
+-- two places. So it is while changed words are taken in, one place after another.
+pub record AreGiven (width places parts : ℕ) (gives : Gives) (pairs : List (ℕ × ℕ)) : Type 0 where
+  pub count : length pairs ≡ parts * places
+  pub each : (m : ℕ) → m < length pairs
+      → IsGiven width places gives m (slice_index_or pairs m (0, 0))

@@ -1,0 +1,195 @@
+//! The words of one structure against the specification, part by part.
+
+ghost use Rattle.std.specs.Prelude.{◌≡◌, ◌+◌, ◌*◌, ◌<◌, ◌≤◌, [], false, length, replicate, All};
+ghost use Rattle.std.specs.Prelude.{IfOk, OnOk, is_err};
+ghost use Rattle.vyrd_base.specs.Amounts.{with_amount, first_difference};
+ghost use Rattle.vyrd_view.specs.Comparing.{AgreeElsewhere};
+ghost use Rattle.vyrd_view.specs.Known.{Known, view_by};
+
+use crate::changed::parts_changed;
+use crate::compare::Compare;
+use crate::decode::Decode;
+use crate::decoded::all_pairs;
+use crate::parts::Parts;
+use crate::steps::Steps;
+use crate::words::copy_changed;
+use std::alloc::{AllocError, Global};
+use std::marker::{Brand, Model};
+use std::sync::ledger::{Blank, Ledger};
+
+/// The words of a structure and a specification's amounts, and where they differ. A changed word
+/// costs its part, which is decoded again, and a changed amount costs one step.
+///
+/// The only error of its calls is that memory has run out. Then the value may only be dropped.
+#[derive(Drop)]
+pub struct ByParts<D: Decode> {
+    decoder: D,
+    words: Vec<u64>,
+    parts: Parts,
+}
+
+impl<D: Decode> Model for ByParts<D> {
+    ghost use Rattle.std.specs.Prelude.{◌≡◌, ◌*◌, false, length};
+    ghost use Rattle.vyrd_view.specs.Decoded.{pairs_by};
+    ghost use Rattle.vyrd_view.specs.Known.{Known};
+
+    ghost Value = { Known };
+
+    ghost view = { λ c. record {
+      shows = D.shows c.decoder;
+      count = D.parts c.decoder * D.WIDTH;
+      words = c.words.items;
+      specified = c.parts.specified;
+      refused = c.parts.refused;
+    } };
+
+    ghost invariant = { λ c. (length c.words.items ≡ D.parts c.decoder * D.WIDTH)
+        × (c.parts.refused ≡ false → c.parts.pairs
+        ≡ pairs_by D.WIDTH D.PLACES (D.parts c.decoder) (D.gives c.decoder) c.words.items) };
+}
+
+impl<D: Decode> ByParts<D> {
+    /// Zeroed words against an empty specification. It takes memory in proportion to the words: 8
+    /// bytes for each, and 64 to 112 for each place.
+    pub fn new(alloc: Global, decoder: D) -> Result<ByParts<D>, AllocError>
+        ensures { IfOk result (λ c. c ≡ record {
+          shows = D.shows decoder;
+          count = D.parts decoder * D.WIDTH;
+          words = replicate (D.parts decoder * D.WIDTH) 0;
+          specified = [];
+          refused = false;
+        }) }
+    {
+        let words = vec![in alloc; 0; decoder.parts() * D::WIDTH]?;
+        let pairs = all_pairs(alloc, &decoder, &words)?;
+        Ok(ByParts {
+            decoder,
+            words,
+            parts: Parts::new(alloc, pairs)?,
+        })
+    }
+
+    /// These are the words now. Outside `changed` they are those of the last call, or 0 if there
+    /// was none; in `changed` a word may stand more than once.
+    pub fn words_changed<L: Ledger>(
+        &mut self,
+        words: &[u64],
+        changed: &[u32],
+        steps: &mut Steps<L>,
+    ) -> Result<(), AllocError>
+        requires sound { self.old.refused ≡ false }
+        requires count { length words.now ≡ self.old.count }
+        requires within { All (λ w. w < self.old.count) changed.now }
+        requires elsewhere { AgreeElsewhere self.old.words words.now changed.now }
+        ensures ok { OnOk result (self.new ≡ record self.old { words = words.now }) }
+        ensures refused { self.new.refused ≡ is_err result }
+        ensures shows { self.new.shows ≡ self.old.shows }
+        ensures count { self.new.count ≡ self.old.count }
+        ensures steps { steps.new ≤ steps.old + length changed.now * (1 + 2 * D.PLACES) }
+    {
+        copy_changed(&mut self.words, words, changed);
+        parts_changed(&self.decoder, &mut self.parts, words, changed, steps)
+    }
+
+    /// The specification has this amount of the key now; 0 says that the key isn't there.
+    pub fn spec_changed<L: Ledger>(
+        &mut self,
+        key: u64,
+        amount: u64,
+        steps: &mut Steps<L>,
+    ) -> Result<(), AllocError>
+        requires { self.old.refused ≡ false }
+        ensures ok { OnOk result
+            (self.new ≡ record self.old { specified = with_amount self.old.specified key amount }) }
+        ensures refused { self.new.refused ≡ is_err result }
+        ensures shows { self.new.shows ≡ self.old.shows }
+        ensures count { self.new.count ≡ self.old.count }
+        ensures steps { steps.new ≤ steps.old + 1 }
+    {
+        self.parts.specify(key, amount, steps)
+    }
+
+    /// The least key at which the words and the specification differ, or none if they are equal. If
+    /// they are equal, it takes constant time. Otherwise it goes through all keys, and takes no
+    /// memory.
+    #[inline(always)]
+    pub fn first_difference(&self) -> Option<u64>
+        requires { self.now.refused ≡ false }
+        ensures { result
+            ≡ first_difference (view_by self.now.shows self.now.words) self.now.specified }
+    {
+        self.parts.first_difference()
+    }
+
+    /// Whether memory was refused. Then the value may only be dropped.
+    pub fn refused(&self) -> bool
+        ensures { result ≡ self.now.refused }
+    {
+        self.parts.refused()
+    }
+}
+
+impl<D: Decode> Compare for ByParts<D> {
+    ghost known = { λ c. c };
+
+    fn words_changed(&mut self, words: &[u64], changed: &[u32]) -> Result<(), AllocError> {
+        tell_words::<D, Brand>(Blank::new(1), self, words, changed)
+    }
+
+    fn spec_changed(&mut self, key: u64, amount: u64) -> Result<(), AllocError> {
+        tell_amount::<D, Brand>(Blank::new(1), self, key, amount)
+    }
+
+    #[inline(always)]
+    fn first_difference(&self) -> Option<u64> {
+        self.first_difference()
+    }
+
+    fn refused(&self) -> bool {
+        self.refused()
+    }
+}
+
+/// The comparison learns the words. The steps aren't counted.
+fn tell_words<D: Decode, L: Ledger>(
+    blank: Blank,
+    compared: &mut ByParts<D>,
+    words: &[u64],
+    changed: &[u32],
+) -> Result<(), AllocError>
+    requires name { blank.name ≡ L.name }
+    requires parts { blank.parts ≡ L.parts }
+    requires some { 0 < blank.parts }
+    requires sound { compared.old.refused ≡ false }
+    requires count { length words.now ≡ compared.old.count }
+    requires within { All (λ w. w < compared.old.count) changed.now }
+    requires elsewhere { AgreeElsewhere compared.old.words words.now changed.now }
+    ensures ok { OnOk result (compared.new ≡ record compared.old { words = words.now }) }
+    ensures refused { compared.new.refused ≡ is_err result }
+    ensures shows { compared.new.shows ≡ compared.old.shows }
+    ensures count { compared.new.count ≡ compared.old.count }
+{
+    let mut steps = Steps::<L>::new(blank);
+    compared.words_changed(words, changed, &mut steps)
+}
+
+/// The comparison learns an amount. The step isn't counted.
+fn tell_amount<D: Decode, L: Ledger>(
+    blank: Blank,
+    compared: &mut ByParts<D>,
+    key: u64,
+    amount: u64,
+) -> Result<(), AllocError>
+    requires name { blank.name ≡ L.name }
+    requires parts { blank.parts ≡ L.parts }
+    requires some { 0 < blank.parts }
+    requires sound { compared.old.refused ≡ false }
+    ensures ok { OnOk result (compared.new
+        ≡ record compared.old { specified = with_amount compared.old.specified key amount }) }
+    ensures refused { compared.new.refused ≡ is_err result }
+    ensures shows { compared.new.shows ≡ compared.old.shows }
+    ensures count { compared.new.count ≡ compared.old.count }
+{
+    let mut steps = Steps::<L>::new(blank);
+    compared.spec_changed(key, amount, &mut steps)
+}

@@ -1,0 +1,97 @@
+//! The parts in which words have changed.
+
+ghost use Rattle.std.specs.Prelude.{◌≡◌, ◌≢◌, ℕ, ◌+◌, ◌*◌, ◌/◌, ◌<◌, ◌≤◌, true, false, length};
+ghost use Rattle.std.specs.Prelude.{All, slice_index_or, OnOk, OnErr};
+ghost use Rattle.vyrd_view.specs.Decoded.{AreGiven, pair_at, pairs_by};
+ghost use Rattle.vyrd_view.specs.Pairs.{is_touched};
+
+use crate::decode::Decode;
+use crate::decoded::decoded_part;
+use crate::parts::Parts;
+use crate::steps::Steps;
+use std::alloc::AllocError;
+use std::sync::ledger::Ledger;
+
+/// Each part that a changed word is in gives what its words show now. Once memory was refused the
+/// parts may only be dropped.
+#[inline(always)]
+pub(crate) fn parts_changed<D: Decode, L: Ledger>(
+    decoder: &D,
+    parts: &mut Parts,
+    words: &[u64],
+    changed: &[u32],
+    steps: &mut Steps<L>,
+) -> Result<(), AllocError>
+    requires sound { parts.old.refused ≡ false }
+    requires count { length words.now ≡ D.parts decoder.now * D.WIDTH }
+    requires within { All (λ w. w < length words.now) changed.now }
+    requires given { AreGiven D.WIDTH D.PLACES (D.parts decoder.now) (D.gives decoder.now)
+        parts.old.pairs }
+    requires others { (m : ℕ) → m < length parts.old.pairs
+        → is_touched D.WIDTH (m / D.PLACES) changed.now ≡ false
+        → slice_index_or parts.old.pairs m (0, 0)
+        ≡ pair_at D.WIDTH D.PLACES (D.gives decoder.now) words.now m }
+    ensures ok { OnOk result (parts.new ≡ record parts.old {
+      pairs = pairs_by D.WIDTH D.PLACES (D.parts decoder.now) (D.gives decoder.now) words.now;
+    }) }
+    ensures refused { OnErr result (parts.new.refused ≡ true) }
+    ensures steps { steps.new ≤ steps.old + length changed.now * (1 + 2 * D.PLACES) }
+{
+    for word in changed {
+        let part = *word as usize / D::WIDTH;
+        part_changed(decoder, parts, part, words, steps)?;
+    }
+    Ok(())
+}
+
+/// The places of one part give what its words show now. Once memory was refused the parts may only
+/// be dropped.
+#[inline(always)]
+fn part_changed<D: Decode, L: Ledger>(
+    decoder: &D,
+    parts: &mut Parts,
+    part: usize,
+    words: &[u64],
+    steps: &mut Steps<L>,
+) -> Result<(), AllocError>
+    requires sound { parts.old.refused ≡ false }
+    requires part { part < D.parts decoder.now }
+    requires count { length words.now ≡ D.parts decoder.now * D.WIDTH }
+    requires given { AreGiven D.WIDTH D.PLACES (D.parts decoder.now) (D.gives decoder.now)
+        parts.old.pairs }
+    ensures sound { OnOk result (parts.new.refused ≡ false) }
+    ensures specified { OnOk result (parts.new.specified ≡ parts.old.specified) }
+    ensures given { OnOk result
+        (AreGiven D.WIDTH D.PLACES (D.parts decoder.now) (D.gives decoder.now) parts.new.pairs) }
+    ensures inside { OnOk result ((j : ℕ) → j < D.PLACES
+        → slice_index_or parts.new.pairs (part * D.PLACES + j) (0, 0)
+        ≡ pair_at D.WIDTH D.PLACES (D.gives decoder.now) words.now (part * D.PLACES + j)) }
+    ensures outside { OnOk result ((m : ℕ) → m / D.PLACES ≢ part
+        → slice_index_or parts.new.pairs m (0, 0) ≡ slice_index_or parts.old.pairs m (0, 0)) }
+    ensures refused { OnErr result (parts.new.refused ≡ true) }
+    ensures steps { steps.new ≤ steps.old + 1 + 2 * D.PLACES }
+{
+    let pairs = counted_part(decoder, part, words, steps);
+    for place in 0..D::PLACES {
+        parts.replace(part * D::PLACES + place, pairs[place], steps)?;
+    }
+    Ok(())
+}
+
+/// What one part gives, place by place. It is one step.
+#[inline(always)]
+fn counted_part<D: Decode, L: Ledger>(
+    decoder: &D,
+    part: usize,
+    words: &[u64],
+    steps: &mut Steps<L>,
+) -> [(u64, u64); 4]
+    requires part { part < D.parts decoder.now }
+    requires count { length words.now ≡ D.parts decoder.now * D.WIDTH }
+    ensures pairs { (j : ℕ) → j < D.PLACES → slice_index_or result j (0, 0)
+        ≡ pair_at D.WIDTH D.PLACES (D.gives decoder.now) words.now (part * D.PLACES + j) }
+    ensures steps { steps.new ≡ steps.old + 1 }
+{
+    steps.tick();
+    decoded_part(decoder, part, words)
+}

@@ -1,0 +1,68 @@
+//! How words are decoded, part by part.
+
+ghost use Rattle.std.specs.Prelude.{◌≡◌, ℕ, ◌*◌, ◌<◌, ◌≤◌, ◌^◌, List, length, replicate};
+ghost use Rattle.std.specs.Prelude.{slice_index_or};
+ghost use Rattle.vyrd_base.specs.Amounts.{collected, given};
+ghost use Rattle.vyrd_view.specs.Decoded.{Gives, AreGiven, pairs_by};
+ghost use Rattle.vyrd_view.specs.Known.{Shows, view_by};
+
+/// A pair that gives nothing.
+pub(crate) const NOTHING: (u64, u64) = (0, 0);
+
+/// How the words of a structure are decoded. They consist of parts, one after another, with as many
+/// words each. What a part gives follows from its number and its own words: a key and an amount in
+/// each of its places.
+///
+/// A type says how one part is decoded, and no more: which parts are decoded again after a change
+/// is the same for all, in `ByParts`.
+pub trait Decode: Sized + Copy + Drop {
+    // How many words a part has.
+    ghost WIDTH: { ℕ };
+
+    // How many places a part has.
+    ghost PLACES: { ℕ };
+
+    // How many parts there are.
+    ghost parts: { Self → ℕ };
+
+    // What a part gives, in each of its places.
+    ghost gives: { Self → Gives };
+
+    // What all the words show, by its name.
+    ghost shows: { Self → Shows };
+
+    /// How many words a part has.
+    const WIDTH: usize;
+
+    /// How many places a part has: at most 4.
+    const PLACES: usize;
+
+    /// How many parts there are.
+    fn parts(&self) -> usize
+        ensures { result ≡ parts self.now };
+
+    /// What a part with these words gives, place by place. A pair whose amount is 0 gives nothing.
+    /// The pairs past the part's places are never looked at.
+    fn decode(&self, part: usize, words: &[u64]) -> [(u64, u64); 4]
+        requires part { part < parts self.now }
+        requires count { length words.now ≡ WIDTH }
+        ensures { (j : ℕ) → j < PLACES
+            → slice_index_or result j (0, 0) ≡ gives self.now part words.now j };
+
+    // A part has words and places, and not too many of them.
+    ghost narrow: { (1 ≤ WIDTH) × (WIDTH ≤ 64) × (1 ≤ PLACES) × (PLACES ≤ 4) };
+
+    // There are at most 4,096 parts.
+    ghost few: { (d : Self) → parts d ≤ 4096 };
+
+    // A part of zeroed words gives nothing, whatever its keys are.
+    ghost quiet: { (d : Self) (part j : ℕ) → (gives d part (replicate WIDTH 0) j).1 ≡ 0 };
+
+    // What the places give to a key together fits 64 bits, whatever words each is decoded from.
+    ghost fits: { (d : Self) (pairs : List (ℕ × ℕ)) (q : ℕ)
+        → AreGiven WIDTH PLACES (parts d) (gives d) pairs → given q pairs < 2 ^ 64 };
+
+    // The words show what all parts give.
+    ghost shown: { (d : Self) (words : List ℕ) → length words ≡ parts d * WIDTH
+        → collected (pairs_by WIDTH PLACES (parts d) (gives d) words) ≡ view_by (shows d) words };
+}

@@ -1,0 +1,102 @@
+//! Words that are decoded part by part, from scratch.
+
+ghost use Rattle.std.specs.Prelude.{◌≡◌, ℕ, ◌+◌, ◌*◌, ◌<◌, length, map, slice_index_or};
+ghost use Rattle.std.specs.Prelude.{◌++◌, IfOk, OnOk};
+ghost use Rattle.vyrd_base.specs.Places.{numbers_below};
+ghost use Rattle.vyrd_base.specs.Amounts.{collected};
+ghost use Rattle.vyrd_view.specs.Decoded.{pair_at, pairs_by};
+ghost use Rattle.vyrd_view.specs.Known.{view_by};
+
+use crate::decode::Decode;
+use std::alloc::{AllocError, Global};
+use vyrd_base::AmountMap;
+
+/// What the words show: each key with the sum of what the parts give to it.
+pub(crate) fn collect<D: Decode>(
+    alloc: Global,
+    decoder: &D,
+    words: &[u64],
+) -> Result<AmountMap, AllocError>
+    requires count { length words.now ≡ D.parts decoder.now * D.WIDTH }
+    ensures { IfOk result (λ sums. sums ≡ view_by (D.shows decoder.now) words.now) }
+{
+    let mut sums = AmountMap::new(alloc);
+    for part in 0..decoder.parts() {
+        add_part(&mut sums, decoder, part, words)?;
+    }
+    Ok(sums)
+}
+
+/// Adds what one part gives to what those before it give.
+fn add_part<D: Decode>(
+    sums: &mut AmountMap,
+    decoder: &D,
+    part: usize,
+    words: &[u64],
+) -> Result<(), AllocError>
+    requires part { part < D.parts decoder.now }
+    requires count { length words.now ≡ D.parts decoder.now * D.WIDTH }
+    requires sums { sums.old
+        ≡ collected (pairs_by D.WIDTH D.PLACES part (D.gives decoder.now) words.now) }
+    ensures { OnOk result (sums.new
+        ≡ collected (pairs_by D.WIDTH D.PLACES (part + 1) (D.gives decoder.now) words.now)) }
+{
+    let pairs = decoded_part(decoder, part, words);
+    for place in 0..D::PLACES {
+        let pair = pairs[place];
+        if pair.1 != 0 {
+            sums.add(pair.0, pair.1)?;
+        }
+    }
+    Ok(())
+}
+
+/// The pairs of all parts, in their places.
+pub(crate) fn all_pairs<D: Decode>(
+    alloc: Global,
+    decoder: &D,
+    words: &[u64],
+) -> Result<Vec<(u64, u64)>, AllocError>
+    requires count { length words.now ≡ D.parts decoder.now * D.WIDTH }
+    ensures { IfOk result (λ pairs. pairs.items
+        ≡ pairs_by D.WIDTH D.PLACES (D.parts decoder.now) (D.gives decoder.now) words.now) }
+{
+    let mut pairs = Vec::with_capacity(alloc, decoder.parts() * D::PLACES)?;
+    for part in 0..decoder.parts() {
+        push_part(&mut pairs, decoder, part, words)?;
+    }
+    Ok(pairs)
+}
+
+/// The pairs of one part come after those of the parts before it.
+fn push_part<D: Decode>(
+    pairs: &mut Vec<(u64, u64)>,
+    decoder: &D,
+    part: usize,
+    words: &[u64],
+) -> Result<(), AllocError>
+    requires part { part < D.parts decoder.now }
+    requires count { length words.now ≡ D.parts decoder.now * D.WIDTH }
+    requires pairs { pairs.old.items
+        ≡ pairs_by D.WIDTH D.PLACES part (D.gives decoder.now) words.now }
+    ensures { OnOk result (pairs.new.items
+        ≡ pairs_by D.WIDTH D.PLACES (part + 1) (D.gives decoder.now) words.now) }
+{
+    let given = decoded_part(decoder, part, words);
+    for place in 0..D::PLACES {
+        pairs.push(given[place])?;
+    }
+    Ok(())
+}
+
+/// What one part gives, place by place.
+#[inline(always)]
+pub(crate) fn decoded_part<D: Decode>(decoder: &D, part: usize, words: &[u64]) -> [(u64, u64); 4]
+    requires part { part < D.parts decoder.now }
+    requires count { length words.now ≡ D.parts decoder.now * D.WIDTH }
+    ensures { (j : ℕ) → j < D.PLACES → slice_index_or result j (0, 0)
+        ≡ pair_at D.WIDTH D.PLACES (D.gives decoder.now) words.now (part * D.PLACES + j) }
+{
+    let first = part * D::WIDTH;
+    decoder.decode(part, &words[first..first + D::WIDTH])
+}
