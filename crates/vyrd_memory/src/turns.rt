@@ -130,13 +130,16 @@ fn answer(did: Did) -> u64
     }
 }
 
+/// As many turns without an event as there are in so many rounds are worth a look at who is done.
+const IDLE_ROUNDS: usize = 16;
+
 /// What came of a turn of each of some callers.
 #[derive(Clone, Copy)]
 struct Turned {
     /// There was an event.
     moved: bool,
-    /// Some machine had no event because it is done.
-    some_done: bool,
+    /// How many turns had no event.
+    idle: usize,
 }
 
 /// A turn of each of these callers, one after the other.
@@ -166,15 +169,15 @@ fn turn_each<M: Machine, S: EventSink>(
         → slice_get machines.new c ≡ slice_get machines.old c) }
 {
     let mut moved = false;
-    let mut some_done = false;
+    let mut idle: usize = 0;
     for caller in callers {
         if turn(header, machines, *caller, words, sink)? {
             moved = true;
         } else {
-            some_done = some_done || is_done(&machines[*caller as usize]);
+            idle = idle.saturating_add(1);
         }
     }
-    Ok(Turned { moved, some_done })
+    Ok(Turned { moved, idle })
 }
 
 /// Whether the machine is done.
@@ -199,12 +202,16 @@ fn unfinished<M: Machine>(alloc: Global, machines: &[M]) -> Result<Vec<u32>, All
 }
 
 /// A round over all callers. It asks those in the list, which leaves out only callers that are
-/// done, and leaves out those that it finds done. `false` says that there was no event.
+/// done. `false` says that there was no event.
+///
+/// `idle` counts the turns without an event since it was last looked who is done. That is looked
+/// at again after so many that it costs little beside them.
 fn round<M: Machine, S: EventSink>(
     alloc: Global,
     header: &Header,
     machines: &mut [M],
     callers: &mut Vec<u32>,
+    idle: &mut usize,
     words: &mut Vec<u64>,
     sink: &mut S,
 ) -> Result<bool, AllocError>
@@ -223,8 +230,10 @@ fn round<M: Machine, S: EventSink>(
     ensures left_out { IfOk result (λ _. LeavesOut M.script machines.new callers.new.items) }
 {
     let turned = turn_each(header, machines, callers, words, sink)?;
-    if turned.some_done {
+    *idle = idle.saturating_add(turned.idle);
+    if *idle / IDLE_ROUNDS >= callers.len() {
         *callers = unfinished(alloc, machines)?;
+        *idle = 0;
     }
     Ok(turned.moved)
 }
@@ -278,8 +287,8 @@ fn repeat_all<M: Machine, S: EventSink>(
     Ok(())
 }
 
-/// Rounds over all callers, until one has no event. A caller that is done is found so once, and
-/// then no round asks it again.
+/// Rounds over all callers, until one has no event. Those that are done are found so, and then no
+/// round asks them again.
 fn play_rounds<M: Machine, S: EventSink>(
     alloc: Global,
     header: &Header,
@@ -297,7 +306,16 @@ fn play_rounds<M: Machine, S: EventSink>(
     ensures fixed { IfOk result (λ _. S.fixed sink.new ≡ S.fixed sink.old) }
 {
     let mut callers = unfinished(alloc, machines)?;
-    while round(alloc, header, machines, &mut callers, words, sink)? {}
+    let mut idle = 0;
+    while round(
+        alloc,
+        header,
+        machines,
+        &mut callers,
+        &mut idle,
+        words,
+        sink,
+    )? {}
     Ok(())
 }
 
@@ -355,7 +373,7 @@ fn play<M: Machine, S: EventSink>(
 /// Plays machines over plain memory, from all words 0 and all locks free: first the turns that are
 /// given, and then rounds over all callers, until all machines are done. Machine i is that of
 /// caller i. A turn of a machine that is done, or that wants a lock which is held, has no event. A
-/// round takes no time for callers that an earlier one found done.
+/// round takes no time for callers that were done some rounds before.
 ///
 /// The sink, which has taken nothing, takes each event as it is made; no event is kept beside it.
 /// The answer is the memory at the end: the plain words, and then the locks. The events are a

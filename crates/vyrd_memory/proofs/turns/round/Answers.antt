@@ -17,16 +17,16 @@ returns-in_ok-callers-clause-shown g c =
     (subst (LeavesOut g.M.Machine.script c.args.machines.now) (sym c.deref.ensures.value) c.requires.left_out)
     c.in_ok-turned.ensures.shown
 
-pub returns-else-turned-clause-shown : goal.returns-else-turned-clause-shown
-returns-else-turned-clause-shown g c =
+pub returns-else-idle-len-clause-shown : goal.returns-else-idle-len-clause-shown
+returns-else-idle-len-clause-shown g c =
     round_shown c.args.header.now g.M.Machine.header_of g.M.Machine.script g.S.EventSink.has_taken c.deref.result.now
     (stage c.args.machines.now c.args.words.now.items c.args.sink.now)
     (stage c.turn_each.new.machines c.turn_each.new.words.items c.turn_each.new.sink)
     (subst (LeavesOut g.M.Machine.script c.args.machines.now) (sym c.deref.ensures.value) c.requires.left_out)
     c.in_ok-turned.ensures.shown
 
-pub returns-else-turned-clause-left_out : goal.returns-else-turned-clause-left_out
-returns-else-turned-clause-left_out g c =
+pub returns-else-idle-len-clause-left_out : goal.returns-else-idle-len-clause-left_out
+returns-else-idle-len-clause-left_out g c =
     still_left_out g.M.Machine.script c.args.machines.now c.turn_each.new.machines c.args.callers.now.items c.requires.left_out
     c.in_ok-turned.ensures.shown.count
     (subst (λ cs. (x : ℕ) → ((i : ℕ) → i < length cs → get_or cs i 0 ≢ x) → slice_get c.turn_each.new.machines x ≡ slice_get c.args.machines.now x)

@@ -2,7 +2,7 @@ use Rattle.std.proofs.Common.{◌+◌, [], ◌∷◌, take, get_or, refl, ap, �
 use Rattle.std.proofs.lemmas.List.{take_more}
 use Rattle.vyrd_memory.specs.Showing.{stage}
 use Rattle.vyrd_memory.proofs.ShownLaws.{shown_more}
-use Rattle.vyrd_memory.proofs.turns.turn_each.Goals.{then-branch, else-branch+then-some_done, else-branch+else-some_done}
+use Rattle.vyrd_memory.proofs.turns.turn_each.Goals.{then-branch, else-branch}
 use Rattle.vyrd_memory.proofs.turns.turn_each.Goals as goal
 
 pub turn-requires-clause-caller : goal.turn-requires-clause-caller
@@ -41,16 +41,12 @@ loop-caller-preserved g c = record {
   fixed = c.in_ok-turn.ensures.fixed ∙ c.loop-caller.invariant.fixed;
   still = λ e. elim c.if-branch.branch [
     | then-branch w ↦ cc
-    | else-branch+then-some_done w ↦ c.in_ok-turn.ensures.still (ap Ok w.if-branch.false) ∙ c.loop-caller.invariant.still (sym w.moved-is ∙ e)
-    | else-branch+else-some_done w ↦ c.in_ok-turn.ensures.still (ap Ok w.if-branch.false) ∙ c.loop-caller.invariant.still (sym w.moved-is ∙ e)
+    | else-branch w ↦ c.in_ok-turn.ensures.still (ap Ok w.if-branch.false) ∙ c.loop-caller.invariant.still (sym w.moved-is ∙ e)
   ];
   rests = omega (arith, c.in_ok-turn.ensures.rests, c.loop-caller.invariant.rests);
   falls = λ e. elim c.if-branch.branch [
     | then-branch w ↦ let falls = c.in_ok-turn.ensures.falls (ap Ok w.if-branch.true) in omega (arith, falls, c.loop-caller.invariant.rests)
-    | else-branch+then-some_done w ↦
-        let before = c.loop-caller.invariant.falls (sym w.moved-is ∙ e) in
-        omega (arith, c.in_ok-turn.ensures.rests, before)
-    | else-branch+else-some_done w ↦
+    | else-branch w ↦
         let before = c.loop-caller.invariant.falls (sym w.moved-is ∙ e) in
         omega (arith, c.in_ok-turn.ensures.rests, before)
   ];
