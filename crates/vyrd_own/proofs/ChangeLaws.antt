@@ -1,0 +1,39 @@
+-- What effects leave as it is.
+use Rattle.std.proofs.Common.{◌≡◌, ℕ, Bool, true, false, cond, List, [], ◌∷◌, refl, ap, ◌∙◌}
+use Rattle.std.specs.Prelude.{◌==◌, ◌||◌}
+use Rattle.std.specs.List.{list_any}
+use Rattle.vyrd_base.specs.Amounts.{amount_of, with_amount}
+use Rattle.vyrd_base.proofs.AmountLaws.{amount_of-with_amount}
+use Rattle.vyrd_own.specs.declared.effect.Effect.{Effect}
+use Rattle.vyrd_own.specs.declared.effect.Effect.TheVariants.{SetShown, SetHidden, SetRegister, PutLast, PutFirst, TakeFirst, TakeLast, Empty, EmptyShown}
+use Rattle.vyrd_own.specs.Expressions.{State}
+use Rattle.vyrd_own.specs.Steps.{with_effect, with_effects, shown_keys, is_clearing}
+
+left_false : (a b : Bool) → (a || b) ≡ false → a ≡ false
+left_false false b e = refl
+left_false true b e = cc
+
+right_false : (a b : Bool) → (a || b) ≡ false → b ≡ false
+right_false false b e = e
+right_false true b e = cc
+
+module _ (key : ℕ) where
+  pub other_keys_by : (s : State) (effects : List Effect) → list_any (λ k. key == k) (shown_keys effects) ≡ false → list_any is_clearing effects ≡ false
+      → amount_of (with_effects s effects).shown key ≡ amount_of s.shown key
+  other_keys_by s [] e c = refl
+  other_keys_by s (SetShown k a ∷ effects) e c =
+      other_keys_by (with_effect s (SetShown k a)) effects (right_false (key == k) (list_any (λ k. key == k) (shown_keys effects)) e) c
+      ∙ amount_of-with_amount s.shown k a key
+      ∙ ap (λ b. cond b a (amount_of s.shown key)) (left_false (key == k) (list_any (λ k. key == k) (shown_keys effects)) e)
+  other_keys_by s (SetHidden k a ∷ effects) e c = other_keys_by (with_effect s (SetHidden k a)) effects e c
+  other_keys_by s (SetRegister i a ∷ effects) e c = other_keys_by (with_effect s (SetRegister i a)) effects e c
+  other_keys_by s (PutLast i a ∷ effects) e c = other_keys_by (with_effect s (PutLast i a)) effects e c
+  other_keys_by s (PutFirst i a ∷ effects) e c = other_keys_by (with_effect s (PutFirst i a)) effects e c
+  other_keys_by s (TakeFirst i ∷ effects) e c = other_keys_by (with_effect s (TakeFirst i)) effects e c
+  other_keys_by s (TakeLast i ∷ effects) e c = other_keys_by (with_effect s (TakeLast i)) effects e c
+  other_keys_by s (Empty i ∷ effects) e c = other_keys_by (with_effect s (Empty i)) effects e c
+  other_keys_by s (EmptyShown ∷ effects) e c = cc
+
+pub other_keys : (s : State) (effects : List Effect) (key : ℕ) → list_any (λ k. key == k) (shown_keys effects) ≡ false → list_any is_clearing effects ≡ false
+    → amount_of (with_effects s effects).shown key ≡ amount_of s.shown key
+other_keys s effects key e c = other_keys_by key s effects e c

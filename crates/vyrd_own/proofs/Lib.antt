@@ -1,0 +1,4 @@
+pub mod NodeLaws
+pub mod OrderLaws
+pub mod StepLaws
+pub mod ChangeLaws

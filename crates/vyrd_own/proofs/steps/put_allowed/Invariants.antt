@@ -1,0 +1,7 @@
+use Rattle.std.proofs.Common.{◌≡◌, drop}
+use Rattle.vyrd_own.specs.Steps.{allowed_effects}
+use Rattle.vyrd_own.proofs.steps.put_allowed.Given as goal
+
+abbrev pub invariant-loop-case : goal.invariant-loop-case
+invariant-loop-case l =
+    allowed_effects l.state l.values (drop l.case-index l.cases) ≡ allowed_effects l.state l.values l.cases

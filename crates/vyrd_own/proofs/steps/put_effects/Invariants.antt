@@ -1,0 +1,7 @@
+use Rattle.std.proofs.Common.{◌≡◌, drop, take}
+use Rattle.std.specs.Prelude.{map}
+use Rattle.vyrd_own.specs.Steps.{effect_of}
+use Rattle.vyrd_own.proofs.steps.put_effects.Given as goal
+
+abbrev pub invariant-loop-change : goal.invariant-loop-change
+invariant-loop-change l = l.effects.items ≡ map (effect_of l.state l.values) (take l.change-index l.changes)

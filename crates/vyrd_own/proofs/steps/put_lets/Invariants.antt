@@ -1,0 +1,7 @@
+use Rattle.std.proofs.Common.{◌≡◌, drop}
+use Rattle.vyrd_own.specs.Steps.{with_lets}
+use Rattle.vyrd_own.proofs.steps.put_lets.Given as goal
+
+abbrev pub invariant-loop-code : goal.invariant-loop-code
+invariant-loop-code l =
+    with_lets l.state l.values.items (drop l.code-index l.lets) ≡ with_lets l.state l.fn.values.items l.lets

@@ -1,0 +1,236 @@
+//! Steps and answers.
+
+ghost use Rattle.std.specs.Prelude.{◌≡◌, ◌++◌, [], ◌∷◌, map, OnOk, IfOk, true, false, Some, None, Ok};
+ghost use Rattle.std.specs.Prelude.{if◌then◌else◌, option_map};
+ghost use Rattle.vyrd_own.specs.Steps.{value_in, with_lets, at_hand, effect_of, allowed_effects, effects_of};
+ghost use Rattle.vyrd_own.specs.Steps.{next_of, answer_of};
+
+use crate::code::Code;
+use crate::effect::Effect;
+use crate::evaluation::evaluate;
+use crate::program::{Case, Change, Method, Program};
+use crate::state::StateOf;
+use std::alloc::{AllocError, Global};
+
+/// Room for what steps and answers compute. What it held is gone after each call.
+#[derive(Drop)]
+pub struct Room {
+    pub alloc: Global,
+    pub values: Vec<u64>,
+    pub done: Vec<u64>,
+    pub effects: Vec<Effect>,
+}
+
+impl Room {
+    /// Room that takes no memory yet.
+    pub fn new(alloc: Global) -> Room {
+        Room {
+            alloc,
+            values: Vec::new(alloc),
+            done: Vec::new(alloc),
+            effects: Vec::new(alloc),
+        }
+    }
+}
+
+/// The value of an expression.
+pub fn value_of(
+    alloc: Global,
+    code: &Code,
+    state: &StateOf,
+    values: &[u64],
+    done: &mut Vec<u64>,
+) -> Result<u64, AllocError>
+    ensures { IfOk result (λ v. v ≡ value_in state.now values.now code.now) }
+{
+    evaluate(alloc, &code.nodes, state, values, done)
+}
+
+/// Puts into `values` what has a name in the method.
+pub fn put_values(
+    alloc: Global,
+    program: &Program,
+    method: &Method,
+    args: &[u64],
+    state: &StateOf,
+    values: &mut Vec<u64>,
+    done: &mut Vec<u64>,
+) -> Result<(), AllocError>
+    ensures { OnOk result (values.new.items ≡ at_hand program.now method.now state.now args.now) }
+{
+    values.clear();
+    values.extend_from_slice(&program.constants)?;
+    values.extend_from_slice(state.registers())?;
+    values.extend_from_slice(args)?;
+    put_lets(alloc, &method.lets, state, values, done)
+}
+
+/// Puts the value of each `let` at the end.
+fn put_lets(
+    alloc: Global,
+    lets: &[Code],
+    state: &StateOf,
+    values: &mut Vec<u64>,
+    done: &mut Vec<u64>,
+) -> Result<(), AllocError>
+    ensures { OnOk result (values.new.items ≡ with_lets state.now values.old.items lets.now) }
+{
+    for code in lets {
+        let found = value_of(alloc, code, state, values, done)?;
+        values.push(found)?;
+    }
+    Ok(())
+}
+
+/// What a line of a case does.
+fn effect(
+    alloc: Global,
+    change: &Change,
+    state: &StateOf,
+    values: &[u64],
+    done: &mut Vec<u64>,
+) -> Result<Effect, AllocError>
+    ensures { IfOk result (λ e. e ≡ effect_of state.now values.now change.now) }
+{
+    match change {
+        Change::Shown(key, amount) => {
+            let key = value_of(alloc, key, state, values, done)?;
+            let amount = value_of(alloc, amount, state, values, done)?;
+            Ok(Effect::SetShown(key, amount))
+        }
+        Change::Hidden(key, amount) => {
+            let key = value_of(alloc, key, state, values, done)?;
+            let amount = value_of(alloc, amount, state, values, done)?;
+            Ok(Effect::SetHidden(key, amount))
+        }
+        Change::Register(i, new) => {
+            let new = value_of(alloc, new, state, values, done)?;
+            Ok(Effect::SetRegister(*i, new))
+        }
+        Change::Append(i, new) => {
+            let new = value_of(alloc, new, state, values, done)?;
+            Ok(Effect::PutLast(*i, new))
+        }
+        Change::Prepend(i, new) => {
+            let new = value_of(alloc, new, state, values, done)?;
+            Ok(Effect::PutFirst(*i, new))
+        }
+        Change::DropFirst(i) => Ok(Effect::TakeFirst(*i)),
+        Change::DropLast(i) => Ok(Effect::TakeLast(*i)),
+        Change::Clear(i) => Ok(Effect::Empty(*i)),
+        Change::ClearShown => Ok(Effect::EmptyShown),
+    }
+}
+
+/// Puts what the lines of a case do into `effects`.
+fn put_effects(
+    alloc: Global,
+    changes: &[Change],
+    state: &StateOf,
+    values: &[u64],
+    done: &mut Vec<u64>,
+    effects: &mut Vec<Effect>,
+) -> Result<(), AllocError>
+    ensures { OnOk result (effects.new.items ≡ map (effect_of state.now values.now) changes.now) }
+{
+    effects.clear();
+    for change in changes {
+        let found = effect(alloc, change, state, values, done)?;
+        effects.push(found)?;
+    }
+    Ok(())
+}
+
+/// Puts what the first case does that allows the reply into `effects`, and says whether there is
+/// one.
+fn put_allowed(
+    alloc: Global,
+    cases: &[Case],
+    state: &StateOf,
+    values: &[u64],
+    done: &mut Vec<u64>,
+    effects: &mut Vec<Effect>,
+) -> Result<bool, AllocError>
+    ensures { IfOk result (λ allowed. allowed_effects state.now values.now cases.now
+        ≡ (if allowed then Some effects.new.items else None)) }
+{
+    for case in cases {
+        if value_of(alloc, &case.allow, state, values, done)? != 0 {
+            put_effects(alloc, &case.changes, state, values, done, effects)?;
+            return Ok(true);
+        }
+    }
+    Ok(false)
+}
+
+/// Makes a step with a call and its reply, and says whether the reply is allowed. The room then has
+/// what the step did. If the reply is refused, the state is as it was. Nothing is said of the state
+/// once memory has run out.
+pub fn step(
+    program: &Program,
+    method: &Method,
+    args: &[u64],
+    reply: u64,
+    state: &mut StateOf,
+    room: &mut Room,
+) -> Result<bool, AllocError>
+    ensures allowed { result ≡ Ok true
+        → next_of program.now method.now args.now reply state.old ≡ Some state.new }
+    ensures refused { result ≡ Ok false
+        → next_of program.now method.now args.now reply state.old ≡ None }
+    ensures same { result ≡ Ok false → state.new ≡ state.old }
+    ensures effects { result ≡ Ok true
+        → effects_of program.now method.now state.old args.now reply ≡ Some room.new.effects.items }
+{
+    let alloc = room.alloc;
+    put_values(
+        alloc,
+        program,
+        method,
+        args,
+        state,
+        &mut room.values,
+        &mut room.done,
+    )?;
+    room.values.push(reply)?;
+    let allowed = put_allowed(
+        alloc,
+        &method.cases,
+        state,
+        &room.values,
+        &mut room.done,
+        &mut room.effects,
+    )?;
+    if !allowed {
+        return Ok(false);
+    }
+    state.put_all(alloc, &room.effects)?;
+    Ok(true)
+}
+
+/// What an execution that commits nothing has to reply.
+#[tactic(auto, unfolding(crate::specs::Steps::answer_of))]
+pub fn answer(
+    program: &Program,
+    method: &Method,
+    args: &[u64],
+    state: &StateOf,
+    room: &mut Room,
+) -> Result<Option<u64>, AllocError>
+    ensures { IfOk result (λ a. a ≡ answer_of program.now method.now args.now state.now) }
+{
+    let alloc = room.alloc;
+    let Some(code) = &method.answer else {
+        return Ok(None);
+    };
+    put_values(
+        alloc,
+        program,
+        method,
+        args,
+        state,
+        &mut room.values,
+        &mut room.done,
+    )?;
+    Ok(Some(value_of(alloc, code, state, &room.values, &mut room.done)?))
+}

@@ -1,0 +1,51 @@
+//! What words show.
+
+ghost use Rattle.std.specs.Prelude.{◌≡◌, ◌++◌, OnOk, IfOk};
+ghost use Rattle.vyrd_own.specs.Steps.{blank, given_by, part_gives};
+
+use crate::program::{Program, Show};
+use crate::state::StateOf;
+use crate::steps::{Room, value_of};
+use std::alloc::{AllocError, Global};
+
+/// Puts what part `i` gives to keys, by its words, at the end of `parts`.
+#[tactic(auto, unfolding(crate::specs::Steps::part_gives))]
+pub fn put_parts(
+    program: &Program,
+    i: u64,
+    words: &[u64],
+    nothing: &StateOf,
+    room: &mut Room,
+    parts: &mut Vec<(u64, u64)>,
+) -> Result<(), AllocError>
+    requires { nothing.now ≡ blank }
+    ensures { OnOk result (parts.new.items
+        ≡ parts.old.items ++ part_gives program.now i words.now) }
+{
+    let alloc = room.alloc;
+    room.values.clear();
+    room.values.extend_from_slice(&program.constants)?;
+    room.values.push(i)?;
+    room.values.extend_from_slice(words)?;
+    for show in &program.shows {
+        let pair = given(alloc, show, nothing, &room.values, &mut room.done)?;
+        parts.push(pair)?;
+    }
+    Ok(())
+}
+
+/// The key and the amount of a line `shows`.
+fn given(
+    alloc: Global,
+    show: &Show,
+    nothing: &StateOf,
+    values: &[u64],
+    done: &mut Vec<u64>,
+) -> Result<(u64, u64), AllocError>
+    requires { nothing.now ≡ blank }
+    ensures { IfOk result (λ pair. pair ≡ given_by values.now show.now) }
+{
+    let key = value_of(alloc, &show.key, nothing, values, done)?;
+    let amount = value_of(alloc, &show.amount, nothing, values, done)?;
+    Ok((key, amount))
+}
