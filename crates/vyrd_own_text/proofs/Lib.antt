@@ -1,0 +1,5 @@
+pub mod GrowthLaws
+pub mod TextLaws
+pub mod WholeLaws
+pub mod SoundLaws
+pub mod LastLaws

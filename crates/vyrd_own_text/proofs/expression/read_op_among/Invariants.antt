@@ -1,0 +1,6 @@
+use Rattle.std.proofs.Common.{◌≡◌, drop}
+use Rattle.vyrd_own_text.specs.Reading.{op_among}
+use Rattle.vyrd_own_text.proofs.expression.read_op_among.Given as goal
+
+abbrev pub invariant-loop-op : goal.invariant-loop-op
+invariant-loop-op l = op_among (drop l.op-index l.ops) l.text ≡ op_among l.ops l.text

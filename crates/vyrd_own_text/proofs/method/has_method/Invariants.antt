@@ -1,0 +1,9 @@
+use Rattle.std.proofs.Common.{◌≡◌, drop}
+use Rattle.std.specs.Prelude.{map}
+use Rattle.vyrd_own_text.specs.Methods.{is_method}
+use Rattle.vyrd_own_text.specs.Meaning.{method_of}
+use Rattle.vyrd_own_text.proofs.method.has_method.Given as goal
+
+abbrev pub invariant-loop-method : goal.invariant-loop-method
+invariant-loop-method l =
+    is_method l.name (map method_of (drop l.method-index l.methods)) ≡ is_method l.name (map method_of l.methods)

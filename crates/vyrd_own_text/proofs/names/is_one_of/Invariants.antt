@@ -1,0 +1,10 @@
+use Rattle.std.proofs.Common.{◌≡◌, drop, Bor, List, ℕ}
+use Rattle.std.specs.Prelude.{map}
+use Rattle.std.specs.List.{list_any}
+use Rattle.std.specs.Str.{bytes_eq}
+use Rattle.vyrd_own_text.proofs.names.is_one_of.Given as goal
+
+abbrev pub invariant-loop-other : goal.invariant-loop-other
+invariant-loop-other l =
+    list_any (bytes_eq l.word) (map (λ (w : Bor (List ℕ)). w.now) (drop l.other-index l.words))
+    ≡ list_any (bytes_eq l.word) (map (λ (w : Bor (List ℕ)). w.now) l.words)

@@ -1,0 +1,8 @@
+use Rattle.std.proofs.Common.{◌≡◌, subst}
+use Rattle.std.specs.Prelude.{IfOk, codes}
+use Rattle.vyrd_own_text.specs.Pieces.{two_read}
+use Rattle.vyrd_own_text.specs.Meaning.{two_as}
+use Rattle.vyrd_own_text.proofs.outer.read_shows.Goals as goal
+
+pub returns : goal.returns
+returns c = subst (λ s. IfOk c.read_two.result (λ r. two_as r ≡ two_read s (codes " ") c.args.text.now)) c.in_ok-names.ensures c.read_two.ensures

@@ -1,0 +1,23 @@
+use Rattle.std.proofs.Common.{◌∷◌, [], ap, sym, ◌∙◌}
+use Rattle.std.specs.Prelude.{map}
+use Rattle.std.proofs.lemmas.List.{map-append}
+use Rattle.vyrd_own_text.specs.Lines.{inner, with_line}
+use Rattle.vyrd_own_text.specs.Pieces.{taken_with}
+use Rattle.vyrd_own_text.specs.Changes.{within_read}
+use Rattle.vyrd_own_text.specs.Meaning.{written, method_of, took_as}
+use Rattle.vyrd_own_text.proofs.LastLaws.{method_line_is, within_same, line_joined}
+use Rattle.vyrd_own_text.proofs.reader.take_method_line.Goals as goal
+
+pub returns-clause-took : goal.returns-clause-took
+returns-clause-took c =
+    let w = written c.args.program.now in
+    let rest = map method_of c.pop.new.self.items in
+    let m = method_of c.in-Some.method in
+    let new = method_of c.take_within.new.method in
+    let line = c.args.line.now in
+    let before = ap (map method_of) c.in-Some.ensures.items ∙ map-append method_of c.pop.new.self.items (c.in-Some.method ∷ []) in
+    let after = ap (map method_of) c.in_ok-put.ensures ∙ map-append method_of c.pop.new.self.items (c.take_within.new.method ∷ []) in
+    ap (λ methods. took_as (record w { methods = methods }) c.in_ok-took.took) after
+    ∙ line_joined w rest m new c.in_ok-took.took (within_read (record w { methods = rest }) m line) before c.in_ok-took.ensures.took
+    ∙ ap (λ r. taken_with (with_line w) (taken_with inner r)) (within_same w rest m line)
+    ∙ ap (taken_with (with_line w)) (sym (method_line_is w rest m line before))

@@ -1,0 +1,7 @@
+use Rattle.std.proofs.Common.{◌≡◌, drop}
+use Rattle.vyrd_own_text.specs.Reading.{place_from}
+use Rattle.vyrd_own_text.specs.Growth.{texts}
+use Rattle.vyrd_own_text.proofs.text.find_name.Given as goal
+
+abbrev pub invariant-loop-i : goal.invariant-loop-i
+invariant-loop-i l = place_from l.i (texts (drop l.i l.names)) l.word ≡ place_from 0 (texts l.names) l.word

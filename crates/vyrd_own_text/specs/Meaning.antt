@@ -1,0 +1,132 @@
+-- What the code's types say, in the words of the definitions.
+use Rattle.std.specs.Prelude.{ℕ, List, map, Option, Some, None, option_map, Result, Ok, Err, ⊤}
+use Rattle.std.specs.Global.{Vec}
+use denote.Ref.{Bor}
+use Rattle.vyrd_own.specs.declared.code.Code.{Code}
+use Rattle.vyrd_own.specs.declared.program.Program.{Program}
+use Rattle.vyrd_own.specs.declared.program.Method as declared_method
+use Rattle.vyrd_own.specs.declared.program.Case as declared_case
+use Rattle.vyrd_own.specs.declared.program.Show.{Show}
+use Rattle.vyrd_own.specs.declared.program.Change as declared_change
+use Rattle.vyrd_own.specs.declared.program.Change.TheVariants as changes
+use Rattle.vyrd_own.specs.Expressions.{Expr}
+use Rattle.vyrd_own.specs.Nodes.{expr_of}
+use Rattle.vyrd_own_text.specs.declared.rule.Rule.{Rule}
+use Rattle.vyrd_own_text.specs.declared.took.Took.{Took}
+use Rattle.vyrd_own_text.specs.declared.took.Took.TheVariants.{In, Refused}
+use Rattle.vyrd_own_text.specs.declared.reader.SpecificationReader.{SpecificationReader}
+use Rattle.vyrd_own_text.specs.Reading.{Taken, Found}
+use Rattle.vyrd_own_text.specs.Reader.{SoFar}
+use Rattle.vyrd_own_text.specs.Growth.{texts}
+use Rattle.vyrd_own_text.specs.Lines.{Change, of_shown, of_hidden, of_register, append, prepend}
+use Rattle.vyrd_own_text.specs.Lines.{drop_first, drop_last, clear, clear_shown, Case, Method, Written}
+
+abbrev pub expr_in : Code → Expr
+expr_in code = expr_of code.nodes.items
+
+abbrev pub change_of : declared_change.Change → Change
+change_of (changes.Shown key new) = of_shown (expr_in key) (expr_in new)
+change_of (changes.Hidden key new) = of_hidden (expr_in key) (expr_in new)
+change_of (changes.Register i new) = of_register i (expr_in new)
+change_of (changes.Append i new) = append i (expr_in new)
+change_of (changes.Prepend i new) = prepend i (expr_in new)
+change_of (changes.DropFirst i) = drop_first i
+change_of (changes.DropLast i) = drop_last i
+change_of (changes.Clear i) = clear i
+change_of changes.ClearShown = clear_shown
+
+abbrev pub case_of : declared_case.Case → Case
+case_of case = record { allow = expr_in case.allow; changes = map change_of case.changes.items }
+
+abbrev pub method_of : declared_method.Method → Method
+method_of m = record {
+  name = m.name.items;
+  names = texts m.names.items;
+  arity = m.arity;
+  lets = map expr_in m.lets.items;
+  answer = option_map expr_in m.answer;
+  cases = map case_of m.cases.items;
+}
+
+abbrev pub show_of : Show → Expr × Expr
+show_of show = (expr_in show.key, expr_in show.amount)
+
+-- a specification as it was read, as it is written
+abbrev pub written : Program → Written
+written p = record {
+  constant_names = texts p.constant_names.items;
+  constants = p.constants.items;
+  register_names = texts p.register_names.items;
+  registers = p.registers.items;
+  list_names = texts p.list_names.items;
+  lists = map (λ list. list.items) p.lists.items;
+  hidden = p.hidden.items;
+  words = p.words;
+  shows = map show_of p.shows.items;
+  methods = map method_of p.methods.items;
+}
+
+-- what the code has read
+abbrev pub number_as : Result ℕ (Rule × Bor (List ℕ)) → Taken ℕ
+number_as (Ok n) = Ok n
+number_as (Err stop) = Err (stop.0, stop.1.now)
+
+abbrev pub word_as : Result (Bor (List ℕ) × Bor (List ℕ)) (Rule × Bor (List ℕ)) → Found (List ℕ)
+word_as (Ok found) = Ok (found.0.now, found.1.now)
+word_as (Err stop) = Err (stop.0, stop.1.now)
+
+abbrev pub named_as : Result (Bor (List ℕ) × ℕ) (Rule × Bor (List ℕ)) → Taken (List ℕ × ℕ)
+named_as (Ok found) = Ok (found.0.now, found.1)
+named_as (Err stop) = Err (stop.0, stop.1.now)
+
+abbrev pub pair_as : Result (ℕ × ℕ) (Rule × Bor (List ℕ)) → Taken (ℕ × ℕ)
+pair_as (Ok found) = Ok found
+pair_as (Err stop) = Err (stop.0, stop.1.now)
+
+abbrev pub code_as : Result (Code × Bor (List ℕ)) (Rule × Bor (List ℕ)) → Found Expr
+code_as (Ok found) = Ok (expr_in found.0, found.1.now)
+code_as (Err stop) = Err (stop.0, stop.1.now)
+
+abbrev pub last_as : Result Code (Rule × Bor (List ℕ)) → Taken Expr
+last_as (Ok code) = Ok (expr_in code)
+last_as (Err stop) = Err (stop.0, stop.1.now)
+
+abbrev pub two_as : Result (Code × Code) (Rule × Bor (List ℕ)) → Taken (Expr × Expr)
+two_as (Ok found) = Ok (expr_in found.0, expr_in found.1)
+two_as (Err stop) = Err (stop.0, stop.1.now)
+
+abbrev pub let_as : Result (Bor (List ℕ) × Code) (Rule × Bor (List ℕ)) → Taken (List ℕ × Expr)
+let_as (Ok found) = Ok (found.0.now, expr_in found.1)
+let_as (Err stop) = Err (stop.0, stop.1.now)
+
+abbrev pub value_as : Result (ℕ × Code) (Rule × Bor (List ℕ)) → Taken (ℕ × Expr)
+value_as (Ok found) = Ok (found.0, expr_in found.1)
+value_as (Err stop) = Err (stop.0, stop.1.now)
+
+abbrev pub change_as : Result declared_change.Change (Rule × Bor (List ℕ)) → Taken Change
+change_as (Ok change) = Ok (change_of change)
+change_as (Err stop) = Err (stop.0, stop.1.now)
+
+abbrev pub begun_as : Result (Bor (List ℕ) × Vec (Vec ℕ)) (Rule × Bor (List ℕ))
+    → Taken (List ℕ × List (List ℕ))
+begun_as (Ok found) = Ok (found.0.now, texts found.1.items)
+begun_as (Err stop) = Err (stop.0, stop.1.now)
+
+-- what the code took in
+abbrev pub took_as : {A : Type 0} → A → Took → Taken A
+took_as new In = Ok new
+took_as new (Refused rule rest) = Err (rule, rest.now)
+
+-- what holds where a line was refused
+abbrev pub OnRefused : Took → Type 0 → Type 0
+OnRefused In holds = ⊤
+OnRefused (Refused rule rest) holds = holds
+
+-- what holds where nothing was taken in
+abbrev pub OnKept : Option Took → Type 0 → Type 0
+OnKept (Some took) holds = OnRefused took holds
+OnKept None holds = holds
+
+-- what a reader has read so far
+abbrev pub so_far : SpecificationReader → SoFar
+so_far r = record { specification = written r.program; below = r.last; lines = r.lines }
