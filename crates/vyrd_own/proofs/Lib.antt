@@ -2,3 +2,4 @@ pub mod NodeLaws
 pub mod OrderLaws
 pub mod StepLaws
 pub mod ChangeLaws
+pub mod Opened

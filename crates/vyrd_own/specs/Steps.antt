@@ -1,54 +1,44 @@
 -- What a specification says of a call: which replies are allowed, which state comes next, and what
--- an execution answers that commits nothing.
-use Rattle.std.specs.Prelude.{ℕ, ◌+◌, ◌-◌, ◌*◌, ◌/◌, Bool, true, false, List, [], ◌∷◌, ◌++◌, map}
+-- an execution answers that commits nothing. And what words show.
+use Rattle.std.specs.Prelude.{ℕ, ◌+◌, ◌-◌, ◌*◌, ◌/◌, ◌==◌, Bool, true, false, List, [], ◌∷◌, ◌++◌, map}
 use Rattle.std.specs.Prelude.{filter_map, flat_map, find, length, take, drop, slice_set, slice_range}
-use Rattle.std.specs.Prelude.{Option, Some, None, option_map}
+use Rattle.std.specs.Prelude.{Option, Some, None, option_map, if◌then◌else◌}
+use Rattle.std.specs.List.{list_all}
 use Rattle.vyrd_base.specs.Amounts.{Amounts, with_amount, collected}
 use Rattle.vyrd_base.specs.Places.{numbers_below}
-use Rattle.vyrd_own.specs.declared.code.Code.{Code}
 use Rattle.vyrd_own.specs.declared.effect.Effect.{Effect}
 use Rattle.vyrd_own.specs.declared.effect.Effect.TheVariants.{SetShown, SetHidden, SetRegister, PutLast}
 use Rattle.vyrd_own.specs.declared.effect.Effect.TheVariants.{PutFirst, TakeFirst, TakeLast, Empty}
 use Rattle.vyrd_own.specs.declared.effect.Effect.TheVariants.{EmptyShown}
-use Rattle.vyrd_own.specs.declared.program.Change.{Change}
-use Rattle.vyrd_own.specs.declared.program.Change.TheVariants.{Shown, Hidden, Register, Append, Prepend}
-use Rattle.vyrd_own.specs.declared.program.Change.TheVariants.{DropFirst, DropLast, Clear, ClearShown}
-use Rattle.vyrd_own.specs.declared.program.Case.{Case}
-use Rattle.vyrd_own.specs.declared.program.Method.{Method}
-use Rattle.vyrd_own.specs.declared.program.Program.{Program}
-use Rattle.vyrd_own.specs.declared.program.Show.{Show}
-use Rattle.vyrd_own.specs.Expressions.{State, holds, value, list_at}
-use Rattle.vyrd_own.specs.Nodes.{expr_of}
-
--- the value of an expression that is laid out in nodes
-abbrev pub value_in : State → List ℕ → Code → ℕ
-value_in s values code = value s values (expr_of code.nodes.items)
+use Rattle.vyrd_own.specs.Expressions.{Expr, State, holds, value, list_at}
+use Rattle.vyrd_own.specs.Programs.{Change, of_shown, of_hidden, of_register, append, prepend}
+use Rattle.vyrd_own.specs.Programs.{drop_first, drop_last, clear, clear_shown, Case, Method, Written}
 
 -- the values with one more for each `let`, which sees those before it
-abbrev pub with_lets : State → List ℕ → List Code → List ℕ
+abbrev pub with_lets : State → List ℕ → List Expr → List ℕ
 with_lets s values [] = values
-with_lets s values (e ∷ lets) = with_lets s (values ++ value_in s values e ∷ []) lets
+with_lets s values (e ∷ lets) = with_lets s (values ++ value s values e ∷ []) lets
 
 -- what has a name in a method: the constants, the registers, the arguments and each `let`
-abbrev pub at_hand : Program → Method → State → List ℕ → List ℕ
-at_hand p m s args = with_lets s (p.constants.items ++ s.registers ++ args) m.lets.items
+abbrev pub at_hand : Written → Method → State → List ℕ → List ℕ
+at_hand w m s args = with_lets s (w.constants ++ s.registers ++ args) m.lets
 
 -- what a line of a case does, in numbers
 abbrev pub effect_of : State → List ℕ → Change → Effect
-effect_of s values (Shown key amount) = SetShown (value_in s values key) (value_in s values amount)
-effect_of s values (Hidden key amount) = SetHidden (value_in s values key) (value_in s values amount)
-effect_of s values (Register i new) = SetRegister i (value_in s values new)
-effect_of s values (Append i new) = PutLast i (value_in s values new)
-effect_of s values (Prepend i new) = PutFirst i (value_in s values new)
-effect_of s values (DropFirst i) = TakeFirst i
-effect_of s values (DropLast i) = TakeLast i
-effect_of s values (Clear i) = Empty i
-effect_of s values ClearShown = EmptyShown
+effect_of s values (of_shown key new) = SetShown (value s values key) (value s values new)
+effect_of s values (of_hidden key new) = SetHidden (value s values key) (value s values new)
+effect_of s values (of_register i new) = SetRegister i (value s values new)
+effect_of s values (append i new) = PutLast i (value s values new)
+effect_of s values (prepend i new) = PutFirst i (value s values new)
+effect_of s values (drop_first i) = TakeFirst i
+effect_of s values (drop_last i) = TakeLast i
+effect_of s values (clear i) = Empty i
+effect_of s values clear_shown = EmptyShown
 
--- what the first case that allows the reply does, or none if no case does
+-- what the first case does whose expression isn't 0, or none if there is no such case
 abbrev pub allowed_effects : State → List ℕ → List Case → Option (List Effect)
-allowed_effects s values cases = option_map (λ case. map (effect_of s values) case.changes.items)
-    (find (λ case. holds (value_in s values case.allow)) cases)
+allowed_effects s values cases = option_map (λ case. map (effect_of s values) case.changes)
+    (find (λ case. holds (value s values case.allow)) cases)
 
 -- the state with another list of that number, if there is one
 abbrev pub with_list : State → ℕ → List ℕ → State
@@ -80,16 +70,16 @@ with_effects s (effect ∷ effects) = with_effects (with_effect s effect) effect
 
 -- what a call with its reply does, all of it computed in the state before; none if the reply is
 -- refused
-abbrev pub effects_of : Program → Method → State → List ℕ → ℕ → Option (List Effect)
-effects_of p m s args reply = allowed_effects s (at_hand p m s args ++ reply ∷ []) m.cases.items
+abbrev pub effects_of : Written → Method → State → List ℕ → ℕ → Option (List Effect)
+effects_of w m s args reply = allowed_effects s (at_hand w m s args ++ reply ∷ []) m.cases
 
 -- the state after a call with its reply, or none if the reply is refused
-unfoldable pub next_of : Program → Method → List ℕ → ℕ → State → Option State
-next_of p m args reply s = option_map (with_effects s) (effects_of p m s args reply)
+unfoldable pub next_of : Written → Method → List ℕ → ℕ → State → Option State
+next_of w m args reply s = option_map (with_effects s) (effects_of w m s args reply)
 
 -- what an execution that commits nothing has to reply, if the method has an answer
-unfoldable pub answer_of : Program → Method → List ℕ → State → Option ℕ
-answer_of p m args s = option_map (value_in s (at_hand p m s args)) m.answer
+unfoldable pub answer_of : Written → Method → List ℕ → State → Option ℕ
+answer_of w m args s = option_map (value s (at_hand w m s args)) m.answer
 
 -- the keys whose shown amount is set
 abbrev pub shown_key : Effect → Option ℕ
@@ -110,29 +100,32 @@ abbrev pub hidden_with : Amounts → List (ℕ × ℕ) → Amounts
 hidden_with amounts [] = amounts
 hidden_with amounts (pair ∷ pairs) = hidden_with (with_amount amounts pair.0 pair.1) pairs
 
-unfoldable pub start_of : Program → State
-start_of p = record {
+unfoldable pub start_of : Written → State
+start_of w = record {
   shown = [];
-  hidden = hidden_with [] p.hidden.items;
-  registers = p.registers.items;
-  lists = map (λ list. list.items) p.lists.items;
+  hidden = hidden_with [] w.hidden;
+  registers = w.registers;
+  lists = w.lists;
 }
 
 -- the state in which nothing was set: what `shows` sees
 abbrev pub blank : State
 blank = record { shown = []; hidden = []; registers = []; lists = [] }
 
--- what part i gives to keys, by its words
-abbrev pub given_by : List ℕ → Show → ℕ × ℕ
-given_by values show = (value_in blank values show.key, value_in blank values show.amount)
+-- what a line `shows` gives to a key
+abbrev pub given_by : List ℕ → Expr × Expr → ℕ × ℕ
+given_by values show = (value blank values show.0, value blank values show.1)
 
-unfoldable pub part_gives : Program → ℕ → List ℕ → List (ℕ × ℕ)
-part_gives p i words = map (given_by (p.constants.items ++ i ∷ words)) p.shows.items
+-- what part i gives to keys, by its words: nothing, if they are all 0
+unfoldable pub part_gives : Written → ℕ → List ℕ → List (ℕ × ℕ)
+part_gives w i words =
+    if list_all (λ word. word == 0) words then []
+    else map (given_by (w.constants ++ i ∷ words)) w.shows
 
 -- what all words show: part i has the words from number `words * i` on
-abbrev pub part_words : Program → List ℕ → ℕ → List ℕ
-part_words p words i = slice_range words (p.words * i) (p.words * i + p.words)
+abbrev pub part_words : Written → List ℕ → ℕ → List ℕ
+part_words w words i = slice_range words (w.words * i) (w.words * i + w.words)
 
-unfoldable pub view_of : Program → List ℕ → Amounts
-view_of p words = collected (flat_map (λ i. part_gives p i (part_words p words i))
-    (numbers_below (length words / p.words)))
+unfoldable pub view_of : Written → List ℕ → Amounts
+view_of w words = collected (flat_map (λ i. part_gives w i (part_words w words i))
+    (numbers_below (length words / w.words)))

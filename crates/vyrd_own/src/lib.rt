@@ -1,4 +1,11 @@
-//! Specifications of a user's own: their values, steps and answers.
+//! Specifications of a user's own: the values of expressions, steps, answers, and what words show.
+//!
+//! A `Program` is a specification that was read. `step` makes a step of a state with a call and its
+//! reply, `answer` is what an execution replies that commits nothing, and `put_parts` is what a part
+//! of the words gives to keys. Each answers exactly what the definitions say of the specification as
+//! it is written (`specs/Steps`, `specs/Expressions`), for any state and any arguments, or that
+//! memory ran out. An expression is evaluated in one pass over a list of nodes; how the nodes make
+//! the expression is a matter of the layout (`specs/Layout`), of which the definitions know nothing.
 #![tactic(auto)]
 
 mod code;
@@ -14,16 +21,14 @@ mod shown;
 mod state;
 mod steps;
 mod words;
+pub mod worked;
 
 pub use code::Code;
 pub use effect::Effect;
-pub use evaluation::evaluate;
 pub use node::Node;
 pub use op::Op;
-pub use ordered::OrderedAmounts;
 pub use program::{Case, Change, Method, Program, Show};
-pub use queue::Queue;
 pub use shown::ShownAmounts;
 pub use state::StateOf;
-pub use steps::{Room, answer, put_values, step, value_of};
+pub use steps::{Room, answer, step};
 pub use words::put_parts;

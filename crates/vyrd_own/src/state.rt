@@ -2,6 +2,7 @@
 
 ghost use Rattle.std.specs.Prelude.{◌≡◌, ◌++◌, OnOk, IfOk, [], map, length, List, ℕ};
 ghost use Rattle.vyrd_own.specs.Expressions.{State, list_at, first_of, last_of};
+ghost use Rattle.vyrd_own.specs.Layout.{written};
 ghost use Rattle.vyrd_own.specs.Steps.{with_effect, with_effects, start_of, hidden_with};
 
 use crate::effect::Effect;
@@ -44,7 +45,7 @@ impl StateOf {
         keys: usize,
         in_order: bool,
     ) -> Result<StateOf, AllocError>
-        ensures { IfOk result (λ s. s ≡ start_of program.now) }
+        ensures { IfOk result (λ s. s ≡ start_of (written program.now)) }
     {
         let mut hidden = AmountTable::new(alloc, keys)?;
         put_hidden(&mut hidden, &program.hidden)?;

@@ -2,8 +2,10 @@
 
 ghost use Rattle.std.specs.Prelude.{◌≡◌, ◌++◌, [], ◌∷◌, map, OnOk, IfOk, true, false, Some, None, Ok};
 ghost use Rattle.std.specs.Prelude.{if◌then◌else◌, option_map};
-ghost use Rattle.vyrd_own.specs.Steps.{value_in, with_lets, at_hand, effect_of, allowed_effects, effects_of};
-ghost use Rattle.vyrd_own.specs.Steps.{next_of, answer_of};
+ghost use Rattle.vyrd_own.specs.Expressions.{value};
+ghost use Rattle.vyrd_own.specs.Layout.{expr_in, change_of, case_of, method_of, written};
+ghost use Rattle.vyrd_own.specs.Steps.{with_lets, at_hand, effect_of, allowed_effects};
+ghost use Rattle.vyrd_own.specs.Steps.{effects_of, next_of, answer_of};
 
 use crate::code::Code;
 use crate::effect::Effect;
@@ -41,7 +43,7 @@ pub fn value_of(
     values: &[u64],
     done: &mut Vec<u64>,
 ) -> Result<u64, AllocError>
-    ensures { IfOk result (λ v. v ≡ value_in state.now values.now code.now) }
+    ensures { IfOk result (λ v. v ≡ value state.now values.now (expr_in code.now)) }
 {
     evaluate(alloc, &code.nodes, state, values, done)
 }
@@ -56,7 +58,8 @@ pub fn put_values(
     values: &mut Vec<u64>,
     done: &mut Vec<u64>,
 ) -> Result<(), AllocError>
-    ensures { OnOk result (values.new.items ≡ at_hand program.now method.now state.now args.now) }
+    ensures { OnOk result (values.new.items
+        ≡ at_hand (written program.now) (method_of method.now) state.now args.now) }
 {
     values.clear();
     values.extend_from_slice(&program.constants)?;
@@ -73,7 +76,8 @@ fn put_lets(
     values: &mut Vec<u64>,
     done: &mut Vec<u64>,
 ) -> Result<(), AllocError>
-    ensures { OnOk result (values.new.items ≡ with_lets state.now values.old.items lets.now) }
+    ensures { OnOk result (values.new.items
+        ≡ with_lets state.now values.old.items (map expr_in lets.now)) }
 {
     for code in lets {
         let found = value_of(alloc, code, state, values, done)?;
@@ -90,7 +94,7 @@ fn effect(
     values: &[u64],
     done: &mut Vec<u64>,
 ) -> Result<Effect, AllocError>
-    ensures { IfOk result (λ e. e ≡ effect_of state.now values.now change.now) }
+    ensures { IfOk result (λ e. e ≡ effect_of state.now values.now (change_of change.now)) }
 {
     match change {
         Change::Shown(key, amount) => {
@@ -131,7 +135,8 @@ fn put_effects(
     done: &mut Vec<u64>,
     effects: &mut Vec<Effect>,
 ) -> Result<(), AllocError>
-    ensures { OnOk result (effects.new.items ≡ map (effect_of state.now values.now) changes.now) }
+    ensures { OnOk result (effects.new.items
+        ≡ map (effect_of state.now values.now) (map change_of changes.now)) }
 {
     effects.clear();
     for change in changes {
@@ -151,7 +156,7 @@ fn put_allowed(
     done: &mut Vec<u64>,
     effects: &mut Vec<Effect>,
 ) -> Result<bool, AllocError>
-    ensures { IfOk result (λ allowed. allowed_effects state.now values.now cases.now
+    ensures { IfOk result (λ allowed. allowed_effects state.now values.now (map case_of cases.now)
         ≡ (if allowed then Some effects.new.items else None)) }
 {
     for case in cases {
@@ -175,12 +180,14 @@ pub fn step(
     room: &mut Room,
 ) -> Result<bool, AllocError>
     ensures allowed { result ≡ Ok true
-        → next_of program.now method.now args.now reply state.old ≡ Some state.new }
+        → next_of (written program.now) (method_of method.now) args.now reply state.old
+        ≡ Some state.new }
     ensures refused { result ≡ Ok false
-        → next_of program.now method.now args.now reply state.old ≡ None }
+        → next_of (written program.now) (method_of method.now) args.now reply state.old ≡ None }
     ensures same { result ≡ Ok false → state.new ≡ state.old }
     ensures effects { result ≡ Ok true
-        → effects_of program.now method.now state.old args.now reply ≡ Some room.new.effects.items }
+        → effects_of (written program.now) (method_of method.now) state.old args.now reply
+        ≡ Some room.new.effects.items }
 {
     let alloc = room.alloc;
     put_values(
@@ -217,7 +224,8 @@ pub fn answer(
     state: &StateOf,
     room: &mut Room,
 ) -> Result<Option<u64>, AllocError>
-    ensures { IfOk result (λ a. a ≡ answer_of program.now method.now args.now state.now) }
+    ensures { IfOk result (λ a. a
+        ≡ answer_of (written program.now) (method_of method.now) args.now state.now) }
 {
     let alloc = room.alloc;
     let Some(code) = &method.answer else {

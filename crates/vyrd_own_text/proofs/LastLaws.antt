@@ -4,7 +4,8 @@ use Rattle.std.specs.Prelude.{◌-◌, Ok, Err, slice_get}
 use Rattle.vyrd_own_text.specs.declared.took.Took.{Took}
 use Rattle.vyrd_own_text.specs.declared.took.Took.TheVariants.{In, Refused}
 use Rattle.vyrd_own_text.specs.Reading.{Taken}
-use Rattle.vyrd_own_text.specs.Lines.{Change, Case, Inner, Method, Written, inner, holding, with_change, with_inner, with_line, change_last}
+use Rattle.vyrd_own.specs.Programs.{Change, Case, Method, Written}
+use Rattle.vyrd_own_text.specs.Lines.{Inner, inner, holding, with_change, with_inner, with_line, change_last}
 use Rattle.vyrd_own_text.specs.Pieces.{taken_with}
 use Rattle.vyrd_own_text.specs.Methods.{last_in, inner_read}
 use Rattle.vyrd_own_text.specs.Changes.{within_read}

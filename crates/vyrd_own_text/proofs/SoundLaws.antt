@@ -12,7 +12,7 @@ use Rattle.vyrd_own_text.specs.declared.rule.Rule.{Rule}
 use Rattle.vyrd_own_text.specs.declared.rule.Rule.TheVariants.{BadLine, UnknownName, StateIsRead}
 use Rattle.vyrd_own_text.specs.Reading.{Found, and_then, made, after, found_after, ended_by, is_word_byte, word_of, after_word, number_in, place_from, place_in, is_lettered, unknown, of_state, placed, name_read, number_or, all_ops, atom_read, op_among, op_read, one_read, list_read, second_read, infix_read, else_read, then_read, choice_read, if_after, round_read, whole_read, expr_read}
 
-after_sound : (word text rest : List ℕ) → after word text ≡ Some rest → text ≡ word ++ rest
+pub after_sound : (word text rest : List ℕ) → after word text ≡ Some rest → text ≡ word ++ rest
 unfolding after
 after_sound [] text rest e = cc
 after_sound (c ∷ word) [] rest e = cc
@@ -25,7 +25,7 @@ after_sound (c ∷ word) (b ∷ text) rest e = by_test (λ h. after_sound word t
     by_test more false is h = cc
 
 -- the letters at the front, and what follows
-word_splits : (text : List ℕ) → text ≡ word_of text ++ after_word text
+pub word_splits : (text : List ℕ) → text ≡ word_of text ++ after_word text
 word_splits [] = refl
 word_splits (b ∷ text) = by_test (word_splits text) (is_word_byte b)
   where
@@ -103,7 +103,7 @@ unknown_not {A} text x next h = by_letter (is_lettered text) h
     by_letter true k = cc
     by_letter false k = cc
 
-name_inv : (names : List (List ℕ)) (text : List ℕ) (i : ℕ) (rest : List ℕ) → name_read names text ≡ Ok (i, rest) → text ≡ name_at names i ++ rest
+pub name_inv : (names : List (List ℕ)) (text : List ℕ) (i : ℕ) (rest : List ℕ) → name_read names text ≡ Ok (i, rest) → text ≡ name_at names i ++ rest
 name_inv names text i rest h = by_place (place_in names (word_of text)) refl h
   where
     by_place : (o : Option ℕ) → place_in names (word_of text) ≡ o → placed text (after_word text) o ≡ Ok (i, rest) → text ≡ name_at names i ++ rest

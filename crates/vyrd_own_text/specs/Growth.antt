@@ -12,6 +12,7 @@ use Rattle.vyrd_own_text.specs.declared.expression.Read.TheVariants.{Rest, Stopp
 use Rattle.vyrd_own_text.specs.declared.rule.Rule.{Rule}
 use Rattle.vyrd_own_text.specs.declared.scope.Names.{Names}
 use Rattle.vyrd_own.specs.Expressions.{Expr, shown, hidden, least, greatest, first, last, size, negation}
+use Rattle.vyrd_own.specs.Layout.{texts}
 use Rattle.vyrd_own.specs.Nodes.{earlier, exprs_of}
 use Rattle.vyrd_own_text.specs.Spelling.{Scope}
 use Rattle.vyrd_own_text.specs.Reading.{Found}
@@ -34,10 +35,6 @@ abbrev pub ends_of : Ends → ℕ → Expr
 ends_of ends.First i = first i
 ends_of ends.Last i = last i
 ends_of ends.Size i = size i
-
--- the bytes of texts
-abbrev pub texts : List (Vec ℕ) → List (List ℕ)
-texts names = map (λ name. name.items) names
 
 -- the names as a definition sees them
 abbrev pub scope_of : Names → Scope

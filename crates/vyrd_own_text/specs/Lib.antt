@@ -8,4 +8,5 @@ pub mod Outer
 pub mod Methods
 pub mod Changes
 pub mod Reader
+pub mod LineSpelling
 pub mod Meaning

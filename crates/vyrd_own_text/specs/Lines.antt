@@ -1,19 +1,8 @@
--- A specification as it is written: what a line says, and what it adds to the lines before it.
+-- What a line says, and what it adds to the lines before it.
 use Rattle.std.specs.Prelude.{ℕ, ◌==◌, Bool, not, List, [], ◌∷◌, ◌++◌, length, Option, Some}
 use Rattle.std.specs.Prelude.{None}
 use Rattle.vyrd_own.specs.Expressions.{Expr}
-
--- a line that changes something: an amount, a register, a list
-pub data Change : Type 0 where
-  of_shown : Expr → Expr → Change
-  of_hidden : Expr → Expr → Change
-  of_register : ℕ → Expr → Change
-  append : ℕ → Expr → Change
-  prepend : ℕ → Expr → Change
-  drop_first : ℕ → Change
-  drop_last : ℕ → Change
-  clear : ℕ → Change
-  clear_shown : Change
+use Rattle.vyrd_own.specs.Programs.{Change, Case, Method, Written}
 
 -- what a line of a method says
 pub data Inner : Type 0 where
@@ -34,33 +23,6 @@ pub data Line : Type 0 where
   shows : Expr → Expr → Line
   method : List ℕ → List (List ℕ) → Line
   inner : Inner → Line
-
--- a case as it is written
-pub record Case : Type 0 where
-  pub allow : Expr
-  pub changes : List Change
-
--- a method as it is written: its names are those of its parameters, and then those of its `let`s
-pub record Method : Type 0 where
-  pub name : List ℕ
-  pub names : List (List ℕ)
-  pub arity : ℕ
-  pub lets : List Expr
-  pub answer : Option Expr
-  pub cases : List Case
-
--- a specification as it is written
-pub record Written : Type 0 where
-  pub constant_names : List (List ℕ)
-  pub constants : List ℕ
-  pub register_names : List (List ℕ)
-  pub registers : List ℕ
-  pub list_names : List (List ℕ)
-  pub lists : List (List ℕ)
-  pub hidden : List (ℕ × ℕ)
-  pub words : ℕ
-  pub shows : List (Expr × Expr)
-  pub methods : List Method
 
 -- the specification that has no line
 abbrev pub nothing_written : Written

@@ -8,7 +8,8 @@ use Rattle.std.specs.Str.{bytes_eq}
 use Rattle.vyrd_own.specs.Expressions.{Expr}
 use Rattle.vyrd_own_text.specs.Spelling.{Scope}
 use Rattle.vyrd_own_text.specs.Reading.{Taken, and_then, after, if_after, word_of}
-use Rattle.vyrd_own_text.specs.Lines.{Inner, Line, Method, Written, has_any, method, naming, answering}
+use Rattle.vyrd_own.specs.Programs.{Method, Written}
+use Rattle.vyrd_own_text.specs.Lines.{Inner, Line, has_any, method, naming, answering}
 use Rattle.vyrd_own_text.specs.Lines.{allowing}
 use Rattle.vyrd_own_text.specs.Names.{is_among, is_known, new_name}
 use Rattle.vyrd_own_text.specs.Pieces.{taken_with, last_read}

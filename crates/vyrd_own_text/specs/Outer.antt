@@ -4,7 +4,8 @@ use Rattle.std.specs.Prelude.{ℕ, ◌==◌, Bool, true, false, not, ◌&&◌, �
 use Rattle.std.specs.Prelude.{length, take, min, codes, Option, Some, None, Ok, Err}
 use Rattle.vyrd_own_text.specs.Spelling.{Scope}
 use Rattle.vyrd_own_text.specs.Reading.{Taken, and_then, after, if_after, word_of, number_in}
-use Rattle.vyrd_own_text.specs.Lines.{Line, Written, has_any, constant, register, list, holds}
+use Rattle.vyrd_own.specs.Programs.{Written}
+use Rattle.vyrd_own_text.specs.Lines.{Line, has_any, constant, register, list, holds}
 use Rattle.vyrd_own_text.specs.Lines.{hidden, part, shows}
 use Rattle.vyrd_own_text.specs.Names.{words_of_parts, is_known, new_name}
 use Rattle.vyrd_own_text.specs.Pieces.{last_number, taken_with, named_number, ended, two_numbers}

@@ -10,7 +10,8 @@ use Rattle.vyrd_own_text.specs.declared.outcome.Outcome.TheVariants as outcomes
 use Rattle.vyrd_own_text.specs.declared.rule.Rule.{Rule}
 use Rattle.vyrd_own_text.specs.declared.rule.Rule.TheVariants as rules
 use Rattle.vyrd_own_text.specs.Reading.{Taken, after, if_after}
-use Rattle.vyrd_own_text.specs.Lines.{Line, Method, Written, has_any, remark, inner, with_line}
+use Rattle.vyrd_own.specs.Programs.{Method, Written}
+use Rattle.vyrd_own_text.specs.Lines.{Line, has_any, remark, inner, with_line}
 use Rattle.vyrd_own_text.specs.Lines.{nothing_written}
 use Rattle.vyrd_own_text.specs.Pieces.{taken_with}
 use Rattle.vyrd_own_text.specs.Outer.{outer_read}

@@ -1,6 +1,6 @@
 -- The one spelling of an expression. What is made of parts stands in brackets, with one space
 -- between words.
-use Rattle.std.specs.Prelude.{ℕ, ◌==◌, ◌||◌, Bool, true, false, List, [], ◌++◌, codes, decimal}
+use Rattle.std.specs.Prelude.{ℕ, ◌==◌, Bool, List, [], ◌++◌, codes, decimal}
 use Rattle.std.specs.Prelude.{slice_index_or, if◌then◌else◌}
 use Rattle.vyrd_own.specs.declared.op.Op.{Op}
 use Rattle.vyrd_own.specs.declared.op.Op.TheVariants.{Plus, Minus, Times, Over, Rest, Equal, Unequal}
@@ -55,19 +55,3 @@ spelled s (negation e) = codes "(not " ++ spelled s e ++ codes ")"
 spelled s (infix_of op a b) = codes "(" ++ spelled s a ++ op_word op ++ spelled s b ++ codes ")"
 spelled s (choice test a b) = codes "(if " ++ spelled s test ++ codes " then " ++ spelled s a
     ++ codes " else " ++ spelled s b ++ codes ")"
-
--- whether an expression reads the state
-abbrev pub reads_state : Expr → Bool
-reads_state (number n) = false
-reads_state (at i) = false
-reads_state count = true
-reads_state (shown key) = true
-reads_state (hidden key) = true
-reads_state (least key) = true
-reads_state (greatest key) = true
-reads_state (first i) = true
-reads_state (last i) = true
-reads_state (size i) = true
-reads_state (negation e) = reads_state e
-reads_state (infix_of op a b) = reads_state a || reads_state b
-reads_state (choice test a b) = reads_state test || reads_state a || reads_state b

@@ -1,12 +1,13 @@
 //! Lines of a case.
 
 ghost use Rattle.std.specs.Prelude.{◌≡◌, [], ◌∷◌, IfOk, codes, map};
-ghost use Rattle.vyrd_own_text.specs.Growth.{texts, scope_of};
+ghost use Rattle.vyrd_own.specs.Layout.{texts, written, method_of, case_of, change_of};
+ghost use Rattle.vyrd_own_text.specs.Growth.{scope_of};
 ghost use Rattle.vyrd_own_text.specs.Lines.{changing, with_inner};
 ghost use Rattle.vyrd_own_text.specs.Pieces.{taken_with};
 ghost use Rattle.vyrd_own_text.specs.Methods.{last_in, method_scope};
 ghost use Rattle.vyrd_own_text.specs.Changes.{plain_read, change_read, changes_in, case_line_read};
-ghost use Rattle.vyrd_own_text.specs.Meaning.{written, method_of, case_of, change_as, change_of, took_as};
+ghost use Rattle.vyrd_own_text.specs.Meaning.{change_as, took_as};
 ghost use Rattle.vyrd_own_text.specs.Meaning.{OnRefused};
 
 use crate::pieces::{put, read_last_name, read_named, read_two};

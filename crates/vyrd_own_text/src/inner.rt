@@ -8,7 +8,8 @@ ghost use Rattle.vyrd_own_text.specs.Methods.{is_closed, named_expr};
 ghost use Rattle.vyrd_own_text.specs.Lines.{answering, allowing, naming};
 ghost use Rattle.vyrd_own_text.specs.Lines.{with_inner};
 ghost use Rattle.vyrd_own_text.specs.Methods.{answer_read, allow_read, naming_read};
-ghost use Rattle.vyrd_own_text.specs.Meaning.{written, last_as, took_as, OnRefused, OnKept, method_of, expr_in};
+ghost use Rattle.vyrd_own.specs.Layout.{written, method_of, expr_in};
+ghost use Rattle.vyrd_own_text.specs.Meaning.{last_as, took_as, OnRefused, OnKept};
 ghost use Rattle.vyrd_own_text.specs.Meaning.{let_as};
 
 use crate::change::take_change;

@@ -1,14 +1,14 @@
 //! The line that begins a method.
 
 ghost use Rattle.std.specs.Prelude.{◌≡◌, ◌||◌, IfOk, map};
-ghost use Rattle.vyrd_own_text.specs.Growth.{texts};
+ghost use Rattle.vyrd_own.specs.Layout.{texts, written, method_of};
 ghost use Rattle.vyrd_own_text.specs.Reading.{word_of};
 ghost use Rattle.vyrd_own_text.specs.Lines.{method, with_line};
 ghost use Rattle.vyrd_own_text.specs.Names.{is_among, is_known};
 ghost use Rattle.vyrd_own_text.specs.Pieces.{taken_with};
 ghost use Rattle.vyrd_own_text.specs.Methods.{is_method, is_unfinished, parameters_read};
 ghost use Rattle.vyrd_own_text.specs.Methods.{named_method, method_read};
-ghost use Rattle.vyrd_own_text.specs.Meaning.{written, method_of, begun_as, took_as, OnRefused};
+ghost use Rattle.vyrd_own_text.specs.Meaning.{begun_as, took_as, OnRefused};
 
 use crate::inner::is_closed;
 use crate::names::{is_known, is_taken, read_new_name};

@@ -3,11 +3,11 @@
 ghost use Rattle.std.specs.Prelude.{◌≡◌, ◌||◌, map, length};
 ghost use Rattle.std.specs.List.{list_any};
 ghost use Rattle.std.specs.Str.{bytes_eq};
-ghost use Rattle.vyrd_own_text.specs.Growth.{texts};
+ghost use Rattle.vyrd_own.specs.Layout.{texts, written, method_of};
 ghost use Rattle.vyrd_own_text.specs.Reading.{word_of};
 ghost use Rattle.vyrd_own_text.specs.Names.{is_among, is_name, is_known, new_name, reserved};
 ghost use Rattle.vyrd_own_text.specs.Names.{words_of_parts};
-ghost use Rattle.vyrd_own_text.specs.Meaning.{written, word_as, method_of};
+ghost use Rattle.vyrd_own_text.specs.Meaning.{word_as};
 
 use crate::rule::Rule;
 use crate::text::{find_name, is_lettered, is_same, split_word};

@@ -8,7 +8,8 @@ ghost use Rattle.vyrd_own_text.specs.Lines.{shows, with_line};
 ghost use Rattle.vyrd_own_text.specs.Pieces.{two_read, taken_with};
 ghost use Rattle.vyrd_own_text.specs.Lines.{holding};
 ghost use Rattle.vyrd_own_text.specs.Outer.{outer_read, is_past_constants};
-ghost use Rattle.vyrd_own_text.specs.Meaning.{written, two_as, took_as, OnRefused, OnKept, expr_in};
+ghost use Rattle.vyrd_own.specs.Layout.{written, expr_in};
+ghost use Rattle.vyrd_own_text.specs.Meaning.{two_as, took_as, OnRefused, OnKept};
 
 use crate::last::{Last, is_list, is_part};
 use crate::names::{front_is_known, read_new_name};

@@ -1,7 +1,8 @@
 //! The pieces of a line: numbers, expressions and names, up to its end.
 
 ghost use Rattle.std.specs.Prelude.{◌≡◌, ◌++◌, [], ◌∷◌, IfOk};
-ghost use Rattle.vyrd_own_text.specs.Growth.{texts, scope_of};
+ghost use Rattle.vyrd_own.specs.Layout.{texts};
+ghost use Rattle.vyrd_own_text.specs.Growth.{scope_of};
 ghost use Rattle.vyrd_own_text.specs.Reading.{expr_read, after};
 ghost use Rattle.vyrd_own_text.specs.Pieces.{last_number, named_number, two_numbers, last_read};
 ghost use Rattle.vyrd_own_text.specs.Pieces.{two_read, last_name, named_value};

@@ -6,7 +6,8 @@ ghost use Rattle.vyrd_own_text.specs.Pieces.{taken_with};
 ghost use Rattle.vyrd_own_text.specs.Reader.{is_remark, unplaced, method_line_read, line_read, begins};
 ghost use Rattle.vyrd_own_text.specs.Reader.{last_after, column, unfinished, ended_with, read_next};
 ghost use Rattle.vyrd_own_text.specs.Reader.{or_method, SoFar, nothing_read};
-ghost use Rattle.vyrd_own_text.specs.Meaning.{written, method_of, took_as, OnRefused, so_far};
+ghost use Rattle.vyrd_own.specs.Layout.{written, method_of};
+ghost use Rattle.vyrd_own_text.specs.Meaning.{took_as, OnRefused, so_far};
 
 use crate::inner::take_within;
 use crate::last::Last;

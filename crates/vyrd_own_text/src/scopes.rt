@@ -1,12 +1,12 @@
 //! What the expressions of a line may speak of.
 
 ghost use Rattle.std.specs.Prelude.{◌≡◌, ◌++◌, [], ◌∷◌, IfOk, ◌≤◌, map, take, min, length};
-ghost use Rattle.vyrd_own_text.specs.Growth.{texts, scope_of};
+ghost use Rattle.vyrd_own.specs.Layout.{texts, written, method_of};
+ghost use Rattle.vyrd_own_text.specs.Growth.{scope_of};
 ghost use Rattle.vyrd_own_text.specs.Outer.{part_scope};
 ghost use Rattle.vyrd_own_text.specs.Lines.{shows};
 ghost use Rattle.vyrd_own_text.specs.Names.{words_of_parts};
 ghost use Rattle.vyrd_own_text.specs.Methods.{method_scope};
-ghost use Rattle.vyrd_own_text.specs.Meaning.{written, method_of};
 
 use crate::scope::Names;
 use std::alloc::{AllocError, Global};

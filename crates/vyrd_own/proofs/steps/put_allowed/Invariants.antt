@@ -1,7 +1,10 @@
 use Rattle.std.proofs.Common.{◌≡◌, drop}
+use Rattle.std.specs.Prelude.{map}
+use Rattle.vyrd_own.specs.Layout.{case_of}
 use Rattle.vyrd_own.specs.Steps.{allowed_effects}
 use Rattle.vyrd_own.proofs.steps.put_allowed.Given as goal
 
 abbrev pub invariant-loop-case : goal.invariant-loop-case
 invariant-loop-case l =
-    allowed_effects l.state l.values (drop l.case-index l.cases) ≡ allowed_effects l.state l.values l.cases
+    allowed_effects l.state l.values (map case_of (drop l.case-index l.cases))
+    ≡ allowed_effects l.state l.values (map case_of l.cases)

@@ -1,7 +1,9 @@
-use Rattle.std.proofs.Common.{◌≡◌, drop, take}
+use Rattle.std.proofs.Common.{◌≡◌, take}
 use Rattle.std.specs.Prelude.{map}
+use Rattle.vyrd_own.specs.Layout.{change_of}
 use Rattle.vyrd_own.specs.Steps.{effect_of}
 use Rattle.vyrd_own.proofs.steps.put_effects.Given as goal
 
 abbrev pub invariant-loop-change : goal.invariant-loop-change
-invariant-loop-change l = l.effects.items ≡ map (effect_of l.state l.values) (take l.change-index l.changes)
+invariant-loop-change l =
+    l.effects.items ≡ map (effect_of l.state l.values) (map change_of (take l.change-index l.changes))

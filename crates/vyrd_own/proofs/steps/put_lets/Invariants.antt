@@ -1,7 +1,10 @@
 use Rattle.std.proofs.Common.{◌≡◌, drop}
+use Rattle.std.specs.Prelude.{map}
+use Rattle.vyrd_own.specs.Layout.{expr_in}
 use Rattle.vyrd_own.specs.Steps.{with_lets}
 use Rattle.vyrd_own.proofs.steps.put_lets.Given as goal
 
 abbrev pub invariant-loop-code : goal.invariant-loop-code
 invariant-loop-code l =
-    with_lets l.state l.values.items (drop l.code-index l.lets) ≡ with_lets l.state l.fn.values.items l.lets
+    with_lets l.state l.values.items (map expr_in (drop l.code-index l.lets))
+    ≡ with_lets l.state l.fn.values.items (map expr_in l.lets)

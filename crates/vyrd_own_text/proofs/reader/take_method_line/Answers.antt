@@ -4,7 +4,8 @@ use Rattle.std.proofs.lemmas.List.{map-append}
 use Rattle.vyrd_own_text.specs.Lines.{inner, with_line}
 use Rattle.vyrd_own_text.specs.Pieces.{taken_with}
 use Rattle.vyrd_own_text.specs.Changes.{within_read}
-use Rattle.vyrd_own_text.specs.Meaning.{written, method_of, took_as}
+use Rattle.vyrd_own.specs.Layout.{written, method_of}
+use Rattle.vyrd_own_text.specs.Meaning.{took_as}
 use Rattle.vyrd_own_text.proofs.LastLaws.{method_line_is, within_same, line_joined}
 use Rattle.vyrd_own_text.proofs.reader.take_method_line.Goals as goal
 

@@ -1,6 +1,6 @@
 use Rattle.std.proofs.Common.{◌≡◌, drop}
 use Rattle.vyrd_own_text.specs.Reading.{place_from}
-use Rattle.vyrd_own_text.specs.Growth.{texts}
+use Rattle.vyrd_own.specs.Layout.{texts}
 use Rattle.vyrd_own_text.proofs.text.find_name.Given as goal
 
 abbrev pub invariant-loop-i : goal.invariant-loop-i

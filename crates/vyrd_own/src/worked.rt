@@ -1,0 +1,63 @@
+//! Steps and answers of small specifications, worked out by the definitions. Each function does
+//! nothing: its contract has the cases.
+
+ghost use Rattle.std.specs.Prelude.{◌≡◌, [], ◌∷◌, Some, None};
+ghost use Rattle.vyrd_own.specs.Expressions.{value, least, greatest, number, most};
+ghost use Rattle.vyrd_own.specs.Expressions.{infix_of};
+ghost use Rattle.vyrd_own.specs.declared.op.Op.TheVariants.{Plus, Minus, Over};
+ghost use Rattle.vyrd_own.specs.Steps.{next_of, answer_of, start_of, part_gives, view_of};
+ghost use Rattle.vyrd_own.specs.Samples.{queue, enqueue, dequeue, queued, compare_and_set, clear_all};
+ghost use Rattle.vyrd_own.specs.Samples.{showing};
+
+/// A queue gives back its elements in their order, each of them once.
+#[tactic(auto, unfolding(crate::proofs::Opened::opened))]
+pub fn a_queue()
+    ensures start { start_of queue ≡ queued [] [] }
+    ensures enqueued { next_of queue enqueue (5 ∷ []) 1 (queued ((7, 2) ∷ []) (7 ∷ 7 ∷ []))
+        ≡ Some (queued ((5, 1) ∷ (7, 2) ∷ []) (7 ∷ 7 ∷ 5 ∷ [])) }
+    ensures dequeued { next_of queue dequeue [] 8 (queued ((5, 1) ∷ (7, 1) ∷ []) (7 ∷ 5 ∷ []))
+        ≡ Some (queued ((5, 1) ∷ []) (5 ∷ [])) }
+    ensures out_of_order { next_of queue dequeue [] 6
+        (queued ((5, 1) ∷ (7, 1) ∷ []) (7 ∷ 5 ∷ [])) ≡ None }
+    ensures found_nothing { answer_of queue dequeue [] (queued [] []) ≡ Some 0 }
+    ensures must_commit { answer_of queue dequeue [] (queued ((5, 1) ∷ []) (5 ∷ []))
+        ≡ Some most }
+    ensures always_commits { answer_of queue enqueue (5 ∷ []) (queued [] []) ≡ None }
+{}
+
+/// A slot that is free gives nothing to its element.
+#[tactic(auto, unfolding(crate::proofs::Opened::opened))]
+pub fn what_words_show()
+    ensures taken { part_gives queue 3 (1 ∷ 5 ∷ []) ≡ (5, 1) ∷ [] }
+    ensures free { part_gives queue 3 (0 ∷ 5 ∷ []) ≡ (5, 0) ∷ [] }
+    ensures all_0 { part_gives queue 3 (0 ∷ 0 ∷ []) ≡ [] }
+    ensures sums { view_of queue (1 ∷ 5 ∷ 0 ∷ 7 ∷ 1 ∷ 5 ∷ []) ≡ (5, 2) ∷ [] }
+{}
+
+/// A compare-and-set that fails changes nothing, and needs no commit.
+#[tactic(auto, unfolding(crate::proofs::Opened::opened))]
+pub fn a_counter()
+    ensures set { next_of queue compare_and_set (7 ∷ 9 ∷ []) 1 (showing ((0, 7) ∷ []))
+        ≡ Some (showing ((0, 9) ∷ [])) }
+    ensures set_to_0 { next_of queue compare_and_set (7 ∷ 0 ∷ []) 1 (showing ((0, 7) ∷ []))
+        ≡ Some (showing []) }
+    ensures failed { next_of queue compare_and_set (5 ∷ 9 ∷ []) 1 (showing ((0, 7) ∷ []))
+        ≡ None }
+    ensures said_so { answer_of queue compare_and_set (5 ∷ 9 ∷ []) (showing ((0, 7) ∷ []))
+        ≡ Some 0 }
+    ensures counted { next_of queue clear_all [] 2 (showing ((0, 7) ∷ (4, 1) ∷ []))
+        ≡ Some (showing []) }
+{}
+
+/// The nearest key, and the ends of the numbers.
+#[tactic(auto, unfolding(crate::proofs::Opened::opened))]
+pub fn values()
+    ensures least_at { value (showing ((3, 1) ∷ (8, 2) ∷ [])) [] (least (number 3)) ≡ 3 }
+    ensures least_above { value (showing ((3, 1) ∷ (8, 2) ∷ [])) [] (least (number 4)) ≡ 8 }
+    ensures no_least { value (showing ((3, 1) ∷ (8, 2) ∷ [])) [] (least (number 9)) ≡ most }
+    ensures greatest_below { value (showing ((3, 1) ∷ (8, 2) ∷ [])) [] (greatest (number 7)) ≡ 3 }
+    ensures no_greatest { value (showing ((3, 1) ∷ (8, 2) ∷ [])) [] (greatest (number 2)) ≡ most }
+    ensures stops_at_most { value (showing []) [] (infix_of Plus (number most) (number 1)) ≡ most }
+    ensures stops_at_0 { value (showing []) [] (infix_of Minus (number 3) (number 5)) ≡ 0 }
+    ensures by_0 { value (showing []) [] (infix_of Over (number 3) (number 0)) ≡ 0 }
+{}
