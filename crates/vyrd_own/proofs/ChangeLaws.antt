@@ -2,10 +2,12 @@
 use Rattle.std.proofs.Common.{◌≡◌, ℕ, Bool, true, false, cond, List, [], ◌∷◌, refl, ap, ◌∙◌}
 use Rattle.std.specs.Prelude.{◌==◌, ◌||◌}
 use Rattle.std.specs.List.{list_any}
-use Rattle.vyrd_base.specs.Amounts.{amount_of, with_amount}
+use Rattle.vyrd_base.specs.Amounts.{amount_of}
 use Rattle.vyrd_base.proofs.AmountLaws.{amount_of-with_amount}
 use Rattle.vyrd_own.specs.declared.effect.Effect.{Effect}
-use Rattle.vyrd_own.specs.declared.effect.Effect.TheVariants.{SetShown, SetHidden, SetRegister, PutLast, PutFirst, TakeFirst, TakeLast, Empty, EmptyShown}
+use Rattle.vyrd_own.specs.declared.effect.Effect.TheVariants.{SetShown, SetHidden, SetRegister}
+use Rattle.vyrd_own.specs.declared.effect.Effect.TheVariants.{PutLast, PutFirst, TakeFirst}
+use Rattle.vyrd_own.specs.declared.effect.Effect.TheVariants.{TakeLast, Empty, EmptyShown}
 use Rattle.vyrd_own.specs.Expressions.{State}
 use Rattle.vyrd_own.specs.Steps.{with_effect, with_effects, shown_keys, is_clearing}
 

@@ -1,10 +1,14 @@
 -- The values of nodes are those of their expressions.
-use Rattle.std.proofs.Common.{◌≡◌, ℕ, List, [], ◌∷◌, ◌++◌, length, refl, ap, ◌∙◌, sym, arith, suc, zero}
+use Rattle.std.proofs.Common.{◌≡◌, ℕ, List, [], ◌∷◌, ◌++◌, length, refl, ap, ◌∙◌, sym, suc}
+use Rattle.std.proofs.Common.{zero}
 use Rattle.std.specs.Prelude.{map, slice_index_or, ◌-◌}
 use Rattle.vyrd_own.specs.declared.node.Node.{Node}
-use Rattle.vyrd_own.specs.declared.node.Node.TheVariants.{Number, At, Count, Shown, Hidden, Least, Greatest, First, Last, Size, Not, Infix, Choice}
+use Rattle.vyrd_own.specs.declared.node.Node.TheVariants.{Number, At, Count, Shown, Hidden, Least}
+use Rattle.vyrd_own.specs.declared.node.Node.TheVariants.{Greatest, First, Last, Size, Not, Infix}
+use Rattle.vyrd_own.specs.declared.node.Node.TheVariants.{Choice}
 use Rattle.vyrd_own.specs.Expressions.{Expr, number, State, value}
-use Rattle.vyrd_own.specs.Nodes.{earlier, expr_at, exprs_from, exprs_of, expr_of, earlier_value, value_at, values_from}
+use Rattle.vyrd_own.specs.Nodes.{earlier, expr_at, exprs_from, exprs_of, expr_of, earlier_value}
+use Rattle.vyrd_own.specs.Nodes.{value_at, values_from}
 
 -- a value of a list of values
 pub earlier-map : (f : Expr → ℕ) → f (number 0) ≡ 0 → (exprs : List Expr) (i : ℕ) → f (earlier exprs i) ≡ earlier_value (map f exprs) i

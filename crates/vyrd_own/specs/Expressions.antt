@@ -1,10 +1,12 @@
 -- Expressions and their values.
-use Rattle.std.specs.Prelude.{ℕ, ◌+◌, ◌-◌, ◌*◌, ◌/◌, ◌%◌, ◌^◌, ◌==◌, ◌&&◌, ◌||◌, Bool, true, false}
-use Rattle.std.specs.Prelude.{not, nat_lt, nat_le, min, List, [], length, filter, reverse, slice_index}
+use Rattle.std.specs.Prelude.{ℕ, ◌+◌, ◌-◌, ◌*◌, ◌/◌, ◌%◌, ◌==◌, ◌&&◌, ◌||◌, Bool, true, false}
+use Rattle.std.specs.Prelude.{not, nat_lt, nat_le, min, List, [], length, filter, reverse}
+use Rattle.std.specs.Prelude.{slice_index}
 use Rattle.std.specs.Prelude.{slice_index_or, if◌then◌else◌}
 use Rattle.vyrd_base.specs.Amounts.{Amounts, amount_of, keys_of}
 use Rattle.vyrd_own.specs.declared.op.Op.{Op}
-use Rattle.vyrd_own.specs.declared.op.Op.TheVariants.{Plus, Minus, Times, Over, Rest, Equal, Unequal}
+use Rattle.vyrd_own.specs.declared.op.Op.TheVariants.{Plus, Minus, Times, Over, Rest, Equal}
+use Rattle.vyrd_own.specs.declared.op.Op.TheVariants.{Unequal}
 use Rattle.vyrd_own.specs.declared.op.Op.TheVariants.{Below, AtMost, Above, AtLeast, And, Or}
 
 -- An expression. `at i` stands for a name: it is value number i of those that have names there.

@@ -1,5 +1,5 @@
--- A specification as it is written. Names that an expression speaks of are numbers in it: what has a
--- name where it stands, from 0 on.
+-- A specification as it is written. Names that an expression speaks of are numbers in it: what has
+-- a name where it stands, from 0 on.
 use Rattle.std.specs.Prelude.{ℕ, List, Option}
 use Rattle.vyrd_own.specs.Expressions.{Expr}
 

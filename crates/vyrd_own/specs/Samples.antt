@@ -1,10 +1,10 @@
 -- Specifications of known structures, and states of theirs.
 use Rattle.std.specs.Prelude.{ℕ, List, [], ◌∷◌, codes, Some, None}
 use Rattle.vyrd_base.specs.Amounts.{Amounts}
-use Rattle.vyrd_own.specs.declared.op.Op.TheVariants.{Plus, Minus, Equal, Unequal, Above, And}
-use Rattle.vyrd_own.specs.Expressions.{Expr, number, at, count, shown, least, greatest, first, size}
+use Rattle.vyrd_own.specs.declared.op.Op.TheVariants.{Plus, Minus, Equal, Above, And}
+use Rattle.vyrd_own.specs.Expressions.{Expr, number, at, count, shown, first, size}
 use Rattle.vyrd_own.specs.Expressions.{infix_of, choice, State, most}
-use Rattle.vyrd_own.specs.Programs.{Change, of_shown, append, drop_first, clear_shown, Case, Method}
+use Rattle.vyrd_own.specs.Programs.{of_shown, append, drop_first, clear_shown, Method}
 use Rattle.vyrd_own.specs.Programs.{Written}
 
 -- a specification with these lists, whose parts have two words

@@ -1,18 +1,22 @@
 -- What a specification says of a call: which replies are allowed, which state comes next, and what
 -- an execution answers that commits nothing. And what words show.
-use Rattle.std.specs.Prelude.{ℕ, ◌+◌, ◌-◌, ◌*◌, ◌/◌, ◌==◌, Bool, true, false, List, [], ◌∷◌, ◌++◌, map}
-use Rattle.std.specs.Prelude.{filter_map, flat_map, find, length, take, drop, slice_set, slice_range}
+use Rattle.std.specs.Prelude.{ℕ, ◌+◌, ◌-◌, ◌*◌, ◌/◌, ◌==◌, Bool, true, false, List, [], ◌∷◌, ◌++◌}
+use Rattle.std.specs.Prelude.{map}
+use Rattle.std.specs.Prelude.{filter_map, flat_map, find, length, take, drop, slice_set}
+use Rattle.std.specs.Prelude.{slice_range}
 use Rattle.std.specs.Prelude.{Option, Some, None, option_map, if◌then◌else◌}
 use Rattle.std.specs.List.{list_all}
 use Rattle.vyrd_base.specs.Amounts.{Amounts, with_amount, collected}
 use Rattle.vyrd_base.specs.Places.{numbers_below}
 use Rattle.vyrd_own.specs.declared.effect.Effect.{Effect}
-use Rattle.vyrd_own.specs.declared.effect.Effect.TheVariants.{SetShown, SetHidden, SetRegister, PutLast}
+use Rattle.vyrd_own.specs.declared.effect.Effect.TheVariants.{SetShown, SetHidden, SetRegister}
+use Rattle.vyrd_own.specs.declared.effect.Effect.TheVariants.{PutLast}
 use Rattle.vyrd_own.specs.declared.effect.Effect.TheVariants.{PutFirst, TakeFirst, TakeLast, Empty}
 use Rattle.vyrd_own.specs.declared.effect.Effect.TheVariants.{EmptyShown}
 use Rattle.vyrd_own.specs.Expressions.{Expr, State, holds, value, list_at}
 use Rattle.vyrd_own.specs.Programs.{Change, of_shown, of_hidden, of_register, append, prepend}
-use Rattle.vyrd_own.specs.Programs.{drop_first, drop_last, clear, clear_shown, Case, Method, Written}
+use Rattle.vyrd_own.specs.Programs.{drop_first, drop_last, clear, clear_shown, Case, Method}
+use Rattle.vyrd_own.specs.Programs.{Written}
 
 -- the values with one more for each `let`, which sees those before it
 abbrev pub with_lets : State → List ℕ → List Expr → List ℕ

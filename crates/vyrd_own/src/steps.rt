@@ -1,6 +1,7 @@
 //! Steps and answers.
 
-ghost use Rattle.std.specs.Prelude.{◌≡◌, ◌++◌, [], ◌∷◌, map, OnOk, IfOk, true, false, Some, None, Ok};
+ghost use Rattle.std.specs.Prelude.{◌≡◌, ◌++◌, [], ◌∷◌, map, OnOk, IfOk, true, false, Some, None};
+ghost use Rattle.std.specs.Prelude.{Ok};
 ghost use Rattle.std.specs.Prelude.{if◌then◌else◌, option_map};
 ghost use Rattle.vyrd_own.specs.Expressions.{value};
 ghost use Rattle.vyrd_own.specs.Layout.{expr_in, change_of, case_of, method_of, written};

@@ -6,7 +6,8 @@ ghost use Rattle.vyrd_own.specs.Expressions.{value, least, greatest, number, mos
 ghost use Rattle.vyrd_own.specs.Expressions.{infix_of};
 ghost use Rattle.vyrd_own.specs.declared.op.Op.TheVariants.{Plus, Minus, Over};
 ghost use Rattle.vyrd_own.specs.Steps.{next_of, answer_of, start_of, part_gives, view_of};
-ghost use Rattle.vyrd_own.specs.Samples.{queue, enqueue, dequeue, queued, compare_and_set, clear_all};
+ghost use Rattle.vyrd_own.specs.Samples.{queue, enqueue, dequeue, queued, compare_and_set};
+ghost use Rattle.vyrd_own.specs.Samples.{clear_all};
 ghost use Rattle.vyrd_own.specs.Samples.{showing};
 
 /// A queue gives back its elements in their order, each of them once.

@@ -1,5 +1,6 @@
 -- What one more node adds.
-use Rattle.std.proofs.Common.{◌≡◌, ℕ, ◌+◌, ◌<◌, List, [], ◌∷◌, ◌++◌, length, refl, ap, ◌∙◌, sym, arith, suc, zero, length-append}
+use Rattle.std.proofs.Common.{◌≡◌, ℕ, ◌+◌, ◌<◌, List, [], ◌∷◌, ◌++◌, length, refl, ap, ◌∙◌, sym}
+use Rattle.std.proofs.Common.{arith, suc, zero, length-append}
 use Rattle.std.specs.Prelude.{◌-◌}
 use Rattle.vyrd_own.specs.declared.node.Node.{Node}
 use Rattle.vyrd_own.specs.Expressions.{Expr}

@@ -1,11 +1,13 @@
 -- The last of a list, changed.
-use Rattle.std.proofs.Common.{◌≡◌, ℕ, List, [], ◌∷◌, ◌++◌, length, Some, refl, ap, sym, ◌∙◌, arith, length-append}
+use Rattle.std.proofs.Common.{◌≡◌, ℕ, List, [], ◌∷◌, ◌++◌, length, Some, refl, ap, sym, ◌∙◌}
+use Rattle.std.proofs.Common.{arith, length-append}
 use Rattle.std.specs.Prelude.{◌-◌, Ok, Err, slice_get}
 use Rattle.vyrd_own_text.specs.declared.took.Took.{Took}
 use Rattle.vyrd_own_text.specs.declared.took.Took.TheVariants.{In, Refused}
 use Rattle.vyrd_own_text.specs.Reading.{Taken}
 use Rattle.vyrd_own.specs.Programs.{Change, Case, Method, Written}
-use Rattle.vyrd_own_text.specs.Lines.{Inner, inner, holding, with_change, with_inner, with_line, change_last}
+use Rattle.vyrd_own_text.specs.Lines.{Inner, inner, holding, with_change, with_inner, with_line}
+use Rattle.vyrd_own_text.specs.Lines.{change_last}
 use Rattle.vyrd_own_text.specs.Pieces.{taken_with}
 use Rattle.vyrd_own_text.specs.Methods.{last_in, inner_read}
 use Rattle.vyrd_own_text.specs.Changes.{within_read}

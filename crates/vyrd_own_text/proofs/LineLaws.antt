@@ -1,26 +1,35 @@
 -- What is read as a line is its one spelling.
-use Rattle.std.proofs.Common.{◌≡◌, ℕ, Bool, true, false, cond, List, [], ◌∷◌, ◌++◌, length, drop, Option, Some, None, refl, ap, ◌∙◌, sym, append_assoc}
-use Rattle.std.specs.Prelude.{codes, decimal, Ok, Err, not, nat_lt, nat_le, ◌||◌, ◌&&◌, ◌==◌}
+use Rattle.std.proofs.Common.{◌≡◌, ℕ, Bool, true, false, cond, List, ◌++◌, length}
+use Rattle.std.proofs.Common.{Option, Some, None, refl, ap, ◌∙◌, sym, append_assoc}
+use Rattle.std.specs.Prelude.{codes, decimal, Ok, not, nat_lt, nat_le, ◌||◌, ◌&&◌, ◌==◌}
 use Rattle.std.proofs.lemmas.List.{append-nil}
 use Rattle.std.specs.Str.{bytes_eq}
 use Rattle.std.proofs.lemmas.Slice.Eq.{bytes_eq-Decides}
 use Rattle.vyrd_own.specs.Expressions.{Expr}
 use Rattle.vyrd_own_text.specs.declared.last.Last.{Last}
-use Rattle.vyrd_own_text.specs.declared.rule.Rule.TheVariants as rules
 use Rattle.vyrd_own_text.specs.Spelling.{Scope, name_at, spelled}
-use Rattle.vyrd_own_text.specs.Reading.{Taken, and_then, after, if_after, word_of, number_in}
+use Rattle.vyrd_own_text.specs.Reading.{Taken, and_then, word_of, number_in}
 use Rattle.vyrd_own.specs.Programs as programs
 use Rattle.vyrd_own_text.specs.Lines as lines
 use Rattle.vyrd_own.specs.Programs.{Change, Method, Written}
 use Rattle.vyrd_own_text.specs.Lines.{Inner, Line, has_any}
 use Rattle.vyrd_own_text.specs.Names.{is_known, new_name}
-use Rattle.vyrd_own_text.specs.Pieces.{taken_with, last_number, named_number, two_numbers, last_read, two_read, last_name, named_value, ended}
-use Rattle.vyrd_own_text.specs.Outer.{is_list, is_part, is_past_constants, part_of, part_scope, outer_read}
-use Rattle.vyrd_own_text.specs.Methods.{last_in, is_closed, is_unfinished, method_read, named_expr, named_method, inner_read}
-use Rattle.vyrd_own_text.specs.Changes.{plain_read, change_read, case_line_read, changes_in, if_line, within_read}
+use Rattle.vyrd_own_text.specs.Pieces.{taken_with, last_number, named_number, two_numbers}
+use Rattle.vyrd_own_text.specs.Pieces.{last_read, two_read, last_name, named_value, ended}
+use Rattle.vyrd_own_text.specs.Outer.{is_list, is_part, is_past_constants, part_of, part_scope}
+use Rattle.vyrd_own_text.specs.Outer.{outer_read}
+use Rattle.vyrd_own_text.specs.Methods.{last_in, is_closed, is_unfinished, method_read}
+use Rattle.vyrd_own_text.specs.Methods.{named_expr, named_method, inner_read}
+use Rattle.vyrd_own_text.specs.Changes.{plain_read, change_read, case_line_read, changes_in}
+use Rattle.vyrd_own_text.specs.Changes.{if_line, within_read}
 use Rattle.vyrd_own_text.specs.Reader.{is_remark, of_method, method_line_read, or_method, line_read}
-use Rattle.vyrd_own_text.specs.LineSpelling.{change_text, in_case, in_method, inner_text, last_text, words_text, line_text}
-use Rattle.vyrd_own_text.proofs.PieceLaws.{after_or, taken_inv, then_inv, past, kept, ended_is, number_decimal, last_number_is, new_name_is, named_number_is, two_numbers_is, last_read_is, two_read_is, last_name_is, named_value_is, named_expr_is, named_method_is}
+use Rattle.vyrd_own_text.specs.LineSpelling.{change_text, in_case, in_method, inner_text}
+use Rattle.vyrd_own_text.specs.LineSpelling.{last_text, words_text, line_text}
+use Rattle.vyrd_own_text.proofs.PieceLaws.{after_or, taken_inv, then_inv, past, kept, ended_is}
+use Rattle.vyrd_own_text.proofs.PieceLaws.{number_decimal, last_number_is, new_name_is}
+use Rattle.vyrd_own_text.proofs.PieceLaws.{named_number_is, two_numbers_is, last_read_is}
+use Rattle.vyrd_own_text.proofs.PieceLaws.{two_read_is, last_name_is, named_value_is}
+use Rattle.vyrd_own_text.proofs.PieceLaws.{named_expr_is, named_method_is}
 
 four : (a b c d : List ℕ) → a ++ ((b ++ c) ++ d) ≡ ((a ++ b) ++ c) ++ d
 four a b c d = simp append_assoc

@@ -1,5 +1,6 @@
 -- What is read as a piece of a line is its spelling.
-use Rattle.std.proofs.Common.{◌≡◌, ℕ, Bool, true, false, cond, List, [], ◌∷◌, ◌++◌, Option, Some, None, refl, ap, ◌∙◌, sym, zero, suc, append_assoc}
+use Rattle.std.proofs.Common.{◌≡◌, ℕ, Bool, true, false, cond, List, [], ◌∷◌, ◌++◌, Option, Some}
+use Rattle.std.proofs.Common.{None, refl, ap, ◌∙◌, sym, zero, suc, append_assoc}
 use Rattle.std.specs.Prelude.{codes, decimal, Ok, Err, nat_lt, ◌&&◌, ◌||◌}
 use Rattle.std.specs.Str.{bytes_eq}
 use Rattle.std.specs.Str.Parse.{digits_value}
@@ -9,11 +10,14 @@ use Rattle.vyrd_own.specs.Expressions.{Expr, most}
 use Rattle.vyrd_own_text.specs.declared.rule.Rule.{Rule}
 use Rattle.vyrd_own_text.specs.declared.rule.Rule.TheVariants as rules
 use Rattle.vyrd_own_text.specs.Spelling.{Scope, name_at, spelled}
-use Rattle.vyrd_own_text.specs.Reading.{Taken, Found, and_then, after, if_after, word_of, after_word, number_in, name_read, expr_read}
+use Rattle.vyrd_own_text.specs.Reading.{Taken, Found, and_then, after, if_after, word_of}
+use Rattle.vyrd_own_text.specs.Reading.{after_word, number_in, name_read, expr_read}
 use Rattle.vyrd_own.specs.Programs.{Method, Written}
 use Rattle.vyrd_own_text.specs.Names.{is_name, is_among, is_known, new_name}
-use Rattle.vyrd_own_text.specs.Pieces.{number_found, last_number, taken_with, named_number, ended, two_numbers, last_read, two_read, last_name, named_value}
-use Rattle.vyrd_own_text.specs.Methods.{method_scope, parameters_read, is_method, named_method, named_expr}
+use Rattle.vyrd_own_text.specs.Pieces.{number_found, last_number, taken_with, named_number, ended}
+use Rattle.vyrd_own_text.specs.Pieces.{two_numbers, last_read, two_read, last_name, named_value}
+use Rattle.vyrd_own_text.specs.Methods.{method_scope, parameters_read, is_method, named_method}
+use Rattle.vyrd_own_text.specs.Methods.{named_expr}
 use Rattle.vyrd_own_text.specs.LineSpelling.{words_text}
 use Rattle.vyrd_own_text.proofs.SoundLaws.{after_sound, word_splits, name_inv, expr_sound}
 
@@ -169,10 +173,10 @@ parameters_are w (suc left) names (b ∷ text) all h =
     let a = after_inv (codes " ") (b ∷ text) _ _ all h in
     let taken = is_known w (word_of a.0) || is_among (word_of a.0) names in
     let i = then_inv (λ name rest. parameters_read w left (names ++ name ∷ []) rest) (new_name taken a.0) all a.2 in
-    let m = parameters_are w left (names ++ i.0 ∷ []) i.1 all i.3 in
-    (
-      i.0 ∷ m.0, m.1 ∙ append_assoc names (i.0 ∷ []) m.0,
-      joined (codes " ") i.0 (words_text m.0) (b ∷ text) a.0 i.1 a.1 (new_name_is taken a.0 i.0 i.1 i.2) m.2
+    let m = parameters_are w left (names ++ i.0 ∷ []) i.1 all i.3 in (
+      i.0 ∷ m.0,
+      m.1 ∙ append_assoc names (i.0 ∷ []) m.0,
+      joined (codes " ") i.0 (words_text m.0) (b ∷ text) a.0 i.1 a.1 (new_name_is taken a.0 i.0 i.1 i.2) m.2,
     )
 
 pub named_method_is : (w : Written) (text : List ℕ) (r : List ℕ × List (List ℕ)) → named_method w text ≡ Ok r

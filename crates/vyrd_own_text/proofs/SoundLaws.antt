@@ -1,16 +1,25 @@
 -- What is read as an expression is its spelling.
-use Rattle.std.proofs.Common.{◌≡◌, ℕ, Bool, true, false, cond, List, [], ◌∷◌, ◌++◌, Option, Some, None, refl, ap, ◌∙◌, sym, arith, suc, zero, append_assoc}
-use Rattle.std.specs.Prelude.{codes, decimal, slice_index_or, Result, Ok, Err, nat_lt, ◌&&◌, ◌==◌, ◌+◌}
+use Rattle.std.proofs.Common.{◌≡◌, ℕ, Bool, true, false, cond, List, [], ◌∷◌, ◌++◌, Option, Some}
+use Rattle.std.proofs.Common.{None, refl, ap, ◌∙◌, sym, arith, suc, zero, append_assoc}
+use Rattle.std.specs.Prelude.{codes, decimal, slice_index_or, Result, Ok, Err, nat_lt, ◌&&◌, ◌==◌}
+use Rattle.std.specs.Prelude.{◌+◌}
 use Rattle.std.specs.Str.{bytes_eq}
 use Rattle.std.specs.Str.Parse.{digits_value}
 use Rattle.std.proofs.lemmas.Bool.Decides.{nat_tests}
 use Rattle.std.proofs.lemmas.Slice.Eq.{bytes_eq-Decides}
 use Rattle.vyrd_own.specs.declared.op.Op.{Op}
-use Rattle.vyrd_own.specs.Expressions.{Expr, number, at, count, shown, hidden, least, greatest, first, last, size, negation, infix_of, choice, most}
+use Rattle.vyrd_own.specs.Expressions.{Expr, number, at, count, shown, hidden, least, greatest}
+use Rattle.vyrd_own.specs.Expressions.{first, last, size, negation, infix_of, choice, most}
 use Rattle.vyrd_own_text.specs.Spelling.{Scope, op_word, number_word, name_at, spelled}
 use Rattle.vyrd_own_text.specs.declared.rule.Rule.{Rule}
 use Rattle.vyrd_own_text.specs.declared.rule.Rule.TheVariants.{BadLine, UnknownName, StateIsRead}
-use Rattle.vyrd_own_text.specs.Reading.{Found, and_then, made, after, found_after, ended_by, is_word_byte, word_of, after_word, number_in, place_from, place_in, is_lettered, unknown, of_state, placed, name_read, number_or, all_ops, atom_read, op_among, op_read, one_read, list_read, second_read, infix_read, else_read, then_read, choice_read, if_after, round_read, whole_read, expr_read}
+use Rattle.vyrd_own_text.specs.Reading.{Found, and_then, made, after, found_after, ended_by}
+use Rattle.vyrd_own_text.specs.Reading.{is_word_byte, word_of, after_word, number_in, place_from}
+use Rattle.vyrd_own_text.specs.Reading.{place_in, is_lettered, unknown, of_state, placed}
+use Rattle.vyrd_own_text.specs.Reading.{name_read, number_or, all_ops, atom_read, op_among}
+use Rattle.vyrd_own_text.specs.Reading.{op_read, one_read, list_read, second_read, infix_read}
+use Rattle.vyrd_own_text.specs.Reading.{else_read, then_read, choice_read, if_after, round_read}
+use Rattle.vyrd_own_text.specs.Reading.{whole_read, expr_read}
 
 pub after_sound : (word text rest : List ℕ) → after word text ≡ Some rest → text ≡ word ++ rest
 unfolding after

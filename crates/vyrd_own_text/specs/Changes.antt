@@ -15,8 +15,10 @@ use Rattle.vyrd_own_text.specs.declared.rule.Rule.TheVariants as rules
 -- a change of a list that has no expression
 unfoldable pub plain_read : List (List ℕ) → List ℕ → Taken Change
 plain_read lists text =
-    if_after (after (codes "drop first ") text) (λ rest. taken_with drop_first (last_name lists rest))
-    (if_after (after (codes "drop last ") text) (λ rest. taken_with drop_last (last_name lists rest))
+    if_after (after (codes "drop first ") text)
+    (λ rest. taken_with drop_first (last_name lists rest))
+    (if_after (after (codes "drop last ") text)
+    (λ rest. taken_with drop_last (last_name lists rest))
     (if_after (after (codes "clear ") text) (λ rest. taken_with clear (last_name lists rest))
     (Err (rules.BadLine, text))))
 

@@ -1,7 +1,6 @@
 -- Nodes that are put behind others, and what the code's types say.
-use Rattle.std.specs.Prelude.{◌≡◌, ⊤, ℕ, ◌<◌, List, length, map, Result, Ok, Err}
+use Rattle.std.specs.Prelude.{◌≡◌, ⊤, ℕ, ◌<◌, List, length, Result, Ok, Err}
 use denote.Ref.{Bor}
-use Rattle.std.specs.Global.{Vec}
 use Rattle.vyrd_own.specs.declared.node.Node.{Node}
 use Rattle.vyrd_own_text.specs.declared.expression.Wrap.{Wrap}
 use Rattle.vyrd_own_text.specs.declared.expression.Wrap.TheVariants as wraps
@@ -11,7 +10,8 @@ use Rattle.vyrd_own_text.specs.declared.expression.Read.{Read}
 use Rattle.vyrd_own_text.specs.declared.expression.Read.TheVariants.{Rest, Stopped}
 use Rattle.vyrd_own_text.specs.declared.rule.Rule.{Rule}
 use Rattle.vyrd_own_text.specs.declared.scope.Names.{Names}
-use Rattle.vyrd_own.specs.Expressions.{Expr, shown, hidden, least, greatest, first, last, size, negation}
+use Rattle.vyrd_own.specs.Expressions.{Expr, shown, hidden, least, greatest, first, last, size}
+use Rattle.vyrd_own.specs.Expressions.{negation}
 use Rattle.vyrd_own.specs.Layout.{texts}
 use Rattle.vyrd_own.specs.Nodes.{earlier, exprs_of}
 use Rattle.vyrd_own_text.specs.Spelling.{Scope}

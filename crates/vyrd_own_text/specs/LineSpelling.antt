@@ -4,7 +4,8 @@ use Rattle.vyrd_own_text.specs.Spelling.{Scope, spelled, name_at}
 use Rattle.vyrd_own.specs.Programs.{Change, of_shown, of_hidden, of_register, append, prepend}
 use Rattle.vyrd_own.specs.Programs.{drop_first, drop_last, clear, clear_shown, Method, Written}
 use Rattle.vyrd_own_text.specs.Lines.{Inner, naming}
-use Rattle.vyrd_own_text.specs.Lines.{answering, allowing, changing, Line, remark, constant, register}
+use Rattle.vyrd_own_text.specs.Lines.{answering, allowing, changing, Line, remark, constant}
+use Rattle.vyrd_own_text.specs.Lines.{register}
 use Rattle.vyrd_own_text.specs.Lines.{list, holds, hidden, part, shows, method, inner}
 use Rattle.vyrd_own_text.specs.Outer.{part_scope}
 use Rattle.vyrd_own_text.specs.Methods.{last_in, method_scope}

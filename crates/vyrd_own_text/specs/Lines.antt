@@ -1,5 +1,5 @@
 -- What a line says, and what it adds to the lines before it.
-use Rattle.std.specs.Prelude.{ℕ, ◌==◌, Bool, not, List, [], ◌∷◌, ◌++◌, length, Option, Some}
+use Rattle.std.specs.Prelude.{ℕ, ◌==◌, Bool, not, List, [], ◌∷◌, ◌++◌, length, Some}
 use Rattle.std.specs.Prelude.{None}
 use Rattle.vyrd_own.specs.Expressions.{Expr}
 use Rattle.vyrd_own.specs.Programs.{Change, Case, Method, Written}

@@ -25,8 +25,8 @@ is_among word names = is_some (place_in names word)
 
 -- a name: a letter, and then letters, digits and `_`, at most 32 bytes in all, and no such word
 unfoldable pub is_name : List ℕ → Bool
-is_name word = is_lettered word && nat_le (length word) 32 && not (list_any (bytes_eq word) reserved)
-    && not (list_any (bytes_eq word) words_of_parts)
+is_name word = is_lettered word && nat_le (length word) 32
+    && not (list_any (bytes_eq word) reserved) && not (list_any (bytes_eq word) words_of_parts)
 
 -- whether a constant, a register or a list has the name
 abbrev pub is_known : Written → List ℕ → Bool

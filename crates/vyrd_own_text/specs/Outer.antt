@@ -1,6 +1,7 @@
 -- How a line outside methods is read, after the lines before it.
 use Rattle.std.specs.Prelude.{if◌then◌else◌}
-use Rattle.std.specs.Prelude.{ℕ, ◌==◌, Bool, true, false, not, ◌&&◌, ◌||◌, nat_le, List, [], ◌∷◌, ◌++◌}
+use Rattle.std.specs.Prelude.{ℕ, ◌==◌, Bool, true, false, not, ◌&&◌, ◌||◌, nat_le, List, [], ◌∷◌}
+use Rattle.std.specs.Prelude.{◌++◌}
 use Rattle.std.specs.Prelude.{length, take, min, codes, Option, Some, None, Ok, Err}
 use Rattle.vyrd_own_text.specs.Spelling.{Scope}
 use Rattle.vyrd_own_text.specs.Reading.{Taken, and_then, after, if_after, word_of, number_in}

@@ -1,14 +1,17 @@
 -- How an expression is read: from the left, each part by how it begins. What isn't read has a rule
 -- that is broken, and the text from there on.
-use Rattle.std.specs.Prelude.{ℕ, zero, suc, ◌+◌, ◌==◌, Bool, false, ◌&&◌, ◌||◌, nat_lt, nat_le, List}
+use Rattle.std.specs.Prelude.{ℕ, zero, suc, ◌+◌, ◌==◌, Bool, false, ◌&&◌, ◌||◌, nat_lt, nat_le}
+use Rattle.std.specs.Prelude.{List}
 use Rattle.std.specs.Prelude.{[], ◌∷◌, codes, decimal, Option, Some, None, Result, Ok, Err}
 use Rattle.std.specs.Prelude.{if◌then◌else◌}
 use Rattle.std.specs.Str.{bytes_eq}
 use Rattle.std.specs.Str.Parse.{digits_value}
 use Rattle.vyrd_own.specs.declared.op.Op.{Op}
-use Rattle.vyrd_own.specs.declared.op.Op.TheVariants.{Plus, Minus, Times, Over, Rest, Equal, Unequal}
+use Rattle.vyrd_own.specs.declared.op.Op.TheVariants.{Plus, Minus, Times, Over, Rest, Equal}
+use Rattle.vyrd_own.specs.declared.op.Op.TheVariants.{Unequal}
 use Rattle.vyrd_own.specs.declared.op.Op.TheVariants.{Below, AtMost, Above, AtLeast, And, Or}
-use Rattle.vyrd_own.specs.Expressions.{Expr, number, at, count, shown, hidden, least, greatest, first}
+use Rattle.vyrd_own.specs.Expressions.{Expr, number, at, count, shown, hidden, least, greatest}
+use Rattle.vyrd_own.specs.Expressions.{first}
 use Rattle.vyrd_own.specs.Expressions.{last, size, negation, infix_of, choice, most}
 use Rattle.vyrd_own_text.specs.declared.rule.Rule.{Rule}
 use Rattle.vyrd_own_text.specs.declared.rule.Rule.TheVariants.{BadLine, UnknownName, TooDeep}

@@ -8,7 +8,8 @@ ghost use Rattle.vyrd_own.specs.Nodes.{earlier, expr_at, exprs_of, expr_of};
 ghost use Rattle.vyrd_own.specs.Layout.{texts};
 ghost use Rattle.vyrd_own_text.specs.Growth.{Adds, wrap_of, ends_of, scope_of, read_as};
 ghost use Rattle.vyrd_own_text.specs.Growth.{OnRest, found_as};
-ghost use Rattle.vyrd_own_text.specs.Reading.{op_read, one_read, infix_read, choice_read, round_read};
+ghost use Rattle.vyrd_own_text.specs.Reading.{op_read, one_read, infix_read, choice_read};
+ghost use Rattle.vyrd_own_text.specs.Reading.{round_read};
 ghost use Rattle.vyrd_own_text.specs.Reading.{whole_read, expr_read, atom_read, op_among, of_state};
 ghost use Rattle.vyrd_own_text.specs.Reading.{unknown, list_read, name_read};
 

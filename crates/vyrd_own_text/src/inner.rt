@@ -142,7 +142,8 @@ fn read_let<'a>(
     method: &Method,
     text: &'a [u8],
 ) -> Result<Result<(&'a [u8], Code), (Rule, &'a [u8])>, AllocError>
-    ensures { IfOk result (λ r. let_as r ≡ named_expr (written program.now) (method_of method.now) text.now) }
+    ensures { IfOk result (λ r. let_as r
+        ≡ named_expr (written program.now) (method_of method.now) text.now) }
 {
     let (name, rest) = match read_new_name(front_is_taken(program, method, text), text) {
         Ok((name, rest)) => (name, rest),

@@ -27,7 +27,8 @@ pub fn take_method<'a>(
     text: &'a [u8],
 ) -> Result<Took<'a>, AllocError>
     ensures took { IfOk result (λ r. took_as (written program.new) r
-        ≡ taken_with (with_line (written program.old)) (method_read (written program.old) text.now)) }
+        ≡ taken_with (with_line (written program.old))
+        (method_read (written program.old) text.now)) }
     ensures same { IfOk result (λ r. OnRefused r (program.new ≡ program.old)) }
 {
     if is_unfinished(&program.methods) {

@@ -47,10 +47,10 @@ pub fn take_outer<'a>(
         return Ok(Some(take_holds(program, last, rest)?));
     }
     if let Some(rest) = after(line, b"hidden ") {
-        return Ok(Some(take_hidden(alloc, program, rest)?));
+        return Ok(Some(take_hidden(program, rest)?));
     }
     if let Some(rest) = after(line, b"part ") {
-        return Ok(Some(take_part(alloc, program, rest)?));
+        return Ok(Some(take_part(program, rest)?));
     }
     if let Some(rest) = after(line, b"  shows ") {
         return Ok(Some(take_shows(alloc, program, last, rest)?));
@@ -76,7 +76,8 @@ fn take_constant<'a>(
     text: &'a [u8],
 ) -> Result<Took<'a>, AllocError>
     ensures took { IfOk result (λ r. took_as (written program.new) r
-        ≡ taken_with (with_line (written program.old)) (constant_read (written program.old) text.now)) }
+        ≡ taken_with (with_line (written program.old))
+        (constant_read (written program.old) text.now)) }
     ensures same { IfOk result (λ r. OnRefused r (program.new ≡ program.old)) }
 {
     if is_past_constants(program) {
@@ -102,7 +103,8 @@ fn take_register<'a>(
     text: &'a [u8],
 ) -> Result<Took<'a>, AllocError>
     ensures took { IfOk result (λ r. took_as (written program.new) r
-        ≡ taken_with (with_line (written program.old)) (register_read (written program.old) text.now)) }
+        ≡ taken_with (with_line (written program.old))
+        (register_read (written program.old) text.now)) }
     ensures same { IfOk result (λ r. OnRefused r (program.new ≡ program.old)) }
 {
     if !program.methods.is_empty() {
@@ -128,7 +130,8 @@ fn take_list<'a>(
     text: &'a [u8],
 ) -> Result<Took<'a>, AllocError>
     ensures took { IfOk result (λ r. took_as (written program.new) r
-        ≡ taken_with (with_line (written program.old)) (list_line_read (written program.old) text.now)) }
+        ≡ taken_with (with_line (written program.old))
+        (list_line_read (written program.old) text.now)) }
     ensures same { IfOk result (λ r. OnRefused r (program.new ≡ program.old)) }
 {
     if !program.methods.is_empty() {
@@ -151,13 +154,10 @@ fn take_list<'a>(
 }
 
 /// Takes in a hidden amount.
-fn take_hidden<'a>(
-    _alloc: Global,
-    program: &mut Program,
-    text: &'a [u8],
-) -> Result<Took<'a>, AllocError>
+fn take_hidden<'a>(program: &mut Program, text: &'a [u8]) -> Result<Took<'a>, AllocError>
     ensures took { IfOk result (λ r. took_as (written program.new) r
-        ≡ taken_with (with_line (written program.old)) (hidden_read (written program.old) text.now)) }
+        ≡ taken_with (with_line (written program.old))
+        (hidden_read (written program.old) text.now)) }
     ensures same { IfOk result (λ r. OnRefused r (program.new ≡ program.old)) }
 {
     if !program.methods.is_empty() {
@@ -172,11 +172,7 @@ fn take_hidden<'a>(
 }
 
 /// Takes in how many words a part has.
-fn take_part<'a>(
-    _alloc: Global,
-    program: &mut Program,
-    text: &'a [u8],
-) -> Result<Took<'a>, AllocError>
+fn take_part<'a>(program: &mut Program, text: &'a [u8]) -> Result<Took<'a>, AllocError>
     ensures took { IfOk result (λ r. took_as (written program.new) r
         ≡ taken_with (with_line (written program.old)) (part_read (written program.old) text.now)) }
     ensures same { IfOk result (λ r. OnRefused r (program.new ≡ program.old)) }

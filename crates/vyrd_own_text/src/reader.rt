@@ -3,7 +3,8 @@
 ghost use Rattle.std.specs.Prelude.{◌≡◌, IfOk, None, map, codes};
 ghost use Rattle.vyrd_own_text.specs.Lines.{with_line, nothing_written};
 ghost use Rattle.vyrd_own_text.specs.Pieces.{taken_with};
-ghost use Rattle.vyrd_own_text.specs.Reader.{is_remark, unplaced, method_line_read, line_read, begins};
+ghost use Rattle.vyrd_own_text.specs.Reader.{is_remark, unplaced, method_line_read, line_read};
+ghost use Rattle.vyrd_own_text.specs.Reader.{begins};
 ghost use Rattle.vyrd_own_text.specs.Reader.{last_after, column, unfinished, ended_with, read_next};
 ghost use Rattle.vyrd_own_text.specs.Reader.{or_method, SoFar, nothing_read};
 ghost use Rattle.vyrd_own.specs.Layout.{written, method_of};
@@ -55,7 +56,8 @@ impl SpecificationReader {
     #[tactic(auto, unfolding(crate::specs::Reader::read_next))]
     pub fn take_line(&mut self, alloc: Global, line: &[u8]) -> Result<Outcome, AllocError>
         ensures outcome { IfOk result (λ r. r ≡ (read_next (so_far self.old) line.now).0) }
-        ensures left { IfOk result (λ _. so_far self.new ≡ (read_next (so_far self.old) line.now).1) }
+        ensures left { IfOk result (λ _. so_far self.new
+            ≡ (read_next (so_far self.old) line.now).1) }
     {
         if is_same(line, b"log") {
             return Ok(outcome_of_log(&self.program));

@@ -1,7 +1,7 @@
-use Rattle.std.proofs.Common.{◌≡◌, [], drop, ◌∙◌, sym, ap, arith, ◌≤◌, length, ◌-◌, List, ℕ, Result, subst}
-use Rattle.std.specs.List.{slice_index_or, slice_index}
+use Rattle.std.proofs.Common.{◌≡◌, [], ◌∙◌, sym, ap, arith, ◌≤◌, length, ◌-◌, List, ℕ}
+use Rattle.std.proofs.Common.{Result, subst}
+use Rattle.std.specs.List.{slice_index}
 use Rattle.std.proofs.Math.ListN.{drop_of_length-le}
-use Rattle.std.proofs.lemmas.Grind.{common_steps}
 use Rattle.std.specs.Prelude.{IfOk}
 use Rattle.vyrd_own.specs.Nodes.{values_from}
 use Rattle.vyrd_own.proofs.NodeLaws.{value-expr_of, value-single}

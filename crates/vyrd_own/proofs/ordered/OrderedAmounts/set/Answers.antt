@@ -1,9 +1,7 @@
 use Rattle.std.proofs.Common.{subst, sym, ap, ◌∙◌}
-use Rattle.std.specs.Prelude.{unwrap_or}
-use Rattle.std.proofs.lemmas.Result.{err_from_is_err_and}
-use Rattle.vyrd_base.specs.Amounts.{IsAmounts, amount_of, with_amount}
+use Rattle.vyrd_base.specs.Amounts.{IsAmounts, with_amount}
 use Rattle.vyrd_base.proofs.AmountLaws.{IsAmounts-with_amount}
-use Rattle.vyrd_base.proofs.AmountMaps.{lookup-find, insert-with_amount}
+use Rattle.vyrd_base.proofs.AmountMaps.{insert-with_amount}
 use Rattle.vyrd_own.proofs.ordered.OrderedAmounts.set.Goals as goal
 
 pub invariant_of-self : goal.invariant_of-self

@@ -1,4 +1,4 @@
-use Rattle.std.proofs.Common.{[], ap, sym, subst, ◌∙◌}
+use Rattle.std.proofs.Common.{ap, sym, subst, ◌∙◌}
 use Rattle.vyrd_base.specs.Amounts.{IsAmounts}
 use Rattle.vyrd_base.specs.Tables.{HasAll, amounts_in}
 use Rattle.vyrd_base.proofs.TableLaws.{amounts_have_all, amounts_again}
