@@ -5,3 +5,4 @@ pub mod SoundLaws
 pub mod LastLaws
 pub mod PieceLaws
 pub mod LineLaws
+pub mod Opened

@@ -10,3 +10,4 @@ pub mod Changes
 pub mod Reader
 pub mod LineSpelling
 pub mod Meaning
+pub mod Samples

@@ -22,6 +22,7 @@ mod scope;
 mod scopes;
 mod text;
 mod took;
+pub mod worked;
 
 pub use last::Last;
 pub use outcome::Outcome;
