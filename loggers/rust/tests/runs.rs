@@ -5,7 +5,7 @@
 mod common;
 
 use common::multiset::{interrupted_insert, play, Multiset};
-use common::together;
+use common::{together, Run};
 use std::fs;
 use std::panic::{catch_unwind, AssertUnwindSafe};
 use std::path::{Path, PathBuf};
@@ -23,7 +23,8 @@ fn asked(name: &str) -> (CheckRuns, PathBuf) {
 
 fn correct(seed: u64, log: &Log) {
     let multiset = Multiset::default();
-    together(log, 4, |caller| play(&multiset, caller, seed));
+    let run = Run { racing: false, seed, operations: 500 };
+    together(log, 4, |caller| play(&multiset, caller, run));
 }
 
 fn sentence(asked: CheckRuns, body: impl Fn(u64, &Log) + Send + Sync + 'static) -> String {

@@ -7,8 +7,16 @@ use std::sync::mpsc;
 use std::{env, io, process, thread};
 use vyrd_log::{Caller, Error, Header, Log, Options, Order};
 
-/// The seed of a run that is made once.
-pub const SEED: u64 = 7;
+/// How the threads of a run play.
+#[derive(Clone, Copy)]
+pub struct Run {
+    /// Whether the structure is the broken one.
+    pub racing: bool,
+    /// Gives the operations.
+    pub seed: u64,
+    /// How many there are for each thread.
+    pub operations: u64,
+}
 
 /// Numbers that a seed and a caller's number give.
 pub struct Draws(u32);
@@ -63,30 +71,32 @@ pub fn interrupted(
     });
 }
 
-/// Does what the program's word asks for: a correct run of four callers or a broken one of two, with
-/// its log on standard output.
+/// Does what the program's words ask for, with its log on standard output: a run of four callers, or
+/// a broken one of two whose order is forced.
 pub fn run_by_word(
     name: &str,
     header: impl Fn(usize) -> Result<Header, Error>,
-    correct: impl Fn(&Log, usize),
+    play: impl Fn(&Log, usize, Run),
     broken: impl Fn(&Log),
 ) -> Result<(), Error> {
-    let word = env::args().nth(1).unwrap_or_default();
-    let (order, callers) = match word.as_str() {
-        "correct" => (Order::Lock, 4),
+    let words: Vec<String> = env::args().skip(1).collect();
+    let number = |place: usize| words.get(place).map(|word| word.parse().expect("a number"));
+    let (order, callers) = match words.first().map_or("", String::as_str) {
+        "correct" | "racing" => (Order::Lock, 4),
         "numbered" => (Order::Numbers, 4),
         "broken" => (Order::Lock, 2),
         _ => {
-            eprintln!("usage: {name} correct | numbered | broken");
+            eprintln!("usage: {name} correct | numbered | broken | racing [SEED [OPERATIONS]]");
             process::exit(64);
         }
     };
-    let options = Options { order, seed: Some(SEED), ..Options::default() };
+    let options = Options { order, ..Options::default() };
     let log = Log::new(header(callers)?, io::stdout(), options)?;
-    if word == "broken" {
+    if words[0] == "broken" {
         broken(&log);
     } else {
-        correct(&log, callers);
+        let (seed, operations) = (number(1).unwrap_or(7), number(2).unwrap_or(500));
+        play(&log, callers, Run { racing: words[0] == "racing", seed, operations });
     }
     log.finish()
 }

@@ -1,6 +1,6 @@
 //! A multiset in four slots, each with a value and a valid bit.
 
-use super::{interrupted, Draws};
+use super::{interrupted, Draws, Run};
 use std::sync::atomic::{AtomicBool, AtomicU32, Ordering::SeqCst};
 use std::sync::Mutex;
 use vyrd_log::{Caller, Log};
@@ -113,15 +113,16 @@ impl Multiset {
 }
 
 /// Operations on few values, as the seed and the caller's number give.
-pub fn play(multiset: &Multiset, caller: &mut Caller, seed: u64) {
-    let mut draws = Draws::of(caller, seed);
-    for _ in 0..500 {
+pub fn play(multiset: &Multiset, caller: &mut Caller, run: Run) {
+    let mut draws = Draws::of(caller, run.seed);
+    for _ in 0..run.operations {
         let draw = draws.next();
         let x = draw / 8 % 3;
         match draw % 6 {
             0 => drop(multiset.delete(caller, x)),
             1 => drop(multiset.lookup(caller, x)),
             2 => drop(multiset.take(caller)),
+            _ if run.racing => drop(multiset.insert_late(caller, x, || {})),
             _ => drop(multiset.insert(caller, x)),
         }
     }
