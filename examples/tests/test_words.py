@@ -76,14 +76,14 @@ class OwnStructures(ScriptTest):
     def test_answer_of_every_run_counts(self):
         """A checker that accepts all: the runs of the broken variants are those that fail."""
         accepts = self.program("checker", "cat >/dev/null", "echo 'accepted: 0 entries, 0 commits, 0 observers'")
-        # Without compilers the Python one is left, with five runs of each variant.
+        # Without compilers the Python one is left, with five runs of each variant, and the recipes, with three runs each.
         tools = "bash dirname mktemp rm cat python3 env sed"
         (self.folder / "tools").mkdir()
         for tool in tools.split():
             (self.folder / "tools" / tool).symlink_to(shutil.which(tool))
         ran = self.run_script("own/check", vyrd=accepts, PATH=str(self.folder / "tools"))
         self.assertEqual(ran.returncode, 1)
-        self.assertIn(b"own structures: 5 passed, 5 failed, 2 skipped\n", ran.stdout)
+        self.assertIn(b"own structures: 21 passed, 13 failed, 2 skipped\n", ran.stdout)
 
 
 @unittest.skipUnless(shutil.which("/usr/bin/time"), "GNU time isn't here")
