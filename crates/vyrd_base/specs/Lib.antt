@@ -2,6 +2,7 @@ pub mod Devices
 pub mod Limits
 pub mod Places
 pub mod Amounts
+pub mod States
 pub mod Structures
 pub mod Multiset
 pub mod Cache
