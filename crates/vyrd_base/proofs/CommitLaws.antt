@@ -6,7 +6,7 @@ use Rattle.vyrd_base.specs.declared.log.Kind.TheVariants.{Commit, BlockCommit}
 use Rattle.vyrd_base.specs.declared.log.Entry.{Entry}
 use Rattle.vyrd_base.specs.declared.log.StartWord.{StartWord}
 use Rattle.vyrd_base.specs.Callers.{call_or_return, commit_or_call, is_call}
-use Rattle.vyrd_base.specs.Amounts.{Amounts}
+use Rattle.vyrd_base.specs.States.{State}
 use Rattle.vyrd_base.specs.Commits.{is_commit, returned}
 use Rattle.vyrd_base.specs.Faults.{fault_of_commit, fault_at}
 use Rattle.vyrd_base.proofs.BlockLaws.{entry}
@@ -42,7 +42,7 @@ pub commits_called : (kind : Kind) → Commits kind → commit_or_call kind ≡ 
 commits_called _ alone = refl
 commits_called _ with_block = refl
 
-pub fault_of_commit_kind : (r : Rules) (starting : List StartWord) (states : List Amounts) (c : ℕ) (kind : Kind) (earlier later : List Entry)
+pub fault_of_commit_kind : (r : Rules) (starting : List StartWord) (states : List State) (c : ℕ) (kind : Kind) (earlier later : List Entry)
     → Commits kind → fault_at r starting states (place_of (entry c kind) earlier later)
     ≡ fault_of_commit r starting states (place_of (entry c kind) earlier later)
 unfolding fault_at

@@ -26,7 +26,7 @@ use Rattle.vyrd_base.specs.Subjects.{is_observer, must_commit}
 use Rattle.vyrd_base.specs.Callers.{Called, by_caller, open_call, call_or_return, has_committed, commit_or_call}
 use Rattle.vyrd_base.specs.Shape.{broken_rule, checks_at, is_observing, owes_commit}
 use Rattle.vyrd_base.specs.Front.{first_break, WellFormed}
-use Rattle.vyrd_base.specs.Amounts.{Amounts}
+use Rattle.vyrd_base.specs.States.{State}
 use Rattle.vyrd_base.specs.Rules.{Rules}
 use Rattle.vyrd_base.specs.Faults.{observer_fault}
 use Rattle.vyrd_base.proofs.PlaceLaws.{newest_first-push}
@@ -183,7 +183,7 @@ returns_observed h es c reply kept = ap not (returns_last h es c reply kept) ∙
     twice false = refl
 
 -- so the fault of a return goes by its method
-pub fault_by_method : (r : Rules) (window : List Amounts) (es : List Entry) (c reply : ℕ)
+pub fault_by_method : (r : Rules) (window : List State) (es : List Entry) (c reply : ℕ)
     (called : Called)
     → first_break r.header (es ++ record { caller = c; kind = Return reply } ∷ []) ≡ None
     → open_call c (newest_first es) ≡ Some called

@@ -5,7 +5,7 @@ use Rattle.std.specs.Bool.{then_some}
 use Rattle.vyrd_base.specs.declared.log.Entry.{Entry}
 use Rattle.vyrd_base.specs.Places.{Place, first_answer}
 use Rattle.vyrd_base.specs.Callers.{Called, by_caller}
-use Rattle.vyrd_base.specs.Amounts.{Amounts}
+use Rattle.vyrd_base.specs.States.{State}
 use Rattle.vyrd_base.specs.Commits.{is_commit, returned, next_reply, Committed, committed_at, commits_after, once_returned, state_after, states_from}
 use Rattle.vyrd_base.proofs.PlaceLaws.{with_later, first_answer-append}
 use Rattle.std.specs.List.{cons_option}
@@ -86,19 +86,19 @@ once_returned_decided f g x y b grows e = ap (λ o. with_reply g o y.reply) grow
     ∙ with_reply_decided f g x.called x.reply y.reply b grows.reply e
 
 -- the states stay, and further ones may follow
-pub states_stay : (r : Rules) (state : Amounts) (xs ys : List Committed) → Extends xs ys
-    → (more : List Amounts) × (states_from r state ys ≡ states_from r state xs ++ more)
+pub states_stay : (r : Rules) (state : State) (xs ys : List Committed) → Extends xs ys
+    → (more : List State) × (states_from r state ys ≡ states_from r state xs ++ more)
 states_stay r state [] [] h = ([], refl)
 states_stay r state [] (y ∷ ys) h = ((elim (state_after r state y) [ None ↦ [] | Some next ↦ states_from r next ys ]), refl)
 states_stay r state (x ∷ xs) [] h = absurd h
 states_stay r state (x ∷ xs) (y ∷ ys) h =
     (elim (state_after r state x) as (λ o. state_after r state x ≡ o
-    → (more : List Amounts) × (states_from r state (y ∷ ys) ≡ state ∷ (elim o [ None ↦ [] | Some next ↦ states_from r next xs ]) ++ more)) [
+    → (more : List State) × (states_from r state (y ∷ ys) ≡ state ∷ (elim o [ None ↦ [] | Some next ↦ states_from r next xs ]) ++ more)) [
       | None ↦ λ e. ((elim (state_after r state y) [ None ↦ [] | Some next ↦ states_from r next ys ]), refl)
       | Some next ↦ λ e.
           let rest = states_stay r next xs ys h.1 in (
             rest.0,
-            ap (λ o. state ∷ (elim o as (λ _. List Amounts) [ None ↦ [] | Some n ↦ states_from r n ys ]))
+            ap (λ o. state ∷ (elim o as (λ _. List State) [ None ↦ [] | Some n ↦ states_from r n ys ]))
                 (once_returned_stays (λ called reply. r.next called.method called.args reply state) x y next h.0 e) ∙ ap (λ ss. state ∷ ss) rest.1,
           )
     ]) refl

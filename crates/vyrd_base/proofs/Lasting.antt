@@ -11,7 +11,7 @@ use Rattle.vyrd_base.specs.declared.verdict.Why.{Why}
 use Rattle.vyrd_base.specs.declared.verdict.Verdict.{Verdict}
 use Rattle.vyrd_base.specs.declared.verdict.Verdict.TheVariants.{Violation}
 use Rattle.vyrd_base.specs.Places.{Place, places_after, first_answer, position_of}
-use Rattle.vyrd_base.specs.Amounts.{Amounts}
+use Rattle.vyrd_base.specs.States.{State}
 use Rattle.vyrd_base.specs.Commits.{is_commit, Committed, committed_at, commit_count, state_after, states_from, commits_after}
 use Rattle.vyrd_base.specs.Faults.{fault_of_kind, fault_at}
 use Rattle.vyrd_base.specs.Verdicts.{line_of, violation_at}
@@ -22,7 +22,7 @@ use Rattle.vyrd_base.proofs.Judged.{fault_stays, no_state_no_fault, fault_decide
 use Rattle.vyrd_base.specs.Rules.{Rules}
 
 -- the first state is the one from which the states go on
-pub states_begin : (r : Rules) (s : Amounts) (xs : List Committed) → slice_get (states_from r s xs) 0 ≡ Some s
+pub states_begin : (r : Rules) (s : State) (xs : List Committed) → slice_get (states_from r s xs) 0 ≡ Some s
 states_begin r s [] = refl
 states_begin r s (x ∷ xs) = refl
 
@@ -37,7 +37,7 @@ pub commit_count-cons : (e : Entry) (earlier : List Entry) → commit_count (e �
 commit_count-cons e earlier = sum_by-cons (λ x. cond (is_commit x.kind) 1 0) e earlier
 
 -- past the last state nothing is judged
-pub no_fault_beyond : (r : Rules) (starting : List StartWord) (states : List Amounts) (earlier xs : List Entry) → length states ≤ commit_count earlier
+pub no_fault_beyond : (r : Rules) (starting : List StartWord) (states : List State) (earlier xs : List Entry) → length states ≤ commit_count earlier
     → first_answer (violation_at r starting states) (places_after earlier xs) ≡ None
 unfolding fault_at
 no_fault_beyond r starting states earlier [] short = refl
@@ -60,7 +60,7 @@ uncounted p false e = omega arith
 
 -- If the first fault of some places is known, it is the first fault of these places as the front
 -- goes on. The states before these places are `pre`, and s is the state at the first of them.
-pub first_fault_lasts : (r : Rules) (starting : List StartWord) (earlier xs later : List Entry) (pre states more : List Amounts) (s : Amounts) (v : Verdict)
+pub first_fault_lasts : (r : Rules) (starting : List StartWord) (earlier xs later : List Entry) (pre states more : List State) (s : State) (v : Verdict)
     → Settled earlier xs → length pre ≡ commit_count earlier → states ≡ pre ++ states_from r s (commits_after earlier xs)
     → first_answer (violation_at r starting states) (places_after earlier xs) ≡ Some v
     → first_answer (violation_at r starting (states ++ more)) (map (with_later later) (places_after earlier xs)) ≡ Some v
@@ -92,7 +92,7 @@ first_fault_lasts r starting earlier (x ∷ xs) later pre states more s v settle
 
     -- the claim about the places after this one
     Onward : Type 0
-    Onward = (pre' : List Amounts) (s' : Amounts) → Settled (x ∷ earlier) xs → length pre' ≡ commit_count (x ∷ earlier)
+    Onward = (pre' : List State) (s' : State) → Settled (x ∷ earlier) xs → length pre' ≡ commit_count (x ∷ earlier)
         → states ≡ pre' ++ states_from r s' (commits_after (x ∷ earlier) xs) → rest ≡ Some v → new_rest ≡ Some v
 
     -- a place without a fault leads on to the places after it
@@ -100,12 +100,12 @@ first_fault_lasts r starting earlier (x ∷ xs) later pre states more s v settle
     lead_on none onward = ap (λ o. option_or (with_line o) new_rest) none ∙ onward
 
     at_commit : Onward → is_commit x.kind ≡ true → states ≡ pre ++ states_from r s (committed_at place ∷ commits_after (x ∷ earlier) xs)
-        → fault_of_kind r starting states place x.kind ≡ None → rest ≡ Some v → (o : Option Amounts)
+        → fault_of_kind r starting states place x.kind ≡ None → rest ≡ Some v → (o : Option State)
         → state_after r s (committed_at place) ≡ o → option_or (with_line new) new_rest ≡ Some v
     at_commit onward is_one are' none found' None after =
         let ended : states ≡ pre ++ s ∷ [] = are'
         ∙ ap (λ o. pre ++ s ∷ (elim o as
-        (λ _. List Amounts) [ None ↦ [] | Some next ↦ states_from r next (commits_after (x ∷ earlier) xs) ])) after in
+        (λ _. List State) [ None ↦ [] | Some next ↦ states_from r next (commits_after (x ∷ earlier) xs) ])) after in
         let short : length states ≤ commit_count (x ∷ earlier) = omega (
           arith,
           ap length ended,
@@ -117,7 +117,7 @@ first_fault_lasts r starting earlier (x ∷ xs) later pre states more s v settle
         cc
     at_commit onward is_one are' none found' (Some next) after =
         let go_on : states ≡ (pre ++ s ∷ []) ++ states_from r next (commits_after (x ∷ earlier) xs) =
-        are' ∙ ap (λ o. pre ++ s ∷ (elim o as (λ _. List Amounts) [ None ↦ [] | Some n ↦ states_from r n (commits_after (x ∷ earlier) xs) ])) after
+        are' ∙ ap (λ o. pre ++ s ∷ (elim o as (λ _. List State) [ None ↦ [] | Some n ↦ states_from r n (commits_after (x ∷ earlier) xs) ])) after
         ∙ sym (append_assoc pre (s ∷ []) (states_from r next (commits_after (x ∷ earlier) xs))) in
         let long : length (pre ++ s ∷ []) ≡ commit_count (x ∷ earlier) = omega (
           arith,

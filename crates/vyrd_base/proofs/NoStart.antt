@@ -1,6 +1,6 @@
 -- Without starting words the specification starts empty.
 use Rattle.std.proofs.Common.{◌≡◌, ℕ, zero, suc, ◌+◌, List, [], ◌∷◌, ◌++◌, map, length, Some, None, refl, ap, ◌∙◌, arith}
-use Rattle.std.specs.Prelude.{replicate, is_none}
+use Rattle.std.specs.Prelude.{replicate, is_none, option_map}
 use Rattle.std.specs.Bool.{then_some}
 use Rattle.std.specs.Option.{option_or}
 use Rattle.std.proofs.lemmas.List.{replicate-append-replicate}
@@ -12,6 +12,7 @@ use Rattle.vyrd_base.specs.Places.{numbers_from, newest_first}
 use Rattle.vyrd_base.specs.Front.{front}
 use Rattle.vyrd_base.specs.Layout.{plain_words, lock_words}
 use Rattle.vyrd_base.specs.Specification.{start}
+use Rattle.vyrd_base.specs.States.{showing}
 use Rattle.vyrd_base.specs.Represented.{state_of_words}
 use Rattle.vyrd_base.specs.Starts.{words_at_start, state_at_start}
 use Rattle.vyrd_base.specs.Words.{value_after}
@@ -32,9 +33,9 @@ words_at_start-none h = zeros_from 0 (plain_words h)
 pub state_at_start-none : (h : Header) → state_at_start (rules_of h) [] ≡ Some start
 unfolding state_at_start
 state_at_start-none h =
-    ap (λ ws. state_of_words h (ws ++ replicate (lock_words h) 0)) (words_at_start-none h)
-    ∙ ap (state_of_words h) (replicate-append-replicate (plain_words h) (lock_words h) 0)
-    ∙ zeroed_words h
+    ap (λ ws. option_map showing (state_of_words h (ws ++ replicate (lock_words h) 0))) (words_at_start-none h)
+    ∙ ap (λ ws. option_map showing (state_of_words h ws)) (replicate-append-replicate (plain_words h) (lock_words h) 0)
+    ∙ ap (option_map showing) (zeroed_words h)
 
 -- the states along a front
 pub states_along-none : (h : Header) (xs : List Entry) → states_along (rules_of h) [] xs ≡ states_of (rules_of h) (Some start) xs

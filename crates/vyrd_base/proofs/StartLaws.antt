@@ -12,7 +12,6 @@ use Rattle.vyrd_base.specs.declared.subject.Subject.TheVariants.{Multiset, Cache
 use Rattle.vyrd_base.specs.Places.{numbers_from, numbers_below}
 use Rattle.vyrd_base.specs.Layout.{plain_words, lock_words}
 use Rattle.vyrd_base.specs.Amounts.{plus_amount, collected}
-use Rattle.vyrd_base.specs.Specification.{start}
 use Rattle.vyrd_base.specs.Tree.{entries_of, entry_parts, node_parts, right_of, damage}
 use Rattle.vyrd_base.specs.Tree.{chain_parts_from}
 use Rattle.vyrd_base.specs.Buffers.{buffer_at, is_buffer, buffer_parts}
@@ -220,7 +219,7 @@ zeros_show_nothing h k =
     ap collected (parts_same (replicate k 0) [] (zeros k) h.subject h.size) ∙ no_words_empty h.subject h.size (some_size h)
 
 -- zeroed words stand for the empty state
-pub zeroed_words : (h : Header) → state_of_words h (replicate (plain_words h + lock_words h) 0) ≡ Some start
+pub zeroed_words : (h : Header) → state_of_words h (replicate (plain_words h + lock_words h) 0) ≡ Some []
 zeroed_words h =
     ap (state_of_words h) (sym (replicate-append-replicate (plain_words h) (lock_words h) 0))
     ∙ with_free_locks h (replicate (plain_words h) 0) (length-replicate (plain_words h) 0)

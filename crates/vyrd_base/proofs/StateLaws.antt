@@ -7,7 +7,7 @@ use Rattle.std.proofs.lemmas.Option.{slice_get_within}
 use Rattle.vyrd_base.specs.declared.log.Kind.{Kind}
 use Rattle.vyrd_base.specs.declared.log.Entry.{Entry}
 use Rattle.vyrd_base.specs.Callers.{open_call, call_or_return, is_call, entries_before_call}
-use Rattle.vyrd_base.specs.Amounts.{Amounts}
+use Rattle.vyrd_base.specs.States.{State}
 use Rattle.vyrd_base.specs.Commits.{is_commit, returned, next_reply, commit_count, Committed, committed_at, commits_after, state_after, states_from}
 use Rattle.vyrd_base.specs.Faults.{states_since_call}
 use Rattle.vyrd_base.proofs.BlockLaws.{entry, other_answer, no_answer}
@@ -55,7 +55,7 @@ pub count-commit : (e : Entry) (earlier : List Entry) → is_commit e.kind ≡ t
 count-commit e earlier commits = commit_count-cons e earlier ∙ ap (λ b. cond b 1 0 + commit_count earlier) commits ∙ omega arith
 
 -- the window of states since a call stays where no commit comes
-pub window-quiet : (states : List Amounts) (c : ℕ) (e : Entry) (earlier : List Entry) → is_commit e.kind ≡ false
+pub window-quiet : (states : List State) (c : ℕ) (e : Entry) (earlier : List Entry) → is_commit e.kind ≡ false
     → entries_before_call c (e ∷ earlier) ≡ entries_before_call c earlier
     → states_since_call states c (e ∷ earlier) ≡ states_since_call states c earlier
 window-quiet states c e earlier quiet before =
@@ -63,7 +63,7 @@ window-quiet states c e earlier quiet before =
     ∙ ap (λ n. drop (commit_count (entries_before_call c earlier)) (take (n + 1) states)) (count-quiet e earlier quiet)
 
 -- a commit adds the state after it to every window
-pub window-commit : (states : List Amounts) (c : ℕ) (e : Entry) (earlier : List Entry) (next : Amounts) → is_commit e.kind ≡ true
+pub window-commit : (states : List State) (c : ℕ) (e : Entry) (earlier : List Entry) (next : State) → is_commit e.kind ≡ true
     → entries_before_call c (e ∷ earlier) ≡ entries_before_call c earlier → slice_get states (commit_count earlier + 1) ≡ Some next
     → states_since_call states c (e ∷ earlier) ≡ states_since_call states c earlier ++ next ∷ []
 window-commit states c e earlier next commits before here =
@@ -77,7 +77,7 @@ window-commit states c e earlier next commits before here =
     ∙ drop-append-le first (take (commit_count earlier + 1) states) (next ∷ []) long
 
 -- just after a call the window is the state there
-pub window-call : (states : List Amounts) (c : ℕ) (e : Entry) (earlier : List Entry) (state : Amounts) (rest : List Amounts)
+pub window-call : (states : List State) (c : ℕ) (e : Entry) (earlier : List Entry) (state : State) (rest : List State)
     → is_commit e.kind ≡ false
     → entries_before_call c (e ∷ earlier) ≡ earlier → drop (commit_count earlier) states ≡ state ∷ rest
     → states_since_call states c (e ∷ earlier) ≡ state ∷ []
@@ -87,13 +87,13 @@ window-call states c e earlier state rest quiet before going =
     ∙ drop-take (commit_count earlier) 1 states ∙ ap (take 1) going
 
 -- the state at a place is known
-pub state_here : (r : Rules) (states : List Amounts) (earlier : List Entry) (state : Amounts) (xs : List Committed)
+pub state_here : (r : Rules) (states : List State) (earlier : List Entry) (state : State) (xs : List Committed)
     → drop (commit_count earlier) states ≡ states_from r state xs → slice_get states (commit_count earlier) ≡ Some state
 state_here r states earlier state xs going =
     sym (slice_get-drop states (commit_count earlier)) ∙ ap (λ ss. slice_get ss 0) going ∙ states_begin r state xs
 
 -- the states go on as they did after an entry that doesn't commit
-pub going-quiet : (r : Rules) (states : List Amounts) (e : Entry) (earlier later : List Entry) (state : Amounts) → is_commit e.kind ≡ false
+pub going-quiet : (r : Rules) (states : List State) (e : Entry) (earlier later : List Entry) (state : State) → is_commit e.kind ≡ false
     → drop (commit_count earlier) states ≡ states_from r state (commits_after earlier (e ∷ later))
     → drop (commit_count (e ∷ earlier)) states ≡ states_from r state (commits_after (e ∷ earlier) later)
 going-quiet r states e earlier later state quiet going =
@@ -102,18 +102,18 @@ going-quiet r states e earlier later state quiet going =
     (commits_after (e ∷ earlier) later))) quiet
 
 -- after a commit they go on from the next state, or no later one is known
-going_at : (r : Rules) (states : List Amounts) (e : Entry) (earlier later : List Entry) (state : Amounts) (o : Option Amounts) → is_commit e.kind ≡ true
+going_at : (r : Rules) (states : List State) (e : Entry) (earlier later : List Entry) (state : State) (o : Option State) → is_commit e.kind ≡ true
     → state_after r state (committed_at (record { earlier = earlier; here = e; later = later })) ≡ o
     → drop (commit_count earlier) states ≡ states_from r state (commits_after earlier (e ∷ later))
     → drop (commit_count earlier) states
-    ≡ state ∷ (elim o as (λ _. List Amounts) [ None ↦ [] | Some next ↦ states_from r next (commits_after (e ∷ earlier) later) ])
+    ≡ state ∷ (elim o as (λ _. List State) [ None ↦ [] | Some next ↦ states_from r next (commits_after (e ∷ earlier) later) ])
 going_at r states e earlier later state o commits after going =
     going
     ∙ ap (λ b. states_from r state (cons_option (then_some b (committed_at (record { earlier = earlier; here = e; later = later })))
     (commits_after (e ∷ earlier) later))) commits
-    ∙ ap (λ a. state ∷ (elim a as (λ _. List Amounts) [ None ↦ [] | Some next ↦ states_from r next (commits_after (e ∷ earlier) later) ])) after
+    ∙ ap (λ a. state ∷ (elim a as (λ _. List State) [ None ↦ [] | Some next ↦ states_from r next (commits_after (e ∷ earlier) later) ])) after
 
-pub going-commit : (r : Rules) (states : List Amounts) (e : Entry) (earlier later : List Entry) (state next : Amounts) → is_commit e.kind ≡ true
+pub going-commit : (r : Rules) (states : List State) (e : Entry) (earlier later : List Entry) (state next : State) → is_commit e.kind ≡ true
     → state_after r state (committed_at (record { earlier = earlier; here = e; later = later })) ≡ Some next
     → drop (commit_count earlier) states ≡ states_from r state (commits_after earlier (e ∷ later))
     → drop (commit_count (e ∷ earlier)) states ≡ states_from r next (commits_after (e ∷ earlier) later)
@@ -121,7 +121,7 @@ going-commit r states e earlier later state next commits after going =
     ap (λ n. drop n states) (count-commit e earlier commits) ∙ sym (drop-drop 1 (commit_count earlier) states)
     ∙ ap (drop 1) (going_at r states e earlier later state (Some next) commits after going)
 
-pub ending-commit : (r : Rules) (states : List Amounts) (e : Entry) (earlier later : List Entry) (state : Amounts) → is_commit e.kind ≡ true
+pub ending-commit : (r : Rules) (states : List State) (e : Entry) (earlier later : List Entry) (state : State) → is_commit e.kind ≡ true
     → state_after r state (committed_at (record { earlier = earlier; here = e; later = later })) ≡ None
     → drop (commit_count earlier) states ≡ states_from r state (commits_after earlier (e ∷ later))
     → length states ≤ commit_count (e ∷ earlier)

@@ -13,7 +13,7 @@ use Rattle.vyrd_base.specs.declared.verdict.Stop.TheVariants.{End, Text}
 use Rattle.vyrd_base.specs.declared.verdict.Verdict.{Verdict}
 use Rattle.vyrd_base.specs.declared.verdict.Verdict.TheVariants.{Malformed}
 use Rattle.vyrd_base.specs.Places.{newest_first}
-use Rattle.vyrd_base.specs.Amounts.{Amounts}
+use Rattle.vyrd_base.specs.States.{State}
 use Rattle.vyrd_base.specs.Starts.{state_at_start}
 use Rattle.vyrd_base.specs.Front.{front, first_break}
 use Rattle.vyrd_base.specs.Verdicts.{line_of, first_fault, shape_verdict, start_verdict, begun_verdict, verdict_so_far, is_call_open, end_verdict, accepted, verdict, verdict_at}
@@ -21,7 +21,7 @@ use Rattle.vyrd_base.proofs.FrontLaws.{front_whole}
 use Rattle.vyrd_base.specs.Rules.{Rules}
 
 -- starting words that stand for a state aren't a fault
-pub sound_start : (r : Rules) (starting : List StartWord) (state : Amounts)
+pub sound_start : (r : Rules) (starting : List StartWord) (state : State)
     → state_at_start r starting ≡ Some state
     → start_verdict r starting ≡ None
 sound_start r starting state stands =

@@ -12,7 +12,7 @@ use Rattle.vyrd_base.specs.declared.verdict.Rule.TheVariants.{CallOpen}
 use Rattle.vyrd_base.specs.declared.verdict.Verdict.{Verdict}
 use Rattle.vyrd_base.specs.declared.verdict.Verdict.TheVariants.{Violation, Malformed}
 use Rattle.vyrd_base.specs.Places.{Place, places_after, position_of, newest_first, first_answer}
-use Rattle.vyrd_base.specs.Amounts.{Amounts}
+use Rattle.vyrd_base.specs.States.{State}
 use Rattle.vyrd_base.specs.Specification.{start}
 use Rattle.vyrd_base.specs.Shape.{broken_rule}
 use Rattle.vyrd_base.specs.Front.{front, front_after, first_break, WellFormed}
@@ -59,11 +59,11 @@ break_after-old h earlier (e ∷ es) one wf = by_rule (broken_rule h earlier e) 
     by_rule (Some rule) is rest = ap (λ o. option_or o (old_break_after h (e ∷ earlier) es)) (sym is ∙ broken_rule-old h earlier e one wf)
 
 -- the first fault of the places from one on
-abbrev pub old_fault_after : Header → List Amounts → List Entry → List Entry → Option Verdict
+abbrev pub old_fault_after : Header → List State → List Entry → List Entry → Option Verdict
 old_fault_after h states earlier later = first_answer
     (λ place. option_map (Violation (position_of place + 2)) (old_fault_of_kind h states place place.here.kind)) (places_after earlier later)
 
-fault-old : (h : Header) (states : List Amounts) (place : Place Entry) (kind : Kind) → h.version ≡ 1 → WellFormed h (place.here ∷ place.earlier)
+fault-old : (h : Header) (states : List State) (place : Place Entry) (kind : Kind) → h.version ≡ 1 → WellFormed h (place.here ∷ place.earlier)
     → fault_of_kind (rules_of h) [] states place kind ≡ old_fault_of_kind h states place kind
 fault-old h states place Commit one wf =
     ap (λ words. option_and_then (commit_fault (rules_of h) (view_of_words h words) (committed_at place)) (slice_get states (commit_count place.earlier)))
@@ -78,7 +78,7 @@ fault-old h states place BlockOpen one wf = refl
 fault-old h states place BlockClose one wf = refl
 
 -- the rest of a front that keeps the rules from a place on
-fault_after-old : (h : Header) (states : List Amounts) (earlier later : List Entry) → h.version ≡ 1 → WellFormed h earlier
+fault_after-old : (h : Header) (states : List State) (earlier later : List Entry) → h.version ≡ 1 → WellFormed h earlier
     → first_answer (violation_at (rules_of h) [] states) (places_after earlier (front_after h earlier later))
     ≡ old_fault_after h states earlier (front_after h earlier later)
 unfolding fault_at

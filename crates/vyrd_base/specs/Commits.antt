@@ -9,7 +9,7 @@ use Rattle.vyrd_base.specs.declared.log.Kind.TheVariants.{Return, Commit, BlockC
 use Rattle.vyrd_base.specs.declared.log.Entry.{Entry}
 use Rattle.vyrd_base.specs.Places.{Place, places_after, first_answer}
 use Rattle.vyrd_base.specs.Callers.{Called, open_call, by_caller}
-use Rattle.vyrd_base.specs.Amounts.{Amounts}
+use Rattle.vyrd_base.specs.States.{State}
 use Rattle.vyrd_base.specs.Rules.{Rules}
 
 -- a lone commit, or the end of a block that commits
@@ -57,20 +57,20 @@ abbrev pub once_returned : {B : Type 0} → (Called → ℕ → Option B) → Co
 once_returned f x = option_and_then (λ called. option_and_then (f called) x.reply) x.called
 
 -- the state after an execution, if it has returned and its reply is allowed
-abbrev pub state_after : Rules → Amounts → Committed → Option Amounts
+abbrev pub state_after : Rules → State → Committed → Option State
 state_after r state x =
     once_returned (λ called reply. r.next called.method called.args reply state) x
 
 -- The states from this one on, with one more after each execution. They end before the first
 -- execution that hasn't returned or whose reply is refused.
-abbrev pub states_from : Rules → Amounts → List Committed → List Amounts
+abbrev pub states_from : Rules → State → List Committed → List State
 states_from r state [] = state ∷ []
 states_from r state (x ∷ xs) =
     state ∷ (elim (state_after r state x) [ None ↦ [] | Some next ↦ states_from r next xs ])
 
 -- The states along the commits of a front, from the state at the start on: none, if the starting
 -- words stand for no state.
-abbrev pub states_of : Rules → Option Amounts → List Entry → List Amounts
+abbrev pub states_of : Rules → Option State → List Entry → List State
 states_of r None front = []
 states_of r (Some start) front = states_from r start (commits front)
 

@@ -27,7 +27,7 @@ use Rattle.vyrd_base.specs.Layout.{plain_words}
 use Rattle.vyrd_base.specs.Words.{block_writes, given_to}
 use Rattle.vyrd_base.specs.Shape.{◌breaks◌, Check, first_broken, checks_of, is_observing}
 use Rattle.vyrd_base.specs.Shape.{is_held_by_other}
-use Rattle.vyrd_base.specs.Amounts.{Amounts}
+use Rattle.vyrd_base.specs.States.{State}
 use Rattle.vyrd_base.specs.Specification.{start}
 use Rattle.vyrd_base.specs.Commits.{commits, states_from, committed_at, commit_count}
 use Rattle.vyrd_base.specs.Views.{view_of_words}
@@ -92,13 +92,13 @@ old_words_after h earlier =
     map (old_value_after (old_effects earlier)) (numbers_below (plain_words h))
 
 -- the fault of the commit at a place
-abbrev pub old_fault_of_commit : Header → List Amounts → Place Entry → Option Why
+abbrev pub old_fault_of_commit : Header → List State → Place Entry → Option Why
 old_fault_of_commit h states place = option_and_then
     (commit_fault (rules_of h) (view_of_words h (old_words_after h (place.here ∷ place.earlier)))
     (committed_at place))
     (slice_get states (commit_count place.earlier))
 
-abbrev pub old_fault_of_kind : Header → List Amounts → Place Entry → Kind → Option Why
+abbrev pub old_fault_of_kind : Header → List State → Place Entry → Kind → Option Why
 old_fault_of_kind h states place Commit = old_fault_of_commit h states place
 old_fault_of_kind h states place BlockCommit = old_fault_of_commit h states place
 old_fault_of_kind h states place (Return reply) =

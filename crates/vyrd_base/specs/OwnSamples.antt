@@ -1,8 +1,8 @@
 -- Rules that no built-in subject has: a queue whose replies alone are judged. An insert puts a
 -- value at the end, and a delete takes the value at the front and replies with it plus 1. A lookup
--- answers how many there are. Its state shows nothing: all of it has keys from 2^64 on. The words
--- show nothing either.
-use Rattle.std.specs.Prelude.{ℕ, ◌+◌, ◌-◌, ◌^◌, ◌==◌, ◌&&◌, nat_lt, List, [], ◌∷◌}
+-- answers how many there are. Its state is one list, and shows nothing. The words show nothing
+-- either.
+use Rattle.std.specs.Prelude.{ℕ, ◌+◌, ◌==◌, List, [], ◌∷◌, ◌++◌, length, slice_index_or}
 use Rattle.std.specs.Prelude.{Option, Some, None}
 use Rattle.std.specs.Bool.{then_some}
 use Rattle.vyrd_base.specs.declared.subject.Method.{Method}
@@ -10,37 +10,37 @@ use Rattle.vyrd_base.specs.declared.subject.Method.TheVariants.{Multiset as OfMu
 use Rattle.vyrd_base.specs.declared.multiset.MultisetMethod.TheVariants.{Insert, Delete}
 use Rattle.vyrd_base.specs.declared.subject.Args.{Args}
 use Rattle.vyrd_base.specs.declared.log.Entry.{Entry}
-use Rattle.vyrd_base.specs.Amounts.{Amounts, amount_of, with_amount}
+use Rattle.vyrd_base.specs.States.{State}
 use Rattle.vyrd_base.specs.Rules.{Rules}
 use Rattle.vyrd_base.specs.Samples.{two, insert, delete, lookup, commit, return}
 
--- where the value of a place is, and the counts of values that came and that went
-abbrev pub value_at : ℕ → ℕ
-value_at place = 2 ^ 64 + place
+-- the state in which these values wait, the first to go in front
+abbrev pub queued : List ℕ → State
+queued values = record { shown = []; hidden = []; registers = []; lists = values ∷ [] }
 
-abbrev pub came : ℕ
-came = 2 ^ 65
+-- the values that wait
+abbrev pub waiting : State → List ℕ
+waiting s = slice_index_or s.lists 0 []
 
-abbrev pub went : ℕ
-went = 2 ^ 65 + 1
+-- the state after a delete with this reply
+abbrev pub with_first_gone : ℕ → List ℕ → Option State
+with_first_gone reply [] = None
+with_first_gone reply (value ∷ values) = then_some (reply == value + 1) (queued values)
 
-abbrev pub queue_next : Method → Args → ℕ → Amounts → Option Amounts
-queue_next (OfMultiset Insert) args reply s = then_some (reply == 1)
-    (with_amount (with_amount s (value_at (amount_of s came)) args.a) came (amount_of s came + 1))
-queue_next (OfMultiset Delete) args reply s = then_some
-    (nat_lt (amount_of s went) (amount_of s came)
-    && (reply == amount_of s (value_at (amount_of s went)) + 1))
-    (with_amount s went (amount_of s went + 1))
+abbrev pub queue_next : Method → Args → ℕ → State → Option State
+queue_next (OfMultiset Insert) args reply s =
+    then_some (reply == 1) (queued (waiting s ++ args.a ∷ []))
+queue_next (OfMultiset Delete) args reply s = with_first_gone reply (waiting s)
 queue_next _ args reply s = None
 
 abbrev pub queue_rules : Rules
 queue_rules = record {
   header = two;
   next = queue_next;
-  answer = λ s method args. amount_of s came - amount_of s went;
+  answer = λ s method args. length (waiting s);
   shown = λ s. [];
   view = λ words. [];
-  start = λ words. Some [];
+  start = λ words. Some (queued []);
 }
 
 -- 5 and 6 come, and then one of them goes

@@ -9,7 +9,7 @@ use Rattle.vyrd_base.specs.declared.verdict.Rule.{Rule}
 use Rattle.vyrd_base.specs.declared.verdict.Rule.TheVariants.{StartRange, StartOrder}
 use Rattle.vyrd_base.specs.Layout.{plain_words}
 use Rattle.vyrd_base.specs.Shape.{◌breaks◌, first_broken}
-use Rattle.vyrd_base.specs.Amounts.{Amounts}
+use Rattle.vyrd_base.specs.States.{State}
 use Rattle.vyrd_base.specs.Words.{words_with}
 use Rattle.vyrd_base.specs.Rules.{Rules}
 
@@ -42,5 +42,5 @@ abbrev pub words_at_start : Header → List StartWord → List ℕ
 words_at_start h starting = words_with h starting []
 
 -- the state for which the starting words stand, if they stand for one
-unfoldable pub state_at_start : Rules → List StartWord → Option Amounts
+unfoldable pub state_at_start : Rules → List StartWord → Option State
 state_at_start r starting = r.start (words_at_start r.header starting)

@@ -21,7 +21,7 @@ use Rattle.vyrd_base.specs.Places.{Place, places, position_of, newest_first, fir
 use Rattle.vyrd_base.specs.Places.{numbers_below}
 use Rattle.vyrd_base.specs.Callers.{open_call, has_committed}
 use Rattle.vyrd_base.specs.Front.{front, first_break}
-use Rattle.vyrd_base.specs.Amounts.{Amounts}
+use Rattle.vyrd_base.specs.States.{State}
 use Rattle.vyrd_base.specs.Starts.{state_at_start}
 use Rattle.vyrd_base.specs.Commits.{states_of, commit_count}
 use Rattle.vyrd_base.specs.Rules.{Rules}
@@ -32,12 +32,12 @@ abbrev pub line_of : List StartWord → ℕ → ℕ
 line_of starting position = length starting + position + 2
 
 -- the fault at a place of a front whose states are given, with its line
-abbrev pub violation_at : Rules → List StartWord → List Amounts → Place Entry → Option Verdict
+abbrev pub violation_at : Rules → List StartWord → List State → Place Entry → Option Verdict
 violation_at r starting states place =
     option_map (Violation (line_of starting (position_of place))) (fault_at r starting states place)
 
 -- the states along a front, from that of the starting words on
-abbrev pub states_along : Rules → List StartWord → List Entry → List Amounts
+abbrev pub states_along : Rules → List StartWord → List Entry → List State
 states_along r starting well_formed = states_of r (state_at_start r starting) well_formed
 
 -- the first fault of a front, with its line

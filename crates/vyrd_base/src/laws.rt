@@ -24,6 +24,7 @@ ghost use Rattle.vyrd_base.specs.Spelling.{log_text, is_entry_of};
 ghost use Rattle.vyrd_base.specs.Reading.{Input, TextFault, reading};
 ghost use Rattle.vyrd_base.specs.Histories.{cells_of, is_legal, log_of, words_of_history};
 ghost use Rattle.vyrd_base.specs.Amounts.{Amounts, IsAmounts, amount_of, with_amount};
+ghost use Rattle.vyrd_base.specs.States.{State};
 ghost use Rattle.vyrd_base.specs.Amounts.{first_difference};
 ghost use Rattle.vyrd_base.specs.declared.history.Stamped.{Stamped};
 ghost use Rattle.vyrd_base.specs.TextVerdicts.{text_verdict, text_verdict_so_far, stop_of};
@@ -75,7 +76,7 @@ pub fn methods_commit_once_or_never()
     ensures counted { (h : Header) (es : List Entry) (c reply : ℕ)
         → first_break h (es ++ record { caller = c; kind = Return reply } ∷ []) ≡ None
         → not (has_committed c (newest_first es)) ≡ is_observing c (newest_first es) }
-    ensures fault { (r : Rules) (window : List Amounts) (es : List Entry) (c reply : ℕ)
+    ensures fault { (r : Rules) (window : List State) (es : List Entry) (c reply : ℕ)
         (called : Called)
         → first_break r.header (es ++ record { caller = c; kind = Return reply } ∷ []) ≡ None
         → open_call c (newest_first es) ≡ Some called
