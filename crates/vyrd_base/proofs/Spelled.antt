@@ -4,6 +4,7 @@
 use Rattle.std.proofs.Common.{◌≡◌, ℕ, ◌+◌, ◌<◌, ◌≤◌, ◌^◌, true, not, length, Some}
 use Rattle.std.specs.Prelude.{find, slice_get}
 use Rattle.std.specs.Str.{bytes_eq}
+use Rattle.vyrd_base.specs.Limits.{longest_subject, longest_method}
 use Rattle.vyrd_base.specs.Structures.{Structure}
 use Rattle.vyrd_base.specs.Subjects.{never_commits, always_commits}
 use Rattle.vyrd_base.proofs.SplitLaws.{is_plain_field}
@@ -11,7 +12,7 @@ use Rattle.vyrd_base.proofs.SplitLaws.{is_plain_field}
 pub record IsSpelled {M : Type 0} (s : Structure M) : Type 0 where
   -- a method's name is a field of a line, and short
   pub plain : (m : M) → is_plain_field (s.called m) ≡ true
-  pub short : (m : M) → length (s.called m) ≤ 11
+  pub short : (m : M) → length (s.called m) ≤ longest_method
   -- and no other method has it
   pub found : (m : M) → find (λ x. bytes_eq (s.called x) (s.called m)) s.methods ≡ Some m
   -- it stands among the structure's methods
@@ -24,6 +25,6 @@ pub record IsSpelled {M : Type 0} (s : Structure M) : Type 0 where
   pub once_or_never : (m : M) → always_commits (s.commits m) ≡ not (never_commits (s.commits m))
   -- the structure's name is a field too, and short
   pub plain_name : is_plain_field s.name ≡ true
-  pub short_name : length s.name ≤ 8
+  pub short_name : length s.name ≤ longest_subject
   -- words have numbers of 16 bits
   pub few_words : (size : ℕ) → size ≤ 1024 → s.plain_words size + s.locks size < 2 ^ 16

@@ -2,6 +2,7 @@
 use Rattle.std.proofs.Common.{◌≡◌, ℕ, ◌+◌, ◌<◌, ◌≤◌, ◌^◌, true, not, length, Some, refl, arith}
 use Rattle.std.specs.Prelude.{find, slice_get}
 use Rattle.std.specs.Str.{bytes_eq}
+use Rattle.vyrd_base.specs.Limits.{longest_method}
 use Rattle.vyrd_base.specs.declared.buffers.BuffersMethod.{BuffersMethod}
 use Rattle.vyrd_base.specs.declared.buffers.BuffersMethod.TheVariants.{Append, AppendFrom, Cut}
 use Rattle.vyrd_base.specs.declared.buffers.BuffersMethod.TheVariants.{Length, Read}
@@ -17,7 +18,7 @@ plain Cut = refl
 plain Length = refl
 plain Read = refl
 
-short : (m : BuffersMethod) → length (buffers.called m) ≤ 11
+short : (m : BuffersMethod) → length (buffers.called m) ≤ longest_method
 short Append = omega arith
 short AppendFrom = omega arith
 short Cut = omega arith

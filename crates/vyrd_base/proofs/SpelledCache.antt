@@ -2,6 +2,7 @@
 use Rattle.std.proofs.Common.{◌≡◌, ℕ, ◌+◌, ◌<◌, ◌≤◌, ◌^◌, true, not, length, Some, refl, arith}
 use Rattle.std.specs.Prelude.{find, slice_get}
 use Rattle.std.specs.Str.{bytes_eq}
+use Rattle.vyrd_base.specs.Limits.{longest_method}
 use Rattle.vyrd_base.specs.declared.cache.CacheMethod.{CacheMethod}
 use Rattle.vyrd_base.specs.declared.cache.CacheMethod.TheVariants.{Write, Flush, Evict, Read}
 use Rattle.vyrd_base.specs.Cache.{cache}
@@ -15,7 +16,7 @@ plain Flush = refl
 plain Evict = refl
 plain Read = refl
 
-short : (m : CacheMethod) → length (cache.called m) ≤ 11
+short : (m : CacheMethod) → length (cache.called m) ≤ longest_method
 short Write = omega arith
 short Flush = omega arith
 short Evict = omega arith

@@ -2,6 +2,7 @@
 use Rattle.std.proofs.Common.{◌≡◌, ℕ, ◌+◌, ◌<◌, ◌≤◌, ◌^◌, true, not, length, Some, refl, arith}
 use Rattle.std.specs.Prelude.{find, slice_get}
 use Rattle.std.specs.Str.{bytes_eq}
+use Rattle.vyrd_base.specs.Limits.{longest_method}
 use Rattle.vyrd_base.specs.declared.multiset.MultisetMethod.{MultisetMethod}
 use Rattle.vyrd_base.specs.declared.multiset.MultisetMethod.TheVariants.{Insert, InsertPair, Delete}
 use Rattle.vyrd_base.specs.declared.multiset.MultisetMethod.TheVariants.{Lookup}
@@ -16,7 +17,7 @@ plain InsertPair = refl
 plain Delete = refl
 plain Lookup = refl
 
-short : (m : MultisetMethod) → length (multiset.called m) ≤ 11
+short : (m : MultisetMethod) → length (multiset.called m) ≤ longest_method
 short Insert = omega arith
 short InsertPair = omega arith
 short Delete = omega arith

@@ -2,6 +2,7 @@
 use Rattle.std.proofs.Common.{◌≡◌, ℕ, ◌+◌, ◌<◌, ◌≤◌, ◌^◌, true, not, length, Some, refl, arith}
 use Rattle.std.specs.Prelude.{find, slice_get}
 use Rattle.std.specs.Str.{bytes_eq}
+use Rattle.vyrd_base.specs.Limits.{longest_method}
 use Rattle.vyrd_base.specs.declared.tree.TreeMethod.{TreeMethod}
 use Rattle.vyrd_base.specs.declared.tree.TreeMethod.TheVariants.{Insert, Delete, Lookup}
 use Rattle.vyrd_base.specs.Tree.{tree}
@@ -14,7 +15,7 @@ plain Insert = refl
 plain Delete = refl
 plain Lookup = refl
 
-short : (m : TreeMethod) → length (tree.called m) ≤ 11
+short : (m : TreeMethod) → length (tree.called m) ≤ longest_method
 short Insert = omega arith
 short Delete = omega arith
 short Lookup = omega arith

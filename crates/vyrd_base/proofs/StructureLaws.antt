@@ -4,6 +4,7 @@ use Rattle.std.proofs.Common.{Option, Some, None, refl, ap, ◌∙◌, sym}
 use Rattle.std.specs.Prelude.{find, option_map, slice_get}
 use Rattle.std.specs.Str.{bytes_eq}
 use Rattle.std.proofs.lemmas.Option.{slice_get-map}
+use Rattle.vyrd_base.specs.Limits.{longest_subject, longest_method}
 use Rattle.vyrd_base.specs.declared.subject.Subject.{Subject}
 use Rattle.vyrd_base.specs.declared.subject.Subject.TheVariants.{Multiset, Cache, Tree, Buffers}
 use Rattle.vyrd_base.specs.declared.subject.Method.{Method}
@@ -34,7 +35,7 @@ plain_method (OfCache m) = cache_is.plain m
 plain_method (OfTree m) = tree_is.plain m
 plain_method (OfBuffers m) = buffers_is.plain m
 
-pub short_method : (method : Method) → length (method_name method) ≤ 11
+pub short_method : (method : Method) → length (method_name method) ≤ longest_method
 short_method (OfMultiset m) = multiset_is.short m
 short_method (OfCache m) = cache_is.short m
 short_method (OfTree m) = tree_is.short m
@@ -122,7 +123,7 @@ plain_subject Cache = cache_is.plain_name
 plain_subject Tree = tree_is.plain_name
 plain_subject Buffers = buffers_is.plain_name
 
-pub short_subject : (subject : Subject) → length (subject_name subject) ≤ 8
+pub short_subject : (subject : Subject) → length (subject_name subject) ≤ longest_subject
 short_subject Multiset = multiset_is.short_name
 short_subject Cache = cache_is.short_name
 short_subject Tree = tree_is.short_name

@@ -7,7 +7,6 @@ use Rattle.std.specs.Str.Parse.{digits_value}
 use Rattle.std.specs.List.{slice_split}
 use Rattle.vyrd_base.specs.declared.header.Header.{Header}
 use Rattle.vyrd_base.specs.declared.subject.Subject.{Subject}
-use Rattle.vyrd_base.specs.declared.subject.Subject.TheVariants.{Multiset, Cache, Tree, Buffers}
 use Rattle.vyrd_base.specs.declared.subject.Method.{Method}
 use Rattle.vyrd_base.specs.declared.subject.Args.{Args}
 use Rattle.vyrd_base.specs.declared.log.Kind.{Kind}
@@ -20,7 +19,7 @@ use Rattle.vyrd_base.specs.declared.verdict.Rule.TheVariants.{BadHeader, Unknown
 use Rattle.vyrd_base.specs.Limits.{is_sized, is_within}
 use Rattle.vyrd_base.specs.Spelling.{subject_name, method_name, header_line, start_line, entry_line}
 use Rattle.vyrd_base.specs.Spelling.{is_entry_of}
-use Rattle.vyrd_base.specs.Subjects.{methods_of}
+use Rattle.vyrd_base.specs.Subjects.{subjects, methods_of}
 
 -- the parts between spaces
 abbrev pub fields_of : List ℕ → List (List ℕ)
@@ -83,8 +82,7 @@ start_in line = option_and_then
 
 -- the subject of that name
 abbrev pub subject_called : List ℕ → Option Subject
-subject_called name =
-    find (λ subject. bytes_eq (subject_name subject) name) (Multiset ∷ Cache ∷ Tree ∷ Buffers ∷ [])
+subject_called name = find (λ subject. bytes_eq (subject_name subject) name) subjects
 
 -- the header with these numbers, whose limits were tested
 abbrev pub header_if : (version : ℕ) (subject : Subject) (size callers : ℕ) (b : Bool)

@@ -1,6 +1,7 @@
 -- The structures that are built in, and their methods. Each subject and each method belongs to one
 -- structure: whatever is said of it is said by that structure's value.
-use Rattle.std.specs.Prelude.{ℕ, Bool, true, false, ◌&&◌, ◌||◌, ◌==◌, nat_lt, List, map}
+use Rattle.std.specs.Prelude.{ℕ, Bool, true, false, ◌&&◌, ◌||◌, ◌==◌, nat_lt, List, [], ◌∷◌}
+use Rattle.std.specs.Prelude.{map}
 use Rattle.vyrd_base.specs.declared.subject.Subject.{Subject}
 use Rattle.vyrd_base.specs.declared.subject.Subject.TheVariants.{Multiset, Cache, Tree, Buffers}
 use Rattle.vyrd_base.specs.declared.subject.Method.{Method}
@@ -16,6 +17,10 @@ use Rattle.vyrd_base.specs.Multiset.{multiset}
 use Rattle.vyrd_base.specs.Cache.{cache}
 use Rattle.vyrd_base.specs.Tree.{tree}
 use Rattle.vyrd_base.specs.Buffers.{buffers}
+
+-- the subjects, in the order in which their names are looked for
+abbrev pub subjects : List Subject
+subjects = Multiset ∷ Cache ∷ Tree ∷ Buffers ∷ []
 
 -- what the subject's structure says
 abbrev pub by_subject : {A : Type 0} → ((M : Type 0) → Structure M → A) → Subject → A

@@ -1,6 +1,7 @@
 //! The methods of string buffers, and their words.
 
 ghost use Rattle.std.specs.Prelude.{◌≡◌, ◌+◌, ◌*◌, ◌<◌, ◌≤◌, length};
+ghost use Rattle.vyrd_base.specs.Limits.{longest_method};
 ghost use Rattle.vyrd_base.specs.Buffers.{called, arity, commits, takes, buffer_at, shown_text};
 
 use crate::subject::{Args, Commits};
@@ -26,7 +27,7 @@ impl BuffersMethod {
     /// Its name in the line of a call.
     pub(crate) fn name(self) -> &'static [u8]
         ensures text { result.now ≡ called self }
-        ensures len { length result.now ≤ 11 }
+        ensures len { length result.now ≤ longest_method }
     {
         match self {
             BuffersMethod::Append => b"append",

@@ -82,22 +82,14 @@ impl Header {
     pub fn plain_words(&self) -> u32
         ensures { result ≡ plain_words self.now }
     {
-        match self.subject {
-            Subject::Multiset => 8 * self.size,
-            Subject::Cache => 5 * self.size,
-            Subject::Tree => 12 * self.size + 2,
-            Subject::Buffers => 8 * self.size,
-        }
+        self.subject.plain_words(self.size)
     }
 
     /// How many locks there are. They are the cells after the plain words.
     pub fn lock_words(&self) -> u32
         ensures { result ≡ lock_words self.now }
     {
-        match self.subject {
-            Subject::Multiset | Subject::Cache | Subject::Buffers => self.size,
-            Subject::Tree => self.size + 2,
-        }
+        self.subject.lock_words(self.size)
     }
 
     /// Whether a log with this header may call the method with these arguments: the method is of

@@ -1,6 +1,7 @@
 //! The methods of the multiset.
 
 ghost use Rattle.std.specs.Prelude.{◌≡◌, ◌≤◌, length};
+ghost use Rattle.vyrd_base.specs.Limits.{longest_method};
 ghost use Rattle.vyrd_base.specs.Multiset.{called, arity, commits, takes};
 
 use crate::subject::{Args, Commits};
@@ -22,7 +23,7 @@ impl MultisetMethod {
     /// Its name in the line of a call.
     pub(crate) fn name(self) -> &'static [u8]
         ensures text { result.now ≡ called self }
-        ensures len { length result.now ≤ 11 }
+        ensures len { length result.now ≤ longest_method }
     {
         match self {
             MultisetMethod::Insert => b"insert",

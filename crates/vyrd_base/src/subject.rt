@@ -1,6 +1,8 @@
 //! The subjects that can be watched, their methods, and the arguments of a call.
 
 ghost use Rattle.std.specs.Prelude.{◌≡◌, ◌≤◌, length};
+ghost use Rattle.vyrd_base.specs.Layout.{plain_words_of, lock_words_of};
+ghost use Rattle.vyrd_base.specs.Limits.{longest_subject, longest_method};
 ghost use Rattle.vyrd_base.specs.Spelling.{subject_name, method_name};
 ghost use Rattle.vyrd_base.specs.Subjects.{subject_of, is_observer, arity_of, are_padded};
 ghost use Rattle.vyrd_base.specs.Subjects.{are_ranged, commits_of, must_commit, methods_of, some_method};
@@ -29,7 +31,7 @@ impl Subject {
     /// Its name in the first line of a log.
     pub fn name(self) -> &'static [u8]
         ensures text { result.now ≡ subject_name self }
-        ensures len { length result.now ≤ 8 }
+        ensures len { length result.now ≤ longest_subject }
     {
         match self {
             Subject::Multiset => b"multiset",
@@ -70,6 +72,32 @@ impl Subject {
             ],
         }
     }
+
+    /// How many plain words it has, for a size of at most 1,024.
+    pub(crate) fn plain_words(self, size: u32) -> u32
+        requires { size ≤ 1024 }
+        ensures { result ≡ plain_words_of self size }
+    {
+        match self {
+            Subject::Multiset => 8 * size,
+            Subject::Cache => 5 * size,
+            Subject::Tree => 12 * size + 2,
+            Subject::Buffers => 8 * size,
+        }
+    }
+
+    /// How many locks it has, for a size of at most 1,024.
+    pub(crate) fn lock_words(self, size: u32) -> u32
+        requires { size ≤ 1024 }
+        ensures { result ≡ lock_words_of self size }
+    {
+        match self {
+            Subject::Multiset => size,
+            Subject::Cache => size,
+            Subject::Tree => size + 2,
+            Subject::Buffers => size,
+        }
+    }
 }
 
 /// A method of a subject. Observers only look, and never commit; all others are mutators.
@@ -108,7 +136,7 @@ impl Method {
     /// Its name in the line of a call. It identifies the method only together with its subject.
     pub fn name(self) -> &'static [u8]
         ensures text { result.now ≡ method_name self }
-        ensures len { length result.now ≤ 11 }
+        ensures len { length result.now ≤ longest_method }
     {
         match self {
             Method::Multiset(method) => method.name(),
