@@ -1,10 +1,10 @@
 -- What the places of a table and the rest give to each key, and how that changes with one key.
-use Rattle.std.proofs.Common.{◌≡◌, ◌≢◌, ℕ, zero, suc, ◌+◌, ◌*◌, ◌%◌, ◌^◌, ◌<◌, ◌≤◌, Bool, true, false, cond, not, List, [], ◌∷◌, Option, Some, None, length, length-set, set, replicate, refl, ap, ◌∙◌, sym, subst, arith, get_or-set_same, get_or-set_other, take, T}
+use Rattle.std.proofs.Common.{◌≡◌, ◌≢◌, ℕ, zero, suc, ◌+◌, ◌*◌, ◌%◌, ◌^◌, ◌<◌, ◌≤◌, Bool, true, false, cond, not, List, [], ◌∷◌, Option, Some, None, length, length-set, set, replicate, refl, ap, ◌∙◌, sym, subst, arith, get_or-set_same, get_or-set_other, slice_index_or, take, T}
 use Rattle.std.specs.Prelude.{◌==◌, nat_lt, unwrap_or}
 use Rattle.std.specs.Ordering.{nat_cmp, is_lt}
 use Rattle.std.specs.FinMap.Entries.{find, below_all}
 use Rattle.std.specs.Cmp.{unsigned_tied}
-use Rattle.std.proofs.lemmas.List.{length-replicate}
+use Rattle.std.proofs.lemmas.List.{length-replicate, get_or_default}
 use Rattle.std.proofs.lemmas.Nat.{shr_below}
 use Rattle.vyrd_base.specs.Amounts.{Amounts, IsAmounts, amount_of, with_amount, given, part_given}
 use Rattle.vyrd_base.specs.Tables.{pair_at, is_taken, first_place, IsWithin, IsFoundAt, IsTable, amounts_in, HasAll}
@@ -212,6 +212,13 @@ module _ (shift : ℕ) (places : List (ℕ × ℕ)) (rest : Amounts) (table : Is
           let none_new : part_given r (q, a) ≡ 0 = other_part r q a apart in
           let none_old : part_given r (pair_at places i) ≡ 0 = elsewhere r (pair_at places i) (λ taken same. apart (sym same ∙ own taken)) in
           now ∙ ap (λ n. amount_of rest r + n) (let kept : given r written ≡ given r places = omega (arith, moved, none_new, none_old) in kept) ∙ sym then
+
+-- what stands where a key was found has the key's amount
+pub read_amount : (shift : ℕ) (places : List (ℕ × ℕ)) (rest : Amounts) (i q : ℕ) (pair : ℕ × ℕ) → IsTable shift places rest
+    → IsFoundAt shift places q (Some i) → pair ≡ slice_index_or places i pair → pair.1 ≡ amount_of (amounts_in places rest) q
+read_amount shift places rest i q pair table found is =
+    let low : i < length places = omega (arith, table.room q, found.0.1) in
+    ap (λ (p : ℕ × ℕ). p.1) (is ∙ get_or_default places i pair (0, 0) low) ∙ sym (amount_found shift places rest table q i found)
 
 pub found_amounts : (shift : ℕ) (places : List (ℕ × ℕ)) (rest : Amounts) (i q a : ℕ) → IsTable shift places rest → IsFoundAt shift places q (Some i)
     → amounts_in (set places i (q, a)) rest ≡ with_amount (amounts_in places rest) q a

@@ -81,6 +81,7 @@ impl AmountMap {
     }
 
     /// Takes 1 from the amount of a key that is there. It takes no memory.
+    #[inline(never)]
     pub fn take_one(&mut self, key: u64)
         requires { amount_of self.old key ≢ 0 }
         ensures { self.new ≡ with_amount self.old key (amount_of self.old key - 1) }

@@ -104,25 +104,35 @@ impl AmountTable {
 
     /// Adds to the amount of the key; the sum has to fit 64 bits. If memory runs out, the table is
     /// as it was.
+    #[inline(always)]
     pub fn add(&mut self, key: u64, more: u64) -> Result<(), AllocError>
         requires { amount_of self.old key + more < 2 ^ 64 }
         ensures ok { OnOk result (self.new ≡ plus_amount self.old key more) }
         ensures err { OnErr result (self.new ≡ self.old) }
         ensures formed { IsAmounts self.old }
     {
-        let before = self.amount(key);
-        self.set(key, before + more)
+        match find(&self.places, self.shift, key) {
+            Some(place) => {
+                let before = self.places[place].1;
+                self.places[place] = (key, before + more);
+                Ok(())
+            }
+            None => add_anew(&mut self.places, self.shift, &mut self.rest, key, more),
+        }
     }
 
     /// Takes 1 from the amount of a key that is there. It takes no memory.
+    #[inline(always)]
     pub fn take_one(&mut self, key: u64)
         requires { amount_of self.old key ≢ 0 }
         ensures { self.new ≡ with_amount self.old key (amount_of self.old key - 1) }
     {
-        let before = self.amount(key);
-        match self.set(key, before - 1) {
-            Ok(()) => {}
-            Err(_) => unreachable!(),
+        match find(&self.places, self.shift, key) {
+            Some(place) => {
+                let before = self.places[place].1;
+                self.places[place] = (key, before - 1);
+            }
+            None => self.rest.take_one(key),
         }
     }
 
@@ -213,6 +223,27 @@ fn set_anew(
         }
     }
     rest.set(key, amount)
+}
+
+/// Adds to the amount of a key that no place has the name of.
+#[inline(never)]
+fn add_anew(
+    places: &mut [(u64, u64)],
+    shift: u32,
+    rest: &mut AmountMap,
+    key: u64,
+    more: u64,
+) -> Result<(), AllocError>
+    requires table { IsTable shift places.old rest.old }
+    requires missing { IsFoundAt shift places.old key None }
+    requires fits { amount_of (amounts_in places.old rest.old) key + more < 2 ^ 64 }
+    ensures table { IsTable shift places.new rest.new }
+    ensures ok { OnOk result (amounts_in places.new rest.new
+        ≡ plus_amount (amounts_in places.old rest.old) key more) }
+    ensures err { OnErr result (amounts_in places.new rest.new ≡ amounts_in places.old rest.old) }
+{
+    let before = rest.amount(key);
+    set_anew(places, shift, rest, key, before + more)
 }
 
 /// Sets the amount of each pair's key, if it isn't 0.

@@ -39,6 +39,7 @@ impl BuffersMethod {
     }
 
     /// How many arguments the method has.
+    #[inline(always)]
     pub(crate) fn arity(self) -> u32
         ensures { result ≡ arity self }
     {
@@ -52,6 +53,7 @@ impl BuffersMethod {
     }
 
     /// How often each of its executions commits.
+    #[inline(always)]
     pub(crate) fn commits(self) -> Commits
         ensures { result ≡ commits self }
     {
@@ -65,6 +67,7 @@ impl BuffersMethod {
     }
 
     /// Whether the arguments are in their ranges, given that there are `size` buffers.
+    #[inline(always)]
     pub(crate) fn takes(self, size: u32, args: Args) -> bool
         ensures { result ≡ takes size self args }
     {

@@ -34,6 +34,7 @@ impl CacheMethod {
     }
 
     /// How many arguments the method has.
+    #[inline(always)]
     pub(crate) fn arity(self) -> u32
         ensures { result ≡ arity self }
     {
@@ -46,6 +47,7 @@ impl CacheMethod {
     }
 
     /// How often each of its executions commits.
+    #[inline(always)]
     pub(crate) fn commits(self) -> Commits
         ensures { result ≡ commits self }
     {
@@ -58,6 +60,7 @@ impl CacheMethod {
     }
 
     /// Whether the arguments are in their ranges, given that there are `size` chunks.
+    #[inline(always)]
     pub(crate) fn takes(self, size: u32, args: Args) -> bool
         ensures { result ≡ takes size self args }
     {

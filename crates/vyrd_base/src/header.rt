@@ -47,6 +47,7 @@ impl Header {
 
     /// The version of the log's rules: 1, or 2, in which a lone commit may stand inside a block and
     /// starting words are given.
+    #[inline(always)]
     pub fn version(&self) -> u32
         ensures { result ≡ self.now.version }
     {
@@ -54,6 +55,7 @@ impl Header {
     }
 
     /// The data structure that is watched.
+    #[inline(always)]
     pub fn subject(&self) -> Subject
         ensures { result ≡ self.now.subject }
     {
@@ -61,6 +63,7 @@ impl Header {
     }
 
     /// The size of the subject: buckets of 4 slots, chunks, nodes or buffers, from 1 to 1,024.
+    #[inline(always)]
     pub fn size(&self) -> u32
         ensures { result ≡ self.now.size }
     {
@@ -68,6 +71,7 @@ impl Header {
     }
 
     /// How many callers there are, from 1 to 64. A caller is a number below this one.
+    #[inline(always)]
     pub fn callers(&self) -> u32
         ensures { result ≡ self.now.callers }
     {
@@ -79,6 +83,7 @@ impl Header {
     ghost use Rattle.vyrd_base.specs.Layout.{plain_words, lock_words};
 
     /// How many plain words there are. They are the cells from 0 on.
+    #[inline(always)]
     pub fn plain_words(&self) -> u32
         ensures { result ≡ plain_words self.now }
     {
@@ -95,6 +100,7 @@ impl Header {
     /// Whether a log with this header may call the method with these arguments: the method is of
     /// the header's subject, the number of a chunk or of a buffer is below the size, a character is
     /// below 255, and arguments that the method doesn't have are 0.
+    #[inline(always)]
     pub fn fits(&self, method: Method, args: Args) -> bool
         ensures { result ≡ (same_subject (subject_of method) self.now.subject
             && are_args self.now.size method args) }

@@ -34,6 +34,7 @@ impl MultisetMethod {
     }
 
     /// How many arguments the method has.
+    #[inline(always)]
     pub(crate) fn arity(self) -> u32
         ensures { result ≡ arity self }
     {
@@ -46,6 +47,7 @@ impl MultisetMethod {
     }
 
     /// How often each of its executions commits.
+    #[inline(always)]
     pub(crate) fn commits(self) -> Commits
         ensures { result ≡ commits self }
     {
@@ -58,6 +60,7 @@ impl MultisetMethod {
     }
 
     /// Whether the arguments are in their ranges.
+    #[inline(always)]
     pub(crate) fn takes(self, size: u32, args: Args) -> bool
         ensures { result ≡ takes size self args }
     {

@@ -74,6 +74,7 @@ impl Subject {
     }
 
     /// How many plain words it has, for a size of at most 1,024.
+    #[inline(always)]
     pub(crate) fn plain_words(self, size: u32) -> u32
         requires { size ≤ 1024 }
         ensures { result ≡ plain_words_of self size }
@@ -147,6 +148,7 @@ impl Method {
     }
 
     /// The subject whose method it is.
+    #[inline(always)]
     pub fn subject(self) -> Subject
         ensures { result ≡ subject_of self }
     {
@@ -159,6 +161,7 @@ impl Method {
     }
 
     /// How many arguments the method has, from 1 to 3.
+    #[inline(always)]
     pub fn arity(self) -> u32
         ensures { result ≡ arity_of self }
     {
@@ -171,6 +174,7 @@ impl Method {
     }
 
     /// Whether the arguments are in their ranges, given that there are `size` chunks or buffers.
+    #[inline(always)]
     pub(crate) fn are_ranged(self, size: u32, args: Args) -> bool
         ensures { result ≡ are_ranged size self args }
     {
@@ -183,6 +187,7 @@ impl Method {
     }
 
     /// How often each of its executions commits.
+    #[inline(always)]
     pub fn commits(self) -> Commits
         ensures { result ≡ commits_of self }
     {
@@ -195,6 +200,7 @@ impl Method {
     }
 
     /// Whether the method only looks: none of its executions commits.
+    #[inline(always)]
     pub fn is_observer(self) -> bool
         ensures { result ≡ is_observer self }
     {
@@ -202,6 +208,7 @@ impl Method {
     }
 
     /// Whether each of its executions has to commit. One of any other may return without a commit.
+    #[inline(always)]
     pub fn must_commit(self) -> bool
         ensures { result ≡ must_commit self }
     {
@@ -223,6 +230,7 @@ pub struct Args {
 
 impl Args {
     /// Whether all arguments past the first `arity` are 0.
+    #[inline(always)]
     pub(crate) fn are_padded(self, arity: u32) -> bool
         ensures { result ≡ are_padded arity self }
     {

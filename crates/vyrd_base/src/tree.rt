@@ -32,6 +32,7 @@ impl TreeMethod {
     }
 
     /// How many arguments the method has.
+    #[inline(always)]
     pub(crate) fn arity(self) -> u32
         ensures { result ≡ arity self }
     {
@@ -43,6 +44,7 @@ impl TreeMethod {
     }
 
     /// How often each of its executions commits.
+    #[inline(always)]
     pub(crate) fn commits(self) -> Commits
         ensures { result ≡ commits self }
     {
@@ -54,6 +56,7 @@ impl TreeMethod {
     }
 
     /// Whether the arguments are in their ranges.
+    #[inline(always)]
     pub(crate) fn takes(self, size: u32, args: Args) -> bool
         ensures { result ≡ takes size self args }
     {

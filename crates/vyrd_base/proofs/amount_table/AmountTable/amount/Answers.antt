@@ -1,8 +1,7 @@
 use Rattle.std.proofs.Common.{◌<◌, ℕ, length, Some, None, ap, subst, sym, ◌∙◌, arith}
-use Rattle.std.proofs.lemmas.List.{get_or_default}
 use Rattle.vyrd_base.specs.Amounts.{IsAmounts, amount_of}
 use Rattle.vyrd_base.specs.Tables.{IsFoundAt}
-use Rattle.vyrd_base.proofs.TableLaws.{amount_found, amount_missing, amounts_formed}
+use Rattle.vyrd_base.proofs.TableLaws.{read_amount, amount_missing, amounts_formed}
 use Rattle.vyrd_base.proofs.amount_table.AmountTable.amount.Goals as goal
 
 pub returns-in-Some-clause-amount : goal.returns-in-Some-clause-amount
@@ -11,9 +10,8 @@ returns-in-Some-clause-amount c =
     let places = t.places.items in
     let found : IsFoundAt t.shift places c.args.key (Some c.in-Some.place) =
     subst (λ ps. IsFoundAt t.shift ps c.args.key (Some c.in-Some.place)) c.deref.ensures.value c.in-Some.ensures in
-    let low : c.in-Some.place < length places = omega (arith, c.self.invariant.room c.args.key, found.0.1) in
-    ap (λ (p : ℕ × ℕ). p.1) (c.index.ensures ∙ get_or_default places c.in-Some.place c.index.result.now (0, 0) low)
-    ∙ sym (amount_found t.shift places t.rest c.self.invariant c.args.key c.in-Some.place found) ∙ ap (λ s. amount_of s c.args.key) c.self.view_is
+    read_amount t.shift places t.rest c.in-Some.place c.args.key c.index.result.now c.self.invariant found c.index.ensures
+    ∙ ap (λ s. amount_of s c.args.key) c.self.view_is
 
 pub returns-in-Some-clause-formed : goal.returns-in-Some-clause-formed
 returns-in-Some-clause-formed c = subst IsAmounts c.self.view_is (amounts_formed c.self.inside.places.items c.self.inside.rest c.self.invariant.formed)
