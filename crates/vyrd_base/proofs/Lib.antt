@@ -1,6 +1,7 @@
 pub mod VersionNumbers
 pub mod DeviceLaws
 pub mod Opened
+pub mod OpenedOwn
 pub mod PlaceLaws
 pub mod Fronts
 pub mod Growing

@@ -33,6 +33,7 @@ pub mod Histories
 pub mod Parts
 pub mod Represented
 pub mod Rules
+pub mod Own
 pub mod OwnSamples
 pub mod Starts
 pub mod FirstVersion

@@ -18,6 +18,8 @@
 //! - `View`: what a state or the words show, as amounts by key, to be read; `AmountMap` and
 //!   `AmountTable`: such amounts, to be looked up and changed, in an ordered map or in a flat
 //!   table;
+//! - `Op`, `Effect`, `Last`, `SpecificationLine`, `SpecificationRule`: what the definitions of a
+//!   user's own specification name;
 //! - `Source`, `Sink`, `Gate`: where bytes come from and go to, and what a live run asks. Each has
 //!   a device in memory whose calls can be made to fail, or one over std's readers and writers.
 //!
@@ -35,10 +37,16 @@
 //! words that represent a state (`Represented`), and devices (`Devices`). Shape, words, states,
 //! faults and the verdict are those of any rules, and name no structure.
 //!
+//! The language in which a user writes a specification of their own has its definitions here too,
+//! in the folder `Own`: what a text spells, what that says of calls, states and words, and so the
+//! rules that it gives (`Own/OwnRules`). The code that meets them stands in `vyrd_own` and
+//! `vyrd_own_text`.
+//!
 //! A definition alone claims nothing. So each law of the definitions is a clause of an empty
 //! function in `laws`, and small cases are worked out: in `worked`, as lists of entries; in
-//! `worked_own`, by rules of no built-in subject; and in `worked_text`, and for version 2 in
-//! `worked_second`, from the bytes of a log to the bytes of the answer.
+//! `worked_own`, by rules of no built-in subject; in `worked_language`, what a user's own
+//! specification says; and in `worked_text`, and for version 2 in `worked_second`, from the bytes
+//! of a log to the bytes of the answer.
 #![tactic(auto)]
 
 mod amount_map;
@@ -54,12 +62,14 @@ mod log;
 mod memory_sink;
 mod memory_source;
 mod multiset;
+mod own;
 mod streams;
 mod subject;
 mod tree;
 mod verdict;
 mod view;
 pub mod worked;
+pub mod worked_language;
 pub mod worked_own;
 pub mod worked_second;
 pub mod worked_text;
@@ -75,6 +85,7 @@ pub use log::{Entry, Kind, StartWord};
 pub use memory_sink::MemorySink;
 pub use memory_source::MemorySource;
 pub use multiset::MultisetMethod;
+pub use own::{Effect, Last, Op, SpecificationLine, SpecificationRule};
 pub use streams::{StdSink, StdSource};
 pub use subject::{Args, Commits, Method, Subject};
 pub use tree::TreeMethod;

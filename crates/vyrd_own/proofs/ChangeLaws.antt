@@ -4,12 +4,12 @@ use Rattle.std.specs.Prelude.{◌==◌, ◌||◌}
 use Rattle.std.specs.List.{list_any}
 use Rattle.vyrd_base.specs.Amounts.{amount_of}
 use Rattle.vyrd_base.proofs.AmountLaws.{amount_of-with_amount}
-use Rattle.vyrd_own.specs.declared.effect.Effect.{Effect}
-use Rattle.vyrd_own.specs.declared.effect.Effect.TheVariants.{SetShown, SetHidden, SetRegister}
-use Rattle.vyrd_own.specs.declared.effect.Effect.TheVariants.{PutLast, PutFirst, TakeFirst}
-use Rattle.vyrd_own.specs.declared.effect.Effect.TheVariants.{TakeLast, Empty, EmptyShown}
-use Rattle.vyrd_own.specs.Expressions.{State}
-use Rattle.vyrd_own.specs.Steps.{with_effect, with_effects, shown_keys, is_clearing}
+use Rattle.vyrd_base.specs.declared.own.effect.Effect.{Effect}
+use Rattle.vyrd_base.specs.declared.own.effect.Effect.TheVariants.{SetShown, SetHidden, SetRegister}
+use Rattle.vyrd_base.specs.declared.own.effect.Effect.TheVariants.{PutLast, PutFirst, TakeFirst}
+use Rattle.vyrd_base.specs.declared.own.effect.Effect.TheVariants.{TakeLast, Empty, EmptyShown}
+use Rattle.vyrd_base.specs.States.{State}
+use Rattle.vyrd_base.specs.Own.Steps.{with_effect, with_effects, shown_keys, is_clearing}
 
 left_false : (a b : Bool) → (a || b) ≡ false → a ≡ false
 left_false false b e = refl

@@ -2,4 +2,3 @@ pub mod NodeLaws
 pub mod OrderLaws
 pub mod StepLaws
 pub mod ChangeLaws
-pub mod Opened

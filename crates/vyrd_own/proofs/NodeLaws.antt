@@ -6,7 +6,8 @@ use Rattle.vyrd_own.specs.declared.node.Node.{Node}
 use Rattle.vyrd_own.specs.declared.node.Node.TheVariants.{Number, At, Count, Shown, Hidden, Least}
 use Rattle.vyrd_own.specs.declared.node.Node.TheVariants.{Greatest, First, Last, Size, Not, Infix}
 use Rattle.vyrd_own.specs.declared.node.Node.TheVariants.{Choice}
-use Rattle.vyrd_own.specs.Expressions.{Expr, number, State, value}
+use Rattle.vyrd_base.specs.States.{State}
+use Rattle.vyrd_base.specs.Own.Expressions.{Expr, number, value}
 use Rattle.vyrd_own.specs.Nodes.{earlier, expr_at, exprs_from, exprs_of, expr_of, earlier_value}
 use Rattle.vyrd_own.specs.Nodes.{value_at, values_from}
 

@@ -6,7 +6,7 @@ use Rattle.std.specs.Ordering.{nat_cmp, is_le, is_lt}
 use Rattle.std.proofs.lemmas.Bool.Decides.{nat_tests}
 use Rattle.std.proofs.lemmas.List.{reverse-append, map-append}
 use Rattle.vyrd_base.specs.Amounts.{Amounts, keys_of}
-use Rattle.vyrd_own.specs.Expressions.{most, least_from, greatest_to}
+use Rattle.vyrd_base.specs.Own.Expressions.{most, least_from, greatest_to}
 
 -- the keys of the entries that are kept
 keys-filter : (p q : ℕ → Bool) → ((k : ℕ) → p k ≡ q k) → (es : Amounts) → keys_of (filter (λ e. p e.0) es) ≡ filter q (keys_of es)

@@ -1,10 +1,10 @@
 -- The next state, from what a call does.
 use Rattle.std.proofs.Common.{◌≡◌, ℕ, List, [], ◌∷◌, ◌++◌, Option, ap, subst}
 use Rattle.std.specs.Prelude.{option_map}
-use Rattle.vyrd_own.specs.declared.effect.Effect.{Effect}
-use Rattle.vyrd_own.specs.Programs.{Case, Method, Written}
-use Rattle.vyrd_own.specs.Expressions.{State}
-use Rattle.vyrd_own.specs.Steps.{at_hand, allowed_effects, effects_of, with_effects, next_of}
+use Rattle.vyrd_base.specs.declared.own.effect.Effect.{Effect}
+use Rattle.vyrd_base.specs.Own.Programs.{Case, Method, Written}
+use Rattle.vyrd_base.specs.States.{State}
+use Rattle.vyrd_base.specs.Own.Steps.{at_hand, allowed_effects, effects_of, with_effects, next_of}
 
 -- what a call does, by the values and the cases as they were computed
 pub effects_are : (p : Written) (m : Method) (s : State) (args : List ℕ) (reply : ℕ) (values pushed found : List ℕ) (cases : List Case) (o : Option (List Effect))

@@ -8,11 +8,11 @@ use Rattle.vyrd_own.specs.declared.program.Case as declared_case
 use Rattle.vyrd_own.specs.declared.program.Show.{Show}
 use Rattle.vyrd_own.specs.declared.program.Change as declared_change
 use Rattle.vyrd_own.specs.declared.program.Change.TheVariants as changes
-use Rattle.vyrd_own.specs.Expressions.{Expr}
+use Rattle.vyrd_base.specs.Own.Expressions.{Expr}
 use Rattle.vyrd_own.specs.Nodes.{expr_of}
-use Rattle.vyrd_own.specs.Programs.{Change, of_shown, of_hidden, of_register, append, prepend}
-use Rattle.vyrd_own.specs.Programs.{drop_first, drop_last, clear, clear_shown, Case, Method}
-use Rattle.vyrd_own.specs.Programs.{Written}
+use Rattle.vyrd_base.specs.Own.Programs.{Change, of_shown, of_hidden, of_register, append, prepend}
+use Rattle.vyrd_base.specs.Own.Programs.{drop_first, drop_last, clear, clear_shown, Case, Method}
+use Rattle.vyrd_base.specs.Own.Programs.{Written}
 
 -- the bytes of texts
 abbrev pub texts : List (Vec ℕ) → List (List ℕ)

@@ -6,11 +6,12 @@ use Rattle.vyrd_own.specs.declared.node.Node.{Node}
 use Rattle.vyrd_own.specs.declared.node.Node.TheVariants.{Number, At, Count, Shown, Hidden, Least}
 use Rattle.vyrd_own.specs.declared.node.Node.TheVariants.{Greatest}
 use Rattle.vyrd_own.specs.declared.node.Node.TheVariants.{First, Last, Size, Not, Infix, Choice}
-use Rattle.vyrd_own.specs.Expressions.{Expr, number, at, count, shown, hidden, least, greatest}
-use Rattle.vyrd_own.specs.Expressions.{first}
-use Rattle.vyrd_own.specs.Expressions.{last, size, negation, infix_of, choice, State, flag, holds}
-use Rattle.vyrd_own.specs.Expressions.{operated, least_from, greatest_to, list_at, first_of}
-use Rattle.vyrd_own.specs.Expressions.{last_of}
+use Rattle.vyrd_base.specs.Own.Expressions.{Expr, number, at, count, shown, hidden, least, greatest}
+use Rattle.vyrd_base.specs.Own.Expressions.{first}
+use Rattle.vyrd_base.specs.States.{State}
+use Rattle.vyrd_base.specs.Own.Expressions.{last, size, negation, infix_of, choice, flag, holds}
+use Rattle.vyrd_base.specs.Own.Expressions.{operated, least_from, greatest_to, list_at, first_of}
+use Rattle.vyrd_base.specs.Own.Expressions.{last_of}
 
 -- the earlier expression of that number; one that isn't there is 0
 abbrev pub earlier : List Expr → ℕ → Expr

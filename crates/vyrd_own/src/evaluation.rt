@@ -1,13 +1,13 @@
 //! The value of an expression.
 
 ghost use Rattle.std.specs.Prelude.{◌≡◌, [], ◌∷◌, IfOk, IfSome, slice_index, if◌then◌else◌};
-ghost use Rattle.vyrd_own.specs.Expressions.{value, operated, holds};
+ghost use Rattle.vyrd_base.specs.Own.Expressions.{value, operated, holds};
 ghost use Rattle.vyrd_own.specs.Nodes.{expr_of, value_at};
 
 use crate::node::Node;
-use crate::op::Op;
 use crate::state::StateOf;
 use std::alloc::{AllocError, Global};
+use vyrd_base::Op;
 
 /// The value of the expression of these nodes. `done` is room for the values of its nodes, and what
 /// it held is gone.

@@ -3,9 +3,9 @@
 ghost use Rattle.std.specs.Prelude.{◌≡◌, ◌==◌, ℕ, List, false};
 ghost use Rattle.std.specs.List.{list_any};
 ghost use Rattle.vyrd_base.specs.Amounts.{amount_of};
-ghost use Rattle.vyrd_own.specs.declared.effect.Effect.{Effect};
-ghost use Rattle.vyrd_own.specs.Expressions.{State};
-ghost use Rattle.vyrd_own.specs.Steps.{with_effects, shown_keys, is_clearing};
+ghost use Rattle.vyrd_base.specs.declared.own.effect.Effect.{Effect};
+ghost use Rattle.vyrd_base.specs.States.{State};
+ghost use Rattle.vyrd_base.specs.Own.Steps.{with_effects, shown_keys, is_clearing};
 
 /// What a step does leaves each key as it is that no line `set` names, if nothing clears them all.
 /// So the judge compares the named keys alone, and all of them after `clear`.

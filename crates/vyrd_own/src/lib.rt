@@ -10,11 +10,9 @@
 #![tactic(auto)]
 
 mod code;
-mod effect;
 mod evaluation;
 pub mod laws;
 mod node;
-mod op;
 mod ordered;
 mod program;
 mod queue;
@@ -25,11 +23,10 @@ mod words;
 pub mod worked;
 
 pub use code::Code;
-pub use effect::Effect;
 pub use node::Node;
-pub use op::Op;
 pub use program::{Case, Change, Method, Program, Show};
 pub use shown::ShownAmounts;
 pub use state::StateOf;
 pub use steps::{Room, answer, step};
+pub use vyrd_base::{Effect, Op};
 pub use words::put_parts;

@@ -1,6 +1,6 @@
 //! An expression as a list of nodes, in which each speaks of earlier ones.
 
-use crate::op::Op;
+use vyrd_base::Op;
 
 /// A step of the evaluation of an expression. Its numbers are those of earlier nodes.
 #[derive(Clone, Copy)]

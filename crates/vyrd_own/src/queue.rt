@@ -1,8 +1,8 @@
 //! A list with two ends.
 
 ghost use Rattle.std.specs.Prelude.{◌≡◌, ◌++◌, [], ◌∷◌, OnOk, length};
-ghost use Rattle.vyrd_own.specs.Expressions.{first_of, last_of};
-ghost use Rattle.vyrd_own.specs.Steps.{without_first, without_last};
+ghost use Rattle.vyrd_base.specs.Own.Expressions.{first_of, last_of};
+ghost use Rattle.vyrd_base.specs.Own.Steps.{without_first, without_last};
 
 use std::alloc::{AllocError, Global};
 use std::collections::VecDeque;

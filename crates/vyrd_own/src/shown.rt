@@ -3,7 +3,7 @@
 ghost use Rattle.std.specs.Prelude.{◌≡◌, OnOk, IfOk, [], length};
 ghost use Rattle.vyrd_base.specs.Amounts.{IsAmounts, amount_of, with_amount};
 ghost use Rattle.vyrd_base.specs.Tables.{HasAll, amounts_in};
-ghost use Rattle.vyrd_own.specs.Expressions.{least_from, greatest_to};
+ghost use Rattle.vyrd_base.specs.Own.Expressions.{least_from, greatest_to};
 
 use crate::ordered::OrderedAmounts;
 use std::alloc::{AllocError, Global};

@@ -1,17 +1,17 @@
 //! A state of a specification.
 
 ghost use Rattle.std.specs.Prelude.{◌≡◌, ◌++◌, OnOk, IfOk, [], map, length, List, ℕ};
-ghost use Rattle.vyrd_own.specs.Expressions.{State, list_at, first_of, last_of};
+ghost use Rattle.vyrd_base.specs.States.{State};
+ghost use Rattle.vyrd_base.specs.Own.Expressions.{list_at, first_of, last_of};
 ghost use Rattle.vyrd_own.specs.Layout.{written};
-ghost use Rattle.vyrd_own.specs.Steps.{with_effect, with_effects, start_of, hidden_with};
+ghost use Rattle.vyrd_base.specs.Own.Steps.{with_effect, with_effects, start_of, hidden_with};
 
-use crate::effect::Effect;
 use crate::program::Program;
 use crate::queue::Queue;
 use crate::shown::ShownAmounts;
 use std::alloc::{AllocError, Global};
 use std::marker::Model;
-use vyrd_base::AmountTable;
+use vyrd_base::{AmountTable, Effect};
 
 /// A state: what it shows, what it hides, its registers and its lists.
 #[derive(Drop)]
@@ -24,7 +24,7 @@ pub struct StateOf {
 }
 
 impl Model for StateOf {
-    ghost use Rattle.vyrd_own.specs.Expressions.{State};
+    ghost use Rattle.vyrd_base.specs.States.{State};
 
     ghost Value = { State };
 
@@ -38,7 +38,7 @@ impl Model for StateOf {
 
 impl StateOf {
     /// The state at the start.
-    #[tactic(auto, unfolding(crate::specs::Steps::start_of))]
+    #[tactic(auto, unfolding(vyrd_base::specs::Own::Steps::start_of))]
     pub fn new(
         alloc: Global,
         program: &Program,

@@ -3,17 +3,17 @@
 ghost use Rattle.std.specs.Prelude.{◌≡◌, ◌++◌, [], ◌∷◌, map, OnOk, IfOk, true, false, Some, None};
 ghost use Rattle.std.specs.Prelude.{Ok};
 ghost use Rattle.std.specs.Prelude.{if◌then◌else◌, option_map};
-ghost use Rattle.vyrd_own.specs.Expressions.{value};
+ghost use Rattle.vyrd_base.specs.Own.Expressions.{value};
 ghost use Rattle.vyrd_own.specs.Layout.{expr_in, change_of, case_of, method_of, written};
-ghost use Rattle.vyrd_own.specs.Steps.{with_lets, at_hand, effect_of, allowed_effects};
-ghost use Rattle.vyrd_own.specs.Steps.{effects_of, next_of, answer_of};
+ghost use Rattle.vyrd_base.specs.Own.Steps.{with_lets, at_hand, effect_of, allowed_effects};
+ghost use Rattle.vyrd_base.specs.Own.Steps.{effects_of, next_of, answer_of};
 
 use crate::code::Code;
-use crate::effect::Effect;
 use crate::evaluation::evaluate;
 use crate::program::{Case, Change, Method, Program};
 use crate::state::StateOf;
 use std::alloc::{AllocError, Global};
+use vyrd_base::Effect;
 
 /// Room for what steps and answers compute. What it held is gone after each call.
 #[derive(Drop)]
@@ -217,7 +217,7 @@ pub fn step(
 }
 
 /// What an execution that commits nothing has to reply.
-#[tactic(auto, unfolding(crate::specs::Steps::answer_of))]
+#[tactic(auto, unfolding(vyrd_base::specs::Own::Steps::answer_of))]
 pub fn answer(
     program: &Program,
     method: &Method,

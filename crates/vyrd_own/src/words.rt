@@ -3,7 +3,7 @@
 ghost use Rattle.std.specs.Prelude.{◌≡◌, ◌++◌, ◌==◌, OnOk, IfOk};
 ghost use Rattle.std.specs.List.{list_all};
 ghost use Rattle.vyrd_own.specs.Layout.{written, show_of};
-ghost use Rattle.vyrd_own.specs.Steps.{blank, given_by, part_gives};
+ghost use Rattle.vyrd_base.specs.Own.Steps.{blank, given_by, part_gives};
 
 use crate::program::{Program, Show};
 use crate::state::StateOf;
@@ -12,7 +12,7 @@ use std::alloc::{AllocError, Global};
 
 /// Puts what part `i` gives to keys, by its words, at the end of `parts`. `nothing` is a state in
 /// which nothing was set.
-#[tactic(auto, unfolding(crate::specs::Steps::part_gives))]
+#[tactic(auto, unfolding(vyrd_base::specs::Own::Steps::part_gives))]
 pub fn put_parts(
     program: &Program,
     i: u64,

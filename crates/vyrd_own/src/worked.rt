@@ -2,16 +2,16 @@
 //! nothing: its contract has the cases.
 
 ghost use Rattle.std.specs.Prelude.{◌≡◌, [], ◌∷◌, Some, None};
-ghost use Rattle.vyrd_own.specs.Expressions.{value, least, greatest, number, most};
-ghost use Rattle.vyrd_own.specs.Expressions.{infix_of};
-ghost use Rattle.vyrd_own.specs.declared.op.Op.TheVariants.{Plus, Minus, Over};
-ghost use Rattle.vyrd_own.specs.Steps.{next_of, answer_of, start_of, part_gives, view_of};
-ghost use Rattle.vyrd_own.specs.Samples.{queue, enqueue, dequeue, queued, compare_and_set};
-ghost use Rattle.vyrd_own.specs.Samples.{clear_all};
-ghost use Rattle.vyrd_own.specs.Samples.{showing};
+ghost use Rattle.vyrd_base.specs.Own.Expressions.{value, least, greatest, number, most};
+ghost use Rattle.vyrd_base.specs.Own.Expressions.{infix_of};
+ghost use Rattle.vyrd_base.specs.declared.own.op.Op.TheVariants.{Plus, Minus, Over};
+ghost use Rattle.vyrd_base.specs.Own.Steps.{next_of, answer_of, start_of, part_gives, view_of};
+ghost use Rattle.vyrd_base.specs.Own.Samples.{queue, enqueue, dequeue, queued};
+ghost use Rattle.vyrd_own.specs.Samples.{compare_and_set, clear_all};
+ghost use Rattle.vyrd_base.specs.States.{showing};
 
 /// A queue gives back its elements in their order, each of them once.
-#[tactic(auto, unfolding(crate::proofs::Opened::opened))]
+#[tactic(auto, unfolding(vyrd_base::proofs::OpenedOwn::opened_steps))]
 pub fn a_queue()
     ensures start { start_of queue ≡ queued [] [] }
     ensures enqueued { next_of queue enqueue (5 ∷ []) 1 (queued ((7, 2) ∷ []) (7 ∷ 7 ∷ []))
@@ -27,7 +27,7 @@ pub fn a_queue()
 {}
 
 /// A slot that is free gives nothing to its element.
-#[tactic(auto, unfolding(crate::proofs::Opened::opened))]
+#[tactic(auto, unfolding(vyrd_base::proofs::OpenedOwn::opened_steps))]
 pub fn what_words_show()
     ensures taken { part_gives queue 3 (1 ∷ 5 ∷ []) ≡ (5, 1) ∷ [] }
     ensures free { part_gives queue 3 (0 ∷ 5 ∷ []) ≡ (5, 0) ∷ [] }
@@ -36,7 +36,7 @@ pub fn what_words_show()
 {}
 
 /// A compare-and-set that fails changes nothing, and needs no commit.
-#[tactic(auto, unfolding(crate::proofs::Opened::opened))]
+#[tactic(auto, unfolding(vyrd_base::proofs::OpenedOwn::opened_steps))]
 pub fn a_counter()
     ensures set { next_of queue compare_and_set (7 ∷ 9 ∷ []) 1 (showing ((0, 7) ∷ []))
         ≡ Some (showing ((0, 9) ∷ [])) }
@@ -51,7 +51,7 @@ pub fn a_counter()
 {}
 
 /// The nearest key, and the ends of the numbers.
-#[tactic(auto, unfolding(crate::proofs::Opened::opened))]
+#[tactic(auto, unfolding(vyrd_base::proofs::OpenedOwn::opened_steps))]
 pub fn values()
     ensures least_at { value (showing ((3, 1) ∷ (8, 2) ∷ [])) [] (least (number 3)) ≡ 3 }
     ensures least_above { value (showing ((3, 1) ∷ (8, 2) ∷ [])) [] (least (number 4)) ≡ 8 }

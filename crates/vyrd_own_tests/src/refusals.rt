@@ -3,33 +3,33 @@
 use crate::specifications::ALL;
 use std::alloc::{AllocError, Global};
 use std::process::Abort;
-use vyrd_own_text::{Outcome, Rule, SpecificationReader};
+use vyrd_own_text::{SpecificationLine, SpecificationRule, SpecificationReader};
 
 /// What the first of these lines is that isn't taken in, with its column; and nothing, if each is.
 fn first_refusal(alloc: Global, text: &str) -> Result<(&'static str, usize), AllocError> {
     let mut reader = SpecificationReader::new(alloc);
     for line in text.lines() {
         match reader.take_line(alloc, line.as_bytes())? {
-            Outcome::More => {}
-            Outcome::Log => return Ok(("log", 0)),
-            Outcome::Refused(rule, column) => return Ok((name_of(rule), column)),
+            SpecificationLine::More => {}
+            SpecificationLine::Log => return Ok(("log", 0)),
+            SpecificationLine::Refused(rule, column) => return Ok((name_of(rule), column)),
         }
     }
     Ok(("", 0))
 }
 
-fn name_of(rule: Rule) -> &'static str {
+fn name_of(rule: SpecificationRule) -> &'static str {
     match rule {
-        Rule::TooLong => "too long",
-        Rule::BadLine => "bad line",
-        Rule::OutOfPlace => "out of place",
-        Rule::NameTaken => "name taken",
-        Rule::UnknownName => "unknown name",
-        Rule::TooMany => "too many",
-        Rule::TooDeep => "too deep",
-        Rule::StateIsRead => "state is read",
-        Rule::NoCase => "no case",
-        Rule::NoMethod => "no method",
+        SpecificationRule::TooLong => "too long",
+        SpecificationRule::BadLine => "bad line",
+        SpecificationRule::OutOfPlace => "out of place",
+        SpecificationRule::NameTaken => "name taken",
+        SpecificationRule::UnknownName => "unknown name",
+        SpecificationRule::TooMany => "too many",
+        SpecificationRule::TooDeep => "too deep",
+        SpecificationRule::StateIsRead => "state is read",
+        SpecificationRule::NoCase => "no case",
+        SpecificationRule::NoMethod => "no method",
     }
 }
 
@@ -160,7 +160,7 @@ fn known_structures_are_read(rt: HostRuntime) -> Result<(), AllocError> {
 }
 
 /// What a line is after many of the same.
-fn after_many(alloc: Global, line: &[u8], count: usize) -> Result<Outcome, AllocError> {
+fn after_many(alloc: Global, line: &[u8], count: usize) -> Result<SpecificationLine, AllocError> {
     let mut reader = SpecificationReader::new(alloc);
     for _ in 0..count {
         reader.take_line(alloc, line)?;
@@ -176,7 +176,7 @@ fn are_too_many(
     column: usize,
 ) -> Result<bool, AllocError> {
     match after_many(alloc, line, count)? {
-        Outcome::Refused(Rule::TooMany, at) => Ok(at == column),
+        SpecificationLine::Refused(SpecificationRule::TooMany, at) => Ok(at == column),
         _ => Ok(false),
     }
 }
@@ -184,7 +184,7 @@ fn are_too_many(
 /// Whether a line is taken in after that many.
 fn is_taken_in(alloc: Global, line: &[u8], count: usize) -> Result<bool, AllocError> {
     match after_many(alloc, line, count)? {
-        Outcome::More => Ok(true),
+        SpecificationLine::More => Ok(true),
         _ => Ok(false),
     }
 }
@@ -203,7 +203,7 @@ fn lines_have_200_bytes_at_most(rt: HostRuntime) -> Result<(), AllocError> {
     let alloc = rt.alloc();
     assert!(&rt; is_taken_in(alloc, &[b'#'; 200], 0)?);
     match after_many(alloc, &[b'#'; 201], 0)? {
-        Outcome::Refused(Rule::TooLong, column) => {
+        SpecificationLine::Refused(SpecificationRule::TooLong, column) => {
             assert!(&rt; column == 201);
         }
         _ => {

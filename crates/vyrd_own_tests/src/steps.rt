@@ -7,7 +7,7 @@ use Asked::{Amount, Answer, Refused, Step};
 use std::alloc::{AllocError, Global};
 use std::process::Abort;
 use vyrd_own::{Method, Program, Room, StateOf, answer, put_parts, step};
-use vyrd_own_text::{Outcome, SpecificationReader};
+use vyrd_own_text::{SpecificationLine, SpecificationReader};
 
 /// What is asked of a state: a call by its method's name and its arguments first.
 enum Asked {
@@ -139,9 +139,9 @@ fn read(alloc: Global, text: &str) -> Result<Option<Program>, AllocError> {
     let mut reader = SpecificationReader::new(alloc);
     for line in text.lines().skip(1) {
         match reader.take_line(alloc, line.as_bytes())? {
-            Outcome::More => {}
-            Outcome::Log => return Ok(Some(reader.program)),
-            Outcome::Refused(_, _) => return Ok(None),
+            SpecificationLine::More => {}
+            SpecificationLine::Log => return Ok(Some(reader.program)),
+            SpecificationLine::Refused(_, _) => return Ok(None),
         }
     }
     Ok(None)

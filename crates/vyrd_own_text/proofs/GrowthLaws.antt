@@ -3,7 +3,7 @@ use Rattle.std.proofs.Common.{◌≡◌, ℕ, ◌+◌, ◌<◌, List, [], ◌∷
 use Rattle.std.proofs.Common.{arith, suc, zero, length-append}
 use Rattle.std.specs.Prelude.{◌-◌}
 use Rattle.vyrd_own.specs.declared.node.Node.{Node}
-use Rattle.vyrd_own.specs.Expressions.{Expr}
+use Rattle.vyrd_base.specs.Own.Expressions.{Expr}
 use Rattle.vyrd_own.specs.Nodes.{earlier, expr_at, exprs_from, exprs_of, expr_of}
 use Rattle.vyrd_own_text.specs.Growth.{Adds}
 

@@ -4,14 +4,14 @@ use Rattle.std.proofs.Common.{arith, length-append}
 use Rattle.std.specs.Prelude.{◌-◌, Ok, Err, slice_get}
 use Rattle.vyrd_own_text.specs.declared.took.Took.{Took}
 use Rattle.vyrd_own_text.specs.declared.took.Took.TheVariants.{In, Refused}
-use Rattle.vyrd_own_text.specs.Reading.{Taken}
-use Rattle.vyrd_own.specs.Programs.{Change, Case, Method, Written}
-use Rattle.vyrd_own_text.specs.Lines.{Inner, inner, holding, with_change, with_inner, with_line}
-use Rattle.vyrd_own_text.specs.Lines.{change_last}
-use Rattle.vyrd_own_text.specs.Pieces.{taken_with}
-use Rattle.vyrd_own_text.specs.Methods.{last_in, inner_read}
-use Rattle.vyrd_own_text.specs.Changes.{within_read}
-use Rattle.vyrd_own_text.specs.Reader.{of_method, method_line_read}
+use Rattle.vyrd_base.specs.Own.Reading.{Taken}
+use Rattle.vyrd_base.specs.Own.Programs.{Change, Case, Method, Written}
+use Rattle.vyrd_base.specs.Own.Lines.{Inner, inner, holding, with_change, with_inner, with_line}
+use Rattle.vyrd_base.specs.Own.Lines.{change_last}
+use Rattle.vyrd_base.specs.Own.Pieces.{taken_with}
+use Rattle.vyrd_base.specs.Own.Methods.{last_in, inner_read}
+use Rattle.vyrd_base.specs.Own.Changes.{within_read}
+use Rattle.vyrd_base.specs.Own.Reader.{of_method, method_line_read}
 use Rattle.vyrd_own_text.specs.Meaning.{took_as}
 
 pub holding_last : (n : ℕ) (xs : List (List ℕ)) (x : List ℕ) → holding n (xs ++ x ∷ []) ≡ xs ++ (x ++ n ∷ []) ∷ []

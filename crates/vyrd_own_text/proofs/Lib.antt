@@ -5,4 +5,3 @@ pub mod SoundLaws
 pub mod LastLaws
 pub mod PieceLaws
 pub mod LineLaws
-pub mod Opened

@@ -5,24 +5,24 @@ use Rattle.std.specs.Prelude.{codes, decimal, Ok, not, nat_lt, nat_le, ◌||◌,
 use Rattle.std.proofs.lemmas.List.{append-nil}
 use Rattle.std.specs.Str.{bytes_eq}
 use Rattle.std.proofs.lemmas.Slice.Eq.{bytes_eq-Decides}
-use Rattle.vyrd_own.specs.Expressions.{Expr}
-use Rattle.vyrd_own_text.specs.declared.last.Last.{Last}
-use Rattle.vyrd_own_text.specs.Spelling.{Scope, name_at, spelled}
-use Rattle.vyrd_own_text.specs.Reading.{Taken, and_then, word_of, number_in}
-use Rattle.vyrd_own.specs.Programs as programs
-use Rattle.vyrd_own_text.specs.Lines as lines
-use Rattle.vyrd_own.specs.Programs.{Change, Method, Written}
-use Rattle.vyrd_own_text.specs.Lines.{Inner, Line, has_any}
-use Rattle.vyrd_own_text.specs.Names.{is_known, new_name}
-use Rattle.vyrd_own_text.specs.Pieces.{taken_with, last_number, named_number, two_numbers}
-use Rattle.vyrd_own_text.specs.Pieces.{last_read, two_read, last_name, named_value, ended}
-use Rattle.vyrd_own_text.specs.Outer.{is_list, is_part, is_past_constants, part_of, part_scope}
-use Rattle.vyrd_own_text.specs.Outer.{outer_read}
-use Rattle.vyrd_own_text.specs.Methods.{last_in, is_closed, is_unfinished, method_read}
-use Rattle.vyrd_own_text.specs.Methods.{named_expr, named_method, inner_read}
-use Rattle.vyrd_own_text.specs.Changes.{plain_read, change_read, case_line_read, changes_in}
-use Rattle.vyrd_own_text.specs.Changes.{if_line, within_read}
-use Rattle.vyrd_own_text.specs.Reader.{is_remark, of_method, method_line_read, or_method, line_read}
+use Rattle.vyrd_base.specs.Own.Expressions.{Expr}
+use Rattle.vyrd_base.specs.declared.own.last.Last.{Last}
+use Rattle.vyrd_base.specs.Own.Spelling.{Scope, name_at, spelled}
+use Rattle.vyrd_base.specs.Own.Reading.{Taken, and_then, word_of, number_in}
+use Rattle.vyrd_base.specs.Own.Programs as programs
+use Rattle.vyrd_base.specs.Own.Lines as lines
+use Rattle.vyrd_base.specs.Own.Programs.{Change, Method, Written}
+use Rattle.vyrd_base.specs.Own.Lines.{Inner, Line, has_any}
+use Rattle.vyrd_base.specs.Own.Names.{is_known, new_name}
+use Rattle.vyrd_base.specs.Own.Pieces.{taken_with, last_number, named_number, two_numbers}
+use Rattle.vyrd_base.specs.Own.Pieces.{last_read, two_read, last_name, named_value, ended}
+use Rattle.vyrd_base.specs.Own.Outer.{is_list, is_part, is_past_constants, part_of, part_scope}
+use Rattle.vyrd_base.specs.Own.Outer.{outer_read}
+use Rattle.vyrd_base.specs.Own.Methods.{last_in, is_closed, is_unfinished, method_read}
+use Rattle.vyrd_base.specs.Own.Methods.{named_expr, named_method, inner_read}
+use Rattle.vyrd_base.specs.Own.Changes.{plain_read, change_read, case_line_read, changes_in}
+use Rattle.vyrd_base.specs.Own.Changes.{if_line, within_read}
+use Rattle.vyrd_base.specs.Own.Reader.{is_remark, of_method, method_line_read, or_method, line_read}
 use Rattle.vyrd_own_text.specs.LineSpelling.{change_text, in_case, in_method, inner_text}
 use Rattle.vyrd_own_text.specs.LineSpelling.{last_text, words_text, line_text}
 use Rattle.vyrd_own_text.proofs.PieceLaws.{after_or, taken_inv, then_inv, past, kept, ended_is}

@@ -6,18 +6,18 @@ use Rattle.std.specs.Str.{bytes_eq}
 use Rattle.std.specs.Str.Parse.{digits_value}
 use Rattle.std.proofs.lemmas.List.{append-nil}
 use Rattle.std.proofs.lemmas.Slice.Eq.{bytes_eq-Decides}
-use Rattle.vyrd_own.specs.Expressions.{Expr, most}
-use Rattle.vyrd_own_text.specs.declared.rule.Rule.{Rule}
-use Rattle.vyrd_own_text.specs.declared.rule.Rule.TheVariants as rules
-use Rattle.vyrd_own_text.specs.Spelling.{Scope, name_at, spelled}
-use Rattle.vyrd_own_text.specs.Reading.{Taken, Found, and_then, after, if_after, word_of}
-use Rattle.vyrd_own_text.specs.Reading.{after_word, number_in, name_read, expr_read}
-use Rattle.vyrd_own.specs.Programs.{Method, Written}
-use Rattle.vyrd_own_text.specs.Names.{is_name, is_among, is_known, new_name}
-use Rattle.vyrd_own_text.specs.Pieces.{number_found, last_number, taken_with, named_number, ended}
-use Rattle.vyrd_own_text.specs.Pieces.{two_numbers, last_read, two_read, last_name, named_value}
-use Rattle.vyrd_own_text.specs.Methods.{method_scope, parameters_read, is_method, named_method}
-use Rattle.vyrd_own_text.specs.Methods.{named_expr}
+use Rattle.vyrd_base.specs.Own.Expressions.{Expr, most}
+use Rattle.vyrd_base.specs.declared.own.rule.SpecificationRule.{SpecificationRule}
+use Rattle.vyrd_base.specs.declared.own.rule.SpecificationRule.TheVariants as rules
+use Rattle.vyrd_base.specs.Own.Spelling.{Scope, name_at, spelled}
+use Rattle.vyrd_base.specs.Own.Reading.{Taken, Found, and_then, after, if_after, word_of}
+use Rattle.vyrd_base.specs.Own.Reading.{after_word, number_in, name_read, expr_read}
+use Rattle.vyrd_base.specs.Own.Programs.{Method, Written}
+use Rattle.vyrd_base.specs.Own.Names.{is_name, is_among, is_known, new_name}
+use Rattle.vyrd_base.specs.Own.Pieces.{number_found, last_number, taken_with, named_number, ended}
+use Rattle.vyrd_base.specs.Own.Pieces.{two_numbers, last_read, two_read, last_name, named_value}
+use Rattle.vyrd_base.specs.Own.Methods.{method_scope, parameters_read, is_method, named_method}
+use Rattle.vyrd_base.specs.Own.Methods.{named_expr}
 use Rattle.vyrd_own_text.specs.LineSpelling.{words_text}
 use Rattle.vyrd_own_text.proofs.SoundLaws.{after_sound, word_splits, name_inv, expr_sound}
 
@@ -31,7 +31,7 @@ after_or {A} word text there otherwise r P begun no_word h = by_after (after wor
     by_after None a k = no_word k
     by_after (Some rest) a k = begun rest (after_sound word text rest a) k
 
-pub after_inv : {A : Type 0} (word text : List ℕ) (there : List ℕ → Taken A) (stop : Rule × List ℕ) (r : A)
+pub after_inv : {A : Type 0} (word text : List ℕ) (there : List ℕ → Taken A) (stop : SpecificationRule × List ℕ) (r : A)
     → if_after (after word text) there (Err stop) ≡ Ok r
     → (rest : List ℕ) × (text ≡ word ++ rest) × (there rest ≡ Ok r)
 after_inv {A} word text there stop r h =
@@ -49,11 +49,11 @@ then_inv next (Ok p) r h = (p.0, p.1, refl, h)
 then_inv next (Err stop) r h = cc
 
 -- what wasn't refused
-pub past : {A : Type 0} (b : Bool) (stop : Rule × List ℕ) (t : Taken A) (r : A) → cond b (Err stop) t ≡ Ok r → t ≡ Ok r
+pub past : {A : Type 0} (b : Bool) (stop : SpecificationRule × List ℕ) (t : Taken A) (r : A) → cond b (Err stop) t ≡ Ok r → t ≡ Ok r
 past false stop t r h = h
 past true stop t r h = cc
 
-pub kept : {A : Type 0} (b : Bool) (stop : Rule × List ℕ) (t : Taken A) (r : A) → cond b t (Err stop) ≡ Ok r → t ≡ Ok r
+pub kept : {A : Type 0} (b : Bool) (stop : SpecificationRule × List ℕ) (t : Taken A) (r : A) → cond b t (Err stop) ≡ Ok r → t ≡ Ok r
 kept true stop t r h = h
 kept false stop t r h = cc
 

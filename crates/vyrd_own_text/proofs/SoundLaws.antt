@@ -7,19 +7,19 @@ use Rattle.std.specs.Str.{bytes_eq}
 use Rattle.std.specs.Str.Parse.{digits_value}
 use Rattle.std.proofs.lemmas.Bool.Decides.{nat_tests}
 use Rattle.std.proofs.lemmas.Slice.Eq.{bytes_eq-Decides}
-use Rattle.vyrd_own.specs.declared.op.Op.{Op}
-use Rattle.vyrd_own.specs.Expressions.{Expr, number, at, count, shown, hidden, least, greatest}
-use Rattle.vyrd_own.specs.Expressions.{first, last, size, negation, infix_of, choice, most}
-use Rattle.vyrd_own_text.specs.Spelling.{Scope, op_word, number_word, name_at, spelled}
-use Rattle.vyrd_own_text.specs.declared.rule.Rule.{Rule}
-use Rattle.vyrd_own_text.specs.declared.rule.Rule.TheVariants.{BadLine, UnknownName, StateIsRead}
-use Rattle.vyrd_own_text.specs.Reading.{Found, and_then, made, after, found_after, ended_by}
-use Rattle.vyrd_own_text.specs.Reading.{is_word_byte, word_of, after_word, number_in, place_from}
-use Rattle.vyrd_own_text.specs.Reading.{place_in, is_lettered, unknown, of_state, placed}
-use Rattle.vyrd_own_text.specs.Reading.{name_read, number_or, all_ops, atom_read, op_among}
-use Rattle.vyrd_own_text.specs.Reading.{op_read, one_read, list_read, second_read, infix_read}
-use Rattle.vyrd_own_text.specs.Reading.{else_read, then_read, choice_read, if_after, round_read}
-use Rattle.vyrd_own_text.specs.Reading.{whole_read, expr_read}
+use Rattle.vyrd_base.specs.declared.own.op.Op.{Op}
+use Rattle.vyrd_base.specs.Own.Expressions.{Expr, number, at, count, shown, hidden, least, greatest}
+use Rattle.vyrd_base.specs.Own.Expressions.{first, last, size, negation, infix_of, choice, most}
+use Rattle.vyrd_base.specs.Own.Spelling.{Scope, op_word, number_word, name_at, spelled}
+use Rattle.vyrd_base.specs.declared.own.rule.SpecificationRule.{SpecificationRule}
+use Rattle.vyrd_base.specs.declared.own.rule.SpecificationRule.TheVariants.{BadLine, UnknownName, StateIsRead}
+use Rattle.vyrd_base.specs.Own.Reading.{Found, and_then, made, after, found_after, ended_by}
+use Rattle.vyrd_base.specs.Own.Reading.{is_word_byte, word_of, after_word, number_in, place_from}
+use Rattle.vyrd_base.specs.Own.Reading.{place_in, is_lettered, unknown, of_state, placed}
+use Rattle.vyrd_base.specs.Own.Reading.{name_read, number_or, all_ops, atom_read, op_among}
+use Rattle.vyrd_base.specs.Own.Reading.{op_read, one_read, list_read, second_read, infix_read}
+use Rattle.vyrd_base.specs.Own.Reading.{else_read, then_read, choice_read, if_after, round_read}
+use Rattle.vyrd_base.specs.Own.Reading.{whole_read, expr_read}
 
 pub after_sound : (word text rest : List ℕ) → after word text ≡ Some rest → text ≡ word ++ rest
 unfolding after
@@ -67,10 +67,10 @@ place_sound k (name ∷ names) word i e = by_test (λ h. place_sound (k + 1) nam
     by_test more true is h = let same : k ≡ i = cc in (0, omega arith, sym ((bytes_eq-Decides name word).0 is))
     by_test more false is h = let m = more h in (suc m.0, omega (arith, m.1), m.2)
 
-first_of_pair : {A B : Type 0} (a c : A) (b d : B) → ◌≡◌ {A = Result (A × B) (Rule × B)} (Ok (a, b)) (Ok (c, d)) → a ≡ c
+first_of_pair : {A B : Type 0} (a c : A) (b d : B) → ◌≡◌ {A = Result (A × B) (SpecificationRule × B)} (Ok (a, b)) (Ok (c, d)) → a ≡ c
 first_of_pair {A} {B} a c b d e = let p : ◌≡◌ {A = A × B} (a, b) (c, d) = cc in ap (λ (r : A × B). r.0) p
 
-second_of_pair : {A B : Type 0} (a c : A) (b d : B) → ◌≡◌ {A = Result (A × B) (Rule × B)} (Ok (a, b)) (Ok (c, d)) → b ≡ d
+second_of_pair : {A B : Type 0} (a c : A) (b d : B) → ◌≡◌ {A = Result (A × B) (SpecificationRule × B)} (Ok (a, b)) (Ok (c, d)) → b ≡ d
 second_of_pair {A} {B} a c b d e = let p : ◌≡◌ {A = A × B} (a, b) (c, d) = cc in ap (λ (r : A × B). r.1) p
 
 glue3 : (a b c d s t u : List ℕ) → s ≡ a ++ t → t ≡ b ++ u → u ≡ c ++ d → s ≡ ((a ++ b) ++ c) ++ d

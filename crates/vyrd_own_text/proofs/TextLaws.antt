@@ -7,8 +7,8 @@ use Rattle.std.specs.Str.Parse.{digits_value}
 use Rattle.std.proofs.lemmas.Bool.Decides.{nat_tests}
 use Rattle.std.proofs.lemmas.Slice.Eq.{bytes_eq-Decides}
 use Rattle.vyrd_base.proofs.SplitLaws.{number_of_decimal}
-use Rattle.vyrd_own.specs.Expressions.{most}
-use Rattle.vyrd_own_text.specs.Reading.{after, is_word_byte, word_of, after_word, number_in}
+use Rattle.vyrd_base.specs.Own.Expressions.{most}
+use Rattle.vyrd_base.specs.Own.Reading.{after, is_word_byte, word_of, after_word, number_in}
 
 same_test : (c : ℕ) → (c == c) ≡ true
 same_test c = grind (arith, nat_tests)

@@ -2,12 +2,12 @@
 use Rattle.std.proofs.Common.{◌≡◌, ◌≢◌, ℕ, List, Option, Some, None, Result, refl, ap, ◌∙◌, sym}
 use Rattle.std.proofs.Common.{subst, arith, suc, zero}
 use Rattle.std.specs.Prelude.{codes, ◌-◌, IfOk}
-use Rattle.vyrd_own.specs.Expressions.{Expr, shown, hidden}
+use Rattle.vyrd_base.specs.Own.Expressions.{Expr, shown, hidden}
 use Rattle.vyrd_own_text.specs.declared.expression.Read.{Read}
 use Rattle.vyrd_own_text.specs.Growth.{read_as}
-use Rattle.vyrd_own_text.specs.Spelling.{Scope}
-use Rattle.vyrd_own_text.specs.Reading.{Found, after, whole_read, expr_read, if_after, of_state}
-use Rattle.vyrd_own_text.specs.Reading.{one_read, round_read, atom_read}
+use Rattle.vyrd_base.specs.Own.Spelling.{Scope}
+use Rattle.vyrd_base.specs.Own.Reading.{Found, after, whole_read, expr_read, if_after, of_state}
+use Rattle.vyrd_base.specs.Own.Reading.{one_read, round_read, atom_read}
 
 pub expr_whole : (s : Scope) (n : ℕ) (text : List ℕ) → n ≢ 0 → expr_read s n text ≡ whole_read (expr_read s (n - 1)) s text
 expr_whole s zero text ne = absurd (ne refl)

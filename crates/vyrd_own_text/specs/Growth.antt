@@ -8,14 +8,14 @@ use Rattle.vyrd_own_text.specs.declared.expression.Ends.{Ends}
 use Rattle.vyrd_own_text.specs.declared.expression.Ends.TheVariants as ends
 use Rattle.vyrd_own_text.specs.declared.expression.Read.{Read}
 use Rattle.vyrd_own_text.specs.declared.expression.Read.TheVariants.{Rest, Stopped}
-use Rattle.vyrd_own_text.specs.declared.rule.Rule.{Rule}
+use Rattle.vyrd_base.specs.declared.own.rule.SpecificationRule.{SpecificationRule}
 use Rattle.vyrd_own_text.specs.declared.scope.Names.{Names}
-use Rattle.vyrd_own.specs.Expressions.{Expr, shown, hidden, least, greatest, first, last, size}
-use Rattle.vyrd_own.specs.Expressions.{negation}
+use Rattle.vyrd_base.specs.Own.Expressions.{Expr, shown, hidden, least, greatest, first, last, size}
+use Rattle.vyrd_base.specs.Own.Expressions.{negation}
 use Rattle.vyrd_own.specs.Layout.{texts}
 use Rattle.vyrd_own.specs.Nodes.{earlier, exprs_of}
-use Rattle.vyrd_own_text.specs.Spelling.{Scope}
-use Rattle.vyrd_own_text.specs.Reading.{Found}
+use Rattle.vyrd_base.specs.Own.Spelling.{Scope}
+use Rattle.vyrd_base.specs.Own.Reading.{Found}
 
 -- there are more nodes, and those before are as they were
 pub record Adds (old new : List Node) : Type 0 where
@@ -50,6 +50,7 @@ abbrev pub OnRest : Read → Type 0 → Type 0
 OnRest (Rest rest) holds = holds
 OnRest (Stopped rule rest) holds = ⊤
 
-abbrev pub found_as : {A : Type 0} → Result (A × Bor (List ℕ)) (Rule × Bor (List ℕ)) → Found A
+abbrev pub found_as : {A : Type 0}
+    → Result (A × Bor (List ℕ)) (SpecificationRule × Bor (List ℕ)) → Found A
 found_as (Ok found) = Ok (found.0, found.1.now)
 found_as (Err stop) = Err (stop.0, stop.1.now)

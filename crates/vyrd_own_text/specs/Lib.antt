@@ -1,13 +1,4 @@
-pub mod Spelling
-pub mod Reading
 pub mod Growth
-pub mod Lines
-pub mod Names
-pub mod Pieces
-pub mod Outer
-pub mod Methods
-pub mod Changes
-pub mod Reader
 pub mod LineSpelling
 pub mod Meaning
 pub mod Samples

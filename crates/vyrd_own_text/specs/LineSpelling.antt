@@ -1,14 +1,14 @@
 -- The one spelling of a line, after the lines before it.
 use Rattle.std.specs.Prelude.{ℕ, List, [], ◌∷◌, ◌++◌, codes, decimal, Option, Some, None}
-use Rattle.vyrd_own_text.specs.Spelling.{Scope, spelled, name_at}
-use Rattle.vyrd_own.specs.Programs.{Change, of_shown, of_hidden, of_register, append, prepend}
-use Rattle.vyrd_own.specs.Programs.{drop_first, drop_last, clear, clear_shown, Method, Written}
-use Rattle.vyrd_own_text.specs.Lines.{Inner, naming}
-use Rattle.vyrd_own_text.specs.Lines.{answering, allowing, changing, Line, remark, constant}
-use Rattle.vyrd_own_text.specs.Lines.{register}
-use Rattle.vyrd_own_text.specs.Lines.{list, holds, hidden, part, shows, method, inner}
-use Rattle.vyrd_own_text.specs.Outer.{part_scope}
-use Rattle.vyrd_own_text.specs.Methods.{last_in, method_scope}
+use Rattle.vyrd_base.specs.Own.Spelling.{Scope, spelled, name_at}
+use Rattle.vyrd_base.specs.Own.Programs.{Change, of_shown, of_hidden, of_register, append, prepend}
+use Rattle.vyrd_base.specs.Own.Programs.{drop_first, drop_last, clear, clear_shown, Method, Written}
+use Rattle.vyrd_base.specs.Own.Lines.{Inner, naming}
+use Rattle.vyrd_base.specs.Own.Lines.{answering, allowing, changing, Line, remark, constant}
+use Rattle.vyrd_base.specs.Own.Lines.{register}
+use Rattle.vyrd_base.specs.Own.Lines.{list, holds, hidden, part, shows, method, inner}
+use Rattle.vyrd_base.specs.Own.Outer.{part_scope}
+use Rattle.vyrd_base.specs.Own.Methods.{last_in, method_scope}
 
 -- what changes something, where the registers have these names
 abbrev pub change_text : List (List ℕ) → Scope → Change → List ℕ

@@ -4,58 +4,62 @@ use Rattle.std.specs.Global.{Vec}
 use denote.Ref.{Bor}
 use Rattle.vyrd_own.specs.declared.code.Code.{Code}
 use Rattle.vyrd_own.specs.declared.program.Change as declared_change
-use Rattle.vyrd_own.specs.Expressions.{Expr}
-use Rattle.vyrd_own.specs.Programs.{Change}
+use Rattle.vyrd_base.specs.Own.Expressions.{Expr}
+use Rattle.vyrd_base.specs.Own.Programs.{Change}
 use Rattle.vyrd_own.specs.Layout.{texts, expr_in, change_of, written}
-use Rattle.vyrd_own_text.specs.declared.rule.Rule.{Rule}
+use Rattle.vyrd_base.specs.declared.own.rule.SpecificationRule.{SpecificationRule}
 use Rattle.vyrd_own_text.specs.declared.took.Took.{Took}
 use Rattle.vyrd_own_text.specs.declared.took.Took.TheVariants.{In, Refused}
 use Rattle.vyrd_own_text.specs.declared.reader.SpecificationReader.{SpecificationReader}
-use Rattle.vyrd_own_text.specs.Reading.{Taken, Found}
-use Rattle.vyrd_own_text.specs.Reader.{SoFar}
+use Rattle.vyrd_base.specs.Own.Reading.{Taken, Found}
+use Rattle.vyrd_base.specs.Own.Reader.{SoFar}
 
 -- what the code has read
-abbrev pub number_as : Result ℕ (Rule × Bor (List ℕ)) → Taken ℕ
+abbrev pub number_as : Result ℕ (SpecificationRule × Bor (List ℕ)) → Taken ℕ
 number_as (Ok n) = Ok n
 number_as (Err stop) = Err (stop.0, stop.1.now)
 
-abbrev pub word_as : Result (Bor (List ℕ) × Bor (List ℕ)) (Rule × Bor (List ℕ)) → Found (List ℕ)
+abbrev pub word_as : Result (Bor (List ℕ) × Bor (List ℕ)) (SpecificationRule × Bor (List ℕ))
+    → Found (List ℕ)
 word_as (Ok found) = Ok (found.0.now, found.1.now)
 word_as (Err stop) = Err (stop.0, stop.1.now)
 
-abbrev pub named_as : Result (Bor (List ℕ) × ℕ) (Rule × Bor (List ℕ)) → Taken (List ℕ × ℕ)
+abbrev pub named_as : Result (Bor (List ℕ) × ℕ) (SpecificationRule × Bor (List ℕ))
+    → Taken (List ℕ × ℕ)
 named_as (Ok found) = Ok (found.0.now, found.1)
 named_as (Err stop) = Err (stop.0, stop.1.now)
 
-abbrev pub pair_as : Result (ℕ × ℕ) (Rule × Bor (List ℕ)) → Taken (ℕ × ℕ)
+abbrev pub pair_as : Result (ℕ × ℕ) (SpecificationRule × Bor (List ℕ)) → Taken (ℕ × ℕ)
 pair_as (Ok found) = Ok found
 pair_as (Err stop) = Err (stop.0, stop.1.now)
 
-abbrev pub code_as : Result (Code × Bor (List ℕ)) (Rule × Bor (List ℕ)) → Found Expr
+abbrev pub code_as : Result (Code × Bor (List ℕ)) (SpecificationRule × Bor (List ℕ)) → Found Expr
 code_as (Ok found) = Ok (expr_in found.0, found.1.now)
 code_as (Err stop) = Err (stop.0, stop.1.now)
 
-abbrev pub last_as : Result Code (Rule × Bor (List ℕ)) → Taken Expr
+abbrev pub last_as : Result Code (SpecificationRule × Bor (List ℕ)) → Taken Expr
 last_as (Ok code) = Ok (expr_in code)
 last_as (Err stop) = Err (stop.0, stop.1.now)
 
-abbrev pub two_as : Result (Code × Code) (Rule × Bor (List ℕ)) → Taken (Expr × Expr)
+abbrev pub two_as : Result (Code × Code) (SpecificationRule × Bor (List ℕ)) → Taken (Expr × Expr)
 two_as (Ok found) = Ok (expr_in found.0, expr_in found.1)
 two_as (Err stop) = Err (stop.0, stop.1.now)
 
-abbrev pub let_as : Result (Bor (List ℕ) × Code) (Rule × Bor (List ℕ)) → Taken (List ℕ × Expr)
+abbrev pub let_as : Result (Bor (List ℕ) × Code) (SpecificationRule × Bor (List ℕ))
+    → Taken (List ℕ × Expr)
 let_as (Ok found) = Ok (found.0.now, expr_in found.1)
 let_as (Err stop) = Err (stop.0, stop.1.now)
 
-abbrev pub value_as : Result (ℕ × Code) (Rule × Bor (List ℕ)) → Taken (ℕ × Expr)
+abbrev pub value_as : Result (ℕ × Code) (SpecificationRule × Bor (List ℕ)) → Taken (ℕ × Expr)
 value_as (Ok found) = Ok (found.0, expr_in found.1)
 value_as (Err stop) = Err (stop.0, stop.1.now)
 
-abbrev pub change_as : Result declared_change.Change (Rule × Bor (List ℕ)) → Taken Change
+abbrev pub change_as : Result declared_change.Change (SpecificationRule × Bor (List ℕ))
+    → Taken Change
 change_as (Ok change) = Ok (change_of change)
 change_as (Err stop) = Err (stop.0, stop.1.now)
 
-abbrev pub begun_as : Result (Bor (List ℕ) × Vec (Vec ℕ)) (Rule × Bor (List ℕ))
+abbrev pub begun_as : Result (Bor (List ℕ) × Vec (Vec ℕ)) (SpecificationRule × Bor (List ℕ))
     → Taken (List ℕ × List (List ℕ))
 begun_as (Ok found) = Ok (found.0.now, texts found.1.items)
 begun_as (Err stop) = Err (stop.0, stop.1.now)

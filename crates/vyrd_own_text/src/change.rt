@@ -3,20 +3,20 @@
 ghost use Rattle.std.specs.Prelude.{◌≡◌, [], ◌∷◌, IfOk, codes, map};
 ghost use Rattle.vyrd_own.specs.Layout.{texts, written, method_of, case_of, change_of};
 ghost use Rattle.vyrd_own_text.specs.Growth.{scope_of};
-ghost use Rattle.vyrd_own_text.specs.Lines.{changing, with_inner};
-ghost use Rattle.vyrd_own_text.specs.Pieces.{taken_with};
-ghost use Rattle.vyrd_own_text.specs.Methods.{last_in, method_scope};
-ghost use Rattle.vyrd_own_text.specs.Changes.{plain_read, change_read, changes_in, case_line_read};
+ghost use Rattle.vyrd_base.specs.Own.Lines.{changing, with_inner};
+ghost use Rattle.vyrd_base.specs.Own.Pieces.{taken_with};
+ghost use Rattle.vyrd_base.specs.Own.Methods.{last_in, method_scope};
+ghost use Rattle.vyrd_base.specs.Own.Changes.{plain_read, change_read, changes_in, case_line_read};
 ghost use Rattle.vyrd_own_text.specs.Meaning.{change_as, took_as};
 ghost use Rattle.vyrd_own_text.specs.Meaning.{OnRefused};
 
 use crate::pieces::{put, read_last_name, read_named, read_two};
-use crate::rule::Rule;
 use crate::scope::Names;
 use crate::scopes::method_names;
 use crate::text::{after, is_same};
 use crate::took::Took;
 use std::alloc::{AllocError, Global};
+use vyrd_base::SpecificationRule;
 use vyrd_own::{Case, Change, Method, Program};
 
 /// Takes in a line of a case, after its four spaces.
@@ -32,10 +32,10 @@ pub fn take_change<'a>(
     ensures same { IfOk result (λ r. OnRefused r (method.new ≡ method.old)) }
 {
     if method.cases.is_empty() {
-        return Ok(Took::Refused(Rule::OutOfPlace, text));
+        return Ok(Took::Refused(SpecificationRule::OutOfPlace, text));
     }
     if count_changes(&method.cases) >= 8 {
-        return Ok(Took::Refused(Rule::TooMany, text));
+        return Ok(Took::Refused(SpecificationRule::TooMany, text));
     }
     match read_case_change(alloc, program, method, text)? {
         Ok(change) => {
@@ -75,7 +75,7 @@ fn read_case_change<'a>(
     program: &Program,
     method: &Method,
     text: &'a [u8],
-) -> Result<Result<Change, (Rule, &'a [u8])>, AllocError>
+) -> Result<Result<Change, (SpecificationRule, &'a [u8])>, AllocError>
     ensures { IfOk result (λ r. change_as r
         ≡ change_read (texts program.now.register_names.items)
         (method_scope (written program.now) (method_of method.now) (codes "reply" ∷ []))
@@ -87,13 +87,13 @@ fn read_case_change<'a>(
 }
 
 /// What is read of a line that changes something.
-#[tactic(auto, unfolding(crate::specs::Changes::change_read))]
+#[tactic(auto, unfolding(vyrd_base::specs::Own::Changes::change_read))]
 fn read_change<'a>(
     alloc: Global,
     program: &Program,
     names: &Names,
     text: &'a [u8],
-) -> Result<Result<Change, (Rule, &'a [u8])>, AllocError>
+) -> Result<Result<Change, (SpecificationRule, &'a [u8])>, AllocError>
     ensures { IfOk result (λ r. change_as r
         ≡ change_read (texts program.now.register_names.items) (scope_of names.now) text.now) }
 {
@@ -134,8 +134,8 @@ fn read_change<'a>(
 }
 
 /// A line that changes a list and has no expression.
-#[tactic(auto, unfolding(crate::specs::Changes::plain_read))]
-fn read_plain<'a>(names: &Names, text: &'a [u8]) -> Result<Change, (Rule, &'a [u8])>
+#[tactic(auto, unfolding(vyrd_base::specs::Own::Changes::plain_read))]
+fn read_plain<'a>(names: &Names, text: &'a [u8]) -> Result<Change, (SpecificationRule, &'a [u8])>
     ensures { change_as result ≡ plain_read (texts names.now.lists.items) text.now }
 {
     if let Some(rest) = after(text, b"drop first ") {
@@ -156,5 +156,5 @@ fn read_plain<'a>(names: &Names, text: &'a [u8]) -> Result<Change, (Rule, &'a [u
             Err((rule, at)) => Err((rule, at)),
         };
     }
-    Err((Rule::BadLine, text))
+    Err((SpecificationRule::BadLine, text))
 }

@@ -2,28 +2,28 @@
 
 ghost use Rattle.std.specs.Prelude.{◌≡◌, ◌<◌, ◌++◌, map, option_map, codes, List, ℕ, OnOk, IfOk};
 ghost use Rattle.std.specs.Prelude.{length, Err, Ok};
-ghost use Rattle.vyrd_own.specs.Expressions.{Expr, number, at, count};
-ghost use Rattle.vyrd_own_text.specs.Spelling.{op_word};
+ghost use Rattle.vyrd_base.specs.Own.Expressions.{Expr, number, at, count};
+ghost use Rattle.vyrd_base.specs.Own.Spelling.{op_word};
 ghost use Rattle.vyrd_own.specs.Nodes.{earlier, expr_at, exprs_of, expr_of};
 ghost use Rattle.vyrd_own.specs.Layout.{texts};
 ghost use Rattle.vyrd_own_text.specs.Growth.{Adds, wrap_of, ends_of, scope_of, read_as};
 ghost use Rattle.vyrd_own_text.specs.Growth.{OnRest, found_as};
-ghost use Rattle.vyrd_own_text.specs.Reading.{op_read, one_read, infix_read, choice_read};
-ghost use Rattle.vyrd_own_text.specs.Reading.{round_read};
-ghost use Rattle.vyrd_own_text.specs.Reading.{whole_read, expr_read, atom_read, op_among, of_state};
-ghost use Rattle.vyrd_own_text.specs.Reading.{unknown, list_read, name_read};
+ghost use Rattle.vyrd_base.specs.Own.Reading.{op_read, one_read, infix_read, choice_read};
+ghost use Rattle.vyrd_base.specs.Own.Reading.{round_read};
+ghost use Rattle.vyrd_base.specs.Own.Reading.{whole_read, expr_read, atom_read, op_among, of_state};
+ghost use Rattle.vyrd_base.specs.Own.Reading.{unknown, list_read, name_read};
 
-use crate::rule::Rule;
 use crate::scope::Names;
 use crate::text::{after, find_name, is_lettered, is_same, read_number, split_word};
 use std::alloc::AllocError;
-use vyrd_own::{Node, Op};
+use vyrd_base::{Op, SpecificationRule};
+use vyrd_own::Node;
 
 /// What was read of a text: what follows it, or the rule that is broken and the text from there on.
 #[derive(Clone, Copy)]
 pub enum Read<'a> {
     Rest(&'a [u8]),
-    Stopped(Rule, &'a [u8]),
+    Stopped(SpecificationRule, &'a [u8]),
 }
 
 /// What is made of one expression.
@@ -86,8 +86,8 @@ fn push(nodes: &mut Vec<Node>, node: Node) -> Result<(), AllocError>
 }
 
 /// The operation at the front of a text, between its spaces, and what follows it.
-#[tactic(auto, unfolding(crate::specs::Reading::op_read))]
-fn read_op(text: &[u8]) -> Result<(Op, &[u8]), (Rule, &[u8])>
+#[tactic(auto, unfolding(vyrd_base::specs::Own::Reading::op_read))]
+fn read_op(text: &[u8]) -> Result<(Op, &[u8]), (SpecificationRule, &[u8])>
     ensures { found_as result ≡ op_read text.now }
 {
     let ops = [
@@ -109,7 +109,10 @@ fn read_op(text: &[u8]) -> Result<(Op, &[u8]), (Rule, &[u8])>
 }
 
 /// The first of these operations that stands at the front of a text, and what follows it.
-fn read_op_among<'a>(ops: &[Op], text: &'a [u8]) -> Result<(Op, &'a [u8]), (Rule, &'a [u8])>
+fn read_op_among<'a>(
+    ops: &[Op],
+    text: &'a [u8],
+) -> Result<(Op, &'a [u8]), (SpecificationRule, &'a [u8])>
     ensures { found_as result ≡ op_among ops.now text.now }
 {
     for op in ops {
@@ -117,7 +120,7 @@ fn read_op_among<'a>(ops: &[Op], text: &'a [u8]) -> Result<(Op, &'a [u8]), (Rule
             return Ok((*op, rest));
         }
     }
-    Err((Rule::BadLine, text))
+    Err((SpecificationRule::BadLine, text))
 }
 
 /// The word of an operation, between its spaces.
@@ -143,7 +146,7 @@ fn word_of_op(op: Op) -> &'static [u8]
 
 /// Reads an expression that is nested less deep than `depth`, puts its nodes at the end of `nodes`,
 /// and answers what follows it.
-#[tactic(auto, unfolding(crate::specs::Reading::whole_read))]
+#[tactic(auto, unfolding(vyrd_base::specs::Own::Reading::whole_read))]
 #[cycle(expr)]
 pub fn read_expr<'a>(
     names: &Names,
@@ -156,7 +159,7 @@ pub fn read_expr<'a>(
     ensures adds { IfOk result (λ r. OnRest r (Adds nodes.old.items nodes.new.items)) }
 {
     if depth == 0 {
-        return Ok(Read::Stopped(Rule::TooDeep, text));
+        return Ok(Read::Stopped(SpecificationRule::TooDeep, text));
     }
     let depth = depth - 1;
     if let Some(rest) = after(text, b"(") {
@@ -172,7 +175,7 @@ pub fn read_expr<'a>(
 }
 
 /// Reads `none`, `count`, a number or a name.
-#[tactic(auto, unfolding(crate::specs::Reading::atom_read))]
+#[tactic(auto, unfolding(vyrd_base::specs::Own::Reading::atom_read))]
 fn read_atom<'a>(
     names: &Names,
     text: &'a [u8],
@@ -189,7 +192,7 @@ fn read_atom<'a>(
     }
     if is_same(word, b"count") {
         if !names.reads {
-            return Ok(Read::Stopped(Rule::StateIsRead, text));
+            return Ok(Read::Stopped(SpecificationRule::StateIsRead, text));
         }
         push(nodes, Node::Count)?;
         return Ok(Read::Rest(rest));
@@ -211,7 +214,7 @@ fn read_atom<'a>(
 pub fn read_name<'a>(
     names: &[Vec<u8>],
     text: &'a [u8],
-) -> Result<(usize, &'a [u8]), (Rule, &'a [u8])>
+) -> Result<(usize, &'a [u8]), (SpecificationRule, &'a [u8])>
     ensures { found_as result ≡ name_read (texts names.now) text.now }
 {
     let (word, rest) = split_word(text);
@@ -219,13 +222,13 @@ pub fn read_name<'a>(
         return Ok((place, rest));
     }
     if is_lettered(text) {
-        return Err((Rule::UnknownName, text));
+        return Err((SpecificationRule::UnknownName, text));
     }
-    Err((Rule::BadLine, text))
+    Err((SpecificationRule::BadLine, text))
 }
 
 /// Reads what stands after `(`.
-#[tactic(auto, unfolding(crate::specs::Reading::round_read))]
+#[tactic(auto, unfolding(vyrd_base::specs::Own::Reading::round_read))]
 #[cycle(expr)]
 fn read_round<'a>(
     names: &Names,
@@ -275,14 +278,14 @@ fn read_list<'a>(
     ensures adds { IfOk result (λ r. OnRest r (Adds nodes.old.items nodes.new.items)) }
 {
     if !names.reads {
-        return Ok(Read::Stopped(Rule::StateIsRead, whole));
+        return Ok(Read::Stopped(SpecificationRule::StateIsRead, whole));
     }
     let (place, rest) = match read_name(&names.lists, text) {
         Ok((place, rest)) => (place, rest),
         Err((rule, at)) => return Ok(Read::Stopped(rule, at)),
     };
     let Some(rest) = after(rest, b")") else {
-        return Ok(Read::Stopped(Rule::BadLine, rest));
+        return Ok(Read::Stopped(SpecificationRule::BadLine, rest));
     };
     push(nodes, of_list(ends, place))?;
     Ok(Read::Rest(rest))
@@ -305,7 +308,7 @@ fn read_of_state<'a>(
     ensures adds { IfOk result (λ r. OnRest r (Adds nodes.old.items nodes.new.items)) }
 {
     if !names.reads {
-        return Ok(Read::Stopped(Rule::StateIsRead, whole));
+        return Ok(Read::Stopped(SpecificationRule::StateIsRead, whole));
     }
     read_one(names, depth, wrap, close, text, nodes)
 }
@@ -329,7 +332,7 @@ fn read_one<'a>(
         Read::Stopped(rule, at) => return Ok(Read::Stopped(rule, at)),
     };
     let Some(rest) = after(rest, close) else {
-        return Ok(Read::Stopped(Rule::BadLine, rest));
+        return Ok(Read::Stopped(SpecificationRule::BadLine, rest));
     };
     let part = last(nodes);
     push(nodes, wrapped(wrap, part))?;
@@ -362,7 +365,7 @@ fn read_infix<'a>(
         Read::Stopped(rule, at) => return Ok(Read::Stopped(rule, at)),
     };
     let Some(rest) = after(rest, b")") else {
-        return Ok(Read::Stopped(Rule::BadLine, rest));
+        return Ok(Read::Stopped(SpecificationRule::BadLine, rest));
     };
     let second = last(nodes);
     push(nodes, Node::Infix(op, first, second))?;
@@ -387,7 +390,7 @@ fn read_choice<'a>(
     };
     let test = last(nodes);
     let Some(rest) = after(rest, b" then ") else {
-        return Ok(Read::Stopped(Rule::BadLine, rest));
+        return Ok(Read::Stopped(SpecificationRule::BadLine, rest));
     };
     let rest = match read_expr(names, depth, rest, nodes)? {
         Read::Rest(rest) => rest,
@@ -395,14 +398,14 @@ fn read_choice<'a>(
     };
     let first = last(nodes);
     let Some(rest) = after(rest, b" else ") else {
-        return Ok(Read::Stopped(Rule::BadLine, rest));
+        return Ok(Read::Stopped(SpecificationRule::BadLine, rest));
     };
     let rest = match read_expr(names, depth, rest, nodes)? {
         Read::Rest(rest) => rest,
         Read::Stopped(rule, at) => return Ok(Read::Stopped(rule, at)),
     };
     let Some(rest) = after(rest, b")") else {
-        return Ok(Read::Stopped(Rule::BadLine, rest));
+        return Ok(Read::Stopped(SpecificationRule::BadLine, rest));
     };
     let second = last(nodes);
     push(nodes, Node::Choice(test, first, second))?;

@@ -1,13 +1,13 @@
 //! Lines of a method.
 
 ghost use Rattle.std.specs.Prelude.{◌≡◌, [], ◌∷◌, IfOk, codes, option_map};
-ghost use Rattle.vyrd_own_text.specs.Changes.{within_read};
-ghost use Rattle.vyrd_own_text.specs.Pieces.{last_read, taken_with};
-ghost use Rattle.vyrd_own_text.specs.Methods.{method_scope, inner_read};
-ghost use Rattle.vyrd_own_text.specs.Methods.{is_closed, named_expr};
-ghost use Rattle.vyrd_own_text.specs.Lines.{answering, allowing, naming};
-ghost use Rattle.vyrd_own_text.specs.Lines.{with_inner};
-ghost use Rattle.vyrd_own_text.specs.Methods.{answer_read, allow_read, naming_read};
+ghost use Rattle.vyrd_base.specs.Own.Changes.{within_read};
+ghost use Rattle.vyrd_base.specs.Own.Pieces.{last_read, taken_with};
+ghost use Rattle.vyrd_base.specs.Own.Methods.{method_scope, inner_read};
+ghost use Rattle.vyrd_base.specs.Own.Methods.{is_closed, named_expr};
+ghost use Rattle.vyrd_base.specs.Own.Lines.{answering, allowing, naming};
+ghost use Rattle.vyrd_base.specs.Own.Lines.{with_inner};
+ghost use Rattle.vyrd_base.specs.Own.Methods.{answer_read, allow_read, naming_read};
 ghost use Rattle.vyrd_own.specs.Layout.{written, method_of, expr_in};
 ghost use Rattle.vyrd_own_text.specs.Meaning.{last_as, took_as, OnRefused, OnKept};
 ghost use Rattle.vyrd_own_text.specs.Meaning.{let_as};
@@ -15,15 +15,15 @@ ghost use Rattle.vyrd_own_text.specs.Meaning.{let_as};
 use crate::change::take_change;
 use crate::names::{front_is_taken, read_new_name};
 use crate::pieces::{put, read_last};
-use crate::rule::Rule;
 use crate::scopes::method_names;
 use crate::text::after;
 use crate::took::Took;
 use std::alloc::{AllocError, Global};
+use vyrd_base::SpecificationRule;
 use vyrd_own::{Case, Code, Method, Program};
 
 /// Takes in a line of a method.
-#[tactic(auto, unfolding(crate::specs::Changes::within_read))]
+#[tactic(auto, unfolding(vyrd_base::specs::Own::Changes::within_read))]
 pub fn take_within<'a>(
     alloc: Global,
     program: &Program,
@@ -40,12 +40,12 @@ pub fn take_within<'a>(
     }
     match take_inner(alloc, program, method, line)? {
         Some(took) => Ok(took),
-        None => Ok(Took::Refused(Rule::BadLine, line)),
+        None => Ok(Took::Refused(SpecificationRule::BadLine, line)),
     }
 }
 
 /// Takes in a line of a method, if it begins as one, except for one that changes something.
-#[tactic(auto, unfolding(crate::specs::Methods::inner_read))]
+#[tactic(auto, unfolding(vyrd_base::specs::Own::Methods::inner_read))]
 fn take_inner<'a>(
     alloc: Global,
     program: &Program,
@@ -82,7 +82,7 @@ fn read_in_method<'a>(
     program: &Program,
     method: &Method,
     text: &'a [u8],
-) -> Result<Result<Code, (Rule, &'a [u8])>, AllocError>
+) -> Result<Result<Code, (SpecificationRule, &'a [u8])>, AllocError>
     ensures { IfOk result (λ r. last_as r
         ≡ last_read (method_scope (written program.now) (method_of method.now) []) text.now) }
 {
@@ -96,7 +96,7 @@ fn read_in_case<'a>(
     program: &Program,
     method: &Method,
     text: &'a [u8],
-) -> Result<Result<Code, (Rule, &'a [u8])>, AllocError>
+) -> Result<Result<Code, (SpecificationRule, &'a [u8])>, AllocError>
     ensures { IfOk result (λ r. last_as r
         ≡ last_read (method_scope (written program.now) (method_of method.now) (codes "reply" ∷ []))
         text.now) }
@@ -141,7 +141,7 @@ fn read_let<'a>(
     program: &Program,
     method: &Method,
     text: &'a [u8],
-) -> Result<Result<(&'a [u8], Code), (Rule, &'a [u8])>, AllocError>
+) -> Result<Result<(&'a [u8], Code), (SpecificationRule, &'a [u8])>, AllocError>
     ensures { IfOk result (λ r. let_as r
         ≡ named_expr (written program.now) (method_of method.now) text.now) }
 {
@@ -150,7 +150,7 @@ fn read_let<'a>(
         Err((rule, at)) => return Ok(Err((rule, at))),
     };
     let Some(more) = after(rest, b" ") else {
-        return Ok(Err((Rule::BadLine, rest)));
+        return Ok(Err((SpecificationRule::BadLine, rest)));
     };
     match read_in_method(alloc, program, method, more)? {
         Ok(code) => Ok(Ok((name, code))),
@@ -171,10 +171,10 @@ fn take_let<'a>(
     ensures same { IfOk result (λ r. OnRefused r (method.new ≡ method.old)) }
 {
     if is_closed(method) {
-        return Ok(Took::Refused(Rule::OutOfPlace, text));
+        return Ok(Took::Refused(SpecificationRule::OutOfPlace, text));
     }
     if method.names.len() >= 16 {
-        return Ok(Took::Refused(Rule::TooMany, text));
+        return Ok(Took::Refused(SpecificationRule::TooMany, text));
     }
     match read_let(alloc, program, method, text)? {
         Ok((name, code)) => {
@@ -198,7 +198,7 @@ fn take_answer<'a>(
     ensures same { IfOk result (λ r. OnRefused r (method.new ≡ method.old)) }
 {
     if is_closed(method) {
-        return Ok(Took::Refused(Rule::OutOfPlace, text));
+        return Ok(Took::Refused(SpecificationRule::OutOfPlace, text));
     }
     match read_in_method(alloc, program, method, text)? {
         Ok(code) => {
@@ -222,7 +222,7 @@ fn take_allow<'a>(
     ensures same { IfOk result (λ r. OnRefused r (method.new ≡ method.old)) }
 {
     if method.cases.len() >= 8 {
-        return Ok(Took::Refused(Rule::TooMany, text));
+        return Ok(Took::Refused(SpecificationRule::TooMany, text));
     }
     match read_in_case(alloc, program, method, text)? {
         Ok(code) => {

@@ -1,18 +1,9 @@
-//! What stands last in a specification.
+//! What may stand directly below the last line.
 
 ghost use Rattle.std.specs.Prelude.{◌≡◌};
-ghost use Rattle.vyrd_own_text.specs.Outer.{is_list, is_part};
+ghost use Rattle.vyrd_base.specs.Own.Outer.{is_list, is_part};
 
-/// What the last line was that says something, if others may stand directly below it.
-#[derive(Clone, Copy)]
-pub enum Last {
-    /// A list, or an element of it.
-    List,
-    /// The part, or what it gives to a key.
-    Part,
-    /// Any other line, or none.
-    Other,
-}
+use vyrd_base::Last;
 
 /// Whether an element of a list may stand here.
 pub fn is_list(last: Last) -> bool

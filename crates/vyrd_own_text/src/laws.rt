@@ -1,13 +1,13 @@
 //! Laws of the definitions. Each function is empty, and its contract is the law.
 
 ghost use Rattle.std.specs.Prelude.{◌≡◌, ◌++◌, ℕ, List, Ok};
-ghost use Rattle.vyrd_own.specs.Expressions.{Expr};
-ghost use Rattle.vyrd_own_text.specs.Spelling.{Scope, spelled};
-ghost use Rattle.vyrd_own_text.specs.Reading.{expr_read};
-ghost use Rattle.vyrd_own_text.specs.declared.last.Last.{Last};
-ghost use Rattle.vyrd_own.specs.Programs.{Written};
-ghost use Rattle.vyrd_own_text.specs.Lines.{Line};
-ghost use Rattle.vyrd_own_text.specs.Reader.{line_read};
+ghost use Rattle.vyrd_base.specs.Own.Expressions.{Expr};
+ghost use Rattle.vyrd_base.specs.Own.Spelling.{Scope, spelled};
+ghost use Rattle.vyrd_base.specs.Own.Reading.{expr_read};
+ghost use Rattle.vyrd_base.specs.declared.own.last.Last.{Last};
+ghost use Rattle.vyrd_base.specs.Own.Programs.{Written};
+ghost use Rattle.vyrd_base.specs.Own.Lines.{Line};
+ghost use Rattle.vyrd_base.specs.Own.Reader.{line_read};
 ghost use Rattle.vyrd_own_text.specs.LineSpelling.{line_text};
 
 /// What is read as an expression is its one spelling, and what follows it.

@@ -2,22 +2,22 @@
 
 ghost use Rattle.std.specs.Prelude.{◌≡◌, ◌||◌, IfOk, map};
 ghost use Rattle.vyrd_own.specs.Layout.{texts, written, method_of};
-ghost use Rattle.vyrd_own_text.specs.Reading.{word_of};
-ghost use Rattle.vyrd_own_text.specs.Lines.{method, with_line};
-ghost use Rattle.vyrd_own_text.specs.Names.{is_among, is_known};
-ghost use Rattle.vyrd_own_text.specs.Pieces.{taken_with};
-ghost use Rattle.vyrd_own_text.specs.Methods.{is_method, is_unfinished, parameters_read};
-ghost use Rattle.vyrd_own_text.specs.Methods.{named_method, method_read};
+ghost use Rattle.vyrd_base.specs.Own.Reading.{word_of};
+ghost use Rattle.vyrd_base.specs.Own.Lines.{method, with_line};
+ghost use Rattle.vyrd_base.specs.Own.Names.{is_among, is_known};
+ghost use Rattle.vyrd_base.specs.Own.Pieces.{taken_with};
+ghost use Rattle.vyrd_base.specs.Own.Methods.{is_method, is_unfinished, parameters_read};
+ghost use Rattle.vyrd_base.specs.Own.Methods.{named_method, method_read};
 ghost use Rattle.vyrd_own_text.specs.Meaning.{begun_as, took_as, OnRefused};
 
 use crate::inner::is_closed;
 use crate::names::{is_known, is_taken, read_new_name};
 use crate::pieces::put;
-use crate::rule::Rule;
 use crate::scopes::put_word;
 use crate::text::{after, is_same, split_word};
 use crate::took::Took;
 use std::alloc::{AllocError, Global};
+use vyrd_base::SpecificationRule;
 use vyrd_own::{Method, Program};
 
 /// Takes in the beginning of a method.
@@ -32,10 +32,10 @@ pub fn take_method<'a>(
     ensures same { IfOk result (λ r. OnRefused r (program.new ≡ program.old)) }
 {
     if is_unfinished(&program.methods) {
-        return Ok(Took::Refused(Rule::NoCase, text));
+        return Ok(Took::Refused(SpecificationRule::NoCase, text));
     }
     if program.methods.len() >= 64 {
-        return Ok(Took::Refused(Rule::TooMany, text));
+        return Ok(Took::Refused(SpecificationRule::TooMany, text));
     }
     match read_method(alloc, program, text)? {
         Ok((name, names)) => {
@@ -81,7 +81,7 @@ fn read_method<'a>(
     alloc: Global,
     program: &Program,
     text: &'a [u8],
-) -> Result<Result<(&'a [u8], Vec<Vec<u8>>), (Rule, &'a [u8])>, AllocError>
+) -> Result<Result<(&'a [u8], Vec<Vec<u8>>), (SpecificationRule, &'a [u8])>, AllocError>
     ensures { IfOk result (λ r. begun_as r ≡ named_method (written program.now) text.now) }
 {
     let (name, rest) = match read_new_name(front_is_method(&program.methods, text), text) {
@@ -110,10 +110,10 @@ fn read_parameters<'a>(
         return Ok(Took::In);
     }
     if left == 0 {
-        return Ok(Took::Refused(Rule::TooMany, text));
+        return Ok(Took::Refused(SpecificationRule::TooMany, text));
     }
     let Some(next) = after(text, b" ") else {
-        return Ok(Took::Refused(Rule::BadLine, text));
+        return Ok(Took::Refused(SpecificationRule::BadLine, text));
     };
     let (name, rest) = match read_new_name(front_is_parameter(program, names, next), next) {
         Ok((name, rest)) => (name, rest),

@@ -4,13 +4,13 @@ ghost use Rattle.std.specs.Prelude.{◌≡◌, ◌||◌, map, length};
 ghost use Rattle.std.specs.List.{list_any};
 ghost use Rattle.std.specs.Str.{bytes_eq};
 ghost use Rattle.vyrd_own.specs.Layout.{texts, written, method_of};
-ghost use Rattle.vyrd_own_text.specs.Reading.{word_of};
-ghost use Rattle.vyrd_own_text.specs.Names.{is_among, is_name, is_known, new_name, reserved};
-ghost use Rattle.vyrd_own_text.specs.Names.{words_of_parts};
+ghost use Rattle.vyrd_base.specs.Own.Reading.{word_of};
+ghost use Rattle.vyrd_base.specs.Own.Names.{is_among, is_name, is_known, new_name, reserved};
+ghost use Rattle.vyrd_base.specs.Own.Names.{words_of_parts};
 ghost use Rattle.vyrd_own_text.specs.Meaning.{word_as};
 
-use crate::rule::Rule;
 use crate::text::{find_name, is_lettered, is_same, split_word};
+use vyrd_base::SpecificationRule;
 use vyrd_own::{Method, Program};
 
 /// Whether the word is one of these.
@@ -51,7 +51,7 @@ fn is_reserved(word: &[u8]) -> bool
 }
 
 /// Whether the word is `w0` to `w15`.
-#[tactic(auto, unfolding(crate::specs::Names::words_of_parts))]
+#[tactic(auto, unfolding(vyrd_base::specs::Own::Names::words_of_parts))]
 fn is_part_word(word: &[u8]) -> bool
     ensures { result ≡ list_any (bytes_eq word.now) words_of_parts }
 {
@@ -63,7 +63,7 @@ fn is_part_word(word: &[u8]) -> bool
 }
 
 /// Whether the word is a name.
-#[tactic(auto, unfolding(crate::specs::Names::is_name))]
+#[tactic(auto, unfolding(vyrd_base::specs::Own::Names::is_name))]
 fn is_name(word: &[u8]) -> bool
     ensures { result ≡ is_name word.now }
 {
@@ -87,15 +87,15 @@ pub fn is_known(program: &Program, word: &[u8]) -> bool
 }
 
 /// A name that is new, if it isn't taken, and what follows it.
-pub fn read_new_name(taken: bool, text: &[u8]) -> Result<(&[u8], &[u8]), (Rule, &[u8])>
+pub fn read_new_name(taken: bool, text: &[u8]) -> Result<(&[u8], &[u8]), (SpecificationRule, &[u8])>
     ensures { word_as result ≡ new_name taken text.now }
 {
     let (word, rest) = split_word(text);
     if !is_name(word) {
-        return Err((Rule::BadLine, text));
+        return Err((SpecificationRule::BadLine, text));
     }
     if taken {
-        return Err((Rule::NameTaken, text));
+        return Err((SpecificationRule::NameTaken, text));
     }
     Ok((word, rest))
 }

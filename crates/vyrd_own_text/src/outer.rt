@@ -1,28 +1,28 @@
 //! Lines outside methods.
 
 ghost use Rattle.std.specs.Prelude.{◌≡◌, IfOk, codes, map, option_map};
-ghost use Rattle.vyrd_own_text.specs.Outer.{constant_read, register_read, list_line_read};
-ghost use Rattle.vyrd_own_text.specs.Outer.{holds_read, hidden_read, part_read, shows_read};
-ghost use Rattle.vyrd_own_text.specs.Outer.{part_scope};
-ghost use Rattle.vyrd_own_text.specs.Lines.{shows, with_line};
-ghost use Rattle.vyrd_own_text.specs.Pieces.{two_read, taken_with};
-ghost use Rattle.vyrd_own_text.specs.Lines.{holding};
-ghost use Rattle.vyrd_own_text.specs.Outer.{outer_read, is_past_constants};
+ghost use Rattle.vyrd_base.specs.Own.Outer.{constant_read, register_read, list_line_read};
+ghost use Rattle.vyrd_base.specs.Own.Outer.{holds_read, hidden_read, part_read, shows_read};
+ghost use Rattle.vyrd_base.specs.Own.Outer.{part_scope};
+ghost use Rattle.vyrd_base.specs.Own.Lines.{shows, with_line};
+ghost use Rattle.vyrd_base.specs.Own.Pieces.{two_read, taken_with};
+ghost use Rattle.vyrd_base.specs.Own.Lines.{holding};
+ghost use Rattle.vyrd_base.specs.Own.Outer.{outer_read, is_past_constants};
 ghost use Rattle.vyrd_own.specs.Layout.{written, expr_in};
 ghost use Rattle.vyrd_own_text.specs.Meaning.{two_as, took_as, OnRefused, OnKept};
 
-use crate::last::{Last, is_list, is_part};
+use crate::last::{is_list, is_part};
 use crate::names::{front_is_known, read_new_name};
 use crate::pieces::{put, read_last_number, read_named_number, read_two, read_two_numbers};
-use crate::rule::Rule;
 use crate::scopes::part_names;
 use crate::text::{after, read_number};
 use crate::took::Took;
 use std::alloc::{AllocError, Global};
+use vyrd_base::{Last, SpecificationRule};
 use vyrd_own::{Code, Program, Show};
 
 /// Takes in a line outside methods, if it begins as one; except for the beginning of a method.
-#[tactic(auto, unfolding(crate::specs::Outer::outer_read))]
+#[tactic(auto, unfolding(vyrd_base::specs::Own::Outer::outer_read))]
 pub fn take_outer<'a>(
     alloc: Global,
     program: &mut Program,
@@ -81,10 +81,10 @@ fn take_constant<'a>(
     ensures same { IfOk result (λ r. OnRefused r (program.new ≡ program.old)) }
 {
     if is_past_constants(program) {
-        return Ok(Took::Refused(Rule::OutOfPlace, text));
+        return Ok(Took::Refused(SpecificationRule::OutOfPlace, text));
     }
     if program.constants.len() >= 64 {
-        return Ok(Took::Refused(Rule::TooMany, text));
+        return Ok(Took::Refused(SpecificationRule::TooMany, text));
     }
     let (name, number) = match read_named_number(front_is_known(program, text), text) {
         Ok((name, number)) => (name, number),
@@ -108,10 +108,10 @@ fn take_register<'a>(
     ensures same { IfOk result (λ r. OnRefused r (program.new ≡ program.old)) }
 {
     if !program.methods.is_empty() {
-        return Ok(Took::Refused(Rule::OutOfPlace, text));
+        return Ok(Took::Refused(SpecificationRule::OutOfPlace, text));
     }
     if program.registers.len() >= 16 {
-        return Ok(Took::Refused(Rule::TooMany, text));
+        return Ok(Took::Refused(SpecificationRule::TooMany, text));
     }
     let (name, number) = match read_named_number(front_is_known(program, text), text) {
         Ok((name, number)) => (name, number),
@@ -135,17 +135,17 @@ fn take_list<'a>(
     ensures same { IfOk result (λ r. OnRefused r (program.new ≡ program.old)) }
 {
     if !program.methods.is_empty() {
-        return Ok(Took::Refused(Rule::OutOfPlace, text));
+        return Ok(Took::Refused(SpecificationRule::OutOfPlace, text));
     }
     if program.lists.len() >= 16 {
-        return Ok(Took::Refused(Rule::TooMany, text));
+        return Ok(Took::Refused(SpecificationRule::TooMany, text));
     }
     let (name, rest) = match read_new_name(front_is_known(program, text), text) {
         Ok((name, rest)) => (name, rest),
         Err((rule, at)) => return Ok(Took::Refused(rule, at)),
     };
     if !rest.is_empty() {
-        return Ok(Took::Refused(Rule::BadLine, rest));
+        return Ok(Took::Refused(SpecificationRule::BadLine, rest));
     }
     let name = Vec::from_slice(alloc, name)?;
     put(&mut program.list_names, name)?;
@@ -161,7 +161,7 @@ fn take_hidden<'a>(program: &mut Program, text: &'a [u8]) -> Result<Took<'a>, Al
     ensures same { IfOk result (λ r. OnRefused r (program.new ≡ program.old)) }
 {
     if !program.methods.is_empty() {
-        return Ok(Took::Refused(Rule::OutOfPlace, text));
+        return Ok(Took::Refused(SpecificationRule::OutOfPlace, text));
     }
     let (key, amount) = match read_two_numbers(text) {
         Ok((key, amount)) => (key, amount),
@@ -178,14 +178,14 @@ fn take_part<'a>(program: &mut Program, text: &'a [u8]) -> Result<Took<'a>, Allo
     ensures same { IfOk result (λ r. OnRefused r (program.new ≡ program.old)) }
 {
     if program.words != 0 || !program.methods.is_empty() {
-        return Ok(Took::Refused(Rule::OutOfPlace, text));
+        return Ok(Took::Refused(SpecificationRule::OutOfPlace, text));
     }
     match read_number(text) {
         Some(words) if 1 <= words && words <= 16 => {
             program.words = words as usize;
             Ok(Took::In)
         }
-        _ => Ok(Took::Refused(Rule::BadLine, text)),
+        _ => Ok(Took::Refused(SpecificationRule::BadLine, text)),
     }
 }
 
@@ -209,7 +209,7 @@ fn take_holds<'a>(program: &mut Program, last: Last, text: &'a [u8]) -> Result<T
     ensures same { IfOk result (λ r. OnRefused r (program.new ≡ program.old)) }
 {
     if !is_list(last) {
-        return Ok(Took::Refused(Rule::OutOfPlace, text));
+        return Ok(Took::Refused(SpecificationRule::OutOfPlace, text));
     }
     match read_last_number(text) {
         Ok(number) => {
@@ -225,7 +225,7 @@ fn read_shows<'a>(
     alloc: Global,
     program: &Program,
     text: &'a [u8],
-) -> Result<Result<(Code, Code), (Rule, &'a [u8])>, AllocError>
+) -> Result<Result<(Code, Code), (SpecificationRule, &'a [u8])>, AllocError>
     ensures { IfOk result (λ r. two_as r
         ≡ two_read (part_scope (written program.now)) (codes " ") text.now) }
 {
@@ -254,10 +254,10 @@ fn take_shows<'a>(
     ensures same { IfOk result (λ r. OnRefused r (program.new ≡ program.old)) }
 {
     if !is_part(last) {
-        return Ok(Took::Refused(Rule::OutOfPlace, text));
+        return Ok(Took::Refused(SpecificationRule::OutOfPlace, text));
     }
     if program.shows.len() >= 4 {
-        return Ok(Took::Refused(Rule::TooMany, text));
+        return Ok(Took::Refused(SpecificationRule::TooMany, text));
     }
     match read_shows(alloc, program, text)? {
         Ok((key, amount)) => {

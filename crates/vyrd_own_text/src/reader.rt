@@ -1,25 +1,23 @@
 //! A specification, read line by line.
 
 ghost use Rattle.std.specs.Prelude.{◌≡◌, IfOk, None, map, codes};
-ghost use Rattle.vyrd_own_text.specs.Lines.{with_line, nothing_written};
-ghost use Rattle.vyrd_own_text.specs.Pieces.{taken_with};
-ghost use Rattle.vyrd_own_text.specs.Reader.{is_remark, unplaced, method_line_read, line_read};
-ghost use Rattle.vyrd_own_text.specs.Reader.{begins};
-ghost use Rattle.vyrd_own_text.specs.Reader.{last_after, column, unfinished, ended_with, read_next};
-ghost use Rattle.vyrd_own_text.specs.Reader.{or_method, SoFar, nothing_read};
+ghost use Rattle.vyrd_base.specs.Own.Lines.{with_line, nothing_written};
+ghost use Rattle.vyrd_base.specs.Own.Pieces.{taken_with};
+ghost use Rattle.vyrd_base.specs.Own.Reader.{is_remark, unplaced, method_line_read, line_read};
+ghost use Rattle.vyrd_base.specs.Own.Reader.{begins};
+ghost use Rattle.vyrd_base.specs.Own.Reader.{last_after, column, unfinished, ended_with, read_next};
+ghost use Rattle.vyrd_base.specs.Own.Reader.{or_method, SoFar, nothing_read};
 ghost use Rattle.vyrd_own.specs.Layout.{written, method_of};
 ghost use Rattle.vyrd_own_text.specs.Meaning.{took_as, OnRefused, so_far};
 
 use crate::inner::take_within;
-use crate::last::Last;
 use crate::method::{is_unfinished, take_method};
-use crate::outcome::Outcome;
 use crate::outer::take_outer;
 use crate::pieces::put;
-use crate::rule::Rule;
 use crate::text::{after, is_same};
 use crate::took::Took;
 use std::alloc::{AllocError, Global};
+use vyrd_base::{Last, SpecificationLine, SpecificationRule};
 use vyrd_own::{Method, Program};
 
 /// How many bytes a line may have.
@@ -53,8 +51,8 @@ impl SpecificationReader {
 
     /// Takes in a line, which is given without its line feed. A line that breaks a rule leaves what
     /// was read as it was. If memory runs out, nothing is said of what was read.
-    #[tactic(auto, unfolding(crate::specs::Reader::read_next))]
-    pub fn take_line(&mut self, alloc: Global, line: &[u8]) -> Result<Outcome, AllocError>
+    #[tactic(auto, unfolding(vyrd_base::specs::Own::Reader::read_next))]
+    pub fn take_line(&mut self, alloc: Global, line: &[u8]) -> Result<SpecificationLine, AllocError>
         ensures outcome { IfOk result (λ r. r ≡ (read_next (so_far self.old) line.now).0) }
         ensures left { IfOk result (λ _. so_far self.new
             ≡ (read_next (so_far self.old) line.now).1) }
@@ -63,15 +61,15 @@ impl SpecificationReader {
             return Ok(outcome_of_log(&self.program));
         }
         if self.lines >= MOST_LINES {
-            return Ok(Outcome::Refused(Rule::TooMany, 1));
+            return Ok(SpecificationLine::Refused(SpecificationRule::TooMany, 1));
         }
         match take(alloc, &mut self.program, self.last, line)? {
             Took::In => {
                 self.last = last_after(self.last, line);
                 self.lines += 1;
-                Ok(Outcome::More)
+                Ok(SpecificationLine::More)
             }
-            Took::Refused(rule, rest) => Ok(Outcome::Refused(rule, column(line, rest))),
+            Took::Refused(rule, rest) => Ok(SpecificationLine::Refused(rule, column(line, rest))),
         }
     }
 }
@@ -95,16 +93,16 @@ fn no_lines(alloc: Global) -> Program
 }
 
 /// What the line `log` is after these lines.
-fn outcome_of_log(program: &Program) -> Outcome
+fn outcome_of_log(program: &Program) -> SpecificationLine
     ensures { (s : SoFar) → (result, s) ≡ ended_with s (unfinished (written program.now).methods) }
 {
     if program.methods.is_empty() {
-        return Outcome::Refused(Rule::NoMethod, 1);
+        return SpecificationLine::Refused(SpecificationRule::NoMethod, 1);
     }
     if is_unfinished(&program.methods) {
-        return Outcome::Refused(Rule::NoCase, 1);
+        return SpecificationLine::Refused(SpecificationRule::NoCase, 1);
     }
-    Outcome::Log
+    SpecificationLine::Log
 }
 
 /// The column of what stands at the end of a line.
@@ -132,7 +130,7 @@ fn begins(line: &[u8], word: &[u8]) -> bool
 }
 
 /// What may stand directly below the line.
-#[tactic(auto, unfolding(crate::specs::Reader::last_after))]
+#[tactic(auto, unfolding(vyrd_base::specs::Own::Reader::last_after))]
 fn last_after(last: Last, line: &[u8]) -> Last
     ensures { result ≡ last_after last line.now }
 {
@@ -149,7 +147,7 @@ fn last_after(last: Last, line: &[u8]) -> Last
 }
 
 /// Takes in a line other than `log`.
-#[tactic(auto, unfolding(crate::specs::Reader::line_read))]
+#[tactic(auto, unfolding(vyrd_base::specs::Own::Reader::line_read))]
 fn take<'a>(
     alloc: Global,
     program: &mut Program,
@@ -163,7 +161,7 @@ fn take<'a>(
 {
     if line.len() > LONGEST {
         let (_, rest) = line.split_at(LONGEST);
-        return Ok(Took::Refused(Rule::TooLong, rest));
+        return Ok(Took::Refused(SpecificationRule::TooLong, rest));
     }
     if is_remark(line) {
         return Ok(Took::In);
@@ -192,7 +190,7 @@ fn take_in_methods<'a>(
 }
 
 /// Takes in a line of the last method.
-#[tactic(auto, unfolding(crate::specs::Reader::method_line_read))]
+#[tactic(auto, unfolding(vyrd_base::specs::Own::Reader::method_line_read))]
 fn take_method_line<'a>(
     alloc: Global,
     program: &mut Program,
@@ -212,11 +210,11 @@ fn take_method_line<'a>(
 }
 
 /// The rule that a line breaks that is no line outside methods, where there is no method.
-fn unplaced(line: &[u8]) -> Rule
+fn unplaced(line: &[u8]) -> SpecificationRule
     ensures { result ≡ unplaced line.now }
 {
     if begins(line, b"  ") {
-        return Rule::OutOfPlace;
+        return SpecificationRule::OutOfPlace;
     }
-    Rule::BadLine
+    SpecificationRule::BadLine
 }

@@ -3,10 +3,10 @@
 ghost use Rattle.std.specs.Prelude.{◌≡◌, ◌++◌, [], ◌∷◌, IfOk, ◌≤◌, map, take, min, length};
 ghost use Rattle.vyrd_own.specs.Layout.{texts, written, method_of};
 ghost use Rattle.vyrd_own_text.specs.Growth.{scope_of};
-ghost use Rattle.vyrd_own_text.specs.Outer.{part_scope};
-ghost use Rattle.vyrd_own_text.specs.Lines.{shows};
-ghost use Rattle.vyrd_own_text.specs.Names.{words_of_parts};
-ghost use Rattle.vyrd_own_text.specs.Methods.{method_scope};
+ghost use Rattle.vyrd_base.specs.Own.Outer.{part_scope};
+ghost use Rattle.vyrd_base.specs.Own.Lines.{shows};
+ghost use Rattle.vyrd_base.specs.Own.Names.{words_of_parts};
+ghost use Rattle.vyrd_base.specs.Own.Methods.{method_scope};
 
 use crate::scope::Names;
 use std::alloc::{AllocError, Global};
@@ -50,7 +50,7 @@ fn put_first_words(
 }
 
 /// Copies the first of the words `w0` to `w15` to the end of names.
-#[tactic(auto, unfolding(crate::specs::Names::words_of_parts))]
+#[tactic(auto, unfolding(vyrd_base::specs::Own::Names::words_of_parts))]
 fn put_part_words(alloc: Global, all: &mut Vec<Vec<u8>>, count: usize) -> Result<(), AllocError>
     ensures { IfOk result (λ _. texts all.new.items
         ≡ texts all.old.items ++ take (min count 16) words_of_parts) }

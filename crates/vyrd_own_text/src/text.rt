@@ -2,8 +2,8 @@
 
 ghost use Rattle.std.specs.Prelude.{◌≡◌, ◌≤◌, map, option_map, length, take, drop, codes};
 ghost use Rattle.std.specs.Str.{bytes_eq};
-ghost use Rattle.vyrd_own_text.specs.Reading.{after, is_word_byte, word_of, after_word, number_in};
-ghost use Rattle.vyrd_own_text.specs.Reading.{place_in, is_lettered};
+ghost use Rattle.vyrd_base.specs.Own.Reading.{after, is_word_byte, word_of, after_word, number_in};
+ghost use Rattle.vyrd_base.specs.Own.Reading.{place_in, is_lettered};
 
 use vyrd_text::read_u64;
 

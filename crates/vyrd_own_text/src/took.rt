@@ -1,10 +1,10 @@
 //! Whether a line was taken in.
 
-use crate::rule::Rule;
+use vyrd_base::SpecificationRule;
 
 /// Whether a line was taken in, or the rule that it breaks and the text from there on.
 #[derive(Clone, Copy)]
 pub enum Took<'a> {
     In,
-    Refused(Rule, &'a [u8]),
+    Refused(SpecificationRule, &'a [u8]),
 }

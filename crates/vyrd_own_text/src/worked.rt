@@ -2,23 +2,24 @@
 //! the cases.
 
 ghost use Rattle.std.specs.Prelude.{◌≡◌, [], ◌∷◌, codes};
-ghost use Rattle.vyrd_own.specs.Samples.{queue};
-ghost use Rattle.vyrd_own_text.specs.declared.outcome.Outcome.TheVariants.{More, Log, Refused};
-ghost use Rattle.vyrd_own_text.specs.declared.rule.Rule.TheVariants.{BadLine, OutOfPlace, NameTaken};
-ghost use Rattle.vyrd_own_text.specs.declared.rule.Rule.TheVariants.{UnknownName, StateIsRead};
-ghost use Rattle.vyrd_own_text.specs.declared.rule.Rule.TheVariants.{NoCase, NoMethod};
-ghost use Rattle.vyrd_own_text.specs.Reader.{nothing_read};
-ghost use Rattle.vyrd_own_text.specs.Samples.{read_lines, outcome_after, queue_text};
+ghost use Rattle.vyrd_base.specs.declared.own.line.SpecificationLine.TheVariants.{Log, Refused};
+ghost use Rattle.vyrd_base.specs.declared.own.rule.SpecificationRule.TheVariants.{BadLine};
+ghost use Rattle.vyrd_base.specs.declared.own.rule.SpecificationRule.TheVariants.{OutOfPlace};
+ghost use Rattle.vyrd_base.specs.declared.own.rule.SpecificationRule.TheVariants.{NameTaken};
+ghost use Rattle.vyrd_base.specs.declared.own.rule.SpecificationRule.TheVariants.{UnknownName};
+ghost use Rattle.vyrd_base.specs.declared.own.rule.SpecificationRule.TheVariants.{StateIsRead};
+ghost use Rattle.vyrd_base.specs.declared.own.rule.SpecificationRule.TheVariants.{NoCase, NoMethod};
+ghost use Rattle.vyrd_base.specs.Own.Samples.{queue_text};
+ghost use Rattle.vyrd_own_text.specs.Samples.{outcome_after};
 
-/// The text of a queue says that queue, of which `vyrd_own` has worked cases.
-#[tactic(auto, unfolding(crate::proofs::Opened::opened))]
+/// The text of a queue is whole. What it spells is worked out in `vyrd_base`.
+#[tactic(auto, unfolding(vyrd_base::proofs::OpenedOwn::opened_reading))]
 pub fn a_queue()
-    ensures read { (read_lines nothing_read queue_text).specification ≡ queue }
     ensures ended { outcome_after queue_text (codes "log") ≡ Log }
 {}
 
 /// Lines that break a rule, with the column.
-#[tactic(auto, unfolding(crate::proofs::Opened::opened))]
+#[tactic(auto, unfolding(vyrd_base::proofs::OpenedOwn::opened_reading))]
 pub fn refused_lines()
     ensures no_line { outcome_after [] (codes "what") ≡ Refused BadLine 1 }
     ensures leading_zero { outcome_after [] (codes "let a 01") ≡ Refused BadLine 7 }

@@ -1,7 +1,7 @@
 use Rattle.std.proofs.Common.{◌≡◌, drop}
 use Rattle.std.specs.Prelude.{map}
 use Rattle.vyrd_own.specs.Layout.{case_of}
-use Rattle.vyrd_own.specs.Steps.{allowed_effects}
+use Rattle.vyrd_base.specs.Own.Steps.{allowed_effects}
 use Rattle.vyrd_own.proofs.steps.put_allowed.Given as goal
 
 abbrev pub invariant-loop-case : goal.invariant-loop-case

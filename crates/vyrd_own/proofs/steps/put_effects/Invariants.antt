@@ -1,7 +1,7 @@
 use Rattle.std.proofs.Common.{◌≡◌, take}
 use Rattle.std.specs.Prelude.{map}
 use Rattle.vyrd_own.specs.Layout.{change_of}
-use Rattle.vyrd_own.specs.Steps.{effect_of}
+use Rattle.vyrd_base.specs.Own.Steps.{effect_of}
 use Rattle.vyrd_own.proofs.steps.put_effects.Given as goal
 
 abbrev pub invariant-loop-change : goal.invariant-loop-change

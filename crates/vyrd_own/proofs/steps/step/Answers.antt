@@ -1,7 +1,7 @@
 use Rattle.std.proofs.Common.{ap, sym, ◌∙◌, Some, None, cond}
 use Rattle.std.specs.Prelude.{map}
 use Rattle.vyrd_own.specs.Layout.{case_of, method_of, written}
-use Rattle.vyrd_own.specs.Steps.{with_effects}
+use Rattle.vyrd_base.specs.Own.Steps.{with_effects}
 use Rattle.vyrd_own.proofs.StepLaws.{effects_are, next_is}
 use Rattle.vyrd_own.proofs.steps.step.Goals as goal
 

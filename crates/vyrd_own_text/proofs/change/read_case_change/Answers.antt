@@ -1,6 +1,6 @@
 use Rattle.std.proofs.Common.{◌≡◌, subst}
 use Rattle.std.specs.Prelude.{IfOk}
-use Rattle.vyrd_own_text.specs.Changes.{change_read}
+use Rattle.vyrd_base.specs.Own.Changes.{change_read}
 use Rattle.vyrd_own.specs.Layout.{texts}
 use Rattle.vyrd_own_text.specs.Meaning.{change_as}
 use Rattle.vyrd_own_text.proofs.change.read_case_change.Goals as goal

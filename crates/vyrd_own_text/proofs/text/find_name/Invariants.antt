@@ -1,5 +1,5 @@
 use Rattle.std.proofs.Common.{◌≡◌, drop}
-use Rattle.vyrd_own_text.specs.Reading.{place_from}
+use Rattle.vyrd_base.specs.Own.Reading.{place_from}
 use Rattle.vyrd_own.specs.Layout.{texts}
 use Rattle.vyrd_own_text.proofs.text.find_name.Given as goal
 

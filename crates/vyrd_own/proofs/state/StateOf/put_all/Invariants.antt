@@ -1,5 +1,5 @@
 use Rattle.std.proofs.Common.{◌≡◌, drop}
-use Rattle.vyrd_own.specs.Steps.{with_effects}
+use Rattle.vyrd_base.specs.Own.Steps.{with_effects}
 use Rattle.vyrd_own.proofs.state.StateOf.put_all.Given as goal
 
 abbrev pub invariant-loop-effect : goal.invariant-loop-effect

@@ -2,7 +2,7 @@
 
 /// The rule that a line breaks.
 #[derive(Clone, Copy, Debug)]
-pub enum Rule {
+pub enum SpecificationRule {
     /// The line has more than 200 bytes.
     TooLong,
     /// It is no line of a specification.

@@ -3,17 +3,17 @@ use Rattle.std.specs.Prelude.{if◌then◌else◌}
 use Rattle.std.specs.Prelude.{ℕ, ◌==◌, Bool, true, false, not, ◌&&◌, ◌||◌, nat_le, List, [], ◌∷◌}
 use Rattle.std.specs.Prelude.{◌++◌}
 use Rattle.std.specs.Prelude.{length, take, min, codes, Option, Some, None, Ok, Err}
-use Rattle.vyrd_own_text.specs.Spelling.{Scope}
-use Rattle.vyrd_own_text.specs.Reading.{Taken, and_then, after, if_after, word_of, number_in}
-use Rattle.vyrd_own.specs.Programs.{Written}
-use Rattle.vyrd_own_text.specs.Lines.{Line, has_any, constant, register, list, holds}
-use Rattle.vyrd_own_text.specs.Lines.{hidden, part, shows}
-use Rattle.vyrd_own_text.specs.Names.{words_of_parts, is_known, new_name}
-use Rattle.vyrd_own_text.specs.Pieces.{last_number, taken_with, named_number, ended, two_numbers}
-use Rattle.vyrd_own_text.specs.Pieces.{two_read}
-use Rattle.vyrd_own_text.specs.declared.last.Last.{Last}
-use Rattle.vyrd_own_text.specs.declared.last.Last.TheVariants as lasts
-use Rattle.vyrd_own_text.specs.declared.rule.Rule.TheVariants as rules
+use Rattle.vyrd_base.specs.Own.Spelling.{Scope}
+use Rattle.vyrd_base.specs.Own.Reading.{Taken, and_then, after, if_after, word_of, number_in}
+use Rattle.vyrd_base.specs.Own.Programs.{Written}
+use Rattle.vyrd_base.specs.Own.Lines.{Line, has_any, constant, register, list, holds}
+use Rattle.vyrd_base.specs.Own.Lines.{hidden, part, shows}
+use Rattle.vyrd_base.specs.Own.Names.{words_of_parts, is_known, new_name}
+use Rattle.vyrd_base.specs.Own.Pieces.{last_number, taken_with, named_number, ended, two_numbers}
+use Rattle.vyrd_base.specs.Own.Pieces.{two_read}
+use Rattle.vyrd_base.specs.declared.own.last.Last.{Last}
+use Rattle.vyrd_base.specs.declared.own.last.Last.TheVariants as lasts
+use Rattle.vyrd_base.specs.declared.own.rule.SpecificationRule.TheVariants as rules
 
 -- whether the line above is a list's or one of its elements; and whether it is the part's or one of
 -- what a part gives

@@ -1,11 +1,11 @@
 -- The pieces of a line, up to its end: numbers, expressions, names that are known.
 use Rattle.std.specs.Prelude.{ℕ, Bool, List, [], ◌∷◌, codes, Option, Some, None, Ok, Err}
-use Rattle.vyrd_own.specs.Expressions.{Expr}
-use Rattle.vyrd_own_text.specs.Spelling.{Scope}
-use Rattle.vyrd_own_text.specs.Reading.{Taken, and_then, after, if_after, word_of, after_word}
-use Rattle.vyrd_own_text.specs.Reading.{number_in, expr_read, name_read}
-use Rattle.vyrd_own_text.specs.Names.{new_name}
-use Rattle.vyrd_own_text.specs.declared.rule.Rule.TheVariants as rules
+use Rattle.vyrd_base.specs.Own.Expressions.{Expr}
+use Rattle.vyrd_base.specs.Own.Spelling.{Scope}
+use Rattle.vyrd_base.specs.Own.Reading.{Taken, and_then, after, if_after, word_of, after_word}
+use Rattle.vyrd_base.specs.Own.Reading.{number_in, expr_read, name_read}
+use Rattle.vyrd_base.specs.Own.Names.{new_name}
+use Rattle.vyrd_base.specs.declared.own.rule.SpecificationRule.TheVariants as rules
 
 -- a number that is the whole text
 abbrev pub number_found : List ℕ → Option ℕ → Taken ℕ

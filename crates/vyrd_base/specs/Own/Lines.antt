@@ -1,8 +1,8 @@
 -- What a line says, and what it adds to the lines before it.
 use Rattle.std.specs.Prelude.{ℕ, ◌==◌, Bool, not, List, [], ◌∷◌, ◌++◌, length, Some}
 use Rattle.std.specs.Prelude.{None}
-use Rattle.vyrd_own.specs.Expressions.{Expr}
-use Rattle.vyrd_own.specs.Programs.{Change, Case, Method, Written}
+use Rattle.vyrd_base.specs.Own.Expressions.{Expr}
+use Rattle.vyrd_base.specs.Own.Programs.{Change, Case, Method, Written}
 
 -- what a line of a method says
 pub data Inner : Type 0 where

@@ -5,9 +5,9 @@ use Rattle.std.specs.Prelude.{Err}
 use Rattle.std.specs.Option.{is_some}
 use Rattle.std.specs.List.{list_any}
 use Rattle.std.specs.Str.{bytes_eq}
-use Rattle.vyrd_own_text.specs.Reading.{Found, word_of, after_word, place_in, is_lettered}
-use Rattle.vyrd_own.specs.Programs.{Written}
-use Rattle.vyrd_own_text.specs.declared.rule.Rule.TheVariants as rules
+use Rattle.vyrd_base.specs.Own.Reading.{Found, word_of, after_word, place_in, is_lettered}
+use Rattle.vyrd_base.specs.Own.Programs.{Written}
+use Rattle.vyrd_base.specs.declared.own.rule.SpecificationRule.TheVariants as rules
 
 -- the words of the language, which are no names
 unfoldable pub words_of_parts : List (List ℕ)

@@ -2,15 +2,15 @@
 use Rattle.std.specs.Prelude.{ℕ, List, [], ◌∷◌, length, not, nat_le, codes, Option, Some, None}
 use Rattle.std.specs.Prelude.{Ok, Err, if◌then◌else◌}
 use Rattle.std.specs.Str.{bytes_eq}
-use Rattle.vyrd_own_text.specs.Spelling.{Scope}
-use Rattle.vyrd_own_text.specs.Reading.{Taken, after, if_after}
-use Rattle.vyrd_own.specs.Programs.{Case, Method, Written}
-use Rattle.vyrd_own_text.specs.Lines.{Inner, has_any, changing}
-use Rattle.vyrd_own_text.specs.Methods.{last_in, method_scope, inner_read}
-use Rattle.vyrd_own.specs.Programs.{Change, of_shown, of_hidden, of_register, append, prepend}
-use Rattle.vyrd_own.specs.Programs.{drop_first, drop_last, clear, clear_shown}
-use Rattle.vyrd_own_text.specs.Pieces.{taken_with, two_read, last_name, named_value}
-use Rattle.vyrd_own_text.specs.declared.rule.Rule.TheVariants as rules
+use Rattle.vyrd_base.specs.Own.Spelling.{Scope}
+use Rattle.vyrd_base.specs.Own.Reading.{Taken, after, if_after}
+use Rattle.vyrd_base.specs.Own.Programs.{Case, Method, Written}
+use Rattle.vyrd_base.specs.Own.Lines.{Inner, has_any, changing}
+use Rattle.vyrd_base.specs.Own.Methods.{last_in, method_scope, inner_read}
+use Rattle.vyrd_base.specs.Own.Programs.{Change, of_shown, of_hidden, of_register, append, prepend}
+use Rattle.vyrd_base.specs.Own.Programs.{drop_first, drop_last, clear, clear_shown}
+use Rattle.vyrd_base.specs.Own.Pieces.{taken_with, two_read, last_name, named_value}
+use Rattle.vyrd_base.specs.declared.own.rule.SpecificationRule.TheVariants as rules
 
 -- a change of a list that has no expression
 unfoldable pub plain_read : List (List ℕ) → List ℕ → Taken Change

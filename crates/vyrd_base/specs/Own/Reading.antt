@@ -6,21 +6,21 @@ use Rattle.std.specs.Prelude.{[], ◌∷◌, codes, decimal, Option, Some, None,
 use Rattle.std.specs.Prelude.{if◌then◌else◌}
 use Rattle.std.specs.Str.{bytes_eq}
 use Rattle.std.specs.Str.Parse.{digits_value}
-use Rattle.vyrd_own.specs.declared.op.Op.{Op}
-use Rattle.vyrd_own.specs.declared.op.Op.TheVariants.{Plus, Minus, Times, Over, Rest, Equal}
-use Rattle.vyrd_own.specs.declared.op.Op.TheVariants.{Unequal}
-use Rattle.vyrd_own.specs.declared.op.Op.TheVariants.{Below, AtMost, Above, AtLeast, And, Or}
-use Rattle.vyrd_own.specs.Expressions.{Expr, number, at, count, shown, hidden, least, greatest}
-use Rattle.vyrd_own.specs.Expressions.{first}
-use Rattle.vyrd_own.specs.Expressions.{last, size, negation, infix_of, choice, most}
-use Rattle.vyrd_own_text.specs.declared.rule.Rule.{Rule}
-use Rattle.vyrd_own_text.specs.declared.rule.Rule.TheVariants.{BadLine, UnknownName, TooDeep}
-use Rattle.vyrd_own_text.specs.declared.rule.Rule.TheVariants.{StateIsRead}
-use Rattle.vyrd_own_text.specs.Spelling.{op_word, Scope}
+use Rattle.vyrd_base.specs.declared.own.op.Op.{Op}
+use Rattle.vyrd_base.specs.declared.own.op.Op.TheVariants.{Plus, Minus, Times, Over, Rest, Equal}
+use Rattle.vyrd_base.specs.declared.own.op.Op.TheVariants.{Unequal}
+use Rattle.vyrd_base.specs.declared.own.op.Op.TheVariants.{Below, AtMost, Above, AtLeast, And, Or}
+use Rattle.vyrd_base.specs.Own.Expressions.{Expr, number, at, count, shown, hidden, least, greatest}
+use Rattle.vyrd_base.specs.Own.Expressions.{first}
+use Rattle.vyrd_base.specs.Own.Expressions.{last, size, negation, infix_of, choice, most}
+use Rattle.vyrd_base.specs.declared.own.rule.SpecificationRule.{SpecificationRule}
+use Rattle.vyrd_base.specs.declared.own.rule.SpecificationRule.TheVariants.{BadLine, UnknownName}
+use Rattle.vyrd_base.specs.declared.own.rule.SpecificationRule.TheVariants.{TooDeep, StateIsRead}
+use Rattle.vyrd_base.specs.Own.Spelling.{op_word, Scope}
 
 -- what is read; or the rule that is broken, and the text from there on
 abbrev pub Taken : Type 0 → Type 0
-Taken A = Result A (Rule × List ℕ)
+Taken A = Result A (SpecificationRule × List ℕ)
 
 -- what is read from the front of a text, and the text after it
 abbrev pub Found : Type 0 → Type 0

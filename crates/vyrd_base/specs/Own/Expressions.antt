@@ -4,10 +4,11 @@ use Rattle.std.specs.Prelude.{not, nat_lt, nat_le, min, List, [], length, filter
 use Rattle.std.specs.Prelude.{slice_index}
 use Rattle.std.specs.Prelude.{slice_index_or, if◌then◌else◌}
 use Rattle.vyrd_base.specs.Amounts.{Amounts, amount_of, keys_of}
-use Rattle.vyrd_own.specs.declared.op.Op.{Op}
-use Rattle.vyrd_own.specs.declared.op.Op.TheVariants.{Plus, Minus, Times, Over, Rest, Equal}
-use Rattle.vyrd_own.specs.declared.op.Op.TheVariants.{Unequal}
-use Rattle.vyrd_own.specs.declared.op.Op.TheVariants.{Below, AtMost, Above, AtLeast, And, Or}
+use Rattle.vyrd_base.specs.States.{State}
+use Rattle.vyrd_base.specs.declared.own.op.Op.{Op}
+use Rattle.vyrd_base.specs.declared.own.op.Op.TheVariants.{Plus, Minus, Times, Over, Rest, Equal}
+use Rattle.vyrd_base.specs.declared.own.op.Op.TheVariants.{Unequal}
+use Rattle.vyrd_base.specs.declared.own.op.Op.TheVariants.{Below, AtMost, Above, AtLeast, And, Or}
 
 -- An expression. `at i` stands for a name: it is value number i of those that have names there.
 -- `first i`, `last i` and `size i` speak of list number i.
@@ -25,13 +26,6 @@ pub data Expr : Type 0 where
   negation : Expr → Expr
   infix_of : Op → Expr → Expr → Expr
   choice : Expr → Expr → Expr → Expr
-
--- a state: the shown amounts, the hidden amounts, the registers and the lists
-pub record State : Type 0 where
-  pub shown : Amounts
-  pub hidden : Amounts
-  pub registers : List ℕ
-  pub lists : List (List ℕ)
 
 -- the greatest number of 64 bits, which is also `none`
 abbrev pub most : ℕ

@@ -8,15 +8,16 @@ use Rattle.std.specs.Prelude.{Option, Some, None, option_map, if◌then◌else�
 use Rattle.std.specs.List.{list_all}
 use Rattle.vyrd_base.specs.Amounts.{Amounts, with_amount, collected}
 use Rattle.vyrd_base.specs.Places.{numbers_below}
-use Rattle.vyrd_own.specs.declared.effect.Effect.{Effect}
-use Rattle.vyrd_own.specs.declared.effect.Effect.TheVariants.{SetShown, SetHidden, SetRegister}
-use Rattle.vyrd_own.specs.declared.effect.Effect.TheVariants.{PutLast}
-use Rattle.vyrd_own.specs.declared.effect.Effect.TheVariants.{PutFirst, TakeFirst, TakeLast, Empty}
-use Rattle.vyrd_own.specs.declared.effect.Effect.TheVariants.{EmptyShown}
-use Rattle.vyrd_own.specs.Expressions.{Expr, State, holds, value, list_at}
-use Rattle.vyrd_own.specs.Programs.{Change, of_shown, of_hidden, of_register, append, prepend}
-use Rattle.vyrd_own.specs.Programs.{drop_first, drop_last, clear, clear_shown, Case, Method}
-use Rattle.vyrd_own.specs.Programs.{Written}
+use Rattle.vyrd_base.specs.declared.own.effect.Effect.{Effect}
+use Rattle.vyrd_base.specs.declared.own.effect.Effect.TheVariants.{SetShown, SetHidden, SetRegister}
+use Rattle.vyrd_base.specs.declared.own.effect.Effect.TheVariants.{PutLast}
+use Rattle.vyrd_base.specs.declared.own.effect.Effect.TheVariants.{PutFirst, TakeFirst, TakeLast}
+use Rattle.vyrd_base.specs.declared.own.effect.Effect.TheVariants.{Empty, EmptyShown}
+use Rattle.vyrd_base.specs.States.{State}
+use Rattle.vyrd_base.specs.Own.Expressions.{Expr, holds, value, list_at}
+use Rattle.vyrd_base.specs.Own.Programs.{Change, of_shown, of_hidden, of_register, append, prepend}
+use Rattle.vyrd_base.specs.Own.Programs.{drop_first, drop_last, clear, clear_shown, Case, Method}
+use Rattle.vyrd_base.specs.Own.Programs.{Written}
 
 -- the values with one more for each `let`, which sees those before it
 abbrev pub with_lets : State → List ℕ → List Expr → List ℕ

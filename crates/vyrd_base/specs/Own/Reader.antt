@@ -3,20 +3,20 @@ use Rattle.std.specs.Prelude.{ℕ, ◌+◌, ◌-◌, ◌==◌, Bool, true, not, 
 use Rattle.std.specs.Prelude.{◌∷◌, length, drop, codes, Option, Some, None, Ok, Err, if◌then◌else◌}
 use Rattle.std.specs.Option.{is_some}
 use Rattle.std.specs.Str.{bytes_eq}
-use Rattle.vyrd_own_text.specs.declared.last.Last.{Last}
-use Rattle.vyrd_own_text.specs.declared.last.Last.TheVariants as lasts
-use Rattle.vyrd_own_text.specs.declared.outcome.Outcome.{Outcome}
-use Rattle.vyrd_own_text.specs.declared.outcome.Outcome.TheVariants as outcomes
-use Rattle.vyrd_own_text.specs.declared.rule.Rule.{Rule}
-use Rattle.vyrd_own_text.specs.declared.rule.Rule.TheVariants as rules
-use Rattle.vyrd_own_text.specs.Reading.{Taken, after, if_after}
-use Rattle.vyrd_own.specs.Programs.{Method, Written}
-use Rattle.vyrd_own_text.specs.Lines.{Line, has_any, remark, inner, with_line}
-use Rattle.vyrd_own_text.specs.Lines.{nothing_written}
-use Rattle.vyrd_own_text.specs.Pieces.{taken_with}
-use Rattle.vyrd_own_text.specs.Outer.{outer_read}
-use Rattle.vyrd_own_text.specs.Methods.{last_in, is_unfinished, method_read}
-use Rattle.vyrd_own_text.specs.Changes.{within_read}
+use Rattle.vyrd_base.specs.declared.own.last.Last.{Last}
+use Rattle.vyrd_base.specs.declared.own.last.Last.TheVariants as lasts
+use Rattle.vyrd_base.specs.declared.own.line.SpecificationLine.{SpecificationLine}
+use Rattle.vyrd_base.specs.declared.own.line.SpecificationLine.TheVariants as outcomes
+use Rattle.vyrd_base.specs.declared.own.rule.SpecificationRule.{SpecificationRule}
+use Rattle.vyrd_base.specs.declared.own.rule.SpecificationRule.TheVariants as rules
+use Rattle.vyrd_base.specs.Own.Reading.{Taken, after, if_after}
+use Rattle.vyrd_base.specs.Own.Programs.{Method, Written}
+use Rattle.vyrd_base.specs.Own.Lines.{Line, has_any, remark, inner, with_line}
+use Rattle.vyrd_base.specs.Own.Lines.{nothing_written}
+use Rattle.vyrd_base.specs.Own.Pieces.{taken_with}
+use Rattle.vyrd_base.specs.Own.Outer.{outer_read}
+use Rattle.vyrd_base.specs.Own.Methods.{last_in, is_unfinished, method_read}
+use Rattle.vyrd_base.specs.Own.Changes.{within_read}
 
 -- an empty line, or a remark: it says nothing
 abbrev pub is_remark : List ℕ → Bool
@@ -24,7 +24,7 @@ is_remark [] = true
 is_remark (b ∷ line) = b == 35
 
 -- the rule that a line breaks that is no line outside methods, where there is no method
-abbrev pub unplaced : List ℕ → Rule
+abbrev pub unplaced : List ℕ → SpecificationRule
 unplaced line = if is_some (after (codes "  ") line) then rules.OutOfPlace else rules.BadLine
 
 -- a line of the last method
@@ -72,17 +72,17 @@ abbrev pub column : List ℕ → List ℕ → ℕ
 column line rest = length line - length rest + 1
 
 -- the rule that a specification breaks which ends here
-abbrev pub unfinished : List Method → Option Rule
+abbrev pub unfinished : List Method → Option SpecificationRule
 unfinished methods =
     if not (has_any methods) then Some rules.NoMethod
     else (if is_unfinished methods then Some rules.NoCase else None)
 
 -- what a line is, and what was read then: a line that breaks a rule changes nothing
-abbrev pub ended_with : SoFar → Option Rule → Outcome × SoFar
+abbrev pub ended_with : SoFar → Option SpecificationRule → SpecificationLine × SoFar
 ended_with s (Some rule) = (outcomes.Refused rule 1, s)
 ended_with s None = (outcomes.Log, s)
 
-abbrev pub told : SoFar → List ℕ → Taken Line → Outcome × SoFar
+abbrev pub told : SoFar → List ℕ → Taken Line → SpecificationLine × SoFar
 told s line (Ok says) = (
   outcomes.More,
   record {
@@ -93,8 +93,17 @@ told s line (Ok says) = (
 )
 told s line (Err stop) = (outcomes.Refused stop.0 (column line stop.1), s)
 
-unfoldable pub read_next : SoFar → List ℕ → Outcome × SoFar
+unfoldable pub read_next : SoFar → List ℕ → SpecificationLine × SoFar
 read_next s line =
     if bytes_eq line (codes "log") then ended_with s (unfinished s.specification.methods)
     else (if nat_le 1000 s.lines then (outcomes.Refused rules.TooMany 1, s)
     else told s line (line_read s.specification s.below line))
+
+-- what was read after these lines
+abbrev pub read_lines : SoFar → List (List ℕ) → SoFar
+read_lines s [] = s
+read_lines s (line ∷ lines) = read_lines (read_next s line).1 lines
+
+-- the specification that lines spell, without their line feeds and without the line `log`
+abbrev pub written_in : List (List ℕ) → Written
+written_in lines = (read_lines nothing_read lines).specification

@@ -5,15 +5,15 @@ use Rattle.std.specs.Prelude.{Option, Some, None, Ok, Err, zero, suc, ◌-◌, n
 use Rattle.std.specs.Option.{is_some}
 use Rattle.std.specs.List.{list_any}
 use Rattle.std.specs.Str.{bytes_eq}
-use Rattle.vyrd_own.specs.Expressions.{Expr}
-use Rattle.vyrd_own_text.specs.Spelling.{Scope}
-use Rattle.vyrd_own_text.specs.Reading.{Taken, and_then, after, if_after, word_of}
-use Rattle.vyrd_own.specs.Programs.{Method, Written}
-use Rattle.vyrd_own_text.specs.Lines.{Inner, Line, has_any, method, naming, answering}
-use Rattle.vyrd_own_text.specs.Lines.{allowing}
-use Rattle.vyrd_own_text.specs.Names.{is_among, is_known, new_name}
-use Rattle.vyrd_own_text.specs.Pieces.{taken_with, last_read}
-use Rattle.vyrd_own_text.specs.declared.rule.Rule.TheVariants as rules
+use Rattle.vyrd_base.specs.Own.Expressions.{Expr}
+use Rattle.vyrd_base.specs.Own.Spelling.{Scope}
+use Rattle.vyrd_base.specs.Own.Reading.{Taken, and_then, after, if_after, word_of}
+use Rattle.vyrd_base.specs.Own.Programs.{Method, Written}
+use Rattle.vyrd_base.specs.Own.Lines.{Inner, Line, has_any, method, naming, answering}
+use Rattle.vyrd_base.specs.Own.Lines.{allowing}
+use Rattle.vyrd_base.specs.Own.Names.{is_among, is_known, new_name}
+use Rattle.vyrd_base.specs.Own.Pieces.{taken_with, last_read}
+use Rattle.vyrd_base.specs.declared.own.rule.SpecificationRule.TheVariants as rules
 
 -- what the expressions of a method see; `reply` in its cases
 abbrev pub method_scope : Written → Method → List (List ℕ) → Scope

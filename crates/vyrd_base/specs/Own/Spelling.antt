@@ -2,13 +2,13 @@
 -- between words.
 use Rattle.std.specs.Prelude.{ℕ, ◌==◌, Bool, List, [], ◌++◌, codes, decimal}
 use Rattle.std.specs.Prelude.{slice_index_or, if◌then◌else◌}
-use Rattle.vyrd_own.specs.declared.op.Op.{Op}
-use Rattle.vyrd_own.specs.declared.op.Op.TheVariants.{Plus, Minus, Times, Over, Rest, Equal}
-use Rattle.vyrd_own.specs.declared.op.Op.TheVariants.{Unequal}
-use Rattle.vyrd_own.specs.declared.op.Op.TheVariants.{Below, AtMost, Above, AtLeast, And, Or}
-use Rattle.vyrd_own.specs.Expressions.{Expr, number, at, count, shown, hidden, least, greatest}
-use Rattle.vyrd_own.specs.Expressions.{first}
-use Rattle.vyrd_own.specs.Expressions.{last, size, negation, infix_of, choice, most}
+use Rattle.vyrd_base.specs.declared.own.op.Op.{Op}
+use Rattle.vyrd_base.specs.declared.own.op.Op.TheVariants.{Plus, Minus, Times, Over, Rest, Equal}
+use Rattle.vyrd_base.specs.declared.own.op.Op.TheVariants.{Unequal}
+use Rattle.vyrd_base.specs.declared.own.op.Op.TheVariants.{Below, AtMost, Above, AtLeast, And, Or}
+use Rattle.vyrd_base.specs.Own.Expressions.{Expr, number, at, count, shown, hidden, least, greatest}
+use Rattle.vyrd_base.specs.Own.Expressions.{first}
+use Rattle.vyrd_base.specs.Own.Expressions.{last, size, negation, infix_of, choice, most}
 
 -- what an expression may speak of: values by their names, in the order of the values; lists by
 -- their names, in the order of the lists; and the state, or not

@@ -1,7 +1,7 @@
 -- A specification as it is written. Names that an expression speaks of are numbers in it: what has
 -- a name where it stands, from 0 on.
 use Rattle.std.specs.Prelude.{ℕ, List, Option}
-use Rattle.vyrd_own.specs.Expressions.{Expr}
+use Rattle.vyrd_base.specs.Own.Expressions.{Expr}
 
 -- a line that changes something: an amount, a register, a list
 pub data Change : Type 0 where
