@@ -3,10 +3,10 @@
 //! A `Program` is a specification that was read. `step` makes a step of a state with a call and its
 //! reply, `answer` is what an execution replies that commits nothing, and `put_parts` is what a
 //! part of the words gives to keys. Each answers exactly what the definitions say of the
-//! specification as it is written (`specs/Steps`, `specs/Expressions`), for any state and any
-//! arguments, or that memory ran out. An expression is evaluated in one pass over a list of nodes;
-//! how the nodes make the expression is a matter of the layout (`specs/Layout`), of which the
-//! definitions know nothing.
+//! specification as it is written (`Steps` and `Expressions` of `vyrd_base`, in `specs/Own`), for
+//! any state and any arguments, or that memory ran out. An expression is evaluated in one pass over
+//! a list of nodes; how the nodes make the expression is a matter of the layout (`specs/Layout`),
+//! of which the definitions know nothing.
 #![tactic(auto)]
 
 mod code;

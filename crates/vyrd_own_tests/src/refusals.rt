@@ -3,7 +3,7 @@
 use crate::specifications::ALL;
 use std::alloc::{AllocError, Global};
 use std::process::Abort;
-use vyrd_own_text::{SpecificationLine, SpecificationRule, SpecificationReader};
+use vyrd_own_text::{SpecificationLine, SpecificationReader, SpecificationRule};
 
 /// What the first of these lines is that isn't taken in, with its column; and nothing, if each is.
 fn first_refusal(alloc: Global, text: &str) -> Result<(&'static str, usize), AllocError> {

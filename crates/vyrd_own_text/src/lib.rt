@@ -2,8 +2,8 @@
 //!
 //! The central type is `SpecificationReader`. It takes any bytes for a line, and answers that the
 //! line was taken in, that it ends the specification, or the rule that it breaks and in which
-//! column. That is what the definitions say of the line after those before it (`specs/Reader`),
-//! and what was read is what they say too.
+//! column. That is what the definitions say of the line after those before it (`Reader` of
+//! `vyrd_base`, in `specs/Own`), and what was read is what they say too.
 #![tactic(auto)]
 
 mod change;
