@@ -2,7 +2,7 @@ use Rattle.std.proofs.Common.{◌≡◌, ◌++◌, ◌∷◌, [], ℕ, List, ap,
 use Rattle.std.specs.Prelude.{map}
 use Rattle.std.specs.Global.{Vec}
 use Rattle.std.proofs.lemmas.List.{map-append}
-use Rattle.vyrd_own_text.specs.Lines.{holding}
+use Rattle.vyrd_base.specs.Own.Lines.{holding}
 use Rattle.vyrd_own_text.proofs.LastLaws.{holding_last}
 use Rattle.vyrd_own_text.proofs.outer.hold.Goals as goal
 
