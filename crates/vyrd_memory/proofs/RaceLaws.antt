@@ -19,7 +19,7 @@ use Rattle.vyrd_base.specs.Places.{Place, places, position_of, first_answer, new
 use Rattle.vyrd_base.specs.Callers.{open_call}
 use Rattle.vyrd_base.specs.Shape.{broken_rule}
 use Rattle.vyrd_base.specs.Front.{front, first_break}
-use Rattle.vyrd_base.specs.Amounts.{Amounts}
+use Rattle.vyrd_base.specs.States.{State}
 use Rattle.vyrd_base.specs.Faults.{fault_at}
 use Rattle.vyrd_base.specs.Verdicts.{line_of, violation_at, states_along, first_fault, shape_verdict, is_call_open, end_verdict, accepted, verdict}
 use Rattle.vyrd_base.proofs.NoStart.{verdict_so_far-none, end_verdict-none}
@@ -103,7 +103,7 @@ none_open h earlier keep rest = none_any (λ c. is_some (open_call c (filter_map
     (ap (λ s. is_none s.called) (rest c low)))
 
 -- a fault is no broken rule
-fault_isnt : (h : Header) (states : List Amounts) (ps : List (Place Entry)) (line : ℕ) (rule : Rule)
+fault_isnt : (h : Header) (states : List State) (ps : List (Place Entry)) (line : ℕ) (rule : Rule)
     → first_answer (violation_at (rules_of h) [] states) ps ≡ Some (Malformed line rule) → ⊥
 fault_isnt h states [] line rule e = cc
 fault_isnt h states (place ∷ ps) line rule e = by_fault (fault_at (rules_of h) [] states place) (fault_isnt h states ps line rule) e
