@@ -15,8 +15,9 @@ use Rattle.vyrd_base.specs.declared.verdict.Verdict.TheVariants.{Violation, Malf
 use Rattle.vyrd_base.specs.Places.{Place, places, places_after, position_of, first_answer, newest_first_onto, newest_first}
 use Rattle.vyrd_base.specs.Front.{front, first_break, WellFormed}
 use Rattle.vyrd_base.specs.Amounts.{Amounts}
+use Rattle.vyrd_base.specs.States.{State}
 use Rattle.vyrd_base.specs.Specification.{start}
-use Rattle.vyrd_base.specs.Commits.{next_reply, committed_at, commits_after, commits, states_from, commit_count}
+use Rattle.vyrd_base.specs.Commits.{next_reply, committed_at, commits_after, commits, commit_count}
 use Rattle.vyrd_base.specs.Faults.{fault_of_kind, fault_of_commit, return_fault, fault_at}
 use Rattle.vyrd_base.specs.FirstVersion.{old_words_after}
 use Rattle.vyrd_base.specs.Views.{view_of_words}
@@ -39,16 +40,17 @@ use Rattle.vyrd_every.proofs.NextEvent.{Committing, Leading, Returning, run_befo
 use Rattle.vyrd_every.proofs.Keeping.{GoesOn, Keeping}
 use Rattle.vyrd_every.proofs.Coming.{reply_comes}
 use Rattle.vyrd_every.proofs.Reached.{no_break, all_front}
-use Rattle.vyrd_every.proofs.Judged.{later_states, states_begin, commit_is_right, state_goes_on, return_is_right}
+use Rattle.vyrd_every.proofs.VerdictStates.{states_with, later_states, states_begin, state_goes_on}
+use Rattle.vyrd_every.proofs.Judged.{commit_is_right, return_is_right}
 use Rattle.vyrd_base.specs.Rules.{rules_of}
 
 -- the first fault among the entries to come, with the states that have passed and those to come
 abbrev FaultFrom : Header → List Amounts → Amounts → List Entry → List Entry → Type 0
 FaultFrom h passed state log logs =
-    first_answer (violation_at (rules_of h) [] (passed ++ states_from (rules_of h) state (commits_after log logs))) (places_after log logs) ≡ None
+    first_answer (violation_at (rules_of h) [] (states_with h passed state (commits_after log logs))) (places_after log logs) ≡ None
 
 -- what a place adds
-place_adds : (h : Header) (states : List Amounts) (place : Place Entry) (rest : List (Place Entry)) → fault_of_kind (rules_of h) [] states place place.here.kind ≡ None
+place_adds : (h : Header) (states : List State) (place : Place Entry) (rest : List (Place Entry)) → fault_of_kind (rules_of h) [] states place place.here.kind ≡ None
     → first_answer (violation_at (rules_of h) [] states) rest ≡ None
     → first_answer (violation_at (rules_of h) [] states) (place ∷ rest) ≡ None
 unfolding fault_at
@@ -57,16 +59,16 @@ place_adds h states place rest right later =
 
 -- an entry that neither commits nor returns
 plain_place : (h : Header) (passed : List Amounts) (state next : Amounts) (log logs : List Entry) (e : Entry)
-    → ((states : List Amounts) → fault_of_kind (rules_of h) [] states (record { earlier = log; here = e; later = logs }) e.kind ≡ None)
+    → ((states : List State) → fault_of_kind (rules_of h) [] states (record { earlier = log; here = e; later = logs }) e.kind ≡ None)
     → commits_after log (e ∷ logs) ≡ commits_after (e ∷ log) logs → next ≡ state → FaultFrom h passed next (e ∷ log) logs → FaultFrom h passed state log (e ∷ logs)
 plain_place h passed state next log logs e right same unchanged later =
-    place_adds h (passed ++ states_from (rules_of h) state (commits_after log (e ∷ logs))) (record { earlier = log; here = e; later = logs }) (places_after (e ∷ log) logs)
-    (right (passed ++ states_from (rules_of h) state (commits_after log (e ∷ logs))))
-    (subst (λ xs. first_answer (violation_at (rules_of h) [] (passed ++ states_from (rules_of h) state xs)) (places_after (e ∷ log) logs) ≡ None) (sym same)
+    place_adds h (states_with h passed state (commits_after log (e ∷ logs))) (record { earlier = log; here = e; later = logs }) (places_after (e ∷ log) logs)
+    (right (states_with h passed state (commits_after log (e ∷ logs))))
+    (subst (λ xs. first_answer (violation_at (rules_of h) [] (states_with h passed state xs)) (places_after (e ∷ log) logs) ≡ None) (sym same)
     (subst (λ s. FaultFrom h passed s (e ∷ log) logs) unchanged later))
 
 commit_place : (h : Header) → h.version ≡ 1 → (passed : List Amounts) (state next : Amounts) (log logs : List Entry) (e : Entry) (rest : Script)
-    → ((states : List Amounts) → fault_of_kind (rules_of h) [] states (record { earlier = log; here = e; later = logs }) e.kind
+    → ((states : List State) → fault_of_kind (rules_of h) [] states (record { earlier = log; here = e; later = logs }) e.kind
     ≡ fault_of_commit (rules_of h) [] states (record { earlier = log; here = e; later = logs }))
     → commits_after log (e ∷ logs) ≡ committed_at (record { earlier = log; here = e; later = logs }) ∷ commits_after (e ∷ log) logs
     → WellFormed h (e ∷ log) → view_of_words h (old_words_after h (e ∷ log)) ≡ next → length passed ≡ commit_count log
@@ -74,13 +76,13 @@ commit_place : (h : Header) → h.version ≡ 1 → (passed : List Amounts) (sta
     → Committing e.caller log rest state next
     → FaultFrom h (passed ++ state ∷ []) next (e ∷ log) logs → FaultFrom h passed state log (e ∷ logs)
 commit_place h one passed state next log logs e rest kind_is goes_on wf m count coming committing later =
-    place_adds h (passed ++ states_from (rules_of h) state (commits_after log (e ∷ logs))) place (places_after (e ∷ log) logs)
-    (kind_is (passed ++ states_from (rules_of h) state (commits_after log (e ∷ logs)))
-    ∙ ap (λ states. fault_of_commit (rules_of h) [] (passed ++ states) place) (states_begin h state (commits_after log (e ∷ logs)))
+    place_adds h (states_with h passed state (commits_after log (e ∷ logs))) place (places_after (e ∷ log) logs)
+    (kind_is (states_with h passed state (commits_after log (e ∷ logs)))
+    ∙ ap (λ states. fault_of_commit (rules_of h) [] states place) (states_begin h passed state (commits_after log (e ∷ logs)))
     ∙ commit_is_right h one passed (later_states h state (commits_after log (e ∷ logs))) state next place committing.called committing.reply wf m count
     committing.is_called (coming committing.reply committing.returns) committing.allowed)
     (subst (λ states. first_answer (violation_at (rules_of h) [] states) (places_after (e ∷ log) logs) ≡ None)
-    (sym (ap (λ xs. passed ++ states_from (rules_of h) state xs) goes_on
+    (sym (ap (states_with h passed state) goes_on
     ∙ state_goes_on h passed state next (committed_at place) (commits_after (e ∷ log) logs) committing.called committing.reply committing.is_called
     (coming committing.reply committing.returns) committing.allowed))
     later)
@@ -107,9 +109,9 @@ event_place h one c (Wrote cell value) passed state next log logs rest wf m coun
 event_place h one c (Marked (Call method args)) passed state next log logs rest wf m count coming leading returning later =
     plain_place h passed state next log logs (entry c (Call method args)) (λ states. refl) refl leading later
 event_place h one c (Marked (Return reply)) passed state next log logs rest wf m count coming leading returning later =
-    place_adds h (passed ++ states_from (rules_of h) state (commits_after log (entry c (Return reply) ∷ logs)))
+    place_adds h (states_with h passed state (commits_after log (entry c (Return reply) ∷ logs)))
     (record { earlier = log; here = entry c (Return reply); later = logs }) (places_after (entry c (Return reply) ∷ log) logs)
-    (ap (λ states. return_fault (rules_of h) (passed ++ states) c log reply) (states_begin h state (commits_after log (entry c (Return reply) ∷ logs)))
+    (ap (λ states. return_fault (rules_of h) states c log reply) (states_begin h passed state (commits_after log (entry c (Return reply) ∷ logs)))
     ∙ return_is_right h passed (later_states h state (commits_after log (entry c (Return reply) ∷ logs))) state c log reply count wf.0 returning)
     (subst (λ s. FaultFrom h passed s (entry c (Return reply) ∷ log) logs) leading later)
 event_place h one c (Marked (Write word value)) passed state next log logs rest wf m count coming leading returning later =
@@ -183,7 +185,7 @@ unfolding first_fault commits log_of
 no_fault h one scripts k history run done =
     ap (λ es. first_answer (violation_at (rules_of h) [] (states_along (rules_of h) [] es)) (places es)) (all_front h scripts k history run)
     ∙ ap (λ states. first_answer (violation_at (rules_of h) [] states) (places (log_of history))) (states_along-none h (log_of history))
-    ∙ no_fault_from h one scripts k [] history [] start run done k.begins
+    ∙ no_fault_from h one scripts k [] history [] start.shown run done k.begins
 
 -- a legal history in which the scripts are played to their end is a run
 pub whole_run : (h : Header) (scripts : List Script) (history : List Stamped) → is_legal (cells_of h) history ≡ true → PlayToTheEnd scripts history

@@ -1,11 +1,9 @@
 -- No commit is a fault, and no observer's return is one.
-use Rattle.std.proofs.Common.{◌≡◌, ℕ, ◌+◌, Bool, true, false, cond, not, ◌||◌, List, [], ◌∷◌, ◌++◌, Option, Some, None, option_map, length, refl, ap, ◌∙◌, sym}
-use Rattle.std.specs.Prelude.{◌==◌, filter, slice_get, take, drop, option_and_then}
+use Rattle.std.proofs.Common.{◌≡◌, ℕ, Bool, true, false, cond, not, ◌||◌, List, [], ◌∷◌, ◌++◌, map, Option, Some, None, option_map, length, refl, ap, ◌∙◌, sym}
+use Rattle.std.specs.Prelude.{◌==◌, filter, slice_get, drop, option_and_then}
 use Rattle.std.specs.Option.{option_and}
 use Rattle.std.specs.List.{list_any}
 use Rattle.std.proofs.lemmas.Bool.{not-false}
-use Rattle.std.proofs.lemmas.List.{append_assoc}
-use Rattle.std.proofs.Math.Seq.{take-append-add}
 use Rattle.vyrd_base.specs.declared.header.Header.{Header}
 use Rattle.vyrd_base.specs.declared.log.Entry.{Entry}
 use Rattle.vyrd_base.specs.declared.log.Kind.TheVariants.{Return}
@@ -15,20 +13,21 @@ use Rattle.vyrd_base.specs.Callers.{Called, open_call, has_committed, entries_be
 use Rattle.vyrd_base.specs.Shape.{broken_rule}
 use Rattle.vyrd_base.specs.Subjects.{is_observer}
 use Rattle.vyrd_base.specs.Amounts.{Amounts, amount_of, keys_of, least, first_difference}
+use Rattle.vyrd_base.specs.States.{State, showing}
 use Rattle.vyrd_base.specs.Specification.{next_state, answer_in}
 use Rattle.vyrd_base.specs.Words.{words_at}
 use Rattle.vyrd_base.specs.FirstVersion.{old_words_after}
 use Rattle.vyrd_base.specs.Front.{WellFormed}
 use Rattle.vyrd_base.proofs.VersionWords.{first_words_at}
 use Rattle.vyrd_base.specs.Views.{view_of_words}
-use Rattle.vyrd_base.specs.Commits.{Committed, next_reply, committed_at, once_returned, state_after, states_from, commit_count}
+use Rattle.vyrd_base.specs.Commits.{next_reply, committed_at, commit_count}
 use Rattle.vyrd_base.specs.Faults.{commit_fault, states_since_call, observer_fault, return_fault, fault_of_commit}
 use Rattle.vyrd_base.proofs.BlockLaws.{entry}
 use Rattle.vyrd_base.proofs.StructureLaws.{once_or_never}
 use Rattle.vyrd_base.proofs.CommittedLaws.{return_free}
-use Rattle.vyrd_base.proofs.Lasting.{slice_get_seam}
 use Rattle.vyrd_base.proofs.TestLaws.{same_number}
 use Rattle.vyrd_every.specs.Between.{has_answer}
+use Rattle.vyrd_every.proofs.VerdictStates.{state_here, states_seen, any_showing}
 use Rattle.vyrd_base.specs.Rules.{rules_of}
 
 -- a state differs from itself nowhere
@@ -41,68 +40,48 @@ no_difference state =
     ap least (none_kept (λ key. not (amount_of state key == amount_of state key)) (keys_of state ++ keys_of state)
     (λ key. ap not (same_number (amount_of state key))))
 
--- the states from one on begin with it
-pub later_states : Header → Amounts → List Committed → List Amounts
-later_states h state [] = []
-later_states h state (x ∷ xs) = elim (state_after (rules_of h) state x) [ None ↦ [] | Some next ↦ states_from (rules_of h) next xs ]
-
-pub states_begin : (h : Header) (state : Amounts) (xs : List Committed) → states_from (rules_of h) state xs ≡ state ∷ later_states h state xs
-unfolding later_states
-states_begin h state [] = refl
-states_begin h state (x ∷ xs) = refl
-
--- the state at a place
-state_here : (passed later : List Amounts) (state : Amounts) (n : ℕ) → length passed ≡ n → slice_get (passed ++ state ∷ later) n ≡ Some state
-state_here passed later state n e = slice_get_seam passed (state ∷ later) n e
-
 -- a commit after which the words show the next state isn't a fault
-pub commit_is_right : (h : Header) → h.version ≡ 1 → (passed later : List Amounts) (state next : Amounts) (place : Place Entry) (called : Called) (reply : ℕ)
-    → WellFormed h (place.here ∷ place.earlier) → view_of_words h (old_words_after h (place.here ∷ place.earlier)) ≡ next
+pub commit_is_right : (h : Header) → h.version ≡ 1 → (passed : List Amounts) (later : List State) (state next : Amounts) (place : Place Entry) (called : Called)
+    (reply : ℕ) → WellFormed h (place.here ∷ place.earlier) → view_of_words h (old_words_after h (place.here ∷ place.earlier)) ≡ next
     → length passed ≡ commit_count place.earlier
     → open_call place.here.caller place.earlier ≡ Some called → next_reply place.here.caller place.later ≡ Some reply
     → next_state called.method called.args reply state ≡ Some next
-    → fault_of_commit (rules_of h) [] (passed ++ state ∷ later) place ≡ None
+    → fault_of_commit (rules_of h) [] (map showing passed ++ showing state ∷ later) place ≡ None
 commit_is_right h one passed later state next place called reply wf shows count call returns allowed =
     ap (option_and_then (commit_fault (rules_of h) shown (committed_at place))) (state_here passed later state (commit_count place.earlier) count)
-    ∙ (λ i. commit_fault (rules_of h) shown (record { caller = place.here.caller; called = call i; reply = returns i }) state)
-    ∙ ap (λ o. elim o [ None ↦ Some (Reply reply) | Some after ↦ option_map View (first_difference shown after) ]) allowed
+    ∙ (λ i. commit_fault (rules_of h) shown (record { caller = place.here.caller; called = call i; reply = returns i }) (showing state))
+    ∙ ap (λ o. elim (option_map showing o) [ None ↦ Some (Reply reply) | Some after ↦ option_map View (first_difference shown after.shown) ]) allowed
     ∙ ap (λ s. option_map View (first_difference s next)) (ap (view_of_words h) (first_words_at h place one wf) ∙ shows)
     ∙ ap (option_map View) (no_difference next)
   where
     shown : Amounts
     shown = view_of_words h (words_at h [] place)
 
--- and the states go on with the next one
-pub state_goes_on : (h : Header) (passed : List Amounts) (state next : Amounts) (x : Committed) (xs : List Committed) (called : Called) (reply : ℕ)
-    → x.called ≡ Some called → x.reply ≡ Some reply → next_state called.method called.args reply state ≡ Some next
-    → passed ++ states_from (rules_of h) state (x ∷ xs) ≡ (passed ++ state ∷ []) ++ states_from (rules_of h) next xs
-state_goes_on h passed state next x xs called reply call returns allowed =
-    ap (λ o. passed ++ state ∷ (elim o [ None ↦ [] | Some after ↦ states_from (rules_of h) after xs ])) after
-    ∙ sym (append_assoc passed (state ∷ []) (states_from (rules_of h) next xs))
-  where
-    after : state_after (rules_of h) state x ≡ Some next
-    after = (λ i. once_returned (λ c r. next_state c.method c.args r state) (record { caller = x.caller; called = call i; reply = returns i })) ∙ allowed
-
 -- an observer's return with an answer that was seen isn't a fault
 and_none : {A B : Type 0} (o : Option A) → option_and {T = A} {U = B} o None ≡ None
 and_none None = refl
 and_none (Some x) = refl
 
-pub return_is_right : (h : Header) (passed later : List Amounts) (state : Amounts) (c : ℕ) (log : List Entry) (reply : ℕ) → length passed ≡ commit_count log
+pub return_is_right : (h : Header) (passed : List Amounts) (later : List State) (state : Amounts) (c : ℕ) (log : List Entry) (reply : ℕ)
+    → length passed ≡ commit_count log
     → broken_rule h log (entry c (Return reply)) ≡ None
     → ((called : Called) → open_call c log ≡ Some called → is_observer called.method ≡ true
     → has_answer (passed ++ state ∷ []) (commit_count (entries_before_call c log)) called reply ≡ true)
-    → return_fault (rules_of h) (passed ++ state ∷ later) c log reply ≡ None
+    → return_fault (rules_of h) (map showing passed ++ showing state ∷ later) c log reply ≡ None
 return_is_right h passed later state c log reply count kept seen =
-    ap (option_and (slice_get (passed ++ state ∷ later) (commit_count log))) (by_call (open_call c log) refl)
-    ∙ and_none (slice_get (passed ++ state ∷ later) (commit_count log))
+    ap (option_and (slice_get states (commit_count log))) (by_call (open_call c log) refl)
+    ∙ and_none (slice_get states (commit_count log))
   where
-    states : List Amounts
-    states = passed ++ state ∷ later
+    states : List State
+    states = map showing passed ++ showing state ∷ later
 
-    window : states_since_call states c log ≡ drop (commit_count (entries_before_call c log)) (passed ++ state ∷ [])
-    window = ap (λ n. drop (commit_count (entries_before_call c log)) (take (n + 1) states)) (sym count)
-        ∙ ap (drop (commit_count (entries_before_call c log))) (take-append-add passed (state ∷ later) 1)
+    -- whether a state in the window has the answer
+    in_window : (called : Called) → list_any (λ s. answer_in s.shown called.method called.args == reply) (states_since_call states c log)
+        ≡ has_answer (passed ++ state ∷ []) (commit_count (entries_before_call c log)) called reply
+    in_window called =
+        ap (list_any (λ s. answer_in s.shown called.method called.args == reply)) (states_seen passed later state c log count)
+        ∙ any_showing (λ s. answer_in s.shown called.method called.args == reply)
+        (drop (commit_count (entries_before_call c log)) (passed ++ state ∷ []))
 
     -- an execution without a commit is an observer's
     observes : (called : Called) → open_call c log ≡ Some called → has_committed c log ≡ false → is_observer called.method ≡ true
@@ -110,10 +89,9 @@ return_is_right h passed later state c log reply count kept seen =
         (sym (once_or_never called.method) ∙ return_free h c reply log called kept e none)
 
     by_commit : (called : Called) → open_call c log ≡ Some called → (b : Bool) → has_committed c log ≡ b
-        → cond (b || list_any (λ s. answer_in s called.method called.args == reply) (states_since_call states c log)) None (Some (Observer reply)) ≡ None
-    by_commit called e false none =
-        ap (λ xs. cond (list_any (λ s. answer_in s called.method called.args == reply) xs) None (Some (Observer reply))) window
-        ∙ ap (λ b. cond b None (Some (Observer reply))) (seen called e (observes called e none))
+        → cond (b || list_any (λ s. answer_in s.shown called.method called.args == reply) (states_since_call states c log)) None (Some (Observer reply))
+        ≡ None
+    by_commit called e false none = ap (λ b. cond b None (Some (Observer reply))) (in_window called ∙ seen called e (observes called e none))
     by_commit called e true committed = refl
 
     by_call : (o : Option Called) → open_call c log ≡ o

@@ -32,7 +32,7 @@ pub record GoesOn (Holds : List Stamped → List Amounts → Amounts → Type 0)
 pub record Keeping (h : Header) (scripts : List Script) : Type 1 where
   pub sound : AreSoundScripts h scripts
   pub Holds : List Stamped → List Amounts → Amounts → Type 0
-  pub begins : Holds [] [] start
+  pub begins : Holds [] [] start.shown
   pub goes_on : (earlier : List Stamped) (number c : ℕ) (did : Did) (passed : List Amounts) (state : Amounts)
       → IsRun h scripts (record { number = number; caller = c; did = did } ∷ earlier) → Holds earlier passed state
       → GoesOn Holds scripts earlier number c did passed state

@@ -19,7 +19,7 @@ use Rattle.vyrd_every.proofs.NextEvent.{next_event}
 use Rattle.vyrd_every.proofs.Keeping.{Keeping}
 
 -- nothing was done yet
-begins : (S : Structure) (scripts : List Script) → AreRight S scripts → Invariant S scripts [] (λ c. empty_locals) [] start
+begins : (S : Structure) (scripts : List Script) → AreRight S scripts → Invariant S scripts [] (λ c. empty_locals) [] start.shown
 begins S scripts are = record {
   kept = tt;
   each = λ c low. record {

@@ -22,6 +22,7 @@ mod Trees
 -- so it holds after every event, and no entry of the log is a fault
 mod Coming
 mod Reached
+mod VerdictStates
 mod Judged
 mod Accepted
 -- nobody waits in a circle

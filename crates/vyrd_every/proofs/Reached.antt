@@ -24,7 +24,7 @@ pub record Reached (h : Header) (scripts : List Script) (k : Keeping h scripts) 
   pub holds_now : k.Holds earlier passed state
 
 pub reached : (h : Header) (scripts : List Script) (k : Keeping h scripts) (earlier : List Stamped) → IsRun h scripts earlier → Reached h scripts k earlier
-reached h scripts k [] run = record { passed = []; state = start; holds_now = k.begins }
+reached h scripts k [] run = record { passed = []; state = start.shown; holds_now = k.begins }
 reached h scripts k (e ∷ earlier) run = one_more (reached h scripts k earlier (run_before h scripts e earlier run))
   where
     one_more : Reached h scripts k earlier → Reached h scripts k (e ∷ earlier)

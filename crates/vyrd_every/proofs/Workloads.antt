@@ -12,7 +12,7 @@ use Rattle.vyrd_base.specs.declared.verdict.Why.{Why}
 use Rattle.vyrd_base.specs.declared.verdict.Verdict.TheVariants.{Violation}
 use Rattle.vyrd_base.specs.Places.{Place, places, position_of, first_answer, newest_first}
 use Rattle.vyrd_base.specs.Front.{first_break}
-use Rattle.vyrd_base.specs.Amounts.{Amounts}
+use Rattle.vyrd_base.specs.States.{State}
 use Rattle.vyrd_base.specs.Faults.{fault_at}
 use Rattle.vyrd_base.specs.Histories.{log_of}
 use Rattle.vyrd_base.specs.Verdicts.{line_of, violation_at, states_along, first_fault, is_call_open, accepted, verdict}
@@ -131,7 +131,7 @@ no_why : (line : ℕ) (o : Option Why) → option_map (Violation line) o ≡ Non
 no_why line None e = refl
 no_why line (Some why) e = cc
 
-each_right : (h : Header) (states : List Amounts) (ps : List (Place Entry)) → first_answer (violation_at (rules_of h) [] states) ps ≡ None
+each_right : (h : Header) (states : List State) (ps : List (Place Entry)) → first_answer (violation_at (rules_of h) [] states) ps ≡ None
     → AllByRecursion (λ place. fault_at (rules_of h) [] states place ≡ None) ps
 each_right h states [] e = tt
 each_right h states (place ∷ ps) e =
@@ -142,7 +142,7 @@ each_right h states (place ∷ ps) e =
     both_none None b e = (refl, e)
     both_none (Some a) b e = cc
 
-pub where_kind : (h : Header) (states : List Amounts) (test : Kind → Bool) (ps : List (Place Entry)) → AllByRecursion (λ place. fault_at (rules_of h) [] states place ≡ None) ps
+pub where_kind : (h : Header) (states : List State) (test : Kind → Bool) (ps : List (Place Entry)) → AllByRecursion (λ place. fault_at (rules_of h) [] states place ≡ None) ps
     → AllByRecursion (λ place. test place.here.kind ≡ true → fault_at (rules_of h) [] states place ≡ None) ps
 where_kind h states test [] all = tt
 where_kind h states test (place ∷ ps) all = (λ e. all.0, where_kind h states test ps all.1)

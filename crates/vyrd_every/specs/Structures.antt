@@ -1,6 +1,7 @@
 -- What a structure is to the proof: which lock guards which word, which state of the specification
 -- a memory represents, and what a caller may reserve beyond its locks. Nothing else of a structure
--- is known to the proof about schedules.
+-- is known to the proof about schedules. A state is told by the amounts that it shows, since the
+-- states of built-in structures hide nothing.
 --
 -- The memory is the one that the log shows. It has the writes that took effect, and not those of
 -- blocks that are still open. So it is what the judge rebuilds, and it represents a state between
@@ -48,6 +49,6 @@ pub record Fits (S : Structure) : Type 0 where
   pub version : S.header.version ≡ 1
   pub plain : (cell : ℕ) → cell < S.words → cell < plain_words S.header
   pub locks : (cell : ℕ) → cell < S.words → is_lock (cells_of S.header) (S.guard cell) ≡ true
-  pub begins : S.Represents (shown_by []) start
+  pub begins : S.Represents (shown_by []) start.shown
   pub view : (log : List Entry) (state : Amounts) → S.Represents (shown_by log) state
       → view_of_words S.header (old_words_after S.header log) ≡ state

@@ -36,7 +36,7 @@ ghost use Rattle.vyrd_every.specs.Trees.Starts.{IsCorrectTree, first_shape};
 /// The words at the start hold a linked tree, and it shows the state in which no key is there.
 pub fn tree_begins_linked()
     ensures linked { (size : ℕ) → 0 < size → IsLinked size first_shape (shown_by []) }
-    ensures empty { ShowsState first_shape (shown_by []) start }
+    ensures empty { ShowsState first_shape (shown_by []) start.shown }
 {}
 
 /// If the memory that a log shows holds a linked tree, the state that the tree shows is the view of

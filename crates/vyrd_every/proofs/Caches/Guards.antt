@@ -35,7 +35,7 @@ nothing_given size q k =
     by_key true = refl
     by_key false = refl
 
-empty_represents : (h : Header) → h.subject ≡ Cache → Represents h (shown_by []) start
+empty_represents : (h : Header) → h.subject ≡ Cache → Represents h (shown_by []) start.shown
 unfolding view_of_words
 empty_represents h is = record {
   sound = subst (λ subject. is_sound subject h.size (words_in h (shown_by [])) ≡ true) (sym is)
@@ -43,7 +43,7 @@ empty_represents h is = record {
       let below : j < h.size = omega (arith, to) in ap is_sound_chunk (chunk_in h (shown_by []) j is below)));
   free = λ lock from to. refl;
   shows = ap (λ subject. collected (parts_of subject h.size (words_in h (shown_by [])))) is
-      ∙ collected-is (flat_map (λ k. chunk_parts h.size k (chunk_at (words_in h (shown_by [])) k)) (numbers_below h.size)) start
+      ∙ collected-is (flat_map (λ k. chunk_parts h.size k (chunk_at (words_in h (shown_by [])) k)) (numbers_below h.size)) start.shown
       (record { rising = tt; some = tt })
       (λ q. given_nothing (λ k. chunk_parts h.size k (chunk_at (words_in h (shown_by [])) k)) q 0 h.size (λ j from to.
       let below : j < h.size = omega (arith, to) in

@@ -39,7 +39,7 @@ view_is h log state is m =
         ∙ ap (λ v. cond (shown_by log (2 * i) == 2) ((v, 1) ∷ []) []) (word (2 * i + 1) (omega arith))
 
 -- nothing was written yet
-empty_means : (h : Header) → IsMultiset h (shown_by []) start
+empty_means : (h : Header) → IsMultiset h (shown_by []) start.shown
 empty_means h = record {
   sound = λ i low valid. cc;
   free = λ b low. refl;

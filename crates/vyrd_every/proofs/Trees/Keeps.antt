@@ -36,7 +36,7 @@ pub record AreTreesRight (h : Header) (scripts : List Script) : Type 0 where
 
 -- nothing was done yet
 tree_begins : (h : Header) (scripts : List Script) → AreTreesRight h scripts
-    → TreeInvariant h scripts [] (λ c. empty_tree_locals) first_shape (shown_by []) [] start
+    → TreeInvariant h scripts [] (λ c. empty_tree_locals) first_shape (shown_by []) [] start.shown
 tree_begins h scripts are = record {
   kept = tt;
   tree = starts_linked h.size are.some;

@@ -26,5 +26,5 @@ starts_linked size some = record {
 }
 
 -- and it shows the empty state
-pub starts_state : ShowsState first_shape (shown_by []) start
+pub starts_state : ShowsState first_shape (shown_by []) start.shown
 starts_state = record { shows = λ q n l leaf over. refl; formed = record { rising = tt; some = tt } }
