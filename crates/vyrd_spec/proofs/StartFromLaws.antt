@@ -1,22 +1,24 @@
 -- When words stand for a state, and for which, of each subject.
-use Rattle.std.proofs.Common.{◌≡◌, ℕ, ◌≤◌, true, false, ◌++◌, List, length, Some, None, ap, ◌∙◌, sym, arith}
-use Rattle.std.specs.Prelude.{replicate}
+use Rattle.std.proofs.Common.{◌≡◌, ℕ, ◌+◌, ◌≤◌, true, false, ◌++◌, List, length, Some, None, ap, ◌∙◌, sym, arith}
+use Rattle.std.specs.Prelude.{replicate, option_map}
 use Rattle.std.specs.Bool.{then_some}
 use Rattle.vyrd_base.specs.declared.header.Header.{Header}
 use Rattle.vyrd_base.specs.declared.subject.Subject.{Subject}
 use Rattle.vyrd_base.specs.Layout.{plain_words, lock_words}
 use Rattle.vyrd_base.specs.Amounts.{Amounts, collected}
+use Rattle.vyrd_base.specs.States.{showing}
 use Rattle.vyrd_base.specs.Views.{parts_of, view_of_words}
 use Rattle.vyrd_base.specs.Represented.{is_sound, state_of_words}
+use Rattle.vyrd_base.specs.Specification.{start}
 use Rattle.vyrd_base.proofs.HeaderLaws.{low_size}
-use Rattle.vyrd_base.proofs.StartLaws.{with_free_locks}
+use Rattle.vyrd_base.proofs.StartLaws.{with_free_locks, zeroed_words}
 
 -- words that aren't sound stand for no state
 pub no_state : (h : Header) (subject : Subject) (words : List ℕ) → h.subject ≡ subject → length words ≡ plain_words h
-    → is_sound subject h.size words ≡ false → None ≡ state_of_words h (words ++ replicate (lock_words h) 0)
+    → is_sound subject h.size words ≡ false → None ≡ option_map showing (state_of_words h (words ++ replicate (lock_words h) 0))
 no_state h subject words of many unsound =
-    sym (with_free_locks h words many
-    ∙ ap (λ b. then_some b (view_of_words h words)) (ap (λ s. is_sound s h.size words) of ∙ unsound))
+    ap (option_map showing) (sym (with_free_locks h words many
+    ∙ ap (λ b. then_some b (view_of_words h words)) (ap (λ s. is_sound s h.size words) of ∙ unsound)))
 
 -- what the words of a subject show
 shown : (h : Header) (subject : Subject) (words : List ℕ) → h.subject ≡ subject
@@ -27,11 +29,15 @@ shown h subject words of = ap (λ x. collected (parts_of x h.size words)) of
 -- sound words stand for the state that they show
 pub a_state : (h : Header) (subject : Subject) (words : List ℕ) (s : Amounts) → h.subject ≡ subject → length words ≡ plain_words h
     → is_sound subject h.size words ≡ true → s ≡ collected (parts_of subject h.size words)
-    → Some s ≡ state_of_words h (words ++ replicate (lock_words h) 0)
+    → Some (showing s) ≡ option_map showing (state_of_words h (words ++ replicate (lock_words h) 0))
 a_state h subject words s of many sound is =
-    sym (with_free_locks h words many
+    ap (option_map showing) (sym (with_free_locks h words many
     ∙ ap (λ b. then_some b (view_of_words h words)) (ap (λ x. is_sound x h.size words) of ∙ sound)
-    ∙ ap Some (shown h subject words of ∙ sym is))
+    ∙ ap Some (shown h subject words of ∙ sym is)))
+
+-- zeroed words, with all locks free, stand for the empty state
+pub zeros_start : (h : Header) → option_map showing (state_of_words h (replicate (plain_words h + lock_words h) 0)) ≡ Some start
+zeros_start h = ap (option_map showing) (zeroed_words h)
 
 -- a header's size is at most 1,024
 pub few_parts : (h : Header) (size : ℕ) → size ≡ h.size → size ≤ 1024

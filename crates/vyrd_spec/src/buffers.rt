@@ -2,6 +2,7 @@
 
 ghost use Rattle.std.specs.Prelude.{◌≡◌, ◌<◌, ◌≤◌, ◌^◌, true, false, length, Some, None, refl};
 ghost use Rattle.vyrd_base.specs.Rules.{built_in};
+ghost use Rattle.vyrd_base.specs.States.{showing};
 ghost use Rattle.vyrd_base.specs.declared.subject.Subject.TheVariants.{Buffers};
 ghost use Rattle.vyrd_spec.specs.Touching.{touched_by, is_touched};
 ghost use Rattle.vyrd_spec.specs.Touching.Buffers.{touches};
@@ -37,7 +38,7 @@ pub struct BufferSpec {
 impl Spec for BufferSpec {
     ghost charter = { λ s. built_in s.header };
 
-    ghost state = { λ s. row_amounts s.texts.items };
+    ghost state = { λ s. showing (row_amounts s.texts.items) };
 
     ghost made = { λ s. s.made };
 

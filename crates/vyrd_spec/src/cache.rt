@@ -3,6 +3,7 @@
 ghost use Rattle.std.specs.Prelude.{◌≡◌, ◌+◌, ◌*◌, ◌<◌, ◌≤◌, ◌^◌, true, false, length, Some, None};
 ghost use Rattle.std.specs.Prelude.{refl};
 ghost use Rattle.vyrd_base.specs.Rules.{built_in};
+ghost use Rattle.vyrd_base.specs.States.{showing};
 ghost use Rattle.vyrd_base.specs.declared.subject.Subject.TheVariants.{Cache};
 ghost use Rattle.vyrd_spec.specs.Touching.{touched_by, is_touched};
 ghost use Rattle.vyrd_spec.specs.Touching.Cache.{touches};
@@ -38,7 +39,7 @@ pub struct CacheSpec {
 impl Spec for CacheSpec {
     ghost charter = { λ s. built_in s.header };
 
-    ghost state = { λ s. row_amounts s.pairs.items };
+    ghost state = { λ s. showing (row_amounts s.pairs.items) };
 
     ghost made = { λ s. s.made };
 

@@ -1,10 +1,11 @@
 //! Laws of the specifications. Each function is empty, and its contract is the law.
 
-ghost use Rattle.std.specs.Prelude.{◌≡◌, ◌+◌, ℕ, true, false, replicate, Some};
+ghost use Rattle.std.specs.Prelude.{◌≡◌, ◌+◌, ℕ, true, false, replicate, Some, option_map};
 ghost use Rattle.vyrd_base.specs.declared.header.Header.{Header};
 ghost use Rattle.vyrd_base.specs.declared.subject.Method.{Method};
 ghost use Rattle.vyrd_base.specs.declared.subject.Args.{Args};
 ghost use Rattle.vyrd_base.specs.Amounts.{Amounts, IsAmounts, amount_of};
+ghost use Rattle.vyrd_base.specs.States.{showing};
 ghost use Rattle.vyrd_base.specs.Layout.{plain_words, lock_words};
 ghost use Rattle.vyrd_base.specs.Represented.{state_of_words};
 ghost use Rattle.vyrd_base.specs.Specification.{start, next_state};
@@ -24,10 +25,11 @@ pub fn other_keys_keep_their_amount()
 
 /// Zeroed words, with all locks 0, stand for the empty state. So `start` is what `start_from` makes
 /// of them.
-#[tactic(auto, using(vyrd_base::proofs::StartLaws::zeroed_words))]
+#[tactic(auto, using(crate::proofs::StartFromLaws::zeros_start))]
 pub fn zeroed_words_are_the_start()
     ensures { (h : Header)
-        → state_of_words h (replicate (plain_words h + lock_words h) 0) ≡ Some start }
+        → option_map showing (state_of_words h (replicate (plain_words h + lock_words h) 0))
+        ≡ Some start }
 {}
 
 /// Each key that a call touches is changed by some step with that call, so that no key is named

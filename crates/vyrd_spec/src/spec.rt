@@ -7,7 +7,8 @@ ghost use Rattle.vyrd_base.specs.declared.subject.Args.{Args};
 ghost use Rattle.vyrd_base.specs.declared.subject.Method.{Method};
 ghost use Rattle.vyrd_base.specs.Rules.{Charter, built_in, rules_by};
 ghost use Rattle.vyrd_base.specs.declared.subject.Subject.{Subject};
-ghost use Rattle.vyrd_base.specs.Amounts.{Amounts, IsAmounts, amount_of};
+ghost use Rattle.vyrd_base.specs.Amounts.{IsAmounts, amount_of};
+ghost use Rattle.vyrd_base.specs.States.{State, showing};
 ghost use Rattle.vyrd_base.specs.Layout.{plain_words, lock_words};
 ghost use Rattle.vyrd_base.specs.Represented.{state_of_words};
 ghost use Rattle.vyrd_base.specs.Subjects.{subject_of, is_observer, must_commit, are_args};
@@ -28,7 +29,7 @@ pub trait Spec: Sized + Drop {
     ghost charter: { Self → Charter };
 
     // The state.
-    ghost state: { Self → Amounts };
+    ghost state: { Self → State };
 
     // How many steps were allowed since the start.
     ghost made: { Self → ℕ };
@@ -120,7 +121,7 @@ pub trait BuiltIn: Spec {
     /// The empty state. It takes memory in proportion to the header's words.
     fn start(alloc: Global, header: Header) -> Result<Self, AllocError>
         requires serves { Self.serves header.subject }
-        ensures state { IfOk result (λ s. Self.state s ≡ []) }
+        ensures state { IfOk result (λ s. Self.state s ≡ showing []) }
         ensures charter { IfOk result (λ s. Self.charter s ≡ built_in header) }
         ensures made { IfOk result (λ s. Self.made s ≡ 0) };
 
@@ -133,7 +134,8 @@ pub trait BuiltIn: Spec {
         requires count { length words.now ≡ plain_words header }
         requires small { All (λ word. word < 2 ^ 63) words.now }
         ensures state { IfOk result (λ found. option_map Self.state found
-            ≡ state_of_words header (words.now ++ replicate (lock_words header) 0)) }
+            ≡ option_map showing
+            (state_of_words header (words.now ++ replicate (lock_words header) 0))) }
         ensures charter { IfOk result
             (λ found. IfSome found (λ s. Self.charter s ≡ built_in header)) }
         ensures made { IfOk result (λ found. IfSome found (λ s. Self.made s ≡ 0)) };
@@ -142,10 +144,10 @@ pub trait BuiltIn: Spec {
     ghost has_built_in_rules: { (s : Self)
         → Self.charter s ≡ built_in (rules_by (Self.charter s)).header };
 
-    // The keys of a state rise, and no amount is 0.
-    ghost is_formed: { (s : Self) → IsAmounts (Self.state s) };
+    // The keys that a state shows rise, and no amount is 0.
+    ghost is_formed: { (s : Self) → IsAmounts (Self.state s).shown };
 
-    // A key that is there is below 2^63, and its amount is below 2^64.
+    // A key that is shown is below 2^63, and its amount is below 2^64.
     ghost is_small: { (s : Self)
-        → AllAmounts (λ key amount. (key < 2 ^ 63) × (amount < 2 ^ 64)) (Self.state s) };
+        → AllAmounts (λ key amount. (key < 2 ^ 63) × (amount < 2 ^ 64)) (Self.state s).shown };
 }

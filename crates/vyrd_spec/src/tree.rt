@@ -4,6 +4,7 @@ ghost use Rattle.std.specs.Prelude.{◌≡◌, ◌≢◌, ◌+◌, ◌<◌, ◌�
 ghost use Rattle.std.specs.Prelude.{refl};
 ghost use Rattle.std.specs.Bool.{then_some};
 ghost use Rattle.vyrd_base.specs.Rules.{built_in};
+ghost use Rattle.vyrd_base.specs.States.{showing};
 ghost use Rattle.vyrd_base.specs.declared.subject.Subject.TheVariants.{Tree};
 ghost use Rattle.vyrd_base.specs.Amounts.{with_amount, IsAmounts};
 ghost use Rattle.vyrd_base.specs.Structures.{by_reply};
@@ -43,7 +44,7 @@ pub struct TreeSpec {
 impl Spec for TreeSpec {
     ghost charter = { λ s. built_in s.header };
 
-    ghost state = { λ s. s.amounts };
+    ghost state = { λ s. showing s.amounts };
 
     ghost made = { λ s. s.made };
 

@@ -1,5 +1,6 @@
 use Rattle.std.proofs.Common.{ap, ◌∙◌}
 use Rattle.vyrd_base.specs.Amounts.{amount_of}
+use Rattle.vyrd_base.specs.States.{showing}
 use Rattle.vyrd_spec.specs.Rows.{row_amounts}
 use Rattle.vyrd_spec.proofs.RowAmounts.{nothing_in_row}
 use Rattle.vyrd_spec.proofs.buffers.BufferSpecBuiltIn.start.Goals as goal
@@ -9,4 +10,4 @@ invariant_of-result-clause-small c = λ key some. absurd (some (ap (λ s. amount
     (ap row_amounts c.in_ok-empty_row.ensures ∙ nothing_in_row c.size.result)))
 
 pub returns-clause-state : goal.returns-clause-state
-returns-clause-state c = ap row_amounts c.in_ok-empty_row.ensures ∙ nothing_in_row c.size.result
+returns-clause-state c = ap showing (ap row_amounts c.in_ok-empty_row.ensures ∙ nothing_in_row c.size.result)
