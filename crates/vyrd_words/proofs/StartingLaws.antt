@@ -1,4 +1,4 @@
--- The amounts of a state, told key by key, and the words at the start.
+-- The amounts that a state shows, told key by key, and the words at the start.
 use Rattle.std.proofs.Common.{◌≡◌, ℕ, zero, suc, ◌+◌, ◌<◌, cond, T, [], ◌∷◌, ◌++◌, length, take, drop, get_or, refl, ap, subst, ◌∙◌, sym, arith}
 use Rattle.std.specs.Prelude.{◌≢◌, ◌==◌, not, filter}
 use Rattle.std.specs.Ordering.{nat_cmp, is_lt}

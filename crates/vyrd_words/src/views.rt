@@ -318,7 +318,7 @@ impl<C: Compare> Views<C> {
     }
 }
 
-/// The comparison learns all amounts of a state.
+/// The comparison learns all amounts that a state shows.
 fn tell_amounts<C: Compare>(compared: &mut C, state: &View) -> Result<(), AllocError>
     requires sound { (C.known compared.old).refused ≡ false }
     requires none { (C.known compared.old).specified ≡ [] }

@@ -55,9 +55,9 @@ impl<C: Compare> Model for Words<C> {
 }
 
 impl<C: Compare> Words<C> {
-    /// These are the words at the start, of which all but the changed ones are 0, and this is the
-    /// specification's state. They are compared by what was told nothing yet. It takes time for each
-    /// plain word and each amount of the state.
+    /// These are the words at the start, of which all but the changed ones are 0, and this is what
+    /// the specification's state shows. They are compared by what was told nothing yet. It takes time
+    /// for each plain word and each amount that is shown.
     pub fn new(
         alloc: Global,
         header: Header,
