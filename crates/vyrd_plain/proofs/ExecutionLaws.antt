@@ -5,7 +5,7 @@ use Rattle.std.proofs.lemmas.List.Folds.{list_any-append}
 use Rattle.std.proofs.Math.Bool.{or-false}
 use Rattle.vyrd_base.specs.declared.log.Entry.{Entry}
 use Rattle.vyrd_base.specs.Callers.{open_call, has_committed}
-use Rattle.vyrd_base.specs.Amounts.{Amounts}
+use Rattle.vyrd_base.specs.States.{State}
 use Rattle.vyrd_base.specs.Commits.{next_reply}
 use Rattle.vyrd_base.specs.Faults.{states_since_call}
 use Rattle.vyrd_plain.specs.declared.execution.Execution.{Execution}
@@ -13,7 +13,7 @@ use Rattle.vyrd_plain.specs.Executions.{answers, seeing, with_commit, IsExecutio
 use Rattle.vyrd_base.specs.Rules.{Rules}
 
 -- what is kept stays where the entry changes none of it
-pub execution_stays : (r : Rules) (states : List Amounts) (c : ℕ) (e : Entry) (earlier later : List Entry) (o : Option Execution)
+pub execution_stays : (r : Rules) (states : List State) (c : ℕ) (e : Entry) (earlier later : List Entry) (o : Option Execution)
     → open_call c (e ∷ earlier) ≡ open_call c earlier → next_reply c (e ∷ later) ≡ next_reply c later
     → has_committed c (e ∷ earlier) ≡ has_committed c earlier
     → states_since_call states c (e ∷ earlier) ≡ states_since_call states c earlier
@@ -28,7 +28,7 @@ execution_stays r states c e earlier later (Some x) called reply committed windo
 }
 
 -- what is kept sees the state after a commit
-sees_more : (r : Rules) (states : List Amounts) (c : ℕ) (e : Entry) (earlier later : List Entry) (next : Amounts) (x : Execution)
+sees_more : (r : Rules) (states : List State) (c : ℕ) (e : Entry) (earlier later : List Entry) (next : State) (x : Execution)
     → states_since_call states c (e ∷ earlier) ≡ states_since_call states c earlier ++ next ∷ []
     → IsExecution r states c earlier (e ∷ later) x
     → (x.is_answered || answers r x next) ≡ list_any (answers r x) (states_since_call states c (e ∷ earlier))
@@ -38,7 +38,7 @@ sees_more r states c e earlier later next x window is =
     ∙ sym (list_any-append (answers r x) (states_since_call states c earlier) (next ∷ []))
     ∙ ap (list_any (answers r x)) (sym window)
 
-pub execution_sees : (r : Rules) (states : List Amounts) (c : ℕ) (e : Entry) (earlier later : List Entry) (next : Amounts) (o : Option Execution)
+pub execution_sees : (r : Rules) (states : List State) (c : ℕ) (e : Entry) (earlier later : List Entry) (next : State) (o : Option Execution)
     → open_call c (e ∷ earlier) ≡ open_call c earlier → next_reply c (e ∷ later) ≡ next_reply c later
     → has_committed c (e ∷ earlier) ≡ has_committed c earlier
     → states_since_call states c (e ∷ earlier) ≡ states_since_call states c earlier ++ next ∷ []
@@ -53,7 +53,7 @@ execution_sees r states c e earlier later next (Some x) called reply committed w
 }
 
 -- and so does the execution whose commit it is
-pub execution_commits : (r : Rules) (states : List Amounts) (c : ℕ) (e : Entry) (earlier later : List Entry) (next : Amounts) (x : Execution)
+pub execution_commits : (r : Rules) (states : List State) (c : ℕ) (e : Entry) (earlier later : List Entry) (next : State) (x : Execution)
     → open_call c (e ∷ earlier) ≡ open_call c earlier → next_reply c (e ∷ later) ≡ next_reply c later
     → has_committed c (e ∷ earlier) ≡ true
     → states_since_call states c (e ∷ earlier) ≡ states_since_call states c earlier ++ next ∷ []

@@ -17,6 +17,7 @@ use Rattle.vyrd_base.specs.Callers.{Called, open_call, has_committed}
 use Rattle.vyrd_base.specs.Subjects.{is_observer, must_commit}
 use Rattle.vyrd_base.specs.Shape.{broken_rule}
 use Rattle.vyrd_base.specs.Amounts.{Amounts, first_difference}
+use Rattle.vyrd_base.specs.States.{State}
 use Rattle.vyrd_base.specs.Words.{words_at}
 use Rattle.vyrd_base.specs.Commits.{returned, next_reply, committed_at, commits_after, once_returned, state_after}
 use Rattle.vyrd_base.specs.Faults.{step_fault, commit_fault, fault_of_commit, states_since_call, observer_fault, fault_at}
@@ -44,7 +45,7 @@ called_in x = record { method = x.method; args = x.args }
 
 -- what a commit of a kept execution gives, once it has returned
 once_kept : {B : Type 0} (f : Called → ℕ
-    → Option B) (r : Rules) (states : List Amounts) (c : ℕ) (kind : Kind) (earlier later : List Entry) (x : Execution)
+    → Option B) (r : Rules) (states : List State) (c : ℕ) (kind : Kind) (earlier later : List Entry) (x : Execution)
     → returned kind ≡ None → IsExecution r states c earlier (entry c kind ∷ later) x
     → once_returned f (committed_at (place_of (entry c kind) earlier later)) ≡ option_and_then (f (called_in x)) x.reply
 once_kept f r states c kind earlier later x unreturned is =
@@ -52,7 +53,7 @@ once_kept f r states c kind earlier later x unreturned is =
     ∙ ap (option_and_then (f (called_in x))) (sym (is.reply ∙ next_reply-quiet c c kind later unreturned))
 
 -- the fault of a commit where the state before it is known
-commit_fault_here : (r : Rules) (starting : List StartWord) (states : List Amounts) (c : ℕ) (kind : Kind) (earlier later : List Entry) (state : Amounts)
+commit_fault_here : (r : Rules) (starting : List StartWord) (states : List State) (c : ℕ) (kind : Kind) (earlier later : List Entry) (state : State)
     (executions : List (Option Execution)) (x : Execution) → returned kind ≡ None
     → Tracks r states earlier (entry c kind ∷ later) state executions → IsExecution r states c earlier (entry c kind ∷ later) x
     → fault_of_commit r starting states (place_of (entry c kind) earlier later)
@@ -64,7 +65,7 @@ commit_fault_here r starting states c kind earlier later state executions x unre
     ∙ once_kept (λ called reply. step_fault r shown called reply state) r states c kind earlier later x unreturned is
 
 -- what a commit leads to, by what its execution and the words show
-commit_gives : (r : Rules) (starting : List StartWord) (states : List Amounts) (c : ℕ) (kind : Kind) (earlier later : List Entry) (state next : Amounts)
+commit_gives : (r : Rules) (starting : List StartWord) (states : List State) (c : ℕ) (kind : Kind) (earlier later : List Entry) (state next : State)
     (executions new : List (Option Execution)) (x : Execution) (shown : Amounts) (o : Outcome)
     → Commits kind → Tracks r states earlier (entry c kind ∷ later) state executions → IsExecution r states c earlier (entry c kind ∷ later) x
     → shown ≡ r.view (words_at r.header starting (place_of (entry c kind) earlier later)) → CommitGives r shown c x state next executions new o
@@ -77,7 +78,7 @@ commit_gives r starting states c kind earlier later state next executions new x 
     fault_by : ℕ → Option Why
     fault_by reply = step_fault r shown (called_in x) reply state
 
-    next_by : ℕ → Option Amounts
+    next_by : ℕ → Option State
     next_by reply = r.next x.method x.args reply state
 
     fault : fault_at r starting states place ≡ option_and_then fault_by x.reply
@@ -107,12 +108,12 @@ commit_gives r starting states c kind earlier later state next executions new x 
     )
 
 -- without a commit the test of a state is whether it answers the reply
-same_any : (p q : Amounts → Bool) (xs : List Amounts) → ((s : Amounts) → p s ≡ q s) → list_any p xs ≡ list_any q xs
+same_any : (p q : State → Bool) (xs : List State) → ((s : State) → p s ≡ q s) → list_any p xs ≡ list_any q xs
 same_any p q [] same = refl
 same_any p q (x ∷ xs) same = ap (λ b. b || list_any p xs) (same x) ∙ ap (λ b. q x || b) (same_any p q xs same)
 
 -- what a return leads to
-return_gives : (r : Rules) (starting : List StartWord) (states : List Amounts) (c reply : ℕ) (earlier later : List Entry) (state : Amounts)
+return_gives : (r : Rules) (starting : List StartWord) (states : List State) (c reply : ℕ) (earlier later : List Entry) (state : State)
     (executions : List (Option Execution)) (x : Execution)
     → broken_rule r.header earlier (entry c (Return reply)) ≡ None
     → Tracks r states earlier (entry c (Return reply) ∷ later) state executions
@@ -124,10 +125,10 @@ return_gives r starting states c reply earlier later state executions x kept s i
     place : Place Entry
     place = place_of (entry c (Return reply)) earlier later
 
-    replies : Amounts → Bool
+    replies : State → Bool
     replies st = r.answer st x.method x.args == reply
 
-    window : List Amounts
+    window : List State
     window = states_since_call states c earlier
 
     by_window : fault_at r starting states place ≡ observer_fault r window (has_committed c earlier) reply (called_in x)
@@ -162,7 +163,7 @@ return_gives r starting states c reply earlier later state executions x kept s i
     by_test false faultless = (faultless, tracks_return r states c reply earlier later state executions s)
 
 -- What the entry at a place leads to, kind by kind.
-pub return_leads : {r : Rules} {front : List Entry} {at c reply : ℕ} {state : Amounts} {executions : List (Option Execution)} {x : Execution}
+pub return_leads : {r : Rules} {front : List Entry} {at c reply : ℕ} {state : State} {executions : List (Option Execution)} {x : Execution}
     → IsAt r front at (entry c (Return reply)) state executions
     → IsExecution r (states_along r [] front) c (newest_first (take at front)) (entry c (Return reply) ∷ drop (at + 1) front) x
     → Leads r front at (entry c (Return reply)) state (set executions c None) (return_outcome x reply)
@@ -170,7 +171,7 @@ return_leads {r} {front} {at} {c} {reply} {state} {executions} {x} here is = rec
   to = return_gives r [] (states_along r [] front) c reply (newest_first (take at front)) (drop (at + 1) front) state executions x here.kept here.tracks is;
 }
 
-pub call_leads : {r : Rules} {front : List Entry} {at c : ℕ} {method : Method} {args : Args} {reply : Option ℕ} {state : Amounts}
+pub call_leads : {r : Rules} {front : List Entry} {at c : ℕ} {method : Method} {args : Args} {reply : Option ℕ} {state : State}
     {executions : List (Option Execution)} → IsAt r front at (entry c (Call method args)) state executions
     → reply ≡ next_reply c (drop (at + 1) front)
     → Leads r front at (entry c (Call method args)) state (set executions c (Some (begun r method args reply state))) Goes
@@ -194,7 +195,7 @@ quiet_by (inl write) = subst Quiet (sym write.2) (writes write.0 write.1)
 quiet_by (inr (inl is)) = subst Quiet (sym is) opens
 quiet_by (inr (inr is)) = subst Quiet (sym is) closes
 
-quiet_gives : (r : Rules) (starting : List StartWord) (states : List Amounts) (c : ℕ) (kind : Kind) (earlier later : List Entry) (state : Amounts)
+quiet_gives : (r : Rules) (starting : List StartWord) (states : List State) (c : ℕ) (kind : Kind) (earlier later : List Entry) (state : State)
     (executions : List (Option Execution)) → Quiet kind → Tracks r states earlier (entry c kind ∷ later) state executions
     → PlaceGives r starting states (place_of (entry c kind) earlier later) state executions Goes
 unfolding fault_at
@@ -205,28 +206,28 @@ quiet_gives r starting states c _ earlier later state executions opens s =
 quiet_gives r starting states c _ earlier later state executions closes s =
     (refl, tracks_inside r states c BlockClose earlier later state executions refl refl refl refl refl s)
 
-pub quiet_leads : {r : Rules} {front : List Entry} {at c : ℕ} {kind : Kind} {state : Amounts} {executions : List (Option Execution)}
+pub quiet_leads : {r : Rules} {front : List Entry} {at c : ℕ} {kind : Kind} {state : State} {executions : List (Option Execution)}
     → Quiet kind → IsAt r front at (entry c kind) state executions → Leads r front at (entry c kind) state executions Goes
 quiet_leads {r} {front} {at} {c} {kind} {state} {executions} quiet here = record {
   to = quiet_gives r [] (states_along r [] front) c kind (newest_first (take at front)) (drop (at + 1) front) state executions quiet here.tracks;
 }
 
 -- a commit stands in a mutator's execution
-pub commit_called : {r : Rules} {front : List Entry} {at c : ℕ} {kind : Kind} {state : Amounts} {executions : List (Option Execution)}
+pub commit_called : {r : Rules} {front : List Entry} {at c : ℕ} {kind : Kind} {state : State} {executions : List (Option Execution)}
     → Commits kind → IsAt r front at (entry c kind) state executions
     → (called : Called) × (open_call c (newest_first (take at front)) ≡ Some called) × (is_observer called.method ≡ false)
 commit_called {r} {front} {at} {c} alone here = commit_kept r.header c (newest_first (take at front)) here.kept
 commit_called {r} {front} {at} {c} with_block here = block_commit_runs r.header c (newest_first (take at front)) here.kept
 
-pub commit_mutates : {r : Rules} {front : List Entry} {at c : ℕ} {kind : Kind} {state : Amounts} {executions : List (Option Execution)}
+pub commit_mutates : {r : Rules} {front : List Entry} {at c : ℕ} {kind : Kind} {state : State} {executions : List (Option Execution)}
     → Commits kind → IsAt r front at (entry c kind) state executions
     → (x : Execution) → slice_get executions c ≡ Some (Some x) → is_observer x.method ≡ false
 commit_mutates commits here x is =
     let called = commit_called commits here in ap is_observer (called_is here called.1 x is) ∙ called.2
 
 -- what a commit leads to, by what the judge answered of it
-pub commit_leads : {E : Type 0} {r : Rules} {front : List Entry} {at c : ℕ} {kind : Kind} {e : Entry} {state : Amounts}
-    {executions : List (Option Execution)} {x : Execution} (val : Result Outcome E) (next : Amounts) (new : List (Option Execution)) → Commits kind
+pub commit_leads : {E : Type 0} {r : Rules} {front : List Entry} {at c : ℕ} {kind : Kind} {e : Entry} {state : State}
+    {executions : List (Option Execution)} {x : Execution} (val : Result Outcome E) (next : State) (new : List (Option Execution)) → Commits kind
     → IsAt r front at (entry c kind) state executions
     → IsExecution r (states_along r [] front) c (newest_first (take at front)) (entry c kind ∷ drop (at + 1) front) x → entry c kind ≡ e
     → IfOk val (CommitGives r (r.view (words_at r.header [] (place_of (entry c kind) (newest_first (take at front)) (drop (at + 1) front)))) c x state next executions new)

@@ -4,6 +4,7 @@ use Rattle.std.specs.Prelude.{option_map}
 use Rattle.vyrd_base.specs.declared.verdict.Why.{Why}
 use Rattle.vyrd_base.specs.declared.verdict.Why.TheVariants.{Reply, View}
 use Rattle.vyrd_base.specs.Amounts.{Amounts, first_difference}
+use Rattle.vyrd_base.specs.States.{State}
 use Rattle.vyrd_plain.specs.declared.execution.Execution.{Execution}
 use Rattle.vyrd_plain.specs.Outcomes.{CommitFaults}
 use Rattle.vyrd_base.specs.Rules.{Rules}
@@ -12,7 +13,7 @@ use Rattle.vyrd_base.specs.Rules.{Rules}
 pub for_execution : (P : Execution → Type 0) (o : Option (Option Execution)) (x y : Execution) → o ≡ Some (Some x) → o ≡ Some (Some y) → P x → P y
 for_execution P o x y is_x is_y p = let same : x ≡ y = cc in subst P same p
 
-pub refused : (r : Rules) (shown : Amounts) (x : Execution) (reply : ℕ) (before : Amounts) → x.reply ≡ Some reply → r.next x.method x.args reply before ≡ None
+pub refused : (r : Rules) (shown : Amounts) (x : Execution) (reply : ℕ) (before : State) → x.reply ≡ Some reply → r.next x.method x.args reply before ≡ None
     → CommitFaults r shown x before (Reply reply)
 refused r shown x reply before replied none = record {
   reply = reply;
@@ -20,7 +21,7 @@ refused r shown x reply before replied none = record {
   fault = ap (λ o. elim o as (λ _. Option Why) [ None ↦ Some (Reply reply) | Some after ↦ option_map View (first_difference shown (r.shown after)) ]) none;
 }
 
-pub differs : (r : Rules) (shown : Amounts) (x : Execution) (reply : ℕ) (before after : Amounts) (key : ℕ) → x.reply ≡ Some reply
+pub differs : (r : Rules) (shown : Amounts) (x : Execution) (reply : ℕ) (before after : State) (key : ℕ) → x.reply ≡ Some reply
     → r.next x.method x.args reply before ≡ Some after → first_difference shown (r.shown after) ≡ Some key → CommitFaults r shown x before (View key)
 differs r shown x reply before after key replied next first = record {
   reply = reply;

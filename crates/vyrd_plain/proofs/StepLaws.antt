@@ -19,7 +19,7 @@ use Rattle.vyrd_base.specs.Places.{places_after, newest_first, first_answer}
 use Rattle.vyrd_base.specs.Callers.{Called, open_call}
 use Rattle.vyrd_base.specs.Shape.{broken_rule}
 use Rattle.vyrd_base.specs.Front.{first_break}
-use Rattle.vyrd_base.specs.Amounts.{Amounts}
+use Rattle.vyrd_base.specs.States.{State}
 use Rattle.vyrd_base.specs.Commits.{commits, commit_count, states_of}
 use Rattle.vyrd_base.specs.Faults.{fault_at}
 use Rattle.vyrd_base.specs.Verdicts.{line_of, violation_at, states_along, first_fault}
@@ -40,7 +40,7 @@ use Rattle.vyrd_base.specs.Rules.{Rules}
 use Rattle.vyrd_base.specs.Starts.{state_at_start}
 
 -- a caller that is in an execution
-pub running_at : (r : Rules) (states : List Amounts) (earlier later : List Entry) (state : Amounts)
+pub running_at : (r : Rules) (states : List State) (earlier later : List Entry) (state : State)
     (executions : List (Option Execution)) (c : ℕ) (called : Called)
     → Tracks r states earlier later state executions → c < r.header.callers → open_call c earlier ≡ Some called
     → (x : Execution) × (slice_get executions c ≡ Some (Some x)) × IsExecution r states c earlier later x
@@ -52,7 +52,7 @@ running_at r states earlier later state executions c called s within runs = let 
     by_option (Some x) at is = (x, at, is)
 
 -- every kept execution's method is the header's
-pub allowed_all : (r : Rules) (states : List Amounts) (earlier later : List Entry) (state : Amounts) (executions : List (Option Execution))
+pub allowed_all : (r : Rules) (states : List State) (earlier later : List Entry) (state : State) (executions : List (Option Execution))
     → Tracks r states earlier later state executions → AreAllowed r.header executions
 allowed_all r states earlier later state executions s c x within is = let kept = s.open_calls c within in by_option kept.0 kept.1 kept.2
   where
@@ -61,13 +61,13 @@ allowed_all r states earlier later state executions s c x within is = let kept =
     by_option (Some y) at execution = let same : y ≡ x = cc in subst (λ z. has_method r.header z.method z.args ≡ true) same execution.allowed
 
 -- what the judge knows of the entry at a place of a front that keeps all rules
-pub record IsAt (r : Rules) (front : List Entry) (at : ℕ) (e : Entry) (state : Amounts) (executions : List (Option Execution)) : Type 0 where
+pub record IsAt (r : Rules) (front : List Entry) (at : ℕ) (e : Entry) (state : State) (executions : List (Option Execution)) : Type 0 where
   pub tracks : Tracks r (states_along r [] front) (newest_first (take at front)) (e ∷ drop (at + 1) front) state executions
   pub kept : broken_rule r.header (newest_first (take at front)) e ≡ None
   pub within : e.caller < r.header.callers
   pub next : newest_first (take (at + 1) front) ≡ e ∷ newest_first (take at front)
 
-is_at : (r : Rules) (front : List Entry) (at : ℕ) (e : Entry) (state : Amounts) (executions : List (Option Execution))
+is_at : (r : Rules) (front : List Entry) (at : ℕ) (e : Entry) (state : State) (executions : List (Option Execution))
     → slice_get front at ≡ Some e → first_break r.header front ≡ None
     → Tracks r (states_along r [] front) (newest_first (take at front)) (drop at front) state executions → IsAt r front at e state executions
 is_at r front at e state executions here kept s =
@@ -84,7 +84,7 @@ is_at r front at e state executions here kept s =
     }
 
 -- the same for an entry that was read and whose kind is known
-pub known_at : {r : Rules} {front : List Entry} {at : ℕ} {val : Entry} {kind : Kind} {state : Amounts} {executions : List (Option Execution)}
+pub known_at : {r : Rules} {front : List Entry} {at : ℕ} {val : Entry} {kind : Kind} {state : State} {executions : List (Option Execution)}
     → slice_get front at ≡ Some val → val.kind ≡ kind → first_break r.header front ≡ None
     → Tracks r (states_along r [] front) (newest_first (take at front)) (drop at front) state executions
     → IsAt r front at (entry val.caller kind) state executions
@@ -99,7 +99,7 @@ same_entry {o} {r} {e} {kind} is_r named is_e =
     read ∙ same
 
 -- the execution of the entry's caller, if it is in one
-pub running : {r : Rules} {front : List Entry} {at : ℕ} {e : Entry} {state : Amounts} {executions : List (Option Execution)} {called : Called}
+pub running : {r : Rules} {front : List Entry} {at : ℕ} {e : Entry} {state : State} {executions : List (Option Execution)} {called : Called}
     → IsAt r front at e state executions → open_call e.caller (newest_first (take at front)) ≡ Some called
     → (x : Execution) × (slice_get executions e.caller ≡ Some (Some x))
     × IsExecution r (states_along r [] front) e.caller (newest_first (take at front)) (e ∷ drop (at + 1) front) x
@@ -108,7 +108,7 @@ running {r} {front} {at} {e} {state} {executions} {called} here is =
     (e ∷ drop (at + 1) front) state executions e.caller called here.tracks here.within is
 
 -- an execution of the caller is what was called
-pub called_is : {r : Rules} {front : List Entry} {at : ℕ} {e : Entry} {state : Amounts} {executions : List (Option Execution)} {called : Called}
+pub called_is : {r : Rules} {front : List Entry} {at : ℕ} {e : Entry} {state : State} {executions : List (Option Execution)} {called : Called}
     → IsAt r front at e state executions → open_call e.caller (newest_first (take at front)) ≡ Some called
     → (x : Execution) → slice_get executions e.caller ≡ Some (Some x) → x.method ≡ called.method
 called_is {called = called} here is x at =
@@ -121,28 +121,28 @@ called_is {called = called} here is x at =
     called_of y = record { method = y.method; args = y.args }
 
 -- what the entry at a place of a front leads to
-pub record Leads (r : Rules) (front : List Entry) (at : ℕ) (e : Entry) (state : Amounts) (executions : List (Option Execution))
+pub record Leads (r : Rules) (front : List Entry) (at : ℕ) (e : Entry) (state : State) (executions : List (Option Execution))
     (o : Outcome) : Type 0 where
   pub to : PlaceGives r [] (states_along r [] front) (place_of e (newest_first (take at front)) (drop (at + 1) front)) state executions o
 
 -- the same by other names of what is kept and of the outcome
-pub leads_as : {r : Rules} {front : List Entry} {at : ℕ} {e : Entry} {s s' : Amounts} {xs xs' : List (Option Execution)} {o o' : Outcome}
+pub leads_as : {r : Rules} {front : List Entry} {at : ℕ} {e : Entry} {s s' : State} {xs xs' : List (Option Execution)} {o o' : Outcome}
     → s' ≡ s → xs' ≡ xs → o' ≡ o → Leads r front at e s xs o → Leads r front at e s' xs' o'
 leads_as {r} {front} {at} {e} {s} {s'} {xs} {xs'} {o} {o'} same_state same_executions same_outcome leads =
     subst (λ t. Leads r front at e t xs' o') (sym same_state)
     (subst (λ ys. Leads r front at e s ys o') (sym same_executions) (subst (Leads r front at e s xs) (sym same_outcome) leads))
 
 -- the same for another name of the entry
-pub leads_for : {r : Rules} {front : List Entry} {at : ℕ} {d e : Entry} {s : Amounts} {xs : List (Option Execution)} {o : Outcome}
+pub leads_for : {r : Rules} {front : List Entry} {at : ℕ} {d e : Entry} {s : State} {xs : List (Option Execution)} {o : Outcome}
     → d ≡ e → Leads r front at d s xs o → Leads r front at e s xs o
 leads_for {r} {front} {at} {d} {e} {s} {xs} {o} same leads = subst (λ x. Leads r front at x s xs o) same leads
 
 -- What the rules of shape say at each kind of entry.
-pub call_allowed : {r : Rules} {front : List Entry} {at c : ℕ} {method : Method} {args : Args} {state : Amounts} {executions : List (Option Execution)}
+pub call_allowed : {r : Rules} {front : List Entry} {at c : ℕ} {method : Method} {args : Args} {state : State} {executions : List (Option Execution)}
     → IsAt r front at (entry c (Call method args)) state executions → has_method r.header method args ≡ true
 call_allowed {r} {front} {at} {c} {method} {args} here = call_kept r.header c method args (newest_first (take at front)) here.kept
 
-pub return_called : {r : Rules} {front : List Entry} {at c reply : ℕ} {state : Amounts} {executions : List (Option Execution)}
+pub return_called : {r : Rules} {front : List Entry} {at c reply : ℕ} {state : State} {executions : List (Option Execution)}
     → IsAt r front at (entry c (Return reply)) state executions → (called : Called) × (open_call c (newest_first (take at front)) ≡ Some called)
 return_called {r} {front} {at} {c} {reply} here = return_kept r.header c reply (newest_first (take at front)) here.kept
 
@@ -209,7 +209,7 @@ fault_past r front at past = ap (λ later. first_answer (violation_at r [] (stat
     (places_after (newest_first (take at front)) later)) (drop_of_length-le front past)
 
 -- before the first place nothing has begun
-pub tracks_first : (r : Rules) (front : List Entry) (state : Amounts) (executions : List (Option Execution)) → state_at_start r [] ≡ Some state
+pub tracks_first : (r : Rules) (front : List Entry) (state : State) (executions : List (Option Execution)) → state_at_start r [] ≡ Some state
     → executions ≡ replicate r.header.callers None → Tracks r (states_along r [] front) [] front state executions
 unfolding commits
 tracks_first r front state executions begins empty =
@@ -233,7 +233,7 @@ next_is front at e here =
     ∙ ap (λ x. x ∷ newest_first (take at front)) (get_or_from_slice_get front at e e here))
 
 -- what the entry leads to, by another name of the rules and of the outcome
-pub leads_at : {r q : Rules} {front : List Entry} {at : ℕ} {e : Entry} {s : Amounts} {xs : List (Option Execution)} {o o' : Outcome} → q ≡ r → o ≡ o'
+pub leads_at : {r q : Rules} {front : List Entry} {at : ℕ} {e : Entry} {s : State} {xs : List (Option Execution)} {o o' : Outcome} → q ≡ r → o ≡ o'
     → PlaceGives q [] (states_along q [] front) (place_of e (newest_first (take at front)) (drop (at + 1) front)) s xs o → Leads r front at e s xs o'
 leads_at {r} {q} {front} {at} {e} {s} {xs} {o} {o'} same_rules same_outcome gives =
     subst (λ j. Leads j front at e s xs o') same_rules (subst (Leads q front at e s xs) same_outcome (record { to = gives }))

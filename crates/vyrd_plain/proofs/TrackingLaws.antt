@@ -11,7 +11,7 @@ use Rattle.vyrd_base.specs.declared.log.Kind.{Kind}
 use Rattle.vyrd_base.specs.declared.log.Kind.TheVariants.{Call, Return}
 use Rattle.vyrd_base.specs.declared.log.Entry.{Entry}
 use Rattle.vyrd_base.specs.Callers.{Called, call_or_return, commit_or_call, is_call, entries_before_call}
-use Rattle.vyrd_base.specs.Amounts.{Amounts}
+use Rattle.vyrd_base.specs.States.{State}
 use Rattle.vyrd_base.specs.Commits.{is_commit, returned, next_reply, Committed, committed_at, commits_after, state_after, states_from, commit_count}
 use Rattle.vyrd_base.specs.Faults.{states_since_call}
 use Rattle.vyrd_base.proofs.BlockLaws.{entry, by_same, own_answer, open_call-quiet}
@@ -27,7 +27,7 @@ use Rattle.vyrd_plain.proofs.ExecutionLaws.{execution_stays, execution_sees, exe
 use Rattle.vyrd_base.specs.Rules.{Rules}
 
 -- an entry inside its caller's execution that isn't its commit
-pub tracks_inside : (r : Rules) (states : List Amounts) (c : ℕ) (kind : Kind) (earlier later : List Entry) (state : Amounts)
+pub tracks_inside : (r : Rules) (states : List State) (c : ℕ) (kind : Kind) (earlier later : List Entry) (state : State)
     (executions : List (Option Execution))
     → call_or_return kind ≡ None → returned kind ≡ None → is_call kind ≡ false → is_commit kind ≡ false
     → commit_or_call kind ≡ None
@@ -44,7 +44,7 @@ tracks_inside r states c kind earlier later state executions inside unreturned u
 }
 
 -- another caller's execution, beside an entry that isn't a commit
-beside : (r : Rules) (states : List Amounts) (c d : ℕ) (kind : Kind) (earlier later : List Entry) (o : Option Execution)
+beside : (r : Rules) (states : List State) (c d : ℕ) (kind : Kind) (earlier later : List Entry) (o : Option Execution)
     → (c == d) ≡ false → is_commit kind ≡ false → IsOpen r states d earlier (entry c kind ∷ later) o
     → IsOpen r states d (entry c kind ∷ earlier) later o
 beside r states c d kind earlier later o other quiet is =
@@ -53,7 +53,7 @@ beside r states c d kind earlier later o other quiet is =
     (window-quiet states d (entry c kind) earlier quiet (before_call-other d c kind earlier other)) is
 
 -- the caller's execution alone is another one after its call or return
-tracks_changed : (r : Rules) (states : List Amounts) (c : ℕ) (kind : Kind) (earlier later : List Entry) (state : Amounts)
+tracks_changed : (r : Rules) (states : List State) (c : ℕ) (kind : Kind) (earlier later : List Entry) (state : State)
     (executions : List (Option Execution)) (o : Option Execution)
     → is_commit kind ≡ false → IsOpen r states c (entry c kind ∷ earlier) later o
     → Tracks r states earlier (entry c kind ∷ later) state executions → Tracks r states (entry c kind ∷ earlier) later state (set executions c o)
@@ -71,7 +71,7 @@ tracks_changed r states c kind earlier later state executions o quiet own s = re
 }
 
 -- a call begins an execution, which sees the state there
-pub tracks_call : (r : Rules) (states : List Amounts) (c : ℕ) (method : Method) (args : Args) (earlier later : List Entry) (state : Amounts)
+pub tracks_call : (r : Rules) (states : List State) (c : ℕ) (method : Method) (args : Args) (earlier later : List Entry) (state : State)
     (executions : List (Option Execution)) (x : Execution)
     → x.method ≡ method → x.args ≡ args → x.reply ≡ next_reply c later → x.has_committed ≡ false → x.is_answered ≡ answers r x state
     → has_method r.header method args ≡ true
@@ -107,7 +107,7 @@ tracks_call r states c method args earlier later state executions x has_its_meth
         option_flatten_of o = option_flatten o
 
 -- a return ends one
-pub tracks_return : (r : Rules) (states : List Amounts) (c reply : ℕ) (earlier later : List Entry) (state : Amounts)
+pub tracks_return : (r : Rules) (states : List State) (c reply : ℕ) (earlier later : List Entry) (state : State)
     (executions : List (Option Execution))
     → Tracks r states earlier (entry c (Return reply) ∷ later) state executions
     → Tracks r states (entry c (Return reply) ∷ earlier) later state (set executions c None)
@@ -119,7 +119,7 @@ tracks_return r states c reply earlier later state executions s =
     option_flatten_of o = option_flatten o
 
 -- a commit leads to the next state, which all executions see, and its own has committed
-pub tracks_commit : (r : Rules) (states : List Amounts) (c : ℕ) (kind : Kind) (earlier later : List Entry) (state next : Amounts)
+pub tracks_commit : (r : Rules) (states : List State) (c : ℕ) (kind : Kind) (earlier later : List Entry) (state next : State)
     (executions : List (Option Execution)) (x : Execution)
     → call_or_return kind ≡ None → returned kind ≡ None → is_call kind ≡ false → is_commit kind ≡ true → commit_or_call kind ≡ Some true
     → state_after r state (committed_at (record { earlier = earlier; here = entry c kind; later = later })) ≡ Some next

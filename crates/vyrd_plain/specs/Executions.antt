@@ -8,7 +8,7 @@ use Rattle.vyrd_base.specs.declared.subject.Args.{Args}
 use Rattle.vyrd_base.specs.declared.log.Entry.{Entry}
 use Rattle.vyrd_base.specs.Subjects.{must_commit}
 use Rattle.vyrd_base.specs.Callers.{open_call, has_committed}
-use Rattle.vyrd_base.specs.Amounts.{Amounts}
+use Rattle.vyrd_base.specs.States.{State}
 use Rattle.vyrd_base.specs.Commits.{next_reply}
 use Rattle.vyrd_base.specs.Faults.{states_since_call}
 use Rattle.vyrd_plain.specs.declared.execution.Execution.{Execution}
@@ -21,12 +21,12 @@ is_reply None answer = false
 is_reply (Some reply) answer = answer == reply
 
 -- whether the execution's method may return without a commit, and this state answers its reply
-abbrev pub answers : (r : Rules) → Execution → Amounts → Bool
+abbrev pub answers : (r : Rules) → Execution → State → Bool
 answers r x state =
     not (must_commit x.method) && is_reply x.reply (r.answer state x.method x.args)
 
 -- an execution that sees one more state
-abbrev pub seeing : (r : Rules) → Amounts → Option Execution → Option Execution
+abbrev pub seeing : (r : Rules) → State → Option Execution → Option Execution
 seeing r state None = None
 seeing r state (Some x) = Some (record x { is_answered = x.is_answered || answers r x state })
 
@@ -37,7 +37,7 @@ with_commit x = record x { has_committed = true }
 -- What is kept of the caller's execution, by the entries before a place, given the newest first,
 -- and those from it on: what was called, its next reply, whether it has committed, and whether some
 -- state since the call answers that reply.
-pub record IsExecution (r : Rules) (states : List Amounts) (c : ℕ) (earlier later : List Entry)
+pub record IsExecution (r : Rules) (states : List State) (c : ℕ) (earlier later : List Entry)
     (x : Execution) : Type 0 where
   pub called : open_call c earlier ≡ Some (record { method = x.method; args = x.args })
   pub allowed : has_method r.header x.method x.args ≡ true
@@ -46,12 +46,12 @@ pub record IsExecution (r : Rules) (states : List Amounts) (c : ℕ) (earlier la
   pub answered : x.is_answered ≡ list_any (answers r x) (states_since_call states c earlier)
 
 -- the same for a caller that may be in no execution
-abbrev pub IsOpen : Rules → List Amounts → ℕ → List Entry → List Entry → Option Execution → Type 0
+abbrev pub IsOpen : Rules → List State → ℕ → List Entry → List Entry → Option Execution → Type 0
 IsOpen r states c earlier later None = open_call c earlier ≡ None
 IsOpen r states c earlier later (Some x) = IsExecution r states c earlier later x
 
 -- an execution that begins in a state
-abbrev pub begun : (r : Rules) → Method → Args → Option ℕ → Amounts → Execution
+abbrev pub begun : (r : Rules) → Method → Args → Option ℕ → State → Execution
 begun r method args reply state =
     let x : Execution = record {
       method = method;

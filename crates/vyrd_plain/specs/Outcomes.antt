@@ -7,6 +7,7 @@ use Rattle.vyrd_base.specs.declared.verdict.Why.{Why}
 use Rattle.vyrd_base.specs.declared.verdict.Why.TheVariants.{Observer}
 use Rattle.vyrd_base.specs.Places.{Place}
 use Rattle.vyrd_base.specs.Amounts.{Amounts, first_difference}
+use Rattle.vyrd_base.specs.States.{State}
 use Rattle.vyrd_base.specs.Commits.{commit_count}
 use Rattle.vyrd_base.specs.Faults.{step_fault, fault_at}
 use Rattle.vyrd_plain.specs.declared.execution.Execution.{Execution}
@@ -19,7 +20,7 @@ use Rattle.vyrd_base.specs.Rules.{Rules}
 -- the execution of the caller's commit has returned, its reply is allowed, and the state after it
 -- is what the words show
 pub record CommitGoes (r : Rules) (shown : Amounts) (c : ℕ) (x : Execution)
-    (before after : Amounts) (old new : List (Option Execution)) : Type 0 where
+    (before after : State) (old new : List (Option Execution)) : Type 0 where
   pub reply : ℕ
   pub returned : x.reply ≡ Some reply
   pub next : r.next x.method x.args reply before ≡ Some after
@@ -27,7 +28,7 @@ pub record CommitGoes (r : Rules) (shown : Amounts) (c : ℕ) (x : Execution)
   pub seen : new ≡ map (seeing r after) (slice_set old c (Some (with_commit x)))
 
 -- the commit's execution has returned, and this is wrong with it
-pub record CommitFaults (r : Rules) (shown : Amounts) (x : Execution) (before : Amounts)
+pub record CommitFaults (r : Rules) (shown : Amounts) (x : Execution) (before : State)
     (why : Why) : Type 0 where
   pub reply : ℕ
   pub returned : x.reply ≡ Some reply
@@ -35,7 +36,7 @@ pub record CommitFaults (r : Rules) (shown : Amounts) (x : Execution) (before : 
       ≡ Some why
 
 -- what a commit of the caller's execution leads to, if the words show this
-abbrev pub CommitGives : (r : Rules) → Amounts → ℕ → Execution → Amounts → Amounts
+abbrev pub CommitGives : (r : Rules) → Amounts → ℕ → Execution → State → State
     → List (Option Execution)
     → List (Option Execution) → Outcome → Type 0
 CommitGives r shown c x before after old new Goes = CommitGoes r shown c x before after old new
@@ -45,7 +46,7 @@ CommitGives r shown c x before after old new Ends = x.reply ≡ None
 -- What the entry at a place leads to: it isn't a fault, and what is kept tracks the front up to the
 -- next place; or this is its fault; or no later state is known, so that nothing later is a fault
 -- either.
-abbrev pub PlaceGives : Rules → List StartWord → List Amounts → Place Entry → Amounts
+abbrev pub PlaceGives : Rules → List StartWord → List State → Place Entry → State
     → List (Option Execution) → Outcome → Type 0
 PlaceGives r starting states place state executions Goes =
     (fault_at r starting states place ≡ None)
