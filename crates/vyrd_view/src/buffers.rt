@@ -31,12 +31,14 @@ impl Decode for Buffers {
     ghost use Rattle.std.specs.Prelude.{refl};
     ghost use Rattle.vyrd_view.specs.Known.{of_subject};
     ghost use Rattle.vyrd_view.specs.Pairs.{buffer_gives};
-    ghost use Rattle.vyrd_view.specs.Laws.Buffers.{buffers_narrow, buffers_few};
+    ghost use Rattle.vyrd_view.specs.Laws.Buffers.{buffers_narrow, buffers_bounded, buffers_few};
     ghost use Rattle.vyrd_view.specs.Laws.Buffers.{buffers_fit, buffers_show};
 
-    ghost WIDTH = { 8 };
+    ghost width = { λ buffers. 8 };
 
-    ghost PLACES = { 1 };
+    ghost places = { λ buffers. 1 };
+
+    ghost most_places = { λ shows. 1 };
 
     ghost parts = { λ buffers. buffers.size };
 
@@ -44,7 +46,9 @@ impl Decode for Buffers {
 
     ghost shows = { λ buffers. of_subject OfBuffers buffers.size };
 
-    ghost narrow = { buffers_narrow };
+    ghost narrow = { λ buffers. buffers_narrow };
+
+    ghost bounded = { λ buffers. buffers_bounded };
 
     ghost few = { λ buffers. buffers_few buffers.size buffers.small };
 
@@ -54,9 +58,15 @@ impl Decode for Buffers {
 
     ghost shown = { λ buffers words count. buffers_show buffers.size words };
 
-    const WIDTH: usize = BUFFER_WORDS;
+    #[inline(always)]
+    fn width(&self) -> usize {
+        BUFFER_WORDS
+    }
 
-    const PLACES: usize = 1;
+    #[inline(always)]
+    fn places(&self) -> usize {
+        1
+    }
 
     #[inline(always)]
     fn parts(&self) -> usize {

@@ -37,15 +37,16 @@ impl<D: Decode> Model for ByParts<D> {
 
     ghost view = { λ c. record {
       shows = D.shows c.decoder;
-      count = D.parts c.decoder * D.WIDTH;
+      count = D.parts c.decoder * D.width c.decoder;
       words = c.words.items;
       specified = c.parts.specified;
       refused = c.parts.refused;
     } };
 
-    ghost invariant = { λ c. (length c.words.items ≡ D.parts c.decoder * D.WIDTH)
+    ghost invariant = { λ c. (length c.words.items ≡ D.parts c.decoder * D.width c.decoder)
         × (c.parts.refused ≡ false → c.parts.pairs
-        ≡ pairs_by D.WIDTH D.PLACES (D.parts c.decoder) (D.gives c.decoder) c.words.items) };
+        ≡ pairs_by (D.width c.decoder) (D.places c.decoder) (D.parts c.decoder)
+        (D.gives c.decoder) c.words.items) };
 }
 
 impl<D: Decode> ByParts<D> {
@@ -54,13 +55,13 @@ impl<D: Decode> ByParts<D> {
     pub fn new(alloc: Global, decoder: D) -> Result<ByParts<D>, AllocError>
         ensures { IfOk result (λ c. c ≡ record {
           shows = D.shows decoder;
-          count = D.parts decoder * D.WIDTH;
-          words = replicate (D.parts decoder * D.WIDTH) 0;
+          count = D.parts decoder * D.width decoder;
+          words = replicate (D.parts decoder * D.width decoder) 0;
           specified = [];
           refused = false;
         }) }
     {
-        let words = vec![in alloc; 0; decoder.parts() * D::WIDTH]?;
+        let words = vec![in alloc; 0; decoder.parts() * decoder.width()]?;
         let pairs = all_pairs(alloc, &decoder, &words)?;
         Ok(ByParts {
             decoder,
@@ -85,7 +86,8 @@ impl<D: Decode> ByParts<D> {
         ensures refused { self.new.refused ≡ is_err result }
         ensures shows { self.new.shows ≡ self.old.shows }
         ensures count { self.new.count ≡ self.old.count }
-        ensures steps { steps.new ≤ steps.old + length changed.now * (1 + 2 * D.PLACES) }
+        ensures steps { steps.new
+            ≤ steps.old + length changed.now * (1 + 2 * D.most_places self.old.shows) }
     {
         copy_changed(&mut self.words, words, changed);
         parts_changed(&self.decoder, &mut self.parts, words, changed, steps)

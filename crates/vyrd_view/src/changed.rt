@@ -23,22 +23,23 @@ pub(crate) fn parts_changed<D: Decode, L: Ledger>(
     steps: &mut Steps<L>,
 ) -> Result<(), AllocError>
     requires sound { parts.old.refused ≡ false }
-    requires count { length words.now ≡ D.parts decoder.now * D.WIDTH }
+    requires count { length words.now ≡ D.parts decoder.now * D.width decoder.now }
     requires within { All (λ w. w < length words.now) changed.now }
-    requires given { AreGiven D.WIDTH D.PLACES (D.parts decoder.now) (D.gives decoder.now)
-        parts.old.pairs }
+    requires given { AreGiven (D.width decoder.now) (D.places decoder.now) (D.parts decoder.now)
+        (D.gives decoder.now) parts.old.pairs }
     requires others { (m : ℕ) → m < length parts.old.pairs
-        → is_touched D.WIDTH (m / D.PLACES) changed.now ≡ false
+        → is_touched (D.width decoder.now) (m / D.places decoder.now) changed.now ≡ false
         → slice_index_or parts.old.pairs m (0, 0)
-        ≡ pair_at D.WIDTH D.PLACES (D.gives decoder.now) words.now m }
+        ≡ pair_at (D.width decoder.now) (D.places decoder.now) (D.gives decoder.now) words.now m }
     ensures ok { OnOk result (parts.new ≡ record parts.old {
-      pairs = pairs_by D.WIDTH D.PLACES (D.parts decoder.now) (D.gives decoder.now) words.now;
+      pairs = pairs_by (D.width decoder.now) (D.places decoder.now) (D.parts decoder.now)
+          (D.gives decoder.now) words.now;
     }) }
     ensures refused { OnErr result (parts.new.refused ≡ true) }
-    ensures steps { steps.new ≤ steps.old + length changed.now * (1 + 2 * D.PLACES) }
+    ensures steps { steps.new ≤ steps.old + length changed.now * (1 + 2 * D.places decoder.now) }
 {
     for word in changed {
-        let part = *word as usize / D::WIDTH;
+        let part = *word as usize / decoder.width();
         part_changed(decoder, parts, part, words, steps)?;
     }
     Ok(())
@@ -56,24 +57,25 @@ fn part_changed<D: Decode, L: Ledger>(
 ) -> Result<(), AllocError>
     requires sound { parts.old.refused ≡ false }
     requires part { part < D.parts decoder.now }
-    requires count { length words.now ≡ D.parts decoder.now * D.WIDTH }
-    requires given { AreGiven D.WIDTH D.PLACES (D.parts decoder.now) (D.gives decoder.now)
-        parts.old.pairs }
+    requires count { length words.now ≡ D.parts decoder.now * D.width decoder.now }
+    requires given { AreGiven (D.width decoder.now) (D.places decoder.now) (D.parts decoder.now)
+        (D.gives decoder.now) parts.old.pairs }
     ensures sound { OnOk result (parts.new.refused ≡ false) }
     ensures specified { OnOk result (parts.new.specified ≡ parts.old.specified) }
-    ensures given { OnOk result
-        (AreGiven D.WIDTH D.PLACES (D.parts decoder.now) (D.gives decoder.now) parts.new.pairs) }
-    ensures inside { OnOk result ((j : ℕ) → j < D.PLACES
-        → slice_index_or parts.new.pairs (part * D.PLACES + j) (0, 0)
-        ≡ pair_at D.WIDTH D.PLACES (D.gives decoder.now) words.now (part * D.PLACES + j)) }
-    ensures outside { OnOk result ((m : ℕ) → m / D.PLACES ≢ part
+    ensures given { OnOk result (AreGiven (D.width decoder.now) (D.places decoder.now)
+        (D.parts decoder.now) (D.gives decoder.now) parts.new.pairs) }
+    ensures inside { OnOk result ((j : ℕ) → j < D.places decoder.now
+        → slice_index_or parts.new.pairs (part * D.places decoder.now + j) (0, 0)
+        ≡ pair_at (D.width decoder.now) (D.places decoder.now) (D.gives decoder.now) words.now
+        (part * D.places decoder.now + j)) }
+    ensures outside { OnOk result ((m : ℕ) → m / D.places decoder.now ≢ part
         → slice_index_or parts.new.pairs m (0, 0) ≡ slice_index_or parts.old.pairs m (0, 0)) }
     ensures refused { OnErr result (parts.new.refused ≡ true) }
-    ensures steps { steps.new ≤ steps.old + 1 + 2 * D.PLACES }
+    ensures steps { steps.new ≤ steps.old + 1 + 2 * D.places decoder.now }
 {
     let pairs = counted_part(decoder, part, words, steps);
-    for place in 0..D::PLACES {
-        parts.replace(part * D::PLACES + place, pairs[place], steps)?;
+    for place in 0..decoder.places() {
+        parts.replace(part * decoder.places() + place, pairs[place], steps)?;
     }
     Ok(())
 }
@@ -87,9 +89,10 @@ fn counted_part<D: Decode, L: Ledger>(
     steps: &mut Steps<L>,
 ) -> [(u64, u64); 4]
     requires part { part < D.parts decoder.now }
-    requires count { length words.now ≡ D.parts decoder.now * D.WIDTH }
-    ensures pairs { (j : ℕ) → j < D.PLACES → slice_index_or result j (0, 0)
-        ≡ pair_at D.WIDTH D.PLACES (D.gives decoder.now) words.now (part * D.PLACES + j) }
+    requires count { length words.now ≡ D.parts decoder.now * D.width decoder.now }
+    ensures pairs { (j : ℕ) → j < D.places decoder.now → slice_index_or result j (0, 0)
+        ≡ pair_at (D.width decoder.now) (D.places decoder.now) (D.gives decoder.now) words.now
+        (part * D.places decoder.now + j) }
     ensures steps { steps.new ≡ steps.old + 1 }
 {
     steps.tick();

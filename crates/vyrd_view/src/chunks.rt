@@ -34,12 +34,15 @@ impl Decode for Chunks {
     ghost use Rattle.vyrd_base.specs.declared.subject.Subject.TheVariants.{Cache};
     ghost use Rattle.vyrd_view.specs.Known.{of_subject};
     ghost use Rattle.vyrd_view.specs.Pairs.{chunk_gives};
-    ghost use Rattle.vyrd_view.specs.Laws.Chunks.{chunks_narrow, chunks_few, quiet_chunk};
+    ghost use Rattle.vyrd_view.specs.Laws.Chunks.{chunks_narrow, chunks_bounded, chunks_few};
+    ghost use Rattle.vyrd_view.specs.Laws.Chunks.{quiet_chunk};
     ghost use Rattle.vyrd_view.specs.Laws.Chunks.{chunks_fit, chunks_show};
 
-    ghost WIDTH = { 5 };
+    ghost width = { λ chunks. 5 };
 
-    ghost PLACES = { 2 };
+    ghost places = { λ chunks. 2 };
+
+    ghost most_places = { λ shows. 2 };
 
     ghost parts = { λ chunks. chunks.size };
 
@@ -47,7 +50,9 @@ impl Decode for Chunks {
 
     ghost shows = { λ chunks. of_subject Cache chunks.size };
 
-    ghost narrow = { chunks_narrow };
+    ghost narrow = { λ chunks. chunks_narrow };
+
+    ghost bounded = { λ chunks. chunks_bounded };
 
     ghost few = { λ chunks. chunks_few chunks.size chunks.small };
 
@@ -57,9 +62,15 @@ impl Decode for Chunks {
 
     ghost shown = { λ chunks words count. chunks_show chunks.size words };
 
-    const WIDTH: usize = 5;
+    #[inline(always)]
+    fn width(&self) -> usize {
+        5
+    }
 
-    const PLACES: usize = 2;
+    #[inline(always)]
+    fn places(&self) -> usize {
+        2
+    }
 
     #[inline(always)]
     fn parts(&self) -> usize {

@@ -17,10 +17,10 @@ pub(crate) const NOTHING: (u64, u64) = (0, 0);
 /// is the same for all, in `ByParts`.
 pub trait Decode: Sized + Copy + Drop {
     // How many words a part has.
-    ghost WIDTH: { ℕ };
+    ghost width: { Self → ℕ };
 
     // How many places a part has.
-    ghost PLACES: { ℕ };
+    ghost places: { Self → ℕ };
 
     // How many parts there are.
     ghost parts: { Self → ℕ };
@@ -31,11 +31,16 @@ pub trait Decode: Sized + Copy + Drop {
     // What all the words show, by its name.
     ghost shows: { Self → Shows };
 
-    /// How many words a part has.
-    const WIDTH: usize;
+    // How many places a part has at most, by the name of what the words show.
+    ghost most_places: { Shows → ℕ };
+
+    /// How many words a part has: at most 64.
+    fn width(&self) -> usize
+        ensures { result ≡ width self.now };
 
     /// How many places a part has: at most 4.
-    const PLACES: usize;
+    fn places(&self) -> usize
+        ensures { result ≡ places self.now };
 
     /// How many parts there are.
     fn parts(&self) -> usize
@@ -45,24 +50,29 @@ pub trait Decode: Sized + Copy + Drop {
     /// The pairs past the part's places are never looked at.
     fn decode(&self, part: usize, words: &[u64]) -> [(u64, u64); 4]
         requires part { part < parts self.now }
-        requires count { length words.now ≡ WIDTH }
-        ensures { (j : ℕ) → j < PLACES
+        requires count { length words.now ≡ width self.now }
+        ensures { (j : ℕ) → j < places self.now
             → slice_index_or result j (0, 0) ≡ gives self.now part words.now j };
 
     // A part has words and places, and not too many of them.
-    ghost narrow: { (1 ≤ WIDTH) × (WIDTH ≤ 64) × (1 ≤ PLACES) × (PLACES ≤ 4) };
+    ghost narrow: { (d : Self)
+        → (1 ≤ width d) × (width d ≤ 64) × (1 ≤ places d) × (places d ≤ 4) };
+
+    // The name of what the words show bounds the places.
+    ghost bounded: { (d : Self) → places d ≤ most_places (shows d) };
 
     // There are at most 4,096 parts.
     ghost few: { (d : Self) → parts d ≤ 4096 };
 
     // A part of zeroed words gives nothing, whatever its keys are.
-    ghost quiet: { (d : Self) (part j : ℕ) → (gives d part (replicate WIDTH 0) j).1 ≡ 0 };
+    ghost quiet: { (d : Self) (part j : ℕ) → (gives d part (replicate (width d) 0) j).1 ≡ 0 };
 
     // What the places give to a key together fits 64 bits, whatever words each is decoded from.
     ghost fits: { (d : Self) (pairs : List (ℕ × ℕ)) (q : ℕ)
-        → AreGiven WIDTH PLACES (parts d) (gives d) pairs → given q pairs < 2 ^ 64 };
+        → AreGiven (width d) (places d) (parts d) (gives d) pairs → given q pairs < 2 ^ 64 };
 
     // The words show what all parts give.
-    ghost shown: { (d : Self) (words : List ℕ) → length words ≡ parts d * WIDTH
-        → collected (pairs_by WIDTH PLACES (parts d) (gives d) words) ≡ view_by (shows d) words };
+    ghost shown: { (d : Self) (words : List ℕ) → length words ≡ parts d * width d
+        → collected (pairs_by (width d) (places d) (parts d) (gives d) words)
+        ≡ view_by (shows d) words };
 }

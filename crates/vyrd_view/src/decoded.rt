@@ -17,7 +17,7 @@ pub(crate) fn collect<D: Decode>(
     decoder: &D,
     words: &[u64],
 ) -> Result<AmountMap, AllocError>
-    requires count { length words.now ≡ D.parts decoder.now * D.WIDTH }
+    requires count { length words.now ≡ D.parts decoder.now * D.width decoder.now }
     ensures { IfOk result (λ sums. sums ≡ view_by (D.shows decoder.now) words.now) }
 {
     let mut sums = AmountMap::new(alloc);
@@ -35,14 +35,14 @@ fn add_part<D: Decode>(
     words: &[u64],
 ) -> Result<(), AllocError>
     requires part { part < D.parts decoder.now }
-    requires count { length words.now ≡ D.parts decoder.now * D.WIDTH }
-    requires sums { sums.old
-        ≡ collected (pairs_by D.WIDTH D.PLACES part (D.gives decoder.now) words.now) }
-    ensures { OnOk result (sums.new
-        ≡ collected (pairs_by D.WIDTH D.PLACES (part + 1) (D.gives decoder.now) words.now)) }
+    requires count { length words.now ≡ D.parts decoder.now * D.width decoder.now }
+    requires sums { sums.old ≡ collected (pairs_by (D.width decoder.now) (D.places decoder.now) part
+        (D.gives decoder.now) words.now) }
+    ensures { OnOk result (sums.new ≡ collected (pairs_by (D.width decoder.now)
+        (D.places decoder.now) (part + 1) (D.gives decoder.now) words.now)) }
 {
     let pairs = decoded_part(decoder, part, words);
-    for place in 0..D::PLACES {
+    for place in 0..decoder.places() {
         let pair = pairs[place];
         if pair.1 != 0 {
             sums.add(pair.0, pair.1)?;
@@ -57,11 +57,11 @@ pub(crate) fn all_pairs<D: Decode>(
     decoder: &D,
     words: &[u64],
 ) -> Result<Vec<(u64, u64)>, AllocError>
-    requires count { length words.now ≡ D.parts decoder.now * D.WIDTH }
-    ensures { IfOk result (λ pairs. pairs.items
-        ≡ pairs_by D.WIDTH D.PLACES (D.parts decoder.now) (D.gives decoder.now) words.now) }
+    requires count { length words.now ≡ D.parts decoder.now * D.width decoder.now }
+    ensures { IfOk result (λ pairs. pairs.items ≡ pairs_by (D.width decoder.now)
+        (D.places decoder.now) (D.parts decoder.now) (D.gives decoder.now) words.now) }
 {
-    let mut pairs = Vec::with_capacity(alloc, decoder.parts() * D::PLACES)?;
+    let mut pairs = Vec::with_capacity(alloc, decoder.parts() * decoder.places())?;
     for part in 0..decoder.parts() {
         push_part(&mut pairs, decoder, part, words)?;
     }
@@ -76,14 +76,14 @@ fn push_part<D: Decode>(
     words: &[u64],
 ) -> Result<(), AllocError>
     requires part { part < D.parts decoder.now }
-    requires count { length words.now ≡ D.parts decoder.now * D.WIDTH }
-    requires pairs { pairs.old.items
-        ≡ pairs_by D.WIDTH D.PLACES part (D.gives decoder.now) words.now }
-    ensures { OnOk result (pairs.new.items
-        ≡ pairs_by D.WIDTH D.PLACES (part + 1) (D.gives decoder.now) words.now) }
+    requires count { length words.now ≡ D.parts decoder.now * D.width decoder.now }
+    requires pairs { pairs.old.items ≡ pairs_by (D.width decoder.now) (D.places decoder.now) part
+        (D.gives decoder.now) words.now }
+    ensures { OnOk result (pairs.new.items ≡ pairs_by (D.width decoder.now) (D.places decoder.now)
+        (part + 1) (D.gives decoder.now) words.now) }
 {
     let given = decoded_part(decoder, part, words);
-    for place in 0..D::PLACES {
+    for place in 0..decoder.places() {
         pairs.push(given[place])?;
     }
     Ok(())
@@ -93,10 +93,11 @@ fn push_part<D: Decode>(
 #[inline(always)]
 pub(crate) fn decoded_part<D: Decode>(decoder: &D, part: usize, words: &[u64]) -> [(u64, u64); 4]
     requires part { part < D.parts decoder.now }
-    requires count { length words.now ≡ D.parts decoder.now * D.WIDTH }
-    ensures { (j : ℕ) → j < D.PLACES → slice_index_or result j (0, 0)
-        ≡ pair_at D.WIDTH D.PLACES (D.gives decoder.now) words.now (part * D.PLACES + j) }
+    requires count { length words.now ≡ D.parts decoder.now * D.width decoder.now }
+    ensures { (j : ℕ) → j < D.places decoder.now → slice_index_or result j (0, 0)
+        ≡ pair_at (D.width decoder.now) (D.places decoder.now) (D.gives decoder.now) words.now
+        (part * D.places decoder.now + j) }
 {
-    let first = part * D::WIDTH;
-    decoder.decode(part, &words[first..first + D::WIDTH])
+    let first = part * decoder.width();
+    decoder.decode(part, &words[first..first + decoder.width()])
 }

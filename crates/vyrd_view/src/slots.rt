@@ -39,11 +39,14 @@ impl Decode for Slots {
     ghost use Rattle.vyrd_base.specs.declared.subject.Subject.TheVariants.{Multiset};
     ghost use Rattle.vyrd_view.specs.Known.{of_subject};
     ghost use Rattle.vyrd_view.specs.Pairs.{slot_gives};
-    ghost use Rattle.vyrd_view.specs.Laws.Slots.{slots_narrow, slots_few, slots_fit, slots_show};
+    ghost use Rattle.vyrd_view.specs.Laws.Slots.{slots_narrow, slots_bounded, slots_few};
+    ghost use Rattle.vyrd_view.specs.Laws.Slots.{slots_fit, slots_show};
 
-    ghost WIDTH = { 2 };
+    ghost width = { λ slots. 2 };
 
-    ghost PLACES = { 1 };
+    ghost places = { λ slots. 1 };
+
+    ghost most_places = { λ shows. 1 };
 
     ghost parts = { λ slots. 4 * slots.size };
 
@@ -51,7 +54,9 @@ impl Decode for Slots {
 
     ghost shows = { λ slots. of_subject Multiset slots.size };
 
-    ghost narrow = { slots_narrow };
+    ghost narrow = { λ slots. slots_narrow };
+
+    ghost bounded = { λ slots. slots_bounded };
 
     ghost few = { λ slots. slots_few slots.size slots.small };
 
@@ -61,9 +66,15 @@ impl Decode for Slots {
 
     ghost shown = { λ slots words count. slots_show slots.size words };
 
-    const WIDTH: usize = 2;
+    #[inline(always)]
+    fn width(&self) -> usize {
+        2
+    }
 
-    const PLACES: usize = 1;
+    #[inline(always)]
+    fn places(&self) -> usize {
+        1
+    }
 
     #[inline(always)]
     fn parts(&self) -> usize {

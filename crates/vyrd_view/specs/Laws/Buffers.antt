@@ -18,6 +18,9 @@ use Rattle.vyrd_view.specs.Laws.Sums.{apart_bounds, own_word, places_show}
 pub buffers_narrow : (1 ≤ 8) × (8 ≤ 64) × (1 ≤ 1) × (1 ≤ 4)
 buffers_narrow = (omega arith, omega arith, omega arith, omega arith)
 
+pub buffers_bounded : 1 ≤ 1
+buffers_bounded = omega arith
+
 pub buffers_few : (size : ℕ) → size ≤ 1024 → size ≤ 4096
 buffers_few size small = omega (arith, small)
 

@@ -18,6 +18,9 @@ use Rattle.vyrd_view.specs.Laws.Sums.{apart_bounds, own_word, places_show}
 pub chunks_narrow : (1 ≤ 5) × (5 ≤ 64) × (1 ≤ 2) × (2 ≤ 4)
 chunks_narrow = (omega arith, omega arith, omega arith, omega arith)
 
+pub chunks_bounded : 2 ≤ 2
+chunks_bounded = omega arith
+
 pub chunks_few : (size : ℕ) → size ≤ 1024 → size ≤ 4096
 chunks_few size small = omega (arith, small)
 

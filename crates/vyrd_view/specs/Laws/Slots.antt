@@ -17,6 +17,9 @@ use Rattle.vyrd_view.specs.Laws.Sums.{each_bounds, own_word, places_show}
 pub slots_narrow : (1 ≤ 2) × (2 ≤ 64) × (1 ≤ 1) × (1 ≤ 4)
 slots_narrow = (omega arith, omega arith, omega arith, omega arith)
 
+pub slots_bounded : 1 ≤ 1
+slots_bounded = omega arith
+
 pub slots_few : (size : ℕ) → size ≤ 1024 → 4 * size ≤ 4096
 slots_few size small = omega (arith, small)
 

@@ -10,23 +10,23 @@ pub replace-requires-clause-fits : goal.replace-requires-clause-fits
 replace-requires-clause-fits g c =
     let d = g.D.Decode in
     let decoder = c.args.decoder.now in
-    let m : ℕ = c.args.part * d.PLACES + c.loop-place.place in
-    let at : c.args.part * c.PLACES.result + c.loop-place.place ≡ m =
-    ap (λ p. c.args.part * p + c.loop-place.place) c.PLACES.ensures in
+    let m : ℕ = c.args.part * d.places decoder + c.loop-place.place in
+    let at : c.args.part * c.places.result + c.loop-place.place ≡ m =
+    ap (λ p. c.args.part * p + c.loop-place.place) c.places.ensures in
     let pair : ℕ × ℕ = get_or c.counted_part-pairs.result c.loop-place.place (0, 0) in
-    let low : c.loop-place.place < d.PLACES =
-    omega (arith, c.loop-place-test.true, c.PLACES-place-end.ensures) in
-    let is : pair ≡ pair_at d.WIDTH d.PLACES (d.gives decoder) c.args.words.now m =
+    let low : c.loop-place.place < d.places decoder =
+    omega (arith, c.loop-place-test.true, c.places-place-end.ensures) in
+    let is : pair ≡ pair_at (d.width decoder) (d.places decoder) (d.gives decoder) c.args.words.now m =
     c.counted_part-pairs.ensures.pairs c.loop-place.place low in
-    let inside : m < d.parts decoder * d.PLACES =
-    place_within c.args.part (d.parts decoder) d.PLACES c.loop-place.place c.requires.part low in
-    let one : IsGiven d.WIDTH d.PLACES (d.gives decoder) m pair =
-    subst (IsGiven d.WIDTH d.PLACES (d.gives decoder) m) (sym is)
-    (place_given d.WIDTH d.PLACES (d.parts decoder) (d.gives decoder) c.args.words.now m
+    let inside : m < d.parts decoder * d.places decoder =
+    place_within c.args.part (d.parts decoder) (d.places decoder) c.loop-place.place c.requires.part low in
+    let one : IsGiven (d.width decoder) (d.places decoder) (d.gives decoder) m pair =
+    subst (IsGiven (d.width decoder) (d.places decoder) (d.gives decoder) m) (sym is)
+    (place_given (d.width decoder) (d.places decoder) (d.parts decoder) (d.gives decoder) c.args.words.now m
     c.requires.count inside) in
     subst (λ k. given pair.0 (set c.loop-place.parts.pairs k pair) < 2 ^ 64) (sym at)
     (g.met.D.Decode.fits decoder (set c.loop-place.parts.pairs m pair) pair.0
-    (given-set d.WIDTH d.PLACES (d.parts decoder) (d.gives decoder) c.loop-place.parts.pairs m pair
+    (given-set (d.width decoder) (d.places decoder) (d.parts decoder) (d.gives decoder) c.loop-place.parts.pairs m pair
     one c.loop-place.invariant.given))
 
 pub loop-place-preserved : goal.loop-place-preserved
@@ -34,19 +34,19 @@ loop-place-preserved g c =
     let d = g.D.Decode in
     let decoder = c.args.decoder.now in
     let pairs : List (ℕ × ℕ) = c.loop-place.parts.pairs in
-    let m : ℕ = c.args.part * d.PLACES + c.loop-place.place in
-    let f : ℕ → ℕ × ℕ = pair_at d.WIDTH d.PLACES (d.gives decoder) c.args.words.now in
-    let at : c.args.part * c.PLACES.result + c.loop-place.place ≡ m =
-    ap (λ p. c.args.part * p + c.loop-place.place) c.PLACES.ensures in
+    let m : ℕ = c.args.part * d.places decoder + c.loop-place.place in
+    let f : ℕ → ℕ × ℕ = pair_at (d.width decoder) (d.places decoder) (d.gives decoder) c.args.words.now in
+    let at : c.args.part * c.places.result + c.loop-place.place ≡ m =
+    ap (λ p. c.args.part * p + c.loop-place.place) c.places.ensures in
     let pair : ℕ × ℕ = get_or c.counted_part-pairs.result c.loop-place.place (0, 0) in
-    let low : c.loop-place.place < d.PLACES =
-    omega (arith, c.loop-place-test.true, c.PLACES-place-end.ensures) in
+    let low : c.loop-place.place < d.places decoder =
+    omega (arith, c.loop-place-test.true, c.places-place-end.ensures) in
     let is : pair ≡ f m = c.counted_part-pairs.ensures.pairs c.loop-place.place low in
-    let inside : m < d.parts decoder * d.PLACES =
-    place_within c.args.part (d.parts decoder) d.PLACES c.loop-place.place c.requires.part low in
-    let one : IsGiven d.WIDTH d.PLACES (d.gives decoder) m pair =
-    subst (IsGiven d.WIDTH d.PLACES (d.gives decoder) m) (sym is)
-    (place_given d.WIDTH d.PLACES (d.parts decoder) (d.gives decoder) c.args.words.now m
+    let inside : m < d.parts decoder * d.places decoder =
+    place_within c.args.part (d.parts decoder) (d.places decoder) c.loop-place.place c.requires.part low in
+    let one : IsGiven (d.width decoder) (d.places decoder) (d.gives decoder) m pair =
+    subst (IsGiven (d.width decoder) (d.places decoder) (d.gives decoder) m) (sym is)
+    (place_given (d.width decoder) (d.places decoder) (d.parts decoder) (d.gives decoder) c.args.words.now m
     c.requires.count inside) in
     let within : m < length pairs = omega (arith, inside, c.loop-place.invariant.given.count) in
     let ok = c.in_ok-replace.ensures.ok in
@@ -55,14 +55,14 @@ loop-place-preserved g c =
     record {
       sound = ap (λ k. k.refused) ok ∙ c.loop-place.invariant.sound;
       specified = ap (λ k. k.specified) ok ∙ c.loop-place.invariant.specified;
-      given = subst (AreGiven d.WIDTH d.PLACES (d.parts decoder) (d.gives decoder)) (sym now)
-          (given-set d.WIDTH d.PLACES (d.parts decoder) (d.gives decoder) pairs m pair one
+      given = subst (AreGiven (d.width decoder) (d.places decoder) (d.parts decoder) (d.gives decoder)) (sym now)
+          (given-set (d.width decoder) (d.places decoder) (d.parts decoder) (d.gives decoder) pairs m pair one
           c.loop-place.invariant.given);
-      inside = λ j lower. ap (λ s. get_or s (c.args.part * d.PLACES + j) (0, 0)) now
-          ∙ place_inside f c.args.part d.PLACES c.loop-place.place pairs pair within is
+      inside = λ j lower. ap (λ s. get_or s (c.args.part * d.places decoder + j) (0, 0)) now
+          ∙ place_inside f c.args.part (d.places decoder) c.loop-place.place pairs pair within is
           c.loop-place.invariant.inside j lower;
       outside = λ k other. ap (λ s. get_or s k (0, 0)) now
-          ∙ place_outside c.args.part d.PLACES c.loop-place.place pairs pair low k other
+          ∙ place_outside c.args.part (d.places decoder) c.loop-place.place pairs pair low k other
           ∙ c.loop-place.invariant.outside k other;
       counted = omega (arith, c.loop-place.invariant.counted, c.in_ok-replace.ensures.steps);
     }

@@ -6,12 +6,12 @@ abbrev pub invariant-loop-place : goal.invariant-loop-place
 invariant-loop-place g l = record {
   sound : l.parts.refused ≡ false;
   specified : l.parts.specified ≡ l.initial.parts.specified;
-  given : AreGiven g.D.Decode.WIDTH g.D.Decode.PLACES (g.D.Decode.parts l.decoder)
+  given : AreGiven (g.D.Decode.width l.decoder) (g.D.Decode.places l.decoder) (g.D.Decode.parts l.decoder)
       (g.D.Decode.gives l.decoder) l.parts.pairs;
-  inside : (j : ℕ) → j < l.place → get_or l.parts.pairs (l.part * g.D.Decode.PLACES + j) (0, 0)
-      ≡ pair_at g.D.Decode.WIDTH g.D.Decode.PLACES (g.D.Decode.gives l.decoder) l.words
-      (l.part * g.D.Decode.PLACES + j);
-  outside : (m : ℕ) → m / g.D.Decode.PLACES ≢ l.part
+  inside : (j : ℕ) → j < l.place → get_or l.parts.pairs (l.part * g.D.Decode.places l.decoder + j) (0, 0)
+      ≡ pair_at (g.D.Decode.width l.decoder) (g.D.Decode.places l.decoder) (g.D.Decode.gives l.decoder) l.words
+      (l.part * g.D.Decode.places l.decoder + j);
+  outside : (m : ℕ) → m / (g.D.Decode.places l.decoder) ≢ l.part
       → get_or l.parts.pairs m (0, 0) ≡ get_or l.initial.parts.pairs m (0, 0);
   counted : l.steps ≤ l.initial.steps + 2 * l.place;
 }

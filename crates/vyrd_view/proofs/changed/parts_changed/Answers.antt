@@ -10,21 +10,21 @@ pub loop-word-preserved : goal.loop-word-preserved
 loop-word-preserved g c =
     let d = g.D.Decode in
     let decoder = c.args.decoder.now in
-    let f : ℕ → ℕ × ℕ = pair_at d.WIDTH d.PLACES (d.gives decoder) c.args.words.now in
+    let f : ℕ → ℕ × ℕ = pair_at (d.width decoder) (d.places decoder) (d.gives decoder) c.args.words.now in
     let word = get_or c.args.changed.now c.loop-word.word-index 0 in
-    let part : word / c.WIDTH.result ≡ word / d.WIDTH = ap (λ w. word / w) c.WIDTH.ensures in
+    let part : word / c.width.result ≡ word / (d.width decoder) = ap (λ w. word / w) c.width.ensures in
     let ok = c.in_ok-part_changed.ensures in
     record {
       sound = ok.sound;
       specified = ok.specified ∙ c.loop-word.invariant.specified;
       given = ok.given;
-      others = parts_fresh_more d.WIDTH d.PLACES f c.loop-word.parts.pairs
+      others = parts_fresh_more (d.width decoder) (d.places decoder) f c.loop-word.parts.pairs
           c.part_changed.new.parts.pairs c.args.changed.now c.loop-word.word-index
           c.loop-word-test.true (ok.given.count ∙ sym c.loop-word.invariant.given.count)
-          (part_places f c.part_changed.new.parts.pairs d.PLACES (word / d.WIDTH)
-          (subst (λ p. (j : ℕ) → j < d.PLACES
-          → get_or c.part_changed.new.parts.pairs (p * d.PLACES + j) (0, 0) ≡ f (p * d.PLACES + j))
-          part ok.inside) (c.loop-word.parts.pairs) g.met.D.Decode.narrow.2)
+          (part_places f c.part_changed.new.parts.pairs (d.places decoder) (word / (d.width decoder))
+          (subst (λ p. (j : ℕ) → j < d.places decoder
+          → get_or c.part_changed.new.parts.pairs (p * d.places decoder + j) (0, 0) ≡ f (p * d.places decoder + j))
+          part ok.inside) (c.loop-word.parts.pairs) ((g.met.D.Decode.narrow decoder).2))
           (λ m other. ok.outside m (λ same. other (same ∙ part)))
           c.loop-word.invariant.others;
       counted = omega (arith, c.loop-word.invariant.counted, ok.steps);
@@ -35,14 +35,14 @@ returns-clause-ok g c =
     let d = g.D.Decode in
     let decoder = c.args.decoder.now in
     let pairs = c.loop-word.parts.pairs in
-    let f : ℕ → ℕ × ℕ = pair_at d.WIDTH d.PLACES (d.gives decoder) c.args.words.now in
-    let all : ℕ = d.parts decoder * d.PLACES in
+    let f : ℕ → ℕ × ℕ = pair_at (d.width decoder) (d.places decoder) (d.gives decoder) c.args.words.now in
+    let all : ℕ = d.parts decoder * d.places decoder in
     all_kept c.loop-word.parts
-    (pairs_by d.WIDTH d.PLACES (d.parts decoder) (d.gives decoder) c.args.words.now)
+    (pairs_by (d.width decoder) (d.places decoder) (d.parts decoder) (d.gives decoder) c.args.words.now)
     c.args.parts.now.specified c.args.parts.now.refused
     (mapped f pairs all c.loop-word.invariant.given.count
     (λ m low. c.loop-word.invariant.others m
     (omega (arith, low, c.loop-word.invariant.given.count))
-    (untouched_end d.WIDTH (m / d.PLACES) c.args.changed.now c.loop-word.word-index
+    (untouched_end (d.width decoder) (m / (d.places decoder)) c.args.changed.now c.loop-word.word-index
     (omega arith))))
     c.loop-word.invariant.specified (c.loop-word.invariant.sound ∙ sym c.requires.sound)

@@ -7,11 +7,11 @@ abbrev pub invariant-loop-word : goal.invariant-loop-word
 invariant-loop-word g l = record {
   sound : l.parts.refused ≡ false;
   specified : l.parts.specified ≡ l.initial.parts.specified;
-  given : AreGiven g.D.Decode.WIDTH g.D.Decode.PLACES (g.D.Decode.parts l.decoder)
+  given : AreGiven (g.D.Decode.width l.decoder) (g.D.Decode.places l.decoder) (g.D.Decode.parts l.decoder)
       (g.D.Decode.gives l.decoder) l.parts.pairs;
   others : (m : ℕ) → m < length l.parts.pairs
-      → is_touched g.D.Decode.WIDTH (m / g.D.Decode.PLACES) (drop l.word-index l.changed) ≡ false
+      → is_touched (g.D.Decode.width l.decoder) (m / (g.D.Decode.places l.decoder)) (drop l.word-index l.changed) ≡ false
       → get_or l.parts.pairs m (0, 0)
-      ≡ pair_at g.D.Decode.WIDTH g.D.Decode.PLACES (g.D.Decode.gives l.decoder) l.words m;
-  counted : l.steps ≤ l.initial.steps + l.word-index * (1 + 2 * g.D.Decode.PLACES);
+      ≡ pair_at (g.D.Decode.width l.decoder) (g.D.Decode.places l.decoder) (g.D.Decode.gives l.decoder) l.words m;
+  counted : l.steps ≤ l.initial.steps + l.word-index * (1 + 2 * g.D.Decode.places l.decoder);
 }

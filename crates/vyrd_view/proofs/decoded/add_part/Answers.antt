@@ -12,18 +12,18 @@ pub add-requires : goal.add-requires
 add-requires g c =
     let d = g.D.Decode in
     let decoder = c.args.decoder.now in
-    let m = c.args.part * d.PLACES + c.loop-place.place in
-    let f : ℕ → ℕ × ℕ = pair_at d.WIDTH d.PLACES (d.gives decoder) c.args.words.now in
+    let m = c.args.part * d.places decoder + c.loop-place.place in
+    let f : ℕ → ℕ × ℕ = pair_at (d.width decoder) (d.places decoder) (d.gives decoder) c.args.words.now in
     let pair : ℕ × ℕ = get_or c.decoded_part-pairs.result c.loop-place.place (0, 0) in
-    let low : c.loop-place.place < d.PLACES =
-    omega (arith, c.loop-place-test.true, c.PLACES-place-end.ensures) in
+    let low : c.loop-place.place < d.places decoder =
+    omega (arith, c.loop-place-test.true, c.places-place-end.ensures) in
     let is : pair ≡ f m = c.decoded_part-pairs.ensures c.loop-place.place low in
-    let inside : m < d.parts decoder * d.PLACES =
-    place_within c.args.part (d.parts decoder) d.PLACES c.loop-place.place c.requires.part low in
-    let fits : given (f m).0 (pairs_by d.WIDTH d.PLACES (d.parts decoder) (d.gives decoder)
+    let inside : m < d.parts decoder * d.places decoder =
+    place_within c.args.part (d.parts decoder) (d.places decoder) c.loop-place.place c.requires.part low in
+    let fits : given (f m).0 (pairs_by (d.width decoder) (d.places decoder) (d.parts decoder) (d.gives decoder)
     c.args.words.now) < 2 ^ 64 =
     g.met.D.Decode.fits decoder _ (f m).0
-    (pairs_given d.WIDTH d.PLACES (d.parts decoder) (d.gives decoder) c.args.words.now
+    (pairs_given (d.width decoder) (d.places decoder) (d.parts decoder) (d.gives decoder) c.args.words.now
     c.requires.count) in
     omega (
       arith,
@@ -31,19 +31,20 @@ add-requires g c =
       amount_of-collected (map f (numbers_below m)) pair.0,
       ap (λ (p : ℕ × ℕ). given p.0 (map f (numbers_below m))) is,
       ap (λ (p : ℕ × ℕ). p.1) is,
-      place_fits d.WIDTH d.PLACES (d.parts decoder) (d.gives decoder) c.args.words.now m (2 ^ 64)
+      place_fits (d.width decoder) (d.places decoder) (d.parts decoder) (d.gives decoder) c.args.words.now m (2 ^ 64)
           inside fits,
     )
 
 pub loop-place-preserved : goal.loop-place-preserved
 loop-place-preserved g c =
     let d = g.D.Decode in
-    let m = c.args.part * d.PLACES + c.loop-place.place in
-    let n = c.args.part * d.PLACES + (c.loop-place.place + 1) in
-    let f : ℕ → ℕ × ℕ = pair_at d.WIDTH d.PLACES (d.gives c.args.decoder.now) c.args.words.now in
+    let decoder = c.args.decoder.now in
+    let m = c.args.part * d.places decoder + c.loop-place.place in
+    let n = c.args.part * d.places decoder + (c.loop-place.place + 1) in
+    let f : ℕ → ℕ × ℕ = pair_at (d.width decoder) (d.places decoder) (d.gives decoder) c.args.words.now in
     let pair : ℕ × ℕ = get_or c.decoded_part-pairs.result c.loop-place.place (0, 0) in
-    let low : c.loop-place.place < d.PLACES =
-    omega (arith, c.loop-place-test.true, c.PLACES-place-end.ensures) in
+    let low : c.loop-place.place < d.places decoder =
+    omega (arith, c.loop-place-test.true, c.places-place-end.ensures) in
     let is : pair ≡ f m = c.decoded_part-pairs.ensures c.loop-place.place low in
     let next : n ≡ m + 1 = omega arith in
     elim c.if-pair-ne0.branch [

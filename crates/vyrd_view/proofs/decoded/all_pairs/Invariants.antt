@@ -4,4 +4,4 @@ use Rattle.vyrd_view.proofs.decoded.all_pairs.Given as goal
 
 abbrev pub invariant-loop-part : goal.invariant-loop-part
 invariant-loop-part g l = l.pairs.items
-    ≡ pairs_by g.D.Decode.WIDTH g.D.Decode.PLACES l.part (g.D.Decode.gives l.decoder) l.words
+    ≡ pairs_by (g.D.Decode.width l.decoder) (g.D.Decode.places l.decoder) l.part (g.D.Decode.gives l.decoder) l.words
