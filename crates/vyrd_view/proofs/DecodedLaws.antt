@@ -19,7 +19,7 @@ use Rattle.vyrd_base.proofs.SumLaws.{own_part, nothing_given, amount_of-collecte
 use Rattle.vyrd_base.proofs.SumLaws.{IsAmounts-collected}
 use Rattle.vyrd_base.proofs.TestLaws.{same_of, apart_of, isnt_same, neither_true}
 use Rattle.vyrd_view.specs.Comparing.{AgreeElsewhere}
-use Rattle.vyrd_view.specs.Decoded.{Gives, words_of, pair_at, pairs_by, IsGiven, AreGiven}
+use Rattle.vyrd_view.specs.Decoded.{Gives, words_of, pair_at, pairs_by, AreGiven}
 use Rattle.vyrd_view.specs.Pairs.{is_touched}
 use Rattle.vyrd_view.specs.Laws.Sums.{each_bounds, mapped-push, given_map_push, own_word}
 
@@ -69,48 +69,16 @@ is_place places m =
 
 module _ (width places parts : ℕ) (gives : Gives) where
   -- all pairs are given by some words
-  pub pairs_given : (words : List ℕ) → length words ≡ parts * width
-      → AreGiven width places parts gives (pairs_by width places parts gives words)
-  pairs_given words count = record {
+  pub pairs_given : (words : List ℕ)
+      → AreGiven places parts gives (pairs_by width places parts gives words)
+  pairs_given words = record {
     count = length_below (pair_at width places gives words) (parts * places);
-    each = λ m low. let inside : m < parts * places =
-        omega (arith, low, length_below (pair_at width places gives words) (parts * places)) in
-        record {
-          own = words_of width (m / places) words;
-          count = own_length width (m / places) parts words (part_of_within m parts places inside)
-              count;
-          is = element_below (pair_at width places gives words) (parts * places) m (0, 0) inside;
-        };
+    each = λ m low. record {
+      own = words_of width (m / places) words;
+      is = element_below (pair_at width places gives words) (parts * places) m (0, 0)
+          (omega (arith, low, length_below (pair_at width places gives words) (parts * places)));
+    };
   }
-
-  -- and what a part's words give may come to its place
-  pub place_given : (words : List ℕ) (m : ℕ) → length words ≡ parts * width → m < parts * places
-      → IsGiven width places gives m (pair_at width places gives words m)
-  place_given words m count inside = record {
-    own = words_of width (m / places) words;
-    count = own_length width (m / places) parts words (part_of_within m parts places inside) count;
-    is = refl;
-  }
-
-  pub given-set : (pairs : List (ℕ × ℕ)) (place : ℕ) (pair : ℕ × ℕ)
-      → IsGiven width places gives place pair → AreGiven width places parts gives pairs
-      → AreGiven width places parts gives (set pairs place pair)
-  given-set pairs place pair one are = record {
-    count = length-set pairs place pair ∙ are.count;
-    each = λ m low. by_test m (omega (arith, low, length-set pairs place pair)) (m == place) refl;
-  }
-    where
-      by_test : (m : ℕ) → m < length pairs → (b : Bool) → (m == place) ≡ b
-          → IsGiven width places gives m (get_or (set pairs place pair) m (0, 0))
-      by_test m low true e =
-          let same : place ≡ m = sym (same_of m place e) in
-          let here : place < length pairs = omega (arith, same, low) in
-          subst (λ k. IsGiven width places gives k (get_or (set pairs place pair) k (0, 0))) same
-          (subst (λ (p : ℕ × ℕ). IsGiven width places gives place p)
-          (sym (get_or-set_same pairs place pair (0, 0) here)) one)
-      by_test m low false e =
-          subst (λ (p : ℕ × ℕ). IsGiven width places gives m p)
-          (sym (get_or-set_other pairs place m pair (0, 0) (apart_of m place e))) (are.each m low)
 
   -- if all fits, so do the first of them
   given_grows : (q : ℕ) (f : ℕ → ℕ × ℕ) (m k : ℕ)
@@ -289,12 +257,7 @@ part_places f now places part each before some m low at =
 module _ (width places parts : ℕ) (gives : Gives) (before : List ℕ) (pairs : List (ℕ × ℕ))
     (kept : pairs ≡ pairs_by width places parts gives before)
     (count : length before ≡ parts * width) where
-  -- it was given by some words
-  pub kept_given : AreGiven width places parts gives pairs
-  kept_given = subst (AreGiven width places parts gives) (sym kept)
-      (pairs_given width places parts gives before count)
-
-  -- and is up to date where no changed word is
+  -- it is up to date where no changed word is
   pub kept_others : (words changed : List ℕ) → length words ≡ parts * width
       → AgreeElsewhere before words changed → (m : ℕ) → m < length pairs
       → is_touched width (m / places) changed ≡ false

@@ -13,4 +13,5 @@ pub mod ReadyLaws
 pub mod HomeLaws
 pub mod SidedLaws
 pub mod FreshLaws
+pub mod SummedLaws
 pub mod OutcomeLaws

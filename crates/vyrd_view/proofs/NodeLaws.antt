@@ -7,30 +7,6 @@ use Rattle.vyrd_view.specs.Pairs.{is_touched}
 use Rattle.vyrd_view.specs.Chains.{entry_pair, node_pair, is_stale}
 use Rattle.vyrd_view.proofs.PlacedLaws.{touched_more}
 
--- an entry gives this at most
-pub entry_at_most : (words : List ℕ) (n j : ℕ) → (entry_pair words n j).1 ≤ 2 ^ 33
-entry_at_most words n j = by_count (nat_lt j (count_of words n))
-  where
-    key : ℕ
-    key = node_word words n (4 + j)
-
-    value : ℕ
-    value = node_word words n (8 + j)
-
-    by_value : (b : Bool) → (nat_lt (node_word words n (4 + j)) (2 ^ 32) && nat_lt (node_word words n (8 + j)) (2 ^ 32)) ≡ b
-        → (cond {A = ℕ × ℕ} b (node_word words n (4 + j), 2 ^ 32 + node_word words n (8 + j)) (2 ^ 33, 1)).1 ≤ 2 ^ 33
-    by_value true e =
-        let low : node_word words n (8 + j) < 2 ^ 32 =
-        below_of (node_word words n (8 + j)) (2 ^ 32) (second_true (nat_lt (node_word words n (4 + j)) (2 ^ 32)) (nat_lt (node_word words n (8 + j)) (2 ^ 32)) e) in
-        omega (arith, low)
-    by_value false e = omega arith
-
-    by_count : (b : Bool) → (cond {A = ℕ × ℕ} b
-        (cond {A = ℕ × ℕ} (nat_lt (node_word words n (4 + j)) (2 ^ 32) && nat_lt (node_word words n (8 + j)) (2 ^ 32)) (node_word words n (4 + j), 2 ^ 32 + node_word words n (8 + j)) (2 ^ 33, 1))
-        (0, 0)).1 ≤ 2 ^ 33
-    by_count true = by_value (nat_lt (node_word words n (4 + j)) (2 ^ 32) && nat_lt (node_word words n (8 + j)) (2 ^ 32)) refl
-    by_count false = omega arith
-
 stale_rest : (marks : List Bool) (part : ℕ) (changed : List ℕ) (index : ℕ) → index < length changed → (get_or changed index 0 / 12 == part) ≡ false
     → is_stale marks part (drop (index + 1) changed) ≡ false → is_stale marks part (drop index changed) ≡ false
 stale_rest marks part changed index low apart rest =

@@ -1,5 +1,11 @@
 -- What is kept, and what one pair of it gives.
-use Rattle.std.proofs.Common.{◌≡◌, ℕ, zero, suc, ◌<◌, ◌≤◌, Bool, List, [], ◌∷◌, length, get_or, arith}
+use Rattle.std.proofs.Common.{◌≡◌, ℕ, zero, suc, ◌<◌, ◌≤◌, Bool, true, false, List, [], ◌∷◌, length}
+use Rattle.std.proofs.Common.{get_or, refl, ap, arith}
+use Rattle.std.specs.Prelude.{nat_lt}
+use Rattle.std.proofs.lemmas.List.{get_or_past}
+use Rattle.vyrd_base.proofs.SumLaws.{own_part}
+use Rattle.vyrd_base.proofs.TestLaws.{below_of, not_below_of}
+use Rattle.vyrd_view.specs.Pairs.{EachAtMost}
 use Rattle.vyrd_base.specs.Amounts.{Amounts, given, part_given}
 use Rattle.vyrd_view.specs.Kept.{Kept}
 
@@ -8,6 +14,28 @@ pub part-le-given : (q : ℕ) (pairs : List (ℕ × ℕ)) (i : ℕ) (d : ℕ × 
 part-le-given q [] i d low = absurd (omega arith)
 part-le-given q (p ∷ pairs) zero d low = omega arith
 part-le-given q (p ∷ pairs) (suc i) d low = omega (arith, part-le-given q pairs i d (omega arith))
+
+-- where nothing is given to any key, no pair gives anything
+pub nothing_at_most : (most : ℕ) (pairs : List (ℕ × ℕ)) → ((q : ℕ) → given q pairs ≡ 0)
+    → EachAtMost most pairs
+nothing_at_most most pairs none i = by_place (nat_lt i (length pairs)) refl
+  where
+    pair : ℕ × ℕ
+    pair = get_or pairs i (0, 0)
+
+    by_place : (b : Bool) → nat_lt i (length pairs) ≡ b → (get_or pairs i (0, 0)).1 ≤ most
+    by_place true e =
+        let low : i < length pairs = below_of i (length pairs) e in
+        omega (
+          arith,
+          part-le-given pair.0 pairs i (0, 0) low,
+          own_part pair.0 pair.1,
+          none pair.0,
+        )
+    by_place false e = omega (
+      arith,
+      ap (λ (p : ℕ × ℕ). p.1) (get_or_past pairs i (0, 0) (not_below_of i (length pairs) e)),
+    )
 
 -- what is kept, field by field
 pub all_kept : (kept : Kept) (pairs : List (ℕ × ℕ)) (specified : Amounts) (refused : Bool) → kept.pairs ≡ pairs → kept.specified ≡ specified

@@ -12,45 +12,22 @@ use Rattle.vyrd_base.proofs.AmountLaws.{same_amounts}
 use Rattle.vyrd_base.proofs.SumLaws.{amount_of-collected, IsAmounts-collected}
 use Rattle.vyrd_base.proofs.TestLaws.{below_of, not_below_of}
 use Rattle.vyrd_base.proofs.PlaceLaws.{length_below, element_below}
-use Rattle.vyrd_view.specs.Pairs.{EachAtMost}
 use Rattle.vyrd_view.specs.Chains.{is_on_chain, is_broken, node_pair, end_pair, tree_pair, is_stale}
 use Rattle.vyrd_view.specs.Chains.{has_link}
 use Rattle.vyrd_view.specs.Chained.{IsWalked}
 use Rattle.vyrd_view.specs.Comparing.{AgreeElsewhere}
 use Rattle.vyrd_view.specs.Known.{of_subject, view_by}
-use Rattle.vyrd_view.proofs.TreePairLaws.{tree_pair_at_most, tree_pair_node, tree_pair_end}
+use Rattle.vyrd_view.proofs.TreePairLaws.{tree_pair_node, tree_pair_end}
 use Rattle.vyrd_view.proofs.TreePairLaws.{tree_pairs}
 use Rattle.vyrd_view.proofs.ShowingTree.{places_give}
 use Rattle.vyrd_view.proofs.CurrentLaws.{node_untouched, chain_untouched, end_untouched}
 use Rattle.vyrd_view.proofs.CurrentLaws.{first_is_marked, no_node, end_is_whole}
-
-each-mapped : (most : ℕ) (f : ℕ → ℕ × ℕ) (n : ℕ) → ((i : ℕ) → (f i).1 ≤ most)
-    → EachAtMost most (map f (numbers_below n))
-each-mapped most f n each i = by_place (nat_lt i n) refl
-  where
-    by_place : (b : Bool) → nat_lt i n ≡ b
-        → (get_or (map f (numbers_below n)) i (0, 0)).1 ≤ most
-    by_place true e =
-        let here : (get_or (map f (numbers_below n)) i (0, 0)).1 ≡ (f i).1 =
-        ap (λ (p : ℕ × ℕ). p.1) (element_below f n i (0, 0) (below_of i n e)) in
-        omega (arith, here, each i)
-    by_place false e =
-        let past : length (map f (numbers_below n)) ≤ i =
-        omega (arith, length_below f n, not_below_of i n e) in
-        let there : (get_or (map f (numbers_below n)) i (0, 0)).1 ≡ 0 =
-        ap (λ (p : ℕ × ℕ). p.1) (get_or_past (map f (numbers_below n)) i (0, 0) past) in
-        omega (arith, there)
 
 module _ (before words changed : List ℕ) (pairs : List (ℕ × ℕ)) (marks : List Bool)
     (walked : IsWalked before pairs marks) (elsewhere : AgreeElsewhere before words changed) where
   pub tree_count : length pairs ≡ 4 * length marks + 1
   tree_count =
       ap length walked.given ∙ length_below (tree_pair (length marks) before) (4 * length marks + 1)
-
-  pub tree_most : EachAtMost (2 ^ 33) pairs
-  tree_most = subst (λ s. EachAtMost (2 ^ 33) s) (sym walked.given)
-      (each-mapped (2 ^ 33) (tree_pair (length marks) before) (4 * length marks + 1)
-      (tree_pair_at_most (length marks) before))
 
   pub tree_others : (m : ℕ) → m < 4 * length marks → is_stale marks (m / 4) changed ≡ false
       → get_or pairs m (0, 0) ≡ node_pair words marks m

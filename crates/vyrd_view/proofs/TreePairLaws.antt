@@ -5,7 +5,6 @@ use Rattle.vyrd_base.specs.Places.{numbers_below}
 use Rattle.vyrd_base.proofs.TestLaws.{same_of, apart_of, is_same, isnt_same}
 use Rattle.vyrd_view.specs.Chains.{entry_pair, node_pair, end_pair, tree_pair, is_on_chain, is_broken}
 use Rattle.vyrd_view.proofs.PlacedLaws.{mapped}
-use Rattle.vyrd_view.proofs.NodeLaws.{entry_at_most}
 
 pub tree_pair_end : (size : ℕ) (words : List ℕ) → tree_pair size words (4 * size) ≡ end_pair (is_broken size words)
 tree_pair_end size words = ap (λ (b : Bool). cond {A = ℕ × ℕ} b (end_pair (is_broken size words))
@@ -33,23 +32,3 @@ tree_pairs size words marks pairs count marked nodes end = mapped (tree_pair siz
     by_test m low false e =
         let inside : m < 4 * size = omega (arith, low, apart_of m (4 * size) e) in
         nodes m inside ∙ sym (tree_pair_node size words marks m inside marked)
-
-pub tree_pair_at_most : (size : ℕ) (words : List ℕ) (m : ℕ) → (tree_pair size words m).1 ≤ 2 ^ 33
-tree_pair_at_most size words m = by_end (m == 4 * size)
-  where
-    by_broken : (b : Bool) → (cond {A = ℕ × ℕ} b (2 ^ 33, 1) (0, 0)).1 ≤ 2 ^ 33
-    by_broken true = omega arith
-    by_broken false = omega arith
-
-    by_chain : (b : Bool) → (cond {A = ℕ × ℕ} b (entry_pair words (m / 4) (m % 4)) (0, 0)).1 ≤ 2 ^ 33
-    by_chain true = entry_at_most words (m / 4) (m % 4)
-    by_chain false = omega arith
-
-    by_end : (b : Bool) → (cond {A = ℕ × ℕ} b (end_pair (is_broken size words))
-        (cond {A = ℕ × ℕ} (is_on_chain size words (m / 4)) (entry_pair words (m / 4) (m % 4)) (0, 0))).1 ≤ 2 ^ 33
-    by_end true = by_broken (is_broken size words)
-    by_end false = by_chain (is_on_chain size words (m / 4))
-
-pub end_at_most : (b : Bool) → (end_pair b).1 ≤ 2 ^ 33
-end_at_most true = omega arith
-end_at_most false = omega arith

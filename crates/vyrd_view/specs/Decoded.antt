@@ -24,14 +24,12 @@ pairs_by width places parts gives words =
     map (pair_at width places gives words) (numbers_below (parts * places))
 
 -- some words of its part give a place this pair
-pub record IsGiven (width places : ℕ) (gives : Gives) (m : ℕ) (pair : ℕ × ℕ) : Type 0 where
+pub record IsGiven (places : ℕ) (gives : Gives) (m : ℕ) (pair : ℕ × ℕ) : Type 0 where
   pub own : List ℕ
-  pub count : length own ≡ width
   pub is : pair ≡ gives (m / places) own (m % places)
 
--- Each place has a pair that some words of its part give, and it needn't be the same words in any
--- two places. So it is while changed words are taken in, one place after another.
-pub record AreGiven (width places parts : ℕ) (gives : Gives) (pairs : List (ℕ × ℕ)) : Type 0 where
+-- each place has a pair that some words of its part give
+pub record AreGiven (places parts : ℕ) (gives : Gives) (pairs : List (ℕ × ℕ)) : Type 0 where
   pub count : length pairs ≡ parts * places
   pub each : (m : ℕ) → m < length pairs
-      → IsGiven width places gives m (slice_index_or pairs m (0, 0))
+      → IsGiven places gives m (slice_index_or pairs m (0, 0))

@@ -1,6 +1,7 @@
 pub mod Apart
 pub mod Rests
 pub mod Sided
+pub mod Summed
 pub mod Kept
 pub mod Decoded
 pub mod Pairs

@@ -32,7 +32,7 @@ impl Decode for Buffers {
     ghost use Rattle.vyrd_view.specs.Known.{of_subject};
     ghost use Rattle.vyrd_view.specs.Pairs.{buffer_gives};
     ghost use Rattle.vyrd_view.specs.Laws.Buffers.{buffers_narrow, buffers_bounded, buffers_few};
-    ghost use Rattle.vyrd_view.specs.Laws.Buffers.{buffers_fit, buffers_show};
+    ghost use Rattle.vyrd_view.specs.Laws.Buffers.{buffers_show};
 
     ghost width = { λ buffers. 8 };
 
@@ -53,8 +53,6 @@ impl Decode for Buffers {
     ghost few = { λ buffers. buffers_few buffers.size buffers.small };
 
     ghost quiet = { λ buffers part j. refl };
-
-    ghost fits = { λ buffers. buffers_fit buffers.size };
 
     ghost shown = { λ buffers words count. buffers_show buffers.size words };
 

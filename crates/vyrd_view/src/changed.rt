@@ -2,7 +2,7 @@
 
 ghost use Rattle.std.specs.Prelude.{◌≡◌, ◌≢◌, ℕ, ◌+◌, ◌*◌, ◌/◌, ◌<◌, ◌≤◌, true, false, length};
 ghost use Rattle.std.specs.Prelude.{All, slice_index_or, OnOk, OnErr};
-ghost use Rattle.vyrd_view.specs.Decoded.{AreGiven, pair_at, pairs_by};
+ghost use Rattle.vyrd_view.specs.Decoded.{pair_at, pairs_by};
 ghost use Rattle.vyrd_view.specs.Pairs.{is_touched};
 
 use crate::decode::Decode;
@@ -25,8 +25,7 @@ pub(crate) fn parts_changed<D: Decode, L: Ledger>(
     requires sound { parts.old.refused ≡ false }
     requires count { length words.now ≡ D.parts decoder.now * D.width decoder.now }
     requires within { All (λ w. w < length words.now) changed.now }
-    requires given { AreGiven (D.width decoder.now) (D.places decoder.now) (D.parts decoder.now)
-        (D.gives decoder.now) parts.old.pairs }
+    requires places { length parts.old.pairs ≡ D.parts decoder.now * D.places decoder.now }
     requires others { (m : ℕ) → m < length parts.old.pairs
         → is_touched (D.width decoder.now) (m / D.places decoder.now) changed.now ≡ false
         → slice_index_or parts.old.pairs m (0, 0)
@@ -58,12 +57,10 @@ fn part_changed<D: Decode, L: Ledger>(
     requires sound { parts.old.refused ≡ false }
     requires part { part < D.parts decoder.now }
     requires count { length words.now ≡ D.parts decoder.now * D.width decoder.now }
-    requires given { AreGiven (D.width decoder.now) (D.places decoder.now) (D.parts decoder.now)
-        (D.gives decoder.now) parts.old.pairs }
+    requires places { length parts.old.pairs ≡ D.parts decoder.now * D.places decoder.now }
     ensures sound { OnOk result (parts.new.refused ≡ false) }
     ensures specified { OnOk result (parts.new.specified ≡ parts.old.specified) }
-    ensures given { OnOk result (AreGiven (D.width decoder.now) (D.places decoder.now)
-        (D.parts decoder.now) (D.gives decoder.now) parts.new.pairs) }
+    ensures places { OnOk result (length parts.new.pairs ≡ length parts.old.pairs) }
     ensures inside { OnOk result ((j : ℕ) → j < D.places decoder.now
         → slice_index_or parts.new.pairs (part * D.places decoder.now + j) (0, 0)
         ≡ pair_at (D.width decoder.now) (D.places decoder.now) (D.gives decoder.now) words.now

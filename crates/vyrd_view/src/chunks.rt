@@ -36,7 +36,7 @@ impl Decode for Chunks {
     ghost use Rattle.vyrd_view.specs.Pairs.{chunk_gives};
     ghost use Rattle.vyrd_view.specs.Laws.Chunks.{chunks_narrow, chunks_bounded, chunks_few};
     ghost use Rattle.vyrd_view.specs.Laws.Chunks.{quiet_chunk};
-    ghost use Rattle.vyrd_view.specs.Laws.Chunks.{chunks_fit, chunks_show};
+    ghost use Rattle.vyrd_view.specs.Laws.Chunks.{chunks_show};
 
     ghost width = { λ chunks. 5 };
 
@@ -57,8 +57,6 @@ impl Decode for Chunks {
     ghost few = { λ chunks. chunks_few chunks.size chunks.small };
 
     ghost quiet = { λ chunks. quiet_chunk chunks.size };
-
-    ghost fits = { λ chunks. chunks_fit chunks.size };
 
     ghost shown = { λ chunks words count. chunks_show chunks.size words };
 

@@ -1,9 +1,9 @@
 //! How words are decoded, part by part.
 
-ghost use Rattle.std.specs.Prelude.{◌≡◌, ℕ, ◌*◌, ◌<◌, ◌≤◌, ◌^◌, List, length, replicate};
+ghost use Rattle.std.specs.Prelude.{◌≡◌, ℕ, ◌*◌, ◌<◌, ◌≤◌, List, length, replicate};
 ghost use Rattle.std.specs.Prelude.{slice_index_or};
-ghost use Rattle.vyrd_base.specs.Amounts.{collected, given};
-ghost use Rattle.vyrd_view.specs.Decoded.{Gives, AreGiven, pairs_by};
+ghost use Rattle.vyrd_base.specs.Amounts.{collected};
+ghost use Rattle.vyrd_view.specs.Decoded.{Gives, pairs_by};
 ghost use Rattle.vyrd_view.specs.Known.{Shows, view_by};
 
 /// A pair that gives nothing.
@@ -66,10 +66,6 @@ pub trait Decode: Sized + Copy + Drop {
 
     // A part of zeroed words gives nothing, whatever its keys are.
     ghost quiet: { (d : Self) (part j : ℕ) → (gives d part (replicate (width d) 0) j).1 ≡ 0 };
-
-    // What the places give to a key together fits 64 bits, whatever words each is decoded from.
-    ghost fits: { (d : Self) (pairs : List (ℕ × ℕ)) (q : ℕ)
-        → AreGiven (width d) (places d) (parts d) (gives d) pairs → given q pairs < 2 ^ 64 };
 
     // The words show what all parts give.
     ghost shown: { (d : Self) (words : List ℕ) → length words ≡ parts d * width d

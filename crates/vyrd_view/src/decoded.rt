@@ -1,9 +1,9 @@
 //! Words that are decoded part by part, from scratch.
 
-ghost use Rattle.std.specs.Prelude.{◌≡◌, ℕ, ◌+◌, ◌*◌, ◌<◌, length, map, slice_index_or};
+ghost use Rattle.std.specs.Prelude.{◌≡◌, ℕ, ◌+◌, ◌*◌, ◌<◌, ◌^◌, length, map, slice_index_or};
 ghost use Rattle.std.specs.Prelude.{◌++◌, IfOk, OnOk};
 ghost use Rattle.vyrd_base.specs.Places.{numbers_below};
-ghost use Rattle.vyrd_base.specs.Amounts.{collected};
+ghost use Rattle.vyrd_base.specs.Amounts.{collected, given};
 ghost use Rattle.vyrd_view.specs.Decoded.{pair_at, pairs_by};
 ghost use Rattle.vyrd_view.specs.Known.{view_by};
 
@@ -11,13 +11,16 @@ use crate::decode::Decode;
 use std::alloc::{AllocError, Global};
 use vyrd_base::AmountMap;
 
-/// What the words show: each key with the sum of what the parts give to it.
+/// What the words show: each key with the sum of what the parts give to it, which has to be below
+/// 2^64.
 pub(crate) fn collect<D: Decode>(
     alloc: Global,
     decoder: &D,
     words: &[u64],
 ) -> Result<AmountMap, AllocError>
     requires count { length words.now ≡ D.parts decoder.now * D.width decoder.now }
+    requires fits { (q : ℕ) → given q (pairs_by (D.width decoder.now) (D.places decoder.now)
+        (D.parts decoder.now) (D.gives decoder.now) words.now) < 2 ^ 64 }
     ensures { IfOk result (λ sums. sums ≡ view_by (D.shows decoder.now) words.now) }
 {
     let mut sums = AmountMap::new(alloc);
@@ -36,6 +39,8 @@ fn add_part<D: Decode>(
 ) -> Result<(), AllocError>
     requires part { part < D.parts decoder.now }
     requires count { length words.now ≡ D.parts decoder.now * D.width decoder.now }
+    requires fits { (q : ℕ) → given q (pairs_by (D.width decoder.now) (D.places decoder.now)
+        (D.parts decoder.now) (D.gives decoder.now) words.now) < 2 ^ 64 }
     requires sums { sums.old ≡ collected (pairs_by (D.width decoder.now) (D.places decoder.now) part
         (D.gives decoder.now) words.now) }
     ensures { OnOk result (sums.new ≡ collected (pairs_by (D.width decoder.now)

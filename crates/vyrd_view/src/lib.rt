@@ -40,6 +40,7 @@ mod shown;
 mod sides;
 mod slots;
 mod steps;
+mod sums;
 mod tree;
 mod words;
 

@@ -4,8 +4,8 @@ ghost use Rattle.std.specs.Prelude.{◌≡◌, ℕ, ◌+◌, ◌<◌, ◌≤◌,
 ghost use Rattle.std.specs.Prelude.{OnOk, OnErr, IfOk};
 ghost use Rattle.vyrd_base.specs.Amounts.{with_amount, collected, first_difference, given};
 
-use crate::sides::Sides;
 use crate::steps::Steps;
+use crate::sums::Sums;
 use std::alloc::{AllocError, Global};
 use std::marker::Model;
 use std::sync::ledger::Ledger;
@@ -21,23 +21,29 @@ const MOST_BITS: u32 = 20;
 #[derive(Drop)]
 pub(crate) struct Parts {
     pairs: Vec<(u64, u64)>,
-    sides: Sides,
+    sums: Sums,
     refused: bool,
 }
 
 impl Model for Parts {
-    ghost use Rattle.std.specs.Prelude.{◌≡◌, ℕ, false};
+    ghost use Rattle.std.specs.Prelude.{◌≡◌, ℕ, ◌-◌, ◌^◌, false};
     ghost use Rattle.vyrd_base.specs.Amounts.{given};
     ghost use Rattle.vyrd_view.specs.Kept.{Kept};
-    ghost use Rattle.vyrd_view.specs.Sided.{IsSettled, shown_at, specified_of};
+    ghost use Rattle.vyrd_view.specs.Pairs.{EachAtMost};
+    ghost use Rattle.vyrd_view.specs.Sided.{specified_of};
+    ghost use Rattle.vyrd_view.specs.Summed.{IsSettled, sum_at};
 
     ghost Value = { Kept };
 
-    ghost view = { λ p.
-        record { pairs = p.pairs.items; specified = specified_of p.sides; refused = p.refused } };
+    ghost view = { λ p. record {
+      pairs = p.pairs.items;
+      specified = specified_of p.sums.sides;
+      refused = p.refused;
+    } };
 
     ghost invariant = { λ p. p.refused ≡ false
-        → (IsSettled p.sides × ((q : ℕ) → shown_at p.sides q ≡ given q p.pairs.items)) };
+        → (IsSettled p.sums × ((q : ℕ) → sum_at p.sums q ≡ given q p.pairs.items)
+        × EachAtMost (2 ^ 64 - 1) p.pairs.items) };
 }
 
 impl Parts {
@@ -50,7 +56,7 @@ impl Parts {
         let bits = table_bits(pairs.len());
         Ok(Parts {
             pairs,
-            sides: Sides::new(alloc, bits)?,
+            sums: Sums::new(alloc, bits)?,
             refused: false,
         })
     }
@@ -66,7 +72,6 @@ impl Parts {
     ) -> Result<(), AllocError>
         requires sound { self.old.refused ≡ false }
         requires place { place < length self.old.pairs }
-        requires fits { given pair.0 (slice_set self.old.pairs place pair) < 2 ^ 64 }
         ensures ok { OnOk result
             (self.new ≡ record self.old { pairs = slice_set self.old.pairs place pair }) }
         ensures refused { OnErr result (self.new.refused ≡ true) }
@@ -76,7 +81,7 @@ impl Parts {
         if before.0 == pair.0 && before.1 == pair.1 {
             return Ok(());
         }
-        self.write(place, pair, steps)
+        self.write(place, pair.0, pair.1, steps)
     }
 
     /// Another pair comes to this place.
@@ -84,20 +89,21 @@ impl Parts {
     fn write<L: Ledger>(
         &mut self,
         place: usize,
-        pair: (u64, u64),
+        key: u64,
+        amount: u64,
         steps: &mut Steps<L>,
     ) -> Result<(), AllocError>
         requires sound { self.old.refused ≡ false }
         requires place { place < length self.old.pairs }
-        requires fits { given pair.0 (slice_set self.old.pairs place pair) < 2 ^ 64 }
         ensures ok { OnOk result
-            (self.new ≡ record self.old { pairs = slice_set self.old.pairs place pair }) }
+            (self.new ≡ record self.old { pairs = slice_set self.old.pairs place (key, amount) }) }
         ensures refused { OnErr result (self.new.refused ≡ true) }
         ensures steps { steps.new ≤ steps.old + 2 }
     {
         let before = self.pairs[place];
+        let pair = (key, amount);
         self.pairs[place] = pair;
-        match self.sides.change(before, pair, steps) {
+        match self.sums.change(before, pair, steps) {
             Ok(()) => Ok(()),
             Err(refusal) => {
                 self.refused = true;
@@ -121,7 +127,7 @@ impl Parts {
         ensures refused { OnErr result (self.new.refused ≡ true) }
         ensures steps { steps.new ≤ steps.old + 1 }
     {
-        match self.sides.specify(key, amount, steps) {
+        match self.sums.specify(key, amount, steps) {
             Ok(()) => Ok(()),
             Err(refusal) => {
                 self.refused = true;
@@ -136,7 +142,7 @@ impl Parts {
         requires { self.now.refused ≡ false }
         ensures { result ≡ first_difference (collected self.now.pairs) self.now.specified }
     {
-        self.sides.first_difference()
+        self.sums.first_difference()
     }
 
     /// Whether memory was refused.

@@ -22,9 +22,9 @@ pub(crate) struct Sides {
 
 /// The amounts of a key, and its place in the table if it has one.
 #[derive(Clone, Copy)]
-struct Found {
-    both: Both,
-    place: Option<usize>,
+pub(crate) struct Found {
+    pub(crate) both: Both,
+    pub(crate) place: Option<usize>,
 }
 
 impl Sides {
@@ -43,62 +43,6 @@ impl Sides {
             homes: Homes::new(alloc, bits)?,
             rest: Rest::new(alloc),
         })
-    }
-
-    /// The words show less of the key by one amount, and more by another. Once memory was refused
-    /// it may only be dropped.
-    #[inline(always)]
-    pub(crate) fn exchange<L: Ledger>(
-        &mut self,
-        key: u64,
-        less: u64,
-        more: u64,
-        steps: &mut Steps<L>,
-    ) -> Result<(), AllocError>
-        requires settled { IsSettled self.old }
-        requires enough { less ≤ shown_at self.old key }
-        requires fits { less < more → shown_at self.old key - less + more < 2 ^ 64 }
-        ensures settled { OnOk result (IsSettled self.new) }
-        ensures shown { OnOk result ((q : ℕ) → shown_at self.new q
-            ≡ (if q == key then shown_at self.old key - less + more else shown_at self.old q)) }
-        ensures specified { OnOk result (specified_of self.new ≡ specified_of self.old) }
-        ensures steps { steps.new ≡ steps.old + 1 }
-    {
-        let found = self.at(key);
-        let both = Both {
-            shown: found.both.shown - less + more,
-            specified: found.both.specified,
-        };
-        self.put(key, found.place, both, steps)
-    }
-
-    /// The words show one pair no more, and show another.
-    #[inline(always)]
-    pub(crate) fn change<L: Ledger>(
-        &mut self,
-        before: (u64, u64),
-        pair: (u64, u64),
-        steps: &mut Steps<L>,
-    ) -> Result<(), AllocError>
-        requires settled { IsSettled self.old }
-        requires enough { before.1 ≤ shown_at self.old before.0 }
-        requires fits { shown_at self.old pair.0 + pair.1 < 2 ^ 64 + part_given pair.0 before }
-        ensures settled { OnOk result (IsSettled self.new) }
-        ensures shown { OnOk result ((q : ℕ)
-            → shown_at self.new q + part_given q before ≡ shown_at self.old q + part_given q pair) }
-        ensures specified { OnOk result (specified_of self.new ≡ specified_of self.old) }
-        ensures steps { steps.new ≤ steps.old + 2 }
-    {
-        if before.0 == pair.0 {
-            return self.exchange(pair.0, before.1, pair.1, steps);
-        }
-        if before.1 != 0 {
-            self.exchange(before.0, before.1, 0, steps)?;
-        }
-        if pair.1 != 0 {
-            self.exchange(pair.0, 0, pair.1, steps)?;
-        }
-        Ok(())
     }
 
     /// The specification has this amount of the key. Once memory was refused it may only be
@@ -139,7 +83,7 @@ impl Sides {
 
     /// The amounts of the key, and where it stands.
     #[inline(always)]
-    fn at(&self, key: u64) -> Found
+    pub(crate) fn at(&self, key: u64) -> Found
         requires { IsSettled self.now }
         ensures shown { result.both.shown ≡ shown_at self.now key }
         ensures specified { result.both.specified ≡ amount_of (specified_of self.now) key }
@@ -166,7 +110,7 @@ impl Sides {
 
     /// Gives the key, which stands there, new amounts, and compares them.
     #[inline(always)]
-    fn put<L: Ledger>(
+    pub(crate) fn put<L: Ledger>(
         &mut self,
         key: u64,
         place: Option<usize>,

@@ -40,7 +40,7 @@ impl Decode for Slots {
     ghost use Rattle.vyrd_view.specs.Known.{of_subject};
     ghost use Rattle.vyrd_view.specs.Pairs.{slot_gives};
     ghost use Rattle.vyrd_view.specs.Laws.Slots.{slots_narrow, slots_bounded, slots_few};
-    ghost use Rattle.vyrd_view.specs.Laws.Slots.{slots_fit, slots_show};
+    ghost use Rattle.vyrd_view.specs.Laws.Slots.{slots_show};
 
     ghost width = { λ slots. 2 };
 
@@ -61,8 +61,6 @@ impl Decode for Slots {
     ghost few = { λ slots. slots_few slots.size slots.small };
 
     ghost quiet = { λ slots part j. refl };
-
-    ghost fits = { λ slots. slots_fit slots.size slots.small };
 
     ghost shown = { λ slots words count. slots_show slots.size words };
 

@@ -2,7 +2,6 @@
 
 ghost use Rattle.std.specs.Prelude.{◌≡◌, ℕ, ◌+◌, ◌-◌, ◌*◌, ◌/◌, ◌%◌, ◌<◌, ◌≤◌, ◌^◌, true, false};
 ghost use Rattle.std.specs.Prelude.{length, map, slice_index_or, OnOk, OnErr, if◌then◌else◌};
-ghost use Rattle.vyrd_view.specs.Pairs.{EachAtMost};
 ghost use Rattle.vyrd_view.specs.Chains.{entry_pair, node_pair, tree_pair, end_pair, is_stale};
 ghost use Rattle.vyrd_view.specs.Chains.{has_link, is_on_chain, is_broken};
 ghost use Rattle.vyrd_base.specs.Places.{numbers_below};
@@ -55,7 +54,6 @@ pub(crate) fn leaves_changed<L: Ledger>(
     requires same { length next.old ≡ length marks.old }
     requires count { length words.now ≡ 12 * length marks.old + 2 }
     requires places { length parts.old.pairs ≡ 4 * length marks.old + 1 }
-    requires most { EachAtMost (2 ^ 33) parts.old.pairs }
     requires others { (m : ℕ) → m < 4 * length marks.old
         → is_stale marks.old (m / 4) changed.now ≡ false
         → slice_index_or parts.old.pairs m (0, 0) ≡ node_pair words.now marks.old m }
@@ -112,14 +110,12 @@ fn entries_changed<L: Ledger>(
     requires small { length marks.now ≤ 1024 }
     requires count { length words.now ≡ 12 * length marks.now + 2 }
     requires places { length parts.old.pairs ≡ 4 * length marks.now + 1 }
-    requires most { EachAtMost (2 ^ 33) parts.old.pairs }
     requires others { (m : ℕ) → m < 4 * length marks.now
         → is_stale marks.now (m / 4) changed.now ≡ false
         → slice_index_or parts.old.pairs m (0, 0) ≡ node_pair words.now marks.now m }
     ensures sound { OnOk result (parts.new.refused ≡ false) }
     ensures specified { OnOk result (parts.new.specified ≡ parts.old.specified) }
     ensures places { OnOk result (length parts.new.pairs ≡ length parts.old.pairs) }
-    ensures most { OnOk result (EachAtMost (2 ^ 33) parts.new.pairs) }
     ensures nodes { OnOk result ((m : ℕ) → m < 4 * length marks.now
         → slice_index_or parts.new.pairs m (0, 0) ≡ node_pair words.now marks.now m) }
     ensures end { OnOk result (slice_index_or parts.new.pairs (4 * length marks.now) (0, 0)
@@ -176,13 +172,11 @@ fn remark<L: Ledger>(
     requires same { length next.now ≡ length marks.old }
     requires count { length words.now ≡ 12 * length marks.old + 2 }
     requires places { length parts.old.pairs ≡ 4 * length marks.old + 1 }
-    requires most { EachAtMost (2 ^ 33) parts.old.pairs }
     requires nodes { (m : ℕ) → m < 4 * length marks.old
         → slice_index_or parts.old.pairs m (0, 0) ≡ node_pair words.now marks.old m }
     ensures sound { OnOk result (parts.new.refused ≡ false) }
     ensures specified { OnOk result (parts.new.specified ≡ parts.old.specified) }
     ensures places { OnOk result (length parts.new.pairs ≡ length parts.old.pairs) }
-    ensures most { OnOk result (EachAtMost (2 ^ 33) parts.new.pairs) }
     ensures marks { OnOk result ((n : ℕ) → n < length marks.old
         → slice_index_or marks.new n false ≡ slice_index_or next.now n false) }
     ensures nodes { OnOk result ((m : ℕ) → m < 4 * length marks.old
@@ -274,12 +268,9 @@ fn put_node<L: Ledger>(
     requires sound { parts.old.refused ≡ false }
     requires places { 4 * node + 4 ≤ length parts.old.pairs }
     requires few { length parts.old.pairs ≤ 4097 }
-    requires most { EachAtMost (2 ^ 33) parts.old.pairs }
-    requires entries { (j : ℕ) → j < 4 → (slice_index_or entries.now j (0, 0)).1 ≤ 2 ^ 33 }
     ensures sound { OnOk result (parts.new.refused ≡ false) }
     ensures specified { OnOk result (parts.new.specified ≡ parts.old.specified) }
     ensures places { OnOk result (length parts.new.pairs ≡ length parts.old.pairs) }
-    ensures most { OnOk result (EachAtMost (2 ^ 33) parts.new.pairs) }
     ensures below { OnOk result ((m : ℕ) → m < 4 * node
         → slice_index_or parts.new.pairs m (0, 0) ≡ slice_index_or parts.old.pairs m (0, 0)) }
     ensures inside { OnOk result ((j : ℕ) → j < 4

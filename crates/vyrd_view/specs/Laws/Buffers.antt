@@ -58,7 +58,7 @@ amount_below size b j own = by_buffer (is_buffer (buffer_at own 0)) refl
 
 -- no two buffers give to one key, and each gives less than 2^64
 pub buffers_fit : (size : ℕ) (pairs : List (ℕ × ℕ)) (q : ℕ)
-    → AreGiven 8 1 size (buffer_gives size) pairs → given q pairs < 2 ^ 64
+    → AreGiven 1 size (buffer_gives size) pairs → given q pairs < 2 ^ 64
 buffers_fit size pairs q are =
     let most : given q pairs ≤ 2 ^ 64 - 1 = apart_bounds (2 ^ 64 - 1) q pairs
     (λ b c low lower other same. other (sym (key b low) ∙ ap (λ k. k % size) same ∙ key c lower))

@@ -99,7 +99,7 @@ given_below size h j own = by_test (j == 0)
 
 -- no two places give to one key, and each gives less than 2^64
 pub chunks_fit : (size : ℕ) (pairs : List (ℕ × ℕ)) (q : ℕ)
-    → AreGiven 5 2 size (chunk_gives size) pairs → given q pairs < 2 ^ 64
+    → AreGiven 2 size (chunk_gives size) pairs → given q pairs < 2 ^ 64
 chunks_fit size pairs q are =
     let most : given q pairs ≤ 2 ^ 64 - 1 = apart_bounds (2 ^ 64 - 1) q pairs
     (λ m n low lower other same.

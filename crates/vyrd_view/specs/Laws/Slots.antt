@@ -32,7 +32,7 @@ slot_at_most i j own = by_state (slice_index own 0 == 2)
 
 -- each slot gives 1 at most
 pub slots_fit : (size : ℕ) → size ≤ 1024 → (pairs : List (ℕ × ℕ)) (q : ℕ)
-    → AreGiven 2 1 (4 * size) slot_gives pairs → given q pairs < 2 ^ 64
+    → AreGiven 1 (4 * size) slot_gives pairs → given q pairs < 2 ^ 64
 slots_fit size small pairs q are =
     let each : (i : ℕ) → i < length pairs → (get_or pairs i (0, 0)).1 ≤ 1 = λ i low.
     let one = are.each i low in

@@ -1,33 +1,9 @@
-use Rattle.std.proofs.Common.{◌≡◌, ℕ, ◌+◌, ◌*◌, ◌^◌, ◌<◌, List, length, get_or}
-use Rattle.std.proofs.Common.{set, ap, sym, ◌∙◌, subst, arith}
-use Rattle.vyrd_base.specs.Amounts.{given}
-use Rattle.vyrd_view.specs.Decoded.{pair_at, IsGiven, AreGiven}
-use Rattle.vyrd_view.proofs.DecodedLaws.{place_within, place_given, given-set, place_inside}
+use Rattle.std.proofs.Common.{◌≡◌, ℕ, ◌+◌, ◌*◌, ◌<◌, List, length, get_or}
+use Rattle.std.proofs.Common.{set, length-set, ap, ◌∙◌, arith}
+use Rattle.vyrd_view.specs.Decoded.{pair_at}
+use Rattle.vyrd_view.proofs.DecodedLaws.{place_within, place_inside}
 use Rattle.vyrd_view.proofs.DecodedLaws.{place_outside}
 use Rattle.vyrd_view.proofs.changed.part_changed.Goals as goal
-
-pub replace-requires-clause-fits : goal.replace-requires-clause-fits
-replace-requires-clause-fits g c =
-    let d = g.D.Decode in
-    let decoder = c.args.decoder.now in
-    let m : ℕ = c.args.part * d.places decoder + c.loop-place.place in
-    let at : c.args.part * c.places.result + c.loop-place.place ≡ m =
-    ap (λ p. c.args.part * p + c.loop-place.place) c.places.ensures in
-    let pair : ℕ × ℕ = get_or c.counted_part-pairs.result c.loop-place.place (0, 0) in
-    let low : c.loop-place.place < d.places decoder =
-    omega (arith, c.loop-place-test.true, c.places-place-end.ensures) in
-    let is : pair ≡ pair_at (d.width decoder) (d.places decoder) (d.gives decoder) c.args.words.now m =
-    c.counted_part-pairs.ensures.pairs c.loop-place.place low in
-    let inside : m < d.parts decoder * d.places decoder =
-    place_within c.args.part (d.parts decoder) (d.places decoder) c.loop-place.place c.requires.part low in
-    let one : IsGiven (d.width decoder) (d.places decoder) (d.gives decoder) m pair =
-    subst (IsGiven (d.width decoder) (d.places decoder) (d.gives decoder) m) (sym is)
-    (place_given (d.width decoder) (d.places decoder) (d.parts decoder) (d.gives decoder) c.args.words.now m
-    c.requires.count inside) in
-    subst (λ k. given pair.0 (set c.loop-place.parts.pairs k pair) < 2 ^ 64) (sym at)
-    (g.met.D.Decode.fits decoder (set c.loop-place.parts.pairs m pair) pair.0
-    (given-set (d.width decoder) (d.places decoder) (d.parts decoder) (d.gives decoder) c.loop-place.parts.pairs m pair
-    one c.loop-place.invariant.given))
 
 pub loop-place-preserved : goal.loop-place-preserved
 loop-place-preserved g c =
@@ -44,20 +20,14 @@ loop-place-preserved g c =
     let is : pair ≡ f m = c.counted_part-pairs.ensures.pairs c.loop-place.place low in
     let inside : m < d.parts decoder * d.places decoder =
     place_within c.args.part (d.parts decoder) (d.places decoder) c.loop-place.place c.requires.part low in
-    let one : IsGiven (d.width decoder) (d.places decoder) (d.gives decoder) m pair =
-    subst (IsGiven (d.width decoder) (d.places decoder) (d.gives decoder) m) (sym is)
-    (place_given (d.width decoder) (d.places decoder) (d.parts decoder) (d.gives decoder) c.args.words.now m
-    c.requires.count inside) in
-    let within : m < length pairs = omega (arith, inside, c.loop-place.invariant.given.count) in
+    let within : m < length pairs = omega (arith, inside, c.loop-place.invariant.places, c.requires.places) in
     let ok = c.in_ok-replace.ensures.ok in
     let now : c.replace.new.self.pairs ≡ set pairs m pair =
     ap (λ k. k.pairs) ok ∙ ap (λ k. set pairs k pair) at in
     record {
       sound = ap (λ k. k.refused) ok ∙ c.loop-place.invariant.sound;
       specified = ap (λ k. k.specified) ok ∙ c.loop-place.invariant.specified;
-      given = subst (AreGiven (d.width decoder) (d.places decoder) (d.parts decoder) (d.gives decoder)) (sym now)
-          (given-set (d.width decoder) (d.places decoder) (d.parts decoder) (d.gives decoder) pairs m pair one
-          c.loop-place.invariant.given);
+      places = ap length now ∙ length-set pairs m pair ∙ c.loop-place.invariant.places;
       inside = λ j lower. ap (λ s. get_or s (c.args.part * d.places decoder + j) (0, 0)) now
           ∙ place_inside f c.args.part (d.places decoder) c.loop-place.place pairs pair within is
           c.loop-place.invariant.inside j lower;

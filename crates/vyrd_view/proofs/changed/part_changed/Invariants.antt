@@ -1,13 +1,12 @@
-use Rattle.std.proofs.Common.{◌≡◌, ◌≢◌, ℕ, ◌+◌, ◌*◌, ◌/◌, ◌<◌, ◌≤◌, false, get_or}
-use Rattle.vyrd_view.specs.Decoded.{AreGiven, pair_at}
+use Rattle.std.proofs.Common.{◌≡◌, ◌≢◌, ℕ, ◌+◌, ◌*◌, ◌/◌, ◌<◌, ◌≤◌, false, length, get_or}
+use Rattle.vyrd_view.specs.Decoded.{pair_at}
 use Rattle.vyrd_view.proofs.changed.part_changed.Given as goal
 
 abbrev pub invariant-loop-place : goal.invariant-loop-place
 invariant-loop-place g l = record {
   sound : l.parts.refused ≡ false;
   specified : l.parts.specified ≡ l.initial.parts.specified;
-  given : AreGiven (g.D.Decode.width l.decoder) (g.D.Decode.places l.decoder) (g.D.Decode.parts l.decoder)
-      (g.D.Decode.gives l.decoder) l.parts.pairs;
+  places : length l.parts.pairs ≡ length l.initial.parts.pairs;
   inside : (j : ℕ) → j < l.place → get_or l.parts.pairs (l.part * g.D.Decode.places l.decoder + j) (0, 0)
       ≡ pair_at (g.D.Decode.width l.decoder) (g.D.Decode.places l.decoder) (g.D.Decode.gives l.decoder) l.words
       (l.part * g.D.Decode.places l.decoder + j);

@@ -17,10 +17,10 @@ loop-word-preserved g c =
     record {
       sound = ok.sound;
       specified = ok.specified ∙ c.loop-word.invariant.specified;
-      given = ok.given;
+      places = ok.places ∙ c.loop-word.invariant.places;
       others = parts_fresh_more (d.width decoder) (d.places decoder) f c.loop-word.parts.pairs
           c.part_changed.new.parts.pairs c.args.changed.now c.loop-word.word-index
-          c.loop-word-test.true (ok.given.count ∙ sym c.loop-word.invariant.given.count)
+          c.loop-word-test.true ok.places
           (part_places f c.part_changed.new.parts.pairs (d.places decoder) (word / (d.width decoder))
           (subst (λ p. (j : ℕ) → j < d.places decoder
           → get_or c.part_changed.new.parts.pairs (p * d.places decoder + j) (0, 0) ≡ f (p * d.places decoder + j))
@@ -40,9 +40,9 @@ returns-clause-ok g c =
     all_kept c.loop-word.parts
     (pairs_by (d.width decoder) (d.places decoder) (d.parts decoder) (d.gives decoder) c.args.words.now)
     c.args.parts.now.specified c.args.parts.now.refused
-    (mapped f pairs all c.loop-word.invariant.given.count
+    (mapped f pairs all (c.loop-word.invariant.places ∙ c.requires.places)
     (λ m low. c.loop-word.invariant.others m
-    (omega (arith, low, c.loop-word.invariant.given.count))
+    (omega (arith, low, c.loop-word.invariant.places, c.requires.places))
     (untouched_end (d.width decoder) (m / (d.places decoder)) c.args.changed.now c.loop-word.word-index
     (omega arith))))
     c.loop-word.invariant.specified (c.loop-word.invariant.sound ∙ sym c.requires.sound)

@@ -1,5 +1,5 @@
 use Rattle.std.proofs.Common.{◌≡◌, ℕ, ◌+◌, ◌*◌, ◌/◌, ◌<◌, ◌≤◌, false, length, drop, get_or}
-use Rattle.vyrd_view.specs.Decoded.{AreGiven, pair_at}
+use Rattle.vyrd_view.specs.Decoded.{pair_at}
 use Rattle.vyrd_view.specs.Pairs.{is_touched}
 use Rattle.vyrd_view.proofs.changed.parts_changed.Given as goal
 
@@ -7,8 +7,7 @@ abbrev pub invariant-loop-word : goal.invariant-loop-word
 invariant-loop-word g l = record {
   sound : l.parts.refused ≡ false;
   specified : l.parts.specified ≡ l.initial.parts.specified;
-  given : AreGiven (g.D.Decode.width l.decoder) (g.D.Decode.places l.decoder) (g.D.Decode.parts l.decoder)
-      (g.D.Decode.gives l.decoder) l.parts.pairs;
+  places : length l.parts.pairs ≡ length l.initial.parts.pairs;
   others : (m : ℕ) → m < length l.parts.pairs
       → is_touched (g.D.Decode.width l.decoder) (m / (g.D.Decode.places l.decoder)) (drop l.word-index l.changed) ≡ false
       → get_or l.parts.pairs m (0, 0)

@@ -2,8 +2,8 @@ use Rattle.std.proofs.Common.{◌≡◌, ℕ, ◌+◌, ◌*◌, ◌^◌, ◌<◌
 use Rattle.vyrd_base.specs.Places.{numbers_below}
 use Rattle.vyrd_base.specs.Amounts.{amount_of, given}
 use Rattle.vyrd_base.proofs.SumLaws.{amount_of-collected}
-use Rattle.vyrd_view.specs.Decoded.{pair_at, pairs_by}
-use Rattle.vyrd_view.proofs.DecodedLaws.{place_within, pairs_given, place_fits, sums_more}
+use Rattle.vyrd_view.specs.Decoded.{pair_at}
+use Rattle.vyrd_view.proofs.DecodedLaws.{place_within, place_fits, sums_more}
 use Rattle.vyrd_view.proofs.DecodedLaws.{sums_same}
 use Rattle.vyrd_view.proofs.decoded.add_part.Goals as goal
 use Rattle.vyrd_view.proofs.decoded.add_part.Goals.{then-pair-ne0+in_ok-add, else-pair-ne0}
@@ -20,11 +20,6 @@ add-requires g c =
     let is : pair ≡ f m = c.decoded_part-pairs.ensures c.loop-place.place low in
     let inside : m < d.parts decoder * d.places decoder =
     place_within c.args.part (d.parts decoder) (d.places decoder) c.loop-place.place c.requires.part low in
-    let fits : given (f m).0 (pairs_by (d.width decoder) (d.places decoder) (d.parts decoder) (d.gives decoder)
-    c.args.words.now) < 2 ^ 64 =
-    g.met.D.Decode.fits decoder _ (f m).0
-    (pairs_given (d.width decoder) (d.places decoder) (d.parts decoder) (d.gives decoder) c.args.words.now
-    c.requires.count) in
     omega (
       arith,
       ap (λ s. amount_of s pair.0) c.loop-place.invariant,
@@ -32,7 +27,7 @@ add-requires g c =
       ap (λ (p : ℕ × ℕ). given p.0 (map f (numbers_below m))) is,
       ap (λ (p : ℕ × ℕ). p.1) is,
       place_fits (d.width decoder) (d.places decoder) (d.parts decoder) (d.gives decoder) c.args.words.now m (2 ^ 64)
-          inside fits,
+          inside (c.requires.fits (f m).0),
     )
 
 pub loop-place-preserved : goal.loop-place-preserved

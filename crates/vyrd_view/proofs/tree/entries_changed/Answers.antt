@@ -2,14 +2,9 @@ use Rattle.std.proofs.Common.{◌≡◌, ℕ, ◌+◌, ◌*◌, ◌/◌, ◌<◌
 use Rattle.std.proofs.Math.Bool.{and-false}
 use Rattle.vyrd_view.proofs.PlacedLaws.{untouched_end}
 use Rattle.vyrd_view.specs.Kept.{Kept}
-use Rattle.vyrd_view.proofs.NodeLaws.{AreNodesFresh, entry_at_most, fresh_unmarked, fresh_marked, marked_within}
+use Rattle.vyrd_view.proofs.NodeLaws.{AreNodesFresh, fresh_unmarked, fresh_marked, marked_within}
 use Rattle.vyrd_view.proofs.tree.entries_changed.Goals as goal
 use Rattle.vyrd_view.proofs.tree.entries_changed.Goals.{then-is_marked+in_ok-put_node, else-is_marked}
-
-pub put_node-requires-clause-entries : goal.put_node-requires-clause-entries
-put_node-requires-clause-entries g c = λ j low.
-    let node = get_or c.args.changed.now c.loop-word.word-index 0 / 12 in
-    omega (arith, ap (λ (p : ℕ × ℕ). p.1) (c.decoded_node-entries.ensures.entries j low), entry_at_most c.args.words.now node j)
 
 pub loop-word-preserved : goal.loop-word-preserved
 loop-word-preserved g c = elim c.if-is_marked.branch [
@@ -28,7 +23,6 @@ loop-word-preserved g c = elim c.if-is_marked.branch [
         sound = ap (λ k. k.refused) w.parts-is ∙ w.in_ok-put_node.ensures.sound;
         specified = ap (λ k. k.specified) w.parts-is ∙ w.in_ok-put_node.ensures.specified ∙ c.loop-word.invariant.specified;
         places = ap (λ k. length k.pairs) w.parts-is ∙ w.in_ok-put_node.ensures.places ∙ c.loop-word.invariant.places;
-        most = λ i. omega (arith, ap (λ (k : Kept). (get_or k.pairs i (0, 0)).1) w.parts-is, w.in_ok-put_node.ensures.most i);
         others = λ m low rest. ap (λ (k : Kept). get_or k.pairs m (0, 0)) w.parts-is ∙ fresh m low rest;
         end = ap (λ (k : Kept). get_or k.pairs (4 * (length c.args.marks.now)) (0, 0)) w.parts-is
             ∙ w.in_ok-put_node.ensures.above (4 * (length c.args.marks.now)) (omega (arith, within)) ∙ c.loop-word.invariant.end;
@@ -45,7 +39,6 @@ loop-word-preserved g c = elim c.if-is_marked.branch [
         sound = ap (λ k. k.refused) w.parts-is ∙ c.loop-word.invariant.sound;
         specified = ap (λ k. k.specified) w.parts-is ∙ c.loop-word.invariant.specified;
         places = ap (λ k. length k.pairs) w.parts-is ∙ c.loop-word.invariant.places;
-        most = λ i. omega (arith, ap (λ (k : Kept). (get_or k.pairs i (0, 0)).1) w.parts-is, c.loop-word.invariant.most i);
         others = λ m low rest. ap (λ (k : Kept). get_or k.pairs m (0, 0)) w.parts-is ∙ fresh m low rest;
         end = ap (λ (k : Kept). get_or k.pairs (4 * (length c.args.marks.now)) (0, 0)) w.parts-is ∙ c.loop-word.invariant.end;
         counted = omega (arith, c.loop-word.invariant.counted, w.steps-is);

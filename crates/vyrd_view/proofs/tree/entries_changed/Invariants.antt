@@ -1,5 +1,4 @@
 use Rattle.std.proofs.Common.{◌≡◌, ℕ, ◌+◌, ◌*◌, ◌/◌, ◌<◌, ◌≤◌, ◌^◌, false, length, drop, get_or}
-use Rattle.vyrd_view.specs.Pairs.{EachAtMost}
 use Rattle.vyrd_view.specs.Chains.{node_pair, is_stale}
 use Rattle.vyrd_view.proofs.tree.entries_changed.Given as goal
 
@@ -8,7 +7,6 @@ invariant-loop-word g l = record {
   sound : l.parts.refused ≡ false;
   specified : l.parts.specified ≡ l.initial.parts.specified;
   places : length l.parts.pairs ≡ length l.initial.parts.pairs;
-  most : EachAtMost (2 ^ 33) l.parts.pairs;
   others : (m : ℕ) → m < 4 * length l.marks → is_stale l.marks (m / 4) (drop l.word-index l.changed) ≡ false
       → get_or l.parts.pairs m (0, 0) ≡ node_pair l.words l.marks m;
   end : get_or l.parts.pairs (4 * length l.marks) (0, 0) ≡ get_or l.initial.parts.pairs (4 * length l.marks) (0, 0);

@@ -4,9 +4,7 @@ use Rattle.vyrd_base.specs.Places.{numbers_below}
 use Rattle.vyrd_view.specs.Kept.{Kept}
 use Rattle.vyrd_view.specs.Chains.{tree_pair, end_pair, has_link, is_on_chain, is_broken}
 use Rattle.vyrd_view.proofs.PairLaws.{all_kept}
-use Rattle.vyrd_view.specs.Laws.Sums.{each_bounds}
-use Rattle.vyrd_view.proofs.PlacedLaws.{each-set}
-use Rattle.vyrd_view.proofs.TreePairLaws.{tree_pairs, end_at_most}
+use Rattle.vyrd_view.proofs.TreePairLaws.{tree_pairs}
 use Rattle.vyrd_view.proofs.tree.leaves_changed.Goals as goal
 
 pub returns-then-not-has_link-clause-ok : goal.returns-then-not-has_link-clause-ok
@@ -19,25 +17,6 @@ returns-then-not-has_link-clause-ok g c =
     (c.requires.marked unlinked) c.in_ok-entries_changed.ensures.nodes
     (c.in_ok-entries_changed.ensures.end ∙ c.requires.end unlinked))
     c.in_ok-entries_changed.ensures.specified (c.in_ok-entries_changed.ensures.sound ∙ sym c.requires.sound)
-
-pub replace-requires-clause-fits : goal.replace-requires-clause-fits
-replace-requires-clause-fits g c =
-    let pairs = c.remark.new.parts.pairs in
-    let place = 4 * length c.remark.new.marks in
-    let pair = c.end_pair.result in
-    let same : length c.remark.new.marks ≡ length c.args.marks.now = c.remark.auto.marks in
-    let count : length pairs ≡ 4 * length c.args.marks.now + 1 =
-    c.in_ok-remark.ensures.places ∙ c.in_ok-entries_changed.ensures.places ∙ c.requires.places in
-    let within : place < length pairs = omega (arith, count, same) in
-    let most : pair.1 ≤ 2 ^ 33 = omega (arith, ap (λ (p : ℕ × ℕ). p.1) c.end_pair.ensures, end_at_most c.walk-broken.result) in
-    omega (
-      arith,
-      each_bounds (2 ^ 33) pair.0 (set pairs place pair)
-          (λ i inside. each-set (2 ^ 33) pairs place pair within most c.in_ok-remark.ensures.most i),
-      length-set pairs place pair,
-      count,
-      c.requires.small,
-    )
 
 pub returns-clause-ok : goal.returns-clause-ok
 returns-clause-ok g c =

@@ -1,17 +1,20 @@
 use Rattle.std.proofs.Common.{◌≡◌, ℕ, ◌+◌, ◌*◌, ◌≤◌, false, length, ap, sym, ◌∙◌, subst, arith}
 use Rattle.std.proofs.Math.Nat.{mul-le-mul_left}
+use Rattle.vyrd_base.proofs.PlaceLaws.{length_below}
 use Rattle.vyrd_view.specs.Comparing.{AgreeElsewhere}
-use Rattle.vyrd_view.proofs.DecodedLaws.{kept_given, kept_others}
+use Rattle.vyrd_view.specs.Decoded.{pair_at}
+use Rattle.vyrd_view.proofs.DecodedLaws.{kept_others}
 use Rattle.vyrd_view.proofs.by_parts.ByParts.words_changed.Goals as goal
 
-pub parts_changed-requires-clause-given : goal.parts_changed-requires-clause-given
-parts_changed-requires-clause-given g c =
+pub parts_changed-requires-clause-places : goal.parts_changed-requires-clause-places
+parts_changed-requires-clause-places g c =
     let d = g.D.Decode in
     let kept = c.self.inside in
     let sound : kept.parts.refused ≡ false =
     ap (λ k. k.refused) c.self.view_is ∙ c.requires.sound in
-    kept_given (d.width kept.decoder) (d.places kept.decoder) (d.parts kept.decoder) (d.gives kept.decoder) kept.words.items
-    kept.parts.pairs (c.self.invariant.1 sound) c.self.invariant.0
+    ap length (c.self.invariant.1 sound)
+    ∙ length_below (pair_at (d.width kept.decoder) (d.places kept.decoder) (d.gives kept.decoder)
+    kept.words.items) (d.parts kept.decoder * d.places kept.decoder)
 
 pub parts_changed-requires-clause-others : goal.parts_changed-requires-clause-others
 parts_changed-requires-clause-others g c =

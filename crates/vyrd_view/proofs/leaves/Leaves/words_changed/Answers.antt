@@ -1,7 +1,7 @@
 use Rattle.std.proofs.Common.{◌≡◌, false, ap, sym, ◌∙◌, subst}
 use Rattle.vyrd_view.specs.Chained.{IsWalked}
 use Rattle.vyrd_view.specs.Comparing.{AgreeElsewhere}
-use Rattle.vyrd_view.proofs.ReadyLaws.{tree_count, tree_most, tree_others, tree_marks, tree_end}
+use Rattle.vyrd_view.proofs.ReadyLaws.{tree_count, tree_others, tree_marks, tree_end}
 use Rattle.vyrd_view.proofs.leaves.Leaves.words_changed.Given as given
 use Rattle.vyrd_view.proofs.leaves.Leaves.words_changed.Goals as goal
 
@@ -19,11 +19,6 @@ module _ (g : given.Over) (c : goal.After-leaves_changed-arg-2-1 g) where
 pub leaves_changed-requires-clause-places : goal.leaves_changed-requires-clause-places
 leaves_changed-requires-clause-places g c =
     tree_count c.self.inside.words.items c.args.words.now c.args.changed.now
-    c.self.inside.parts.pairs c.deref_mut-2.result.now (walked g c) (elsewhere g c)
-
-pub leaves_changed-requires-clause-most : goal.leaves_changed-requires-clause-most
-leaves_changed-requires-clause-most g c =
-    tree_most c.self.inside.words.items c.args.words.now c.args.changed.now
     c.self.inside.parts.pairs c.deref_mut-2.result.now (walked g c) (elsewhere g c)
 
 pub leaves_changed-requires-clause-others : goal.leaves_changed-requires-clause-others

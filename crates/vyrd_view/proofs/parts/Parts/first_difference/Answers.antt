@@ -1,7 +1,8 @@
 use Rattle.std.proofs.Common.{◌≡◌, false, refl, ap, sym, ◌∙◌}
 use Rattle.vyrd_base.specs.Amounts.{amount_of, collected, first_difference}
 use Rattle.vyrd_base.proofs.SumLaws.{amount_of-collected}
-use Rattle.vyrd_view.specs.Sided.{shown_at, specified_of}
+use Rattle.vyrd_view.specs.Sided.{specified_of}
+use Rattle.vyrd_view.specs.Summed.{sum_at}
 use Rattle.vyrd_view.proofs.ApartLaws.{least_is_first}
 use Rattle.vyrd_view.proofs.parts.Parts.first_difference.Goals as goal
 
@@ -9,6 +10,6 @@ pub returns : goal.returns
 returns c =
     let sound : c.self.inside.refused ≡ false = ap (λ k. k.refused) c.self.view_is ∙ c.requires in
     let pairs = c.self.inside.pairs.items in
-    least_is_first (shown_at c.self.inside.sides) (amount_of (specified_of c.self.inside.sides)) (collected pairs) (specified_of c.self.inside.sides)
+    least_is_first (sum_at c.self.inside.sums) (amount_of (specified_of c.self.inside.sums.sides)) (collected pairs) (specified_of c.self.inside.sums.sides)
     c.first_difference.result (λ q. (c.self.invariant sound).1 q ∙ sym (amount_of-collected pairs q)) (λ q. refl) c.first_difference.ensures
     ∙ ap (λ k. first_difference (collected k.pairs) k.specified) c.self.view_is

@@ -1,0 +1,224 @@
+//! What the words show of each key, exactly, beside the specification's amounts.
+
+ghost use Rattle.std.specs.Prelude.{◌≡◌, ℕ, ◌+◌, ◌-◌, ◌*◌, ◌/◌, ◌%◌, ◌<◌, ◌≤◌, ◌^◌, ◌==◌};
+ghost use Rattle.std.specs.Prelude.{[], true, OnOk, IfOk, IfSome, if◌then◌else◌};
+ghost use Rattle.vyrd_base.specs.Amounts.{amount_of, with_amount, part_given};
+
+use crate::rest::{Both, Rest};
+use crate::sides::{Found, Sides};
+use crate::steps::Steps;
+use std::alloc::{AllocError, Global};
+use std::sync::ledger::Ledger;
+
+/// What the carries of a key count: 2^64.
+const WHOLE: u128 = 1 << 64;
+
+/// The sum of what the words show of each key, however great it is, beside the specification's
+/// amount. A sum below 2^64, as almost each one is, stands in `sides`, and costs nothing more. Of
+/// any other, `sides` has what is left modulo 2^64, and `carries`, in ordered maps, how often 2^64
+/// was left out. A key with a carry differs from the specification, whose amounts are below 2^64.
+#[derive(Drop)]
+pub(crate) struct Sums {
+    pub(crate) sides: Sides,
+    /// The carries of each key against none.
+    pub(crate) carries: Rest,
+}
+
+impl Sums {
+    ghost use Rattle.vyrd_view.specs.Apart.{IsLeastApart};
+    ghost use Rattle.vyrd_view.specs.Homes.{IsFoundAt};
+    ghost use Rattle.vyrd_view.specs.Sided.{shown_at, specified_of};
+    ghost use Rattle.vyrd_view.specs.Summed.{IsSettled, sum_at};
+
+    /// All sums are 0, and nothing is specified. The table has 2^bits places.
+    pub(crate) fn new(alloc: Global, bits: u32) -> Result<Sums, AllocError>
+        requires { (1 ≤ bits) × (bits ≤ 20) }
+        ensures settled { IfOk result (λ sums. IsSettled sums) }
+        ensures shown { IfOk result (λ sums. (q : ℕ) → sum_at sums q ≡ 0) }
+        ensures specified { IfOk result (λ sums. specified_of sums.sides ≡ []) }
+    {
+        Ok(Sums {
+            sides: Sides::new(alloc, bits)?,
+            carries: Rest::new(alloc),
+        })
+    }
+
+    /// The words show less of the key by one amount, and more by another. Once memory was refused
+    /// it may only be dropped.
+    #[inline(always)]
+    pub(crate) fn exchange<L: Ledger>(
+        &mut self,
+        key: u64,
+        less: u64,
+        more: u64,
+        steps: &mut Steps<L>,
+    ) -> Result<(), AllocError>
+        requires settled { IsSettled self.old }
+        requires enough { less ≤ sum_at self.old key }
+        requires fits { less < more → sum_at self.old key - less + more < 2 ^ 128 }
+        ensures settled { OnOk result (IsSettled self.new) }
+        ensures shown { OnOk result ((q : ℕ) → sum_at self.new q
+            ≡ (if q == key then sum_at self.old key - less + more else sum_at self.old q)) }
+        ensures specified { OnOk result
+            (specified_of self.new.sides ≡ specified_of self.old.sides) }
+        ensures steps { steps.new ≤ steps.old + 1 }
+    {
+        let found = self.sides.at(key);
+        if !stays_below(found.both.shown, less, more) {
+            return self.carry(key, found, less, more, steps);
+        }
+        let both = Both {
+            shown: found.both.shown - less + more,
+            specified: found.both.specified,
+        };
+        self.sides.put(key, found.place, both, steps)
+    }
+
+    /// The same for a sum that has carries, or gets one.
+    #[inline(never)]
+    fn carry<L: Ledger>(
+        &mut self,
+        key: u64,
+        found: Found,
+        less: u64,
+        more: u64,
+        steps: &mut Steps<L>,
+    ) -> Result<(), AllocError>
+        requires settled { IsSettled self.old }
+        requires shown { found.both.shown ≡ shown_at self.old.sides key }
+        requires specified { found.both.specified ≡ amount_of (specified_of self.old.sides) key }
+        requires place { IsFoundAt self.old.sides.homes.shift self.old.sides.homes.places.items key
+            found.place }
+        requires enough { less ≤ sum_at self.old key }
+        requires fits { less < more → sum_at self.old key - less + more < 2 ^ 128 }
+        ensures settled { OnOk result (IsSettled self.new) }
+        ensures shown { OnOk result ((q : ℕ) → sum_at self.new q
+            ≡ (if q == key then sum_at self.old key - less + more else sum_at self.old q)) }
+        ensures specified { OnOk result
+            (specified_of self.new.sides ≡ specified_of self.old.sides) }
+        ensures steps { steps.new ≤ steps.old + 1 }
+    {
+        let carries = self.carries.at(key).shown;
+        let sum = exchanged(carries, found.both.shown, less, more);
+        let carried = Both {
+            shown: sum.carries,
+            specified: 0,
+        };
+        let both = Both {
+            shown: sum.left,
+            specified: found.both.specified,
+        };
+        self.carries.put(key, carried)?;
+        self.sides.put(key, found.place, both, steps)
+    }
+
+    /// The words show one pair no more, and show another.
+    #[inline(always)]
+    pub(crate) fn change<L: Ledger>(
+        &mut self,
+        before: (u64, u64),
+        pair: (u64, u64),
+        steps: &mut Steps<L>,
+    ) -> Result<(), AllocError>
+        requires settled { IsSettled self.old }
+        requires enough { before.1 ≤ sum_at self.old before.0 }
+        requires fits { sum_at self.old pair.0 + pair.1 < 2 ^ 128 + part_given pair.0 before }
+        ensures settled { OnOk result (IsSettled self.new) }
+        ensures shown { OnOk result ((q : ℕ)
+            → sum_at self.new q + part_given q before ≡ sum_at self.old q + part_given q pair) }
+        ensures specified { OnOk result
+            (specified_of self.new.sides ≡ specified_of self.old.sides) }
+        ensures steps { steps.new ≤ steps.old + 2 }
+    {
+        if before.0 == pair.0 {
+            return self.exchange(pair.0, before.1, pair.1, steps);
+        }
+        if before.1 != 0 {
+            self.exchange(before.0, before.1, 0, steps)?;
+        }
+        if pair.1 != 0 {
+            self.exchange(pair.0, 0, pair.1, steps)?;
+        }
+        Ok(())
+    }
+
+    /// The specification has this amount of the key. Once memory was refused it may only be
+    /// dropped.
+    #[inline(always)]
+    pub(crate) fn specify<L: Ledger>(
+        &mut self,
+        key: u64,
+        amount: u64,
+        steps: &mut Steps<L>,
+    ) -> Result<(), AllocError>
+        requires settled { IsSettled self.old }
+        ensures settled { OnOk result (IsSettled self.new) }
+        ensures shown { OnOk result ((q : ℕ) → sum_at self.new q ≡ sum_at self.old q) }
+        ensures specified { OnOk result
+            (specified_of self.new.sides ≡ with_amount (specified_of self.old.sides) key amount) }
+        ensures steps { steps.new ≡ steps.old + 1 }
+    {
+        self.sides.specify(key, amount, steps)
+    }
+
+    /// The least key whose sum isn't the specification's amount, or none if there is none.
+    pub(crate) fn first_difference(&self) -> Option<u64>
+        requires { IsSettled self.now }
+        ensures { IsLeastApart (sum_at self.now) (amount_of (specified_of self.now.sides)) result }
+    {
+        match (self.sides.first_difference(), self.first_carried()) {
+            (one, None) => one,
+            (None, Some(key)) => Some(key),
+            (Some(one), Some(other)) => Some(one.min(other)),
+        }
+    }
+
+    /// The least key that has a carry, or none if there is none.
+    #[inline(always)]
+    fn first_carried(&self) -> Option<u64>
+        requires { IsSettled self.now }
+        ensures least { IsLeastApart (amount_of self.now.carries.shown) (λ q. 0) result }
+        ensures small { IfSome result
+            (λ key. amount_of (specified_of self.now.sides) key < 2 ^ 64) }
+    {
+        match self.carries.first_apart() {
+            None => None,
+            Some(key) => {
+                let _specified = self.sides.at(key).both.specified;
+                Some(key)
+            }
+        }
+    }
+}
+
+/// Whether an amount stays below 2^64 when one amount is taken away and then another comes.
+#[inline(always)]
+fn stays_below(amount: u64, less: u64, more: u64) -> bool
+    ensures enough { result ≡ true → less ≤ amount }
+    ensures fits { result ≡ true → amount - less + more < 2 ^ 64 }
+{
+    less <= amount && more <= u64::MAX - (amount - less)
+}
+
+/// A sum as how often it has 2^64, and what is left.
+#[derive(Clone, Copy)]
+struct Sum {
+    carries: u64,
+    left: u64,
+}
+
+/// A sum from which one amount is taken away, and to which another comes.
+#[inline(always)]
+fn exchanged(carries: u64, left: u64, less: u64, more: u64) -> Sum
+    requires enough { less ≤ left + 2 ^ 64 * carries }
+    requires fits { less < more → left + 2 ^ 64 * carries - less + more < 2 ^ 128 }
+    ensures carries { result.carries ≡ (left + 2 ^ 64 * carries - less + more) / 2 ^ 64 }
+    ensures left { result.left ≡ (left + 2 ^ 64 * carries - less + more) % 2 ^ 64 }
+{
+    let before = carries as u128 * WHOLE + left as u128;
+    let sum = before - less as u128 + more as u128;
+    Sum {
+        carries: (sum / WHOLE) as u64,
+        left: (sum % WHOLE) as u64,
+    }
+}
