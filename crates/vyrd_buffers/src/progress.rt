@@ -59,6 +59,10 @@ impl Progress for BufferProgress {
         }
     }
 
+    fn is_over(&self) -> bool {
+        matches!(self.place, Place::Over)
+    }
+
     ghost is_sound = { buffers_are_sound };
 
     ghost ends_in_time = { buffers_end_in_time };

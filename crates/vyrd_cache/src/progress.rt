@@ -52,6 +52,10 @@ impl Progress for CacheProgress {
         CacheProgress { task, place }
     }
 
+    fn is_over(&self) -> bool {
+        matches!(self.place, Place::Over)
+    }
+
     ghost is_sound = { cache_is_sound };
 
     ghost ends_in_time = { cache_ends_in_time };

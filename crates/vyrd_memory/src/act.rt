@@ -1,8 +1,5 @@
 //! What a machine does next, and what it is told of it.
 
-ghost use Rattle.std.specs.Prelude.{◌≡◌};
-ghost use Rattle.vyrd_memory.specs.Bounds.{is_return};
-
 use vyrd_base::Kind;
 
 /// What a machine wants to do next. The numbers are cells: plain words first, then locks.
@@ -20,13 +17,4 @@ pub enum Act {
     Mark(Kind),
     /// Nothing: all operations are done.
     Done,
-}
-
-impl Act {
-    /// Whether the act ends an operation: it is the mark of a return.
-    pub(crate) fn is_return(self) -> bool
-        ensures { result ≡ is_return self }
-    {
-        matches!(self, Act::Mark(Kind::Return(_)))
-    }
 }

@@ -10,6 +10,7 @@ ghost use Rattle.vyrd_memory.specs.declared.op.Variant.{Variant};
 ghost use Rattle.vyrd_memory.specs.declared.op.Variant.TheVariants.{Correct};
 ghost use Rattle.vyrd_memory.specs.Arguments.{are_small};
 ghost use Rattle.vyrd_memory.specs.Scripts.{Script, next_act, after_answer, IsAnswer};
+ghost use Rattle.vyrd_memory.specs.Turns.{is_done};
 ghost use Rattle.vyrd_memory.specs.Soundness.{IsSound, IsSoundSomewhere, just_called};
 ghost use Rattle.vyrd_memory.specs.Bounds.{bound_of, EndsByReturn};
 ghost use Rattle.vyrd_memory.specs.Alone.{IsRightAlone};
@@ -53,6 +54,11 @@ pub trait Progress: Copy {
         requires goes_on { next_act (rest header.now self) ≢ Done }
         requires answer { IsAnswer (next_act (rest header.now self)) answer }
         ensures { rest header.now result ≡ after_answer (rest header.now self) answer };
+
+    /// Whether nothing is left, as after the return. The place says so, whatever the header.
+    fn is_over(&self) -> bool
+        ensures { (h : Header) → h.subject ≡ subject
+            → result ≡ is_done (next_act (rest h self.now)) };
 
     // Each procedure is sound.
     ghost is_sound: { (h : Header) (variant : Variant) (op : Op) → h.subject ≡ subject

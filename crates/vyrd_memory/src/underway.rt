@@ -65,9 +65,8 @@ impl<P: Progress> Underway<P> {
         ensures header { self.new.header ≡ self.old.header }
     {
         if let Some(progress) = self.progress {
-            let ends = progress.wants(&self.header).is_return();
             let next = progress.took(&self.header, answer);
-            if ends {
+            if next.is_over() {
                 self.progress = None;
                 self.left = 0;
             } else {

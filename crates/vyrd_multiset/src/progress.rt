@@ -60,6 +60,10 @@ impl Progress for MultisetProgress {
         }
     }
 
+    fn is_over(&self) -> bool {
+        matches!(self.place, Place::Over)
+    }
+
     ghost is_sound = { multiset_is_sound };
 
     ghost ends_in_time = { multiset_ends_in_time };

@@ -55,6 +55,10 @@ impl Progress for TreeProgress {
         }
     }
 
+    fn is_over(&self) -> bool {
+        matches!(self.place, Place::Over)
+    }
+
     ghost is_sound = { tree_is_sound };
 
     ghost ends_in_time = { tree_ends_in_time };

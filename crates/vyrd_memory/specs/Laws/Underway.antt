@@ -1,7 +1,7 @@
 -- Proofs of laws that an impl in src/ names: no contract says what is defined here.
 -- What it says of a script that it is an operation under way.
-use Rattle.std.proofs.Common.{◌≡◌, ℕ, ◌-◌, ◌≤◌, true, false, not, ◌&&◌, refl, ap, ◌∙◌, sym, subst}
-use Rattle.std.proofs.Common.{arith, Option, Some, None}
+use Rattle.std.proofs.Common.{◌≡◌, ℕ, ◌-◌, ◌≤◌, Bool, true, false, not, ◌&&◌, refl, ap, ◌∙◌, sym}
+use Rattle.std.proofs.Common.{subst, arith, Option, Some, None}
 use Rattle.std.specs.Prelude.{◌≢◌, nat_le, IfSome, is_some, is_none}
 use Rattle.std.proofs.lemmas.Bool.Decides.{nat_tests}
 use Rattle.std.proofs.Math.Logic.{∥∥₁_elim, ∥∥₁_map}
@@ -20,6 +20,7 @@ use Rattle.vyrd_memory.specs.Scripts.{is_call_or_done, is_between, IsAnswer}
 use Rattle.vyrd_memory.specs.Soundness.{Situation, IsSoundSomewhere, after_act, may_act, is_at_rest}
 use Rattle.vyrd_memory.specs.Soundness.{holds_none}
 use Rattle.vyrd_memory.specs.Bounds.{is_return}
+use Rattle.vyrd_memory.specs.Turns.{is_done}
 use Rattle.vyrd_memory.specs.Underway.{IsUnderway}
 
 abbrev pub Underway : Header → ℕ → Script → Type 0
@@ -170,3 +171,27 @@ pub underway_over : (h : Header) (n : ℕ) (script : Script) (answer : ℕ) → 
 underway_over h n script answer underway ends is_answer =
     stop_of (after_answer script answer)
     (∥∥₁_elim underway (Bool-set _ _) (over h n script answer ends is_answer))
+
+isnt_done : (act : Act) → act ≢ Done → is_done act ≡ false
+isnt_done (Load cell) goes_on = refl
+isnt_done (Store cell value) goes_on = refl
+isnt_done (Take lock) goes_on = refl
+isnt_done (Give lock) goes_on = refl
+isnt_done (Mark kind) goes_on = refl
+isnt_done Done goes_on = absurd (goes_on refl)
+
+-- nothing is left after a return, and after no other act
+pub underway_ends : (h : Header) (n : ℕ) (script next : Script) (answer : ℕ) → Underway h n script
+    → IsAnswer (next_act script) answer
+    → next ≡ after_answer script answer
+    → is_done (next_act next) ≡ is_return (next_act script)
+underway_ends h n script next answer underway is_answer same =
+    ap (λ s. is_done (next_act s)) same ∙ by_act (is_return (next_act script)) refl
+  where
+    by_act : (b : Bool) → is_return (next_act script) ≡ b
+        → is_done (next_act (after_answer script answer)) ≡ is_return (next_act script)
+    by_act true e = ap (λ s. is_done (next_act s))
+        (underway_over h n script answer underway e is_answer) ∙ sym e
+    by_act false e = isnt_done (next_act (after_answer script answer))
+        (underway_goes_on h (n - 1) (after_answer script answer)
+        (underway_next h n script answer underway e is_answer)) ∙ sym e
