@@ -48,10 +48,12 @@ impl Progress for BufferProgress {
         BufferProgress { task, place }
     }
 
+    #[inline(always)]
     fn wants(&self, header: &Header) -> Act {
         self.task.wants(header, self.place)
     }
 
+    #[inline(always)]
     fn took(self, _header: &Header, answer: u64) -> Self {
         BufferProgress {
             task: self.task,
@@ -59,6 +61,7 @@ impl Progress for BufferProgress {
         }
     }
 
+    #[inline(always)]
     fn is_over(&self) -> bool {
         matches!(self.place, Place::Over)
     }

@@ -43,15 +43,18 @@ impl Progress for CacheProgress {
         }
     }
 
+    #[inline(always)]
     fn wants(&self, header: &Header) -> Act {
         self.task.wants(header, self.place)
     }
 
+    #[inline(always)]
     fn took(self, _header: &Header, answer: u64) -> Self {
         let (task, place) = self.task.after(self.place, answer);
         CacheProgress { task, place }
     }
 
+    #[inline(always)]
     fn is_over(&self) -> bool {
         matches!(self.place, Place::Over)
     }

@@ -75,6 +75,7 @@ impl<P: Progress> Player<P> {
 
 impl<P: Progress> Player<P> {
     /// The next operation to begin.
+    #[inline(always)]
     fn next_op(&self) -> Option<Op>
         ensures { MatchOption result (drop self.now.begun self.now.ops.items ≡ []) (λ op.
             (drop self.now.begun self.now.ops.items
@@ -85,6 +86,7 @@ impl<P: Progress> Player<P> {
     }
 
     /// Begins the next operation, after the mark of its call.
+    #[inline(always)]
     fn begin(&mut self, op: Op)
         requires idle { is_none self.old.underway.progress ≡ true }
         requires next { drop self.old.begun self.old.ops.items
@@ -174,6 +176,7 @@ impl<P: Progress> Machine for Player<P> {
         (P.rest m.underway.header) m.underway.progress (P.procedure m.underway.header m.variant)
         (drop m.begun m.ops.items) m.bounded m.underway.goes_on m.underway.idle };
 
+    #[inline(always)]
     fn wants(&self) -> Act {
         match self.underway.progress {
             Some(progress) => progress.wants(&self.underway.header),
@@ -184,6 +187,7 @@ impl<P: Progress> Machine for Player<P> {
         }
     }
 
+    #[inline(always)]
     fn took(&mut self, answer: u64) {
         if self.underway.progress.is_some() {
             self.underway.go_on(answer);
@@ -206,6 +210,7 @@ impl<P: Progress> Machine for Player<P> {
         }
     }
 
+    #[inline(always)]
     fn between(&self) -> bool {
         self.underway.progress.is_none()
     }

@@ -57,6 +57,7 @@ impl Error for StepFault {}
 
 /// Does an act of the caller in the memory. There is no event if there is no act, or if it takes a
 /// lock that is held.
+#[inline(always)]
 fn perform(words: &mut Vec<u64>, caller: u32, act: Act) -> Option<Did>
     requires { IsWithin (vec_len words.old) act }
     ensures event { result ≡ event_in words.old.items act }
@@ -85,6 +86,7 @@ fn perform(words: &mut Vec<u64>, caller: u32, act: Act) -> Option<Did>
 }
 
 /// A turn of a caller. `false` says that there was no event.
+#[inline(always)]
 fn turn<M: Machine, S: EventSink>(
     header: &Header,
     machines: &mut [M],
@@ -121,6 +123,7 @@ fn turn<M: Machine, S: EventSink>(
 }
 
 /// The answer that an event gives: what was read, and 0 after any other event.
+#[inline(always)]
 fn answer(did: Did) -> u64
     ensures { result ≡ answer_of did }
 {

@@ -40,6 +40,7 @@ impl<P: Progress> Underway<P> {
     }
 
     /// Begins an operation after the mark of its call.
+    #[inline(always)]
     pub fn begin(&mut self, variant: Variant, op: Op)
         requires method { subject_of op.method ≡ P.subject }
         requires args { are_args self.old.header.size op.method op.args ≡ true }
@@ -55,6 +56,7 @@ impl<P: Progress> Underway<P> {
     }
 
     /// Goes on with the answer. Its return ends the operation.
+    #[inline(always)]
     pub fn go_on(&mut self, answer: u64)
         requires some { is_some self.old.progress ≡ true }
         requires answer { IfSome self.old.progress

@@ -49,10 +49,12 @@ impl Progress for MultisetProgress {
         MultisetProgress { task, place }
     }
 
+    #[inline(always)]
     fn wants(&self, header: &Header) -> Act {
         self.task.wants(header, self.place)
     }
 
+    #[inline(always)]
     fn took(self, header: &Header, answer: u64) -> Self {
         MultisetProgress {
             task: self.task,
@@ -60,6 +62,7 @@ impl Progress for MultisetProgress {
         }
     }
 
+    #[inline(always)]
     fn is_over(&self) -> bool {
         matches!(self.place, Place::Over)
     }

@@ -28,6 +28,7 @@ pub(crate) struct Task {
 
 impl Task {
     /// What comes next at a place.
+    #[inline(always)]
     pub(crate) fn wants(self, header: &Header, place: Place) -> Act
         requires subject { header.now.subject ≡ Multiset }
         requires sound { IsSoundSomewhere header.now (rest_at header.now self place) }
@@ -48,6 +49,7 @@ impl Task {
     }
 
     /// The place after an answer.
+    #[inline(always)]
     pub(crate) fn after(self, header: &Header, place: Place, answer: u64) -> Place
         requires subject { header.now.subject ≡ Multiset }
         requires sound { IsSoundSomewhere header.now (rest_at header.now self place) }
@@ -72,6 +74,7 @@ impl Task {
 /// Finding a free slot.
 impl Task {
     /// The value for which a slot is wanted.
+    #[inline(always)]
     fn wanted(self, want: Want) -> u32
         ensures { result ≡ wanted self want }
     {
@@ -82,6 +85,7 @@ impl Task {
     }
 
     /// The place where finding a slot begins: the broken variant takes no lock.
+    #[inline(always)]
     pub(crate) fn find(self, header: &Header, want: Want) -> Place
         ensures { rest_at header.now self result
             ≡ find header.now self.variant (wanted self want) (found_for header.now self want) }
@@ -96,6 +100,7 @@ impl Task {
     }
 
     /// What comes next of finding a slot.
+    #[inline(always)]
     fn finding_wants(self, header: &Header, want: Want, place: Finding) -> Act
         requires subject { header.now.subject ≡ Multiset }
         requires sound { IsSoundSomewhere header.now (finding_rest header.now self.variant
@@ -115,6 +120,7 @@ impl Task {
     }
 
     /// The place after an answer to what came next of finding a slot.
+    #[inline(always)]
     fn after_finding(self, header: &Header, want: Want, place: Finding, answer: u64) -> Place
         requires subject { header.now.subject ≡ Multiset }
         requires sound { IsSoundSomewhere header.now (finding_rest header.now self.variant
@@ -143,6 +149,7 @@ impl Task {
     }
 
     /// The place after a slot was found, or none. The broken variant holds no lock.
+    #[inline(always)]
     fn unlock_found(self, header: &Header, want: Want, slot: Option<u32>) -> Place
         ensures { rest_at header.now self result ≡ find_unlock header.now self.variant
             (bucket_of header.now (wanted self want)) (found_for header.now self want slot) }
@@ -154,6 +161,7 @@ impl Task {
     }
 
     /// What is done with the slot that was found, if any.
+    #[inline(always)]
     fn found(self, header: &Header, want: Want, slot: Option<u32>) -> Place
         ensures { rest_at header.now self result ≡ found_for header.now self want slot }
     {
@@ -170,6 +178,7 @@ impl Task {
 /// Searching for a value.
 impl Task {
     /// What comes next of a search.
+    #[inline(always)]
     fn searching_wants(self, header: &Header, query: Query, place: Searching) -> Act
         requires subject { header.now.subject ≡ Multiset }
         requires sound { IsSoundSomewhere header.now
@@ -185,6 +194,7 @@ impl Task {
     }
 
     /// The place after an answer to what came next of a search.
+    #[inline(always)]
     fn after_searching(self, header: &Header, query: Query, place: Searching, answer: u64) -> Place
         requires subject { header.now.subject ≡ Multiset }
         requires sound { IsSoundSomewhere header.now
@@ -210,6 +220,7 @@ impl Task {
     }
 
     /// The place after a slot that doesn't have the value.
+    #[inline(always)]
     fn search_on(self, header: &Header, query: Query, cursor: Cursor) -> Place
         requires { cursor.slot + 1 < 2 ^ 32 }
         ensures { rest_at header.now self result
@@ -223,6 +234,7 @@ impl Task {
     }
 
     /// What is done with the slot at which the search ended, if any.
+    #[inline(always)]
     fn ended(self, header: &Header, query: Query, slot: Option<u32>) -> Place
         ensures { rest_at header.now self result ≡ ended_for header.now self query slot }
     {
@@ -237,6 +249,7 @@ impl Task {
 /// Changing slots in a block that commits.
 impl Task {
     /// What comes next of the block that changes one slot.
+    #[inline(always)]
     fn changing_wants(self, header: &Header, slot: u32, state: u64, place: Changing) -> Act
         requires subject { header.now.subject ≡ Multiset }
         requires sound { IsSoundSomewhere header.now
@@ -252,6 +265,7 @@ impl Task {
     }
 
     /// The place after what came next of the block that changes one slot.
+    #[inline(always)]
     fn after_changing(self, header: &Header, slot: u32, state: u64, place: Changing) -> Place
         ensures { rest_at header.now self result ≡ after_answer
             (changing_rest header.now (bucket_of header.now self.x) slot state place) 0 }

@@ -44,10 +44,12 @@ impl Progress for TreeProgress {
         }
     }
 
+    #[inline(always)]
     fn wants(&self, header: &Header) -> Act {
         self.task.wants(header, self.place)
     }
 
+    #[inline(always)]
     fn took(self, header: &Header, answer: u64) -> Self {
         TreeProgress {
             task: self.task,
@@ -55,6 +57,7 @@ impl Progress for TreeProgress {
         }
     }
 
+    #[inline(always)]
     fn is_over(&self) -> bool {
         matches!(self.place, Place::Over)
     }

@@ -70,6 +70,7 @@ impl<M: Machine, C: Machine, T: Machine, B: Machine> Machine for MachineOf<M, C,
       | of.Buffers m ↦ B.op_ahead m
     ] };
 
+    #[inline(always)]
     fn wants(&self) -> Act {
         match self {
             MachineOf::Multiset(machine) => machine.wants(),
@@ -79,6 +80,7 @@ impl<M: Machine, C: Machine, T: Machine, B: Machine> Machine for MachineOf<M, C,
         }
     }
 
+    #[inline(always)]
     fn took(&mut self, answer: u64) {
         match self {
             MachineOf::Multiset(machine) => machine.took(answer),
@@ -106,6 +108,7 @@ impl<M: Machine, C: Machine, T: Machine, B: Machine> Machine for MachineOf<M, C,
         }
     }
 
+    #[inline(always)]
     fn between(&self) -> bool {
         match self {
             MachineOf::Multiset(machine) => machine.between(),
