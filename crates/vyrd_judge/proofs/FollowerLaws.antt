@@ -20,7 +20,7 @@ use Rattle.vyrd_base.specs.Callers.{Called, has_committed}
 use Rattle.vyrd_base.specs.Shape.{broken_rule}
 use Rattle.vyrd_base.specs.Front.{first_break}
 use Rattle.vyrd_base.specs.Rules.{Rules, rules_by}
-use Rattle.vyrd_base.specs.Amounts.{Amounts}
+use Rattle.vyrd_base.specs.States.{State}
 use Rattle.vyrd_base.specs.Starts.{words_at_start, state_at_start}
 use Rattle.vyrd_base.specs.Commits.{commits, is_commit, commit_count, states_of}
 use Rattle.vyrd_base.specs.Verdicts.{is_return, observer_returns, first_fault, start_verdict, verdict_so_far, verdict_at, verdict, accepted, is_call_open}
@@ -47,7 +47,7 @@ use Rattle.vyrd_base.proofs.VerdictParts.{sound_start, so_far_kept, so_far_break
 use Rattle.vyrd_judge.proofs.JudgedLaws.{judged_more, judged_head, judged_all}
 
 -- before the first entry
-pub judged_nothing : (r : Rules) (starting : List StartWord) (state : Amounts) (watches : List Seen) (first : List ℕ)
+pub judged_nothing : (r : Rules) (starting : List StartWord) (state : State) (watches : List Seen) (first : List ℕ)
     → state_at_start r starting ≡ Some state → first ≡ words_at_start r.header starting → AreCurrent (r.answer state) watches
     → Judged r starting [] state 0 watches [] first []
 unfolding commits first_fault

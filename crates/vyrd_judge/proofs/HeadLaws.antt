@@ -19,7 +19,8 @@ use Rattle.vyrd_base.specs.Callers.{Called, open_call}
 use Rattle.vyrd_base.specs.Subjects.{is_observer, must_commit}
 use Rattle.vyrd_base.specs.Shape.{broken_rule}
 use Rattle.vyrd_base.specs.Words.{words_at, effects}
-use Rattle.vyrd_base.specs.Amounts.{Amounts, first_difference}
+use Rattle.vyrd_base.specs.Amounts.{first_difference}
+use Rattle.vyrd_base.specs.States.{State}
 use Rattle.vyrd_base.specs.Commits.{is_commit, commit_count}
 use Rattle.vyrd_base.specs.Faults.{step_fault, fault_at}
 use Rattle.vyrd_base.specs.Verdicts.{line_of, violation_at, first_fault, states_along}
@@ -48,7 +49,7 @@ use Rattle.vyrd_judge.proofs.JudgedLaws.{AtHead, Onward, parts_on, parts_at, jud
 use Rattle.vyrd_base.specs.Rules.{Rules}
 
 -- what a place leads to, by another name of its entry
-onward_as : {r : Rules} {starting : List StartWord} {log : List Entry} {d e : Entry} {earlier later : List Entry} {state : Amounts} {watches : List Seen}
+onward_as : {r : Rules} {starting : List StartWord} {log : List Entry} {d e : Entry} {earlier later : List Entry} {state : State} {watches : List Seen}
     → d ≡ e → Onward r starting log d earlier later state watches → Onward r starting log e earlier later state watches
 onward_as {r} {starting} {log} {d} {e} {earlier} {later} {state} {watches} same on = subst (λ x. Onward r starting log x earlier later state watches) same on
 
@@ -63,7 +64,7 @@ no_return c kind later isnt commits = absurd (apart isnt commits)
     apart p q = cc
 
 -- an execution begins that may return without a commit
-pub head_begins : {r : Rules} {starting : List StartWord} {log : List Entry} {state : Amounts} {made : ℕ} {watches : List Seen} (new : List Seen) {x : Waiting}
+pub head_begins : {r : Rules} {starting : List StartWord} {log : List Entry} {state : State} {made : ℕ} {watches : List Seen} (new : List Seen) {x : Waiting}
     {xs : List Waiting} {first : List ℕ} {since : List (List (ℕ × ℕ))} {method : Method} {args : Args} (at : AtHead r starting log state made watches x xs first since)
     → IsBegin at.here at.earlier x method args → OthersStay x.caller watches new
     → slice_get new x.caller ≡ Some (record { is_open = true; method = method; args = args; answers = r.answer state method args ∷ [] })
@@ -86,19 +87,19 @@ head_begins {r} {starting} {log} {state} {made} {watches} new {x} {xs} {first} {
     may = call_kept r.header at.here.caller method args at.earlier
         (subst (λ e. broken_rule r.header at.earlier e ≡ None) (sym (named at.here (Call method args) is.kind)) at.keeps)
 
-pub begin_fits : {r : Rules} {starting : List StartWord} {log : List Entry} {state : Amounts} {made : ℕ} {watches : List Seen} {x : Waiting} {xs : List Waiting}
+pub begin_fits : {r : Rules} {starting : List StartWord} {log : List Entry} {state : State} {made : ℕ} {watches : List Seen} {x : Waiting} {xs : List Waiting}
     {first : List ℕ} {since : List (List (ℕ × ℕ))} {method : Method} {args : Args} (at : AtHead r starting log state made watches x xs first since)
     → IsBegin at.here at.earlier x method args → has_method r.header method args ≡ true
 begin_fits {r} {method = method} {args = args} at is = call_kept r.header at.here.caller method args at.earlier
     (subst (λ e. broken_rule r.header at.earlier e ≡ None) (sym (named at.here (Call method args) is.kind)) at.keeps)
 
 -- the caller is one of the header's
-pub head_caller : {r : Rules} {starting : List StartWord} {log : List Entry} {state : Amounts} {made : ℕ} {watches : List Seen} {x : Waiting} {xs : List Waiting}
+pub head_caller : {r : Rules} {starting : List StartWord} {log : List Entry} {state : State} {made : ℕ} {watches : List Seen} {x : Waiting} {xs : List Waiting}
     {first : List ℕ} {since : List (List (ℕ × ℕ))} (at : AtHead r starting log state made watches x xs first since) → x.caller ≡ at.here.caller → x.caller < r.header.callers
 head_caller {r} at same = subst (λ c. c < r.header.callers) (sym same) (caller_kept r.header at.earlier at.here at.keeps)
 
 -- what was called in an execution that returns without a commit
-returning : {r : Rules} {starting : List StartWord} {log : List Entry} {state : Amounts} {made : ℕ} {watches : List Seen} {x : Waiting}
+returning : {r : Rules} {starting : List StartWord} {log : List Entry} {state : State} {made : ℕ} {watches : List Seen} {x : Waiting}
     {xs : List Waiting} {first : List ℕ} {since : List (List (ℕ × ℕ))} {reply : ℕ} (at : AtHead r starting log state made watches x xs first since)
     → IsReturn at.here at.earlier x reply
     → (called : Called) × (open_call at.here.caller at.earlier ≡ Some called) × (must_commit called.method ≡ false)
@@ -109,7 +110,7 @@ returning {r} {reply = reply} at is =
     (called.0, called.1, return_free r.header at.here.caller reply at.earlier called.0 keeps called.1 is.none)
 
 -- the watch of an execution that returns without a commit, however the log goes on
-watch_of : {r : Rules} {starting : List StartWord} {log : List Entry} {state : Amounts} {made : ℕ} {watches : List Seen} {x : Waiting}
+watch_of : {r : Rules} {starting : List StartWord} {log : List Entry} {state : State} {made : ℕ} {watches : List Seen} {x : Waiting}
     {xs : List Waiting} {first : List ℕ} {since : List (List (ℕ × ℕ))} {reply : ℕ} (seen : Seen) (at : AtHead r starting log state made watches x xs first since)
     (is : IsReturn at.here at.earlier x reply) → slice_get watches x.caller ≡ Some seen → (more : List Entry)
     → IsWatched r (states_along r starting (log ++ more)) at.here.caller at.earlier (returning at is).0 seen
@@ -119,7 +120,7 @@ watch_of {r} {starting} {log} {watches = watches} {x} seen at is here more =
     subst (λ s. IsWatched r (states_along r starting (log ++ more)) at.here.caller at.earlier call.0 s)
     (same_Some _ _ (sym kept.1 ∙ ap (slice_get watches) (sym is.caller) ∙ here)) kept.2
 
-return_fault : {r : Rules} {starting : List StartWord} {log : List Entry} {state : Amounts} {made : ℕ} {watches : List Seen} {x : Waiting}
+return_fault : {r : Rules} {starting : List StartWord} {log : List Entry} {state : State} {made : ℕ} {watches : List Seen} {x : Waiting}
     {xs : List Waiting} {first : List ℕ} {since : List (List (ℕ × ℕ))} {reply : ℕ} (seen : Seen) (at : AtHead r starting log state made watches x xs first since)
     (is : IsReturn at.here at.earlier x reply) → slice_get watches x.caller ≡ Some seen → (more : List Entry)
     → fault_at r starting (states_along r starting (log ++ more)) (place_of (entry at.here.caller (Return reply)) at.earlier (at.later ++ more))
@@ -131,7 +132,7 @@ return_fault {r} {starting} {log} {state} {watches = watches} {reply = reply} se
     (subst (λ e. Reached r (states_along r starting (log ++ more)) at.earlier (e ∷ at.later ++ more) state watches) (sym (named at.here (Return reply) is.kind))
     (at.judged.reached more))
 
-pub head_answered : {r : Rules} {starting : List StartWord} {log : List Entry} {state : Amounts} {made : ℕ} {watches : List Seen} (new : List Seen) {x : Waiting}
+pub head_answered : {r : Rules} {starting : List StartWord} {log : List Entry} {state : State} {made : ℕ} {watches : List Seen} (new : List Seen) {x : Waiting}
     {xs : List Waiting} {first : List ℕ} {since : List (List (ℕ × ℕ))} {reply : ℕ} (seen : Seen) (at : AtHead r starting log state made watches x xs first since)
     → IsReturn at.here at.earlier x reply → slice_get watches x.caller ≡ Some seen → has_answer seen.answers reply ≡ true
     → OthersStay x.caller watches new → AreCurrent (r.answer state) new → Judged r starting log state made new xs first since
@@ -148,7 +149,7 @@ head_answered {r} {starting} {log} {state} {made} {watches} new {x} {xs} {first}
     }))
 
 -- a fault that doesn't depend on how the log goes on
-fault_now : {r : Rules} {starting : List StartWord} {log : List Entry} {state : Amounts} {made : ℕ} {watches : List Seen} {x : Waiting}
+fault_now : {r : Rules} {starting : List StartWord} {log : List Entry} {state : State} {made : ℕ} {watches : List Seen} {x : Waiting}
     {xs : List Waiting} {first : List ℕ} {since : List (List (ℕ × ℕ))} (why : Why) (e : Entry) (at : AtHead r starting log state made watches x xs first since)
     → e ≡ at.here → x.position ≡ length at.earlier
     → ((more : List Entry) → fault_at r starting (states_along r starting (log ++ more)) (place_of e at.earlier (at.later ++ more)) ≡ Some why)
@@ -161,7 +162,7 @@ fault_now {r} {starting} {log} {state} {made} {watches} {x} {xs} {first} {since}
     ∙ fault [])
     ∙ ap (λ n. Some (Violation (line_of starting n) why)) (sym position)
 
-pub head_unanswered : {r : Rules} {starting : List StartWord} {log : List Entry} {state : Amounts} {made : ℕ} {watches : List Seen} {x : Waiting}
+pub head_unanswered : {r : Rules} {starting : List StartWord} {log : List Entry} {state : State} {made : ℕ} {watches : List Seen} {x : Waiting}
     {xs : List Waiting} {first : List ℕ} {since : List (List (ℕ × ℕ))} {reply : ℕ} (seen : Seen) (at : AtHead r starting log state made watches x xs first since)
     → IsReturn at.here at.earlier x reply → slice_get watches x.caller ≡ Some seen → has_answer seen.answers reply ≡ false
     → first_fault r starting log ≡ Some (Violation (line_of starting x.position) (Observer reply))
@@ -179,7 +180,7 @@ pub record CommitFits (h : Header) (method : Method) (args : Args) : Type 0 wher
   pub may : has_method h method args ≡ true
   pub mutates : is_observer method ≡ false
 
-pub commit_fits : {r : Rules} {starting : List StartWord} {log : List Entry} {state : Amounts} {made : ℕ} {watches : List Seen} {x : Waiting} {xs : List Waiting}
+pub commit_fits : {r : Rules} {starting : List StartWord} {log : List Entry} {state : State} {made : ℕ} {watches : List Seen} {x : Waiting} {xs : List Waiting}
     {first : List ℕ} {since : List (List (ℕ × ℕ))} {method : Method} {args : Args} {o : Option ℕ} (at : AtHead r starting log state made watches x xs first since)
     → IsCommit at.here at.earlier at.later x method args o → CommitFits r.header method args
 commit_fits {r} {method = method} {args = args} at is =
@@ -191,7 +192,7 @@ commit_fits {r} {method = method} {args = args} at is =
     }
 
 -- the words at a commit are those that wait first, and the next ones wait after them
-words_here : {r : Rules} {starting : List StartWord} {log : List Entry} {state : Amounts} {made : ℕ} {watches : List Seen} {x : Waiting} {xs : List Waiting}
+words_here : {r : Rules} {starting : List StartWord} {log : List Entry} {state : State} {made : ℕ} {watches : List Seen} {x : Waiting} {xs : List Waiting}
     {first : List ℕ} {since : List (List (ℕ × ℕ))} {method : Method} {args : Args} {o : Option ℕ} (at : AtHead r starting log state made watches x xs first since)
     → IsCommit at.here at.earlier at.later x method args o
     → (first ≡ words_at r.header starting (place_of at.here at.earlier at.later)) × AllActAlike since (effect_parts [] (at.here ∷ at.earlier) at.later)
@@ -199,7 +200,7 @@ unfolding words_at
 words_here {r} {starting} {first = first} {since = since} at is =
     parts_at r.header starting first since at.here at.earlier at.later (commits_is at.here.kind is.commits) at.judged.parts
 
-pub split_here : {r : Rules} {starting : List StartWord} {log : List Entry} {state : Amounts} {made : ℕ} {watches : List Seen} {x : Waiting} {xs : List Waiting}
+pub split_here : {r : Rules} {starting : List StartWord} {log : List Entry} {state : State} {made : ℕ} {watches : List Seen} {x : Waiting} {xs : List Waiting}
     {first : List ℕ} {since : List (List (ℕ × ℕ))} {method : Method} {args : Args} {o : Option ℕ} (at : AtHead r starting log state made watches x xs first since)
     → IsCommit at.here at.earlier at.later x method args o
     → Split r.header starting first since (effect_parts (effects (at.here ∷ at.earlier) at.later) (at.here ∷ at.earlier) at.later)
@@ -209,7 +210,7 @@ split_here {r} {starting} {first = first} {since = since} at is =
     has_parts_next r.header starting first since (effects (at.here ∷ at.earlier) at.later) (at.here ∷ at.earlier) at.later here.0 here.1
 
 -- once the commit has returned, these stay the words there
-words_stay : {r : Rules} {starting : List StartWord} {log : List Entry} {state : Amounts} {made : ℕ} {watches : List Seen} {x : Waiting} {xs : List Waiting}
+words_stay : {r : Rules} {starting : List StartWord} {log : List Entry} {state : State} {made : ℕ} {watches : List Seen} {x : Waiting} {xs : List Waiting}
     {first : List ℕ} {since : List (List (ℕ × ℕ))} {method : Method} {args : Args} {reply : ℕ} (at : AtHead r starting log state made watches x xs first since)
     → IsCommit at.here at.earlier at.later x method args (Some reply) → (more : List Entry)
     → words_at r.header starting (place_of at.here at.earlier (at.later ++ more)) ≡ first
@@ -217,7 +218,7 @@ words_stay {r} {starting} {reply = reply} at is more =
     words_at_stay r.header starting (place_of at.here at.earlier at.later) more (λ commits. (reply, is.replies)) at.judged.settled ∙ sym (words_here at is).0
 
 -- the fault that a commit shows
-pub head_faults : {r : Rules} {starting : List StartWord} {log : List Entry} {state : Amounts} {made : ℕ} {watches : List Seen} {x : Waiting} {xs : List Waiting}
+pub head_faults : {r : Rules} {starting : List StartWord} {log : List Entry} {state : State} {made : ℕ} {watches : List Seen} {x : Waiting} {xs : List Waiting}
     {first : List ℕ} {since : List (List (ℕ × ℕ))} {method : Method} {args : Args} {reply : ℕ} (why : Why)
     (at : AtHead r starting log state made watches x xs first since)
     → IsCommit at.here at.earlier at.later x method args (Some reply)
@@ -232,8 +233,8 @@ head_faults {r} {starting} {log} {state} {watches = watches} {method = method} {
     ∙ faulty)
 
 -- a commit that is right
-pub head_right : {r : Rules} {starting : List StartWord} {log : List Entry} {state : Amounts} {made : ℕ} {watches : List Seen} (closed new : List Seen) {x : Waiting} {xs : List Waiting}
-    {first : List ℕ} {since : List (List (ℕ × ℕ))} {method : Method} {args : Args} {reply : ℕ} (next : Amounts) (more : ℕ)
+pub head_right : {r : Rules} {starting : List StartWord} {log : List Entry} {state : State} {made : ℕ} {watches : List Seen} (closed new : List Seen) {x : Waiting} {xs : List Waiting}
+    {first : List ℕ} {since : List (List (ℕ × ℕ))} {method : Method} {args : Args} {reply : ℕ} (next : State) (more : ℕ)
     (at : AtHead r starting log state made watches x xs first since)
     (is : IsCommit at.here at.earlier at.later x method args (Some reply)) → r.next method args reply state ≡ Some next
     → first_difference (r.view first) (r.shown next) ≡ None → more ≤ made + 1
@@ -252,7 +253,7 @@ head_right {r} {starting} {log} {state} {made} {watches} closed new {x} {xs} {fi
         (ap (λ ws. first_difference (r.view ws) (r.shown next)) (words_stay at is es) ∙ same) (subst (λ c. OthersStay c watches closed) is.caller others) see (at.judged.reached es)
 
 -- a commit whose execution hasn't returned
-pub head_waits : {r : Rules} {starting : List StartWord} {log : List Entry} {state : Amounts} {made : ℕ} {watches : List Seen} {x : Waiting} {xs : List Waiting}
+pub head_waits : {r : Rules} {starting : List StartWord} {log : List Entry} {state : State} {made : ℕ} {watches : List Seen} {x : Waiting} {xs : List Waiting}
     {first : List ℕ} {since : List (List (ℕ × ℕ))} {method : Method} {args : Args} (at : AtHead r starting log state made watches x xs first since)
     → IsCommit at.here at.earlier at.later x method args None → first_fault r starting log ≡ None
 head_waits {r} {starting} {log} {state} {watches = watches} {method = method} {args = args} at is =
@@ -260,7 +261,7 @@ head_waits {r} {starting} {log} {state} {watches = watches} {method = method} {a
     ∙ ap (λ es. first_answer (violation_at r starting states) (places_after at.earlier (at.here ∷ es))) (append-nil at.later)
     ∙ by_fault (fault_at r starting states (place_of at.here at.earlier at.later)) none
   where
-    states : List Amounts
+    states : List State
     states = states_along r starting (log ++ [])
 
     waiting : (fault_at r starting states (place_of at.here at.earlier at.later) ≡ None) × (length states ≤ commit_count (at.here ∷ at.earlier))
@@ -278,7 +279,7 @@ head_waits {r} {starting} {log} {state} {watches = watches} {method = method} {a
     by_fault (Some why) e = cc
 
 -- there are fewer steps than entries
-pub head_few : {r : Rules} {starting : List StartWord} {log : List Entry} {state : Amounts} {made : ℕ} {watches : List Seen} {x : Waiting} {xs : List Waiting}
+pub head_few : {r : Rules} {starting : List StartWord} {log : List Entry} {state : State} {made : ℕ} {watches : List Seen} {x : Waiting} {xs : List Waiting}
     {first : List ℕ} {since : List (List (ℕ × ℕ))} (at : AtHead r starting log state made watches x xs first since) → made < length log
 head_few {log = log} at = omega (
   arith,

@@ -19,7 +19,7 @@ use Rattle.vyrd_base.specs.Subjects.{is_observer, must_commit}
 use Rattle.vyrd_base.specs.Shape.{broken_rule}
 use Rattle.vyrd_base.specs.Words.{effects_at, effects, words_with}
 use Rattle.vyrd_base.specs.FirstVersion.{old_effects_at}
-use Rattle.vyrd_base.specs.Amounts.{Amounts}
+use Rattle.vyrd_base.specs.States.{State}
 use Rattle.vyrd_base.specs.Commits.{is_commit}
 use Rattle.vyrd_base.specs.Faults.{fault_at}
 use Rattle.vyrd_base.specs.Verdicts.{line_of, violation_at, first_fault, states_along}
@@ -48,7 +48,7 @@ use Rattle.vyrd_judge.proofs.WaitingLaws.{listed, waiting_more}
 use Rattle.vyrd_base.specs.Rules.{Rules}
 
 -- one more entry that keeps the rules: it may be the reply of a commit that waits, and may wait itself
-pub judged_more : (r : Rules) (starting : List StartWord) (log : List Entry) (e : Entry) (state : Amounts) (made : ℕ) (watches : List Seen)
+pub judged_more : (r : Rules) (starting : List StartWord) (log : List Entry) (e : Entry) (state : State) (made : ℕ) (watches : List Seen)
     (queue : List Waiting) (first : List ℕ) (since : List (List (ℕ × ℕ))) (writes : List (ℕ × ℕ)) → WellFormed r.header (newest_first log)
     → broken_rule r.header (newest_first log) e ≡ None → ActAlike writes (old_effects_at (newest_first log) e.caller e.kind)
     → Judged r starting log state made watches queue first since
@@ -92,7 +92,7 @@ judged_more r starting log e state made watches queue first since writes well_fo
         ∙ ap (λ ws. effect_parts ws j.earlier (j.later ++ e ∷ [])) (sym (j.settled (e ∷ [])))
 
 -- What a place leads to, however the log goes on: it isn't a fault, and the next one is reached.
-pub record Onward (r : Rules) (starting : List StartWord) (log : List Entry) (e : Entry) (earlier later : List Entry) (state : Amounts) (watches : List Seen) : Type 0 where
+pub record Onward (r : Rules) (starting : List StartWord) (log : List Entry) (e : Entry) (earlier later : List Entry) (state : State) (watches : List Seen) : Type 0 where
   pub fault : (more : List Entry) → fault_at r starting (states_along r starting (log ++ more)) (place_of e earlier (later ++ more)) ≡ None
   pub reached : (more : List Entry) → Reached r (states_along r starting (log ++ more)) (e ∷ earlier) (later ++ more) state watches
 
@@ -101,7 +101,7 @@ abbrev pub IsClean : Rules → List StartWord → List Entry → List Entry → 
 IsClean r starting log earlier later = (more : List Entry) → first_fault r starting (log ++ more)
     ≡ first_answer (violation_at r starting (states_along r starting (log ++ more))) (places_after earlier (later ++ more))
 
-abbrev pub IsReached : Rules → List StartWord → List Entry → List Entry → List Entry → Amounts → List Seen → Type 0
+abbrev pub IsReached : Rules → List StartWord → List Entry → List Entry → List Entry → State → List Seen → Type 0
 IsReached r starting log earlier later state watches =
     (more : List Entry) → Reached r (states_along r starting (log ++ more)) earlier (later ++ more) state watches
 
@@ -113,7 +113,7 @@ clean_on r starting log e earlier later fault clean = λ more.
     (first_answer (violation_at r starting (states_along r starting (log ++ more))) (places_after (e ∷ earlier) (later ++ more)))) (fault more)
 
 -- an entry that isn't judged
-quiet_on : (r : Rules) (starting : List StartWord) (log : List Entry) (e : Entry) (earlier later : List Entry) (state : Amounts) (watches : List Seen)
+quiet_on : (r : Rules) (starting : List StartWord) (log : List Entry) (e : Entry) (earlier later : List Entry) (state : State) (watches : List Seen)
     → broken_rule r.header earlier e ≡ None → waiting_at (place_of e earlier later) ≡ None → IsReached r starting log earlier (e ∷ later) state watches
     → Onward r starting log e earlier later state watches
 unfolding fault_at
@@ -206,7 +206,7 @@ uncommitted h e earlier later keeps quiet = by_kind e.kind keeps quiet
     by_kind BlockClose keeps' none = refl
 
 -- All before a place is judged: what is known there, however the log goes on.
-pub record IsJudged (r : Rules) (starting : List StartWord) (log : List Entry) (state : Amounts) (made : ℕ) (watches : List Seen)
+pub record IsJudged (r : Rules) (starting : List StartWord) (log : List Entry) (state : State) (made : ℕ) (watches : List Seen)
     (first : List ℕ) (since : List (List (ℕ × ℕ))) (earlier later : List Entry) : Type 0 where
   pub parts : HasParts r.header starting first since (effect_parts (effects earlier later) earlier later)
   pub settled : Settled earlier later
@@ -232,7 +232,7 @@ parts_at h starting first since e earlier later commits has =
     ∷ effect_parts [] (e ∷ earlier) later) (effect_parts (effects (e ∷ earlier) later) (e ∷ earlier) later))) commits has
 
 -- an entry that isn't judged leads on
-judged_quiet : (r : Rules) (starting : List StartWord) (log : List Entry) (state : Amounts) (made : ℕ) (watches : List Seen)
+judged_quiet : (r : Rules) (starting : List StartWord) (log : List Entry) (state : State) (made : ℕ) (watches : List Seen)
     (first : List ℕ) (since : List (List (ℕ × ℕ))) (e : Entry) (earlier later : List Entry) → broken_rule r.header earlier e ≡ None
     → waiting_at (place_of e earlier later) ≡ None → IsJudged r starting log state made watches first since earlier (e ∷ later)
     → IsJudged r starting log state made watches first since (e ∷ earlier) later
@@ -253,7 +253,7 @@ judged_quiet r starting log state made watches first since e earlier later keeps
     apart p q = cc
 
 -- The entry that waits first, where all before it is judged.
-pub record AtHead (r : Rules) (starting : List StartWord) (log : List Entry) (state : Amounts) (made : ℕ) (watches : List Seen) (x : Waiting)
+pub record AtHead (r : Rules) (starting : List StartWord) (log : List Entry) (state : State) (made : ℕ) (watches : List Seen) (x : Waiting)
     (xs : List Waiting) (first : List ℕ) (since : List (List (ℕ × ℕ))) : Type 0 where
   pub earlier : List Entry
   pub here : Entry
@@ -267,7 +267,7 @@ pub record AtHead (r : Rules) (starting : List StartWord) (log : List Entry) (st
   pub current : AreCurrent (r.answer state) watches
 
 -- the first entry that waits from a place on
-head_from : (r : Rules) (starting : List StartWord) (log : List Entry) (state : Amounts) (made : ℕ) (watches : List Seen) (x : Waiting)
+head_from : (r : Rules) (starting : List StartWord) (log : List Entry) (state : State) (made : ℕ) (watches : List Seen) (x : Waiting)
     (xs : List Waiting) (first : List ℕ) (since : List (List (ℕ × ℕ))) (earlier later : List Entry)
     → newest_first_onto earlier later ≡ newest_first log → break_after r.header earlier later ≡ None → x ∷ xs ≡ waiting_after earlier later
     → IsJudged r starting log state made watches first since earlier later → AreCurrent (r.answer state) watches
@@ -309,20 +309,20 @@ head_from r starting log state made watches x xs first since earlier (e ∷ late
         rest_of : x ∷ xs ≡ y ∷ waiting_after (e ∷ earlier) later → xs ≡ waiting_after (e ∷ earlier) later
         rest_of p = cc
 
-known_of : {r : Rules} {starting : List StartWord} {log : List Entry} {state : Amounts} {made : ℕ} {watches : List Seen} {queue : List Waiting}
+known_of : {r : Rules} {starting : List StartWord} {log : List Entry} {state : State} {made : ℕ} {watches : List Seen} {queue : List Waiting}
     {first : List ℕ} {since : List (List (ℕ × ℕ))} (j : Judged r starting log state made watches queue first since)
     → IsJudged r starting log state made watches first since j.earlier j.later
 known_of j =
     record { parts = j.parts; settled = j.settled; ended = j.ended; reached = j.reached; clean = j.clean; few = j.few }
 
-pub judged_head : (r : Rules) (starting : List StartWord) (log : List Entry) (state : Amounts) (made : ℕ) (watches : List Seen) (x : Waiting)
+pub judged_head : (r : Rules) (starting : List StartWord) (log : List Entry) (state : State) (made : ℕ) (watches : List Seen) (x : Waiting)
     (xs : List Waiting) (first : List ℕ) (since : List (List (ℕ × ℕ))) → Judged r starting log state made watches (x ∷ xs) first since
     → AtHead r starting log state made watches x xs first since
 judged_head r starting log state made watches x xs first since j =
     head_from r starting log state made watches x xs first since j.earlier j.later j.whole j.kept j.queued (known_of j) j.current
 
 -- where nothing waits there is no fault
-none_from : (r : Rules) (starting : List StartWord) (log : List Entry) (state : Amounts) (watches : List Seen) (earlier later : List Entry)
+none_from : (r : Rules) (starting : List StartWord) (log : List Entry) (state : State) (watches : List Seen) (earlier later : List Entry)
     → break_after r.header earlier later ≡ None → [] ≡ waiting_after earlier later
     → IsReached r starting log earlier later state watches → IsClean r starting log earlier later → first_fault r starting log ≡ None
 none_from r starting log state watches earlier [] kept queued reached clean = ap (first_fault r starting) (sym (append-nil log)) ∙ clean []
@@ -342,12 +342,12 @@ none_from r starting log state watches earlier (e ∷ later) kept queued reached
         on queued' onward.reached (clean_on r starting log e earlier later onward.fault clean)
     by_waiting on (Some y) is queued' = cc
 
-pub judged_all : (r : Rules) (starting : List StartWord) (log : List Entry) (state : Amounts) (made : ℕ) (watches : List Seen) (first : List ℕ) (since : List (List (ℕ × ℕ)))
+pub judged_all : (r : Rules) (starting : List StartWord) (log : List Entry) (state : State) (made : ℕ) (watches : List Seen) (first : List ℕ) (since : List (List (ℕ × ℕ)))
     → Judged r starting log state made watches [] first since → first_fault r starting log ≡ None
 judged_all r starting log state made watches first since j = none_from r starting log state watches j.earlier j.later j.kept j.queued j.reached j.clean
 
 -- one more entry is judged
-pub judged_next : (r : Rules) (starting : List StartWord) (log : List Entry) (state next : Amounts) (made more : ℕ) (watches new : List Seen)
+pub judged_next : (r : Rules) (starting : List StartWord) (log : List Entry) (state next : State) (made more : ℕ) (watches new : List Seen)
     (x : Waiting) (xs : List Waiting) (first next_first : List ℕ) (since next_since : List (List (ℕ × ℕ)))
     (at : AtHead r starting log state made watches x xs first since) → IsReturned at.here.caller at.here.kind at.later
     → HasParts r.header starting next_first next_since (effect_parts (effects (at.here ∷ at.earlier) at.later) (at.here ∷ at.earlier) at.later)
@@ -369,7 +369,7 @@ judged_next r starting log state next made more watches new x xs first next_firs
 }
 
 -- the entry that waits first is a fault
-pub judged_fault : (r : Rules) (starting : List StartWord) (log : List Entry) (state : Amounts) (made : ℕ) (watches : List Seen) (x : Waiting) (xs : List Waiting)
+pub judged_fault : (r : Rules) (starting : List StartWord) (log : List Entry) (state : State) (made : ℕ) (watches : List Seen) (x : Waiting) (xs : List Waiting)
     (first : List ℕ) (since : List (List (ℕ × ℕ))) (why : Why) (at : AtHead r starting log state made watches x xs first since)
     → fault_at r starting (states_along r starting log) (place_of at.here at.earlier at.later) ≡ Some why
     → first_fault r starting log ≡ Some (Violation (line_of starting (length at.earlier)) why)

@@ -12,7 +12,7 @@ use Rattle.vyrd_base.specs.declared.log.StartWord.{StartWord}
 use Rattle.vyrd_base.specs.declared.verdict.Why.TheVariants.{Observer}
 use Rattle.vyrd_base.specs.declared.verdict.Verdict.TheVariants.{Violation}
 use Rattle.vyrd_base.specs.Subjects.{is_observer, must_commit}
-use Rattle.vyrd_base.specs.Amounts.{Amounts}
+use Rattle.vyrd_base.specs.States.{State}
 use Rattle.vyrd_base.specs.Verdicts.{line_of, first_fault}
 use Rattle.vyrd_base.proofs.BlockLaws.{by_same}
 use Rattle.vyrd_base.proofs.TestLaws.{below_of, is_below, same_number, apart_of}
@@ -33,7 +33,7 @@ use Rattle.vyrd_judge.proofs.HeadLaws.{head_begins, begin_fits, head_caller, hea
 use Rattle.vyrd_base.specs.Rules.{Rules}
 
 -- the entry that waits first, by its event
-pub begins_at : {r : Rules} {starting : List StartWord} {log : List Entry} {state : Amounts} {made : ℕ} {watches : List Seen} {x : Waiting} {xs : List Waiting}
+pub begins_at : {r : Rules} {starting : List StartWord} {log : List Entry} {state : State} {made : ℕ} {watches : List Seen} {x : Waiting} {xs : List Waiting}
     {first : List ℕ} {since : List (List (ℕ × ℕ))} {method : Method} {args : Args} → x.event ≡ Begins method args → Judged r starting log state made watches (x ∷ xs) first since
     → (at : AtHead r starting log state made watches x xs first since) × IsBegin at.here at.earlier x method args
 begins_at {r} {starting} {log} {state} {made} {watches} {x} {xs} {first} {since} {method} {args} event j =
@@ -53,7 +53,7 @@ begins_at {r} {starting} {log} {state} {made} {watches} {x} {xs} {first} {since}
         apart : Begins method args ≡ Returns val → ⊥
         apart p = cc
 
-pub commits_at : {r : Rules} {starting : List StartWord} {log : List Entry} {state : Amounts} {made : ℕ} {watches : List Seen} {x : Waiting} {xs : List Waiting}
+pub commits_at : {r : Rules} {starting : List StartWord} {log : List Entry} {state : State} {made : ℕ} {watches : List Seen} {x : Waiting} {xs : List Waiting}
     {first : List ℕ} {since : List (List (ℕ × ℕ))} {method : Method} {args : Args} {o : Option ℕ} → x.event ≡ Commits method args o
     → Judged r starting log state made watches (x ∷ xs) first since
     → (at : AtHead r starting log state made watches x xs first since) × IsCommit at.here at.earlier at.later x method args o
@@ -77,7 +77,7 @@ commits_at {r} {starting} {log} {state} {made} {watches} {x} {xs} {first} {since
         apart : Commits method args o ≡ Returns val → ⊥
         apart p = cc
 
-pub returns_at : {r : Rules} {starting : List StartWord} {log : List Entry} {state : Amounts} {made : ℕ} {watches : List Seen} {x : Waiting} {xs : List Waiting}
+pub returns_at : {r : Rules} {starting : List StartWord} {log : List Entry} {state : State} {made : ℕ} {watches : List Seen} {x : Waiting} {xs : List Waiting}
     {first : List ℕ} {since : List (List (ℕ × ℕ))} {reply : ℕ} → x.event ≡ Returns reply → Judged r starting log state made watches (x ∷ xs) first since
     → (at : AtHead r starting log state made watches x xs first since) × IsReturn at.here at.earlier x reply
 returns_at {r} {starting} {log} {state} {made} {watches} {x} {xs} {first} {since} {reply} event j =
@@ -95,46 +95,46 @@ returns_at {r} {starting} {log} {state} {made} {watches} {x} {xs} {first} {since
         apart p = cc
 
 -- what may be judged: its caller, what was called, and how many steps were made
-pub begins_caller : {r : Rules} {state : Amounts} {made : ℕ} {watches : List Seen} {x : Waiting} {first : List ℕ} {since : List (List (ℕ × ℕ))} {method : Method} {args : Args}
+pub begins_caller : {r : Rules} {state : State} {made : ℕ} {watches : List Seen} {x : Waiting} {first : List ℕ} {since : List (List (ℕ × ℕ))} {method : Method} {args : Args}
     → x.event ≡ Begins method args → MayJudge r state made watches x first since → x.caller < r.header.callers
 begins_caller event may = below_of _ _ (∥∥₁_elim may (Bool-set _ _) (λ s.
     let found = begins_at event s.3 in is_below _ _ (head_caller found.0 found.1.caller)))
 
-pub begins_may : {r : Rules} {state : Amounts} {made : ℕ} {watches : List Seen} {x : Waiting} {first : List ℕ} {since : List (List (ℕ × ℕ))} {method : Method} {args : Args}
+pub begins_may : {r : Rules} {state : State} {made : ℕ} {watches : List Seen} {x : Waiting} {first : List ℕ} {since : List (List (ℕ × ℕ))} {method : Method} {args : Args}
     → x.event ≡ Begins method args → MayJudge r state made watches x first since → has_method r.header method args ≡ true
 begins_may event may = ∥∥₁_elim may (Bool-set _ _) (λ s. let found = begins_at event s.3 in begin_fits found.0 found.1)
 
-pub begins_free : {r : Rules} {state : Amounts} {made : ℕ} {watches : List Seen} {x : Waiting} {first : List ℕ} {since : List (List (ℕ × ℕ))} {method : Method} {args : Args}
+pub begins_free : {r : Rules} {state : State} {made : ℕ} {watches : List Seen} {x : Waiting} {first : List ℕ} {since : List (List (ℕ × ℕ))} {method : Method} {args : Args}
     → x.event ≡ Begins method args → MayJudge r state made watches x first since → must_commit method ≡ false
 begins_free event may = ∥∥₁_elim may (Bool-set _ _) (λ s. (begins_at event s.3).1.free)
 
-pub commits_caller : {r : Rules} {state : Amounts} {made : ℕ} {watches : List Seen} {x : Waiting} {first : List ℕ} {since : List (List (ℕ × ℕ))} {method : Method} {args : Args}
+pub commits_caller : {r : Rules} {state : State} {made : ℕ} {watches : List Seen} {x : Waiting} {first : List ℕ} {since : List (List (ℕ × ℕ))} {method : Method} {args : Args}
     {o : Option ℕ} → x.event ≡ Commits method args o → MayJudge r state made watches x first since → x.caller < r.header.callers
 commits_caller event may = below_of _ _ (∥∥₁_elim may (Bool-set _ _) (λ s.
     let found = commits_at event s.3 in is_below _ _ (head_caller found.0 found.1.caller)))
 
-pub commits_may : {r : Rules} {state : Amounts} {made : ℕ} {watches : List Seen} {x : Waiting} {first : List ℕ} {since : List (List (ℕ × ℕ))} {method : Method} {args : Args}
+pub commits_may : {r : Rules} {state : State} {made : ℕ} {watches : List Seen} {x : Waiting} {first : List ℕ} {since : List (List (ℕ × ℕ))} {method : Method} {args : Args}
     {o : Option ℕ} → x.event ≡ Commits method args o → MayJudge r state made watches x first since → has_method r.header method args ≡ true
 commits_may event may = ∥∥₁_elim may (Bool-set _ _) (λ s. let found = commits_at event s.3 in (commit_fits found.0 found.1).may)
 
-pub commits_mutates : {r : Rules} {state : Amounts} {made : ℕ} {watches : List Seen} {x : Waiting} {first : List ℕ} {since : List (List (ℕ × ℕ))} {method : Method} {args : Args}
+pub commits_mutates : {r : Rules} {state : State} {made : ℕ} {watches : List Seen} {x : Waiting} {first : List ℕ} {since : List (List (ℕ × ℕ))} {method : Method} {args : Args}
     {o : Option ℕ} → x.event ≡ Commits method args o → MayJudge r state made watches x first since → is_observer method ≡ false
 commits_mutates event may = ∥∥₁_elim may (Bool-set _ _) (λ s. let found = commits_at event s.3 in (commit_fits found.0 found.1).mutates)
 
-pub returns_caller : {r : Rules} {state : Amounts} {made : ℕ} {watches : List Seen} {x : Waiting} {first : List ℕ} {since : List (List (ℕ × ℕ))} {reply : ℕ}
+pub returns_caller : {r : Rules} {state : State} {made : ℕ} {watches : List Seen} {x : Waiting} {first : List ℕ} {since : List (List (ℕ × ℕ))} {reply : ℕ}
     → x.event ≡ Returns reply → MayJudge r state made watches x first since → x.caller < r.header.callers
 returns_caller event may = below_of _ _ (∥∥₁_elim may (Bool-set _ _) (λ s.
     let found = returns_at event s.3 in is_below _ _ (head_caller found.0 found.1.caller)))
 
-pub steps_few : {r : Rules} {state : Amounts} {made : ℕ} {watches : List Seen} {x : Waiting} {first : List ℕ} {since : List (List (ℕ × ℕ))}
+pub steps_few : {r : Rules} {state : State} {made : ℕ} {watches : List Seen} {x : Waiting} {first : List ℕ} {since : List (List (ℕ × ℕ))}
     → MayJudge r state made watches x first since → made < 2 ^ 62
 steps_few {r} {state} {made} {watches} {x} {first} {since} may = below_of _ _ (∥∥₁_elim may (Bool-set _ _) (λ s.
     let few : made < 2 ^ 62 = omega (arith, head_few (judged_head r s.0 s.1 state made watches x s.2 first since s.3), s.4) in is_below made (2 ^ 62) few))
 
-current-prop : (r : Rules) (state : Amounts) (watches : List Seen) → IsProp (AreCurrent (r.answer state) watches)
+current-prop : (r : Rules) (state : State) (watches : List Seen) → IsProp (AreCurrent (r.answer state) watches)
 current-prop r state watches = hlevel Bool-set
 
-pub judged_current : {r : Rules} {state : Amounts} {made : ℕ} {watches : List Seen} {x : Waiting} {first : List ℕ} {since : List (List (ℕ × ℕ))}
+pub judged_current : {r : Rules} {state : State} {made : ℕ} {watches : List Seen} {x : Waiting} {first : List ℕ} {since : List (List (ℕ × ℕ))}
     → MayJudge r state made watches x first since → AreCurrent (r.answer state) watches
 judged_current {r = r} {state = state} {watches = watches} may = ∥∥₁_elim may (current-prop r state watches) (λ s. s.3.current)
 
@@ -142,7 +142,7 @@ judged_current {r = r} {state = state} {watches = watches} may = ∥∥₁_elim 
 others_stay : (c : ℕ) (watches : List Seen) (seen : Seen) → OthersStay c watches (set watches c seen)
 others_stay c watches seen d other = slice_get-set_other watches c d seen (apart_of c d other)
 
-current_set : (r : Rules) (state : Amounts) (c : ℕ) (watches : List Seen) (seen : Seen) → c < length watches → AreCurrent (r.answer state) watches
+current_set : (r : Rules) (state : State) (c : ℕ) (watches : List Seen) (seen : Seen) → c < length watches → AreCurrent (r.answer state) watches
     → (seen.is_open ≡ true → has_answer seen.answers (r.answer state seen.method seen.args) ≡ true) → AreCurrent (r.answer state) (set watches c seen)
 current_set r state c watches seen low all own = λ d other here is_open. by_same c d
     (λ same. let it : seen ≡ other = same_Some _ _ (sym (slice_get-set_same watches c seen low)
@@ -150,7 +150,7 @@ current_set r state c watches seen low all own = λ d other here is_open. by_sam
     ap (λ s. has_answer s.answers (r.answer state s.method s.args)) (sym it) ∙ own (ap (λ s. s.is_open) it ∙ is_open))
     (λ apart. all d other (sym (slice_get-set_other watches c d seen (apart_of c d apart)) ∙ here) is_open)
 
-pub current_closed : (r : Rules) (state : Amounts) (c : ℕ) (watches : List Seen) → c < length watches → AreCurrent (r.answer state) watches
+pub current_closed : (r : Rules) (state : State) (c : ℕ) (watches : List Seen) → c < length watches → AreCurrent (r.answer state) watches
     → AreCurrent (r.answer state) (set watches c unwatched)
 current_closed r state c watches low all = current_set r state c watches unwatched low all (λ is_open. absurd (apart is_open))
   where
@@ -158,7 +158,7 @@ current_closed r state c watches low all = current_set r state c watches unwatch
     apart e = cc
 
 -- an execution begins that may return without a commit
-pub judged_begins : {r : Rules} {starting : List StartWord} {log : List Entry} {state : Amounts} {made : ℕ} {watches : List Seen} {x : Waiting} {xs : List Waiting}
+pub judged_begins : {r : Rules} {starting : List StartWord} {log : List Entry} {state : State} {made : ℕ} {watches : List Seen} {x : Waiting} {xs : List Waiting}
     {first : List ℕ} {since : List (List (ℕ × ℕ))} {method : Method} {args : Args} → x.event ≡ Begins method args → length watches ≡ r.header.callers
     → Judged r starting log state made watches (x ∷ xs) first since
     → Judged r starting log state made (set watches x.caller (record { is_open = true; method = method; args = args; answers = r.answer state method args ∷ [] })) xs first since
@@ -177,13 +177,13 @@ there (x ∷ xs) zero low = (x, refl)
 there (x ∷ xs) (suc c) low = there xs c (omega (arith, low))
 
 -- an execution without a commit returns
-pub watch_there : {r : Rules} {starting : List StartWord} {log : List Entry} {state : Amounts} {made : ℕ} {watches : List Seen} {x : Waiting} {xs : List Waiting}
+pub watch_there : {r : Rules} {starting : List StartWord} {log : List Entry} {state : State} {made : ℕ} {watches : List Seen} {x : Waiting} {xs : List Waiting}
     {first : List ℕ} {since : List (List (ℕ × ℕ))} {reply : ℕ} → x.event ≡ Returns reply → length watches ≡ r.header.callers
     → Judged r starting log state made watches (x ∷ xs) first since → (seen : Seen) × (slice_get watches x.caller ≡ Some seen)
 watch_there {watches = watches} {x} event long j =
     let found = returns_at event j in there watches x.caller (omega (arith, long, head_caller found.0 found.1.caller))
 
-pub judged_answered : {r : Rules} {starting : List StartWord} {log : List Entry} {state : Amounts} {made : ℕ} {watches : List Seen} {x : Waiting} {xs : List Waiting}
+pub judged_answered : {r : Rules} {starting : List StartWord} {log : List Entry} {state : State} {made : ℕ} {watches : List Seen} {x : Waiting} {xs : List Waiting}
     {first : List ℕ} {since : List (List (ℕ × ℕ))} {reply : ℕ} (seen : Seen) → x.event ≡ Returns reply → slice_get watches x.caller ≡ Some seen
     → has_answer seen.answers reply ≡ true → Judged r starting log state made watches (x ∷ xs) first since
     → Judged r starting log state made (set watches x.caller unwatched) xs first since
@@ -192,7 +192,7 @@ judged_answered {r} {state = state} {watches = watches} {x} seen event here answ
     head_answered (set watches x.caller unwatched) seen found.0 found.1 here answered (others_stay x.caller watches unwatched)
     (current_closed r state x.caller watches (slice_get_within watches x.caller seen here) j.current)
 
-pub judged_unanswered : {r : Rules} {starting : List StartWord} {log : List Entry} {state : Amounts} {made : ℕ} {watches : List Seen} {x : Waiting} {xs : List Waiting}
+pub judged_unanswered : {r : Rules} {starting : List StartWord} {log : List Entry} {state : State} {made : ℕ} {watches : List Seen} {x : Waiting} {xs : List Waiting}
     {first : List ℕ} {since : List (List (ℕ × ℕ))} {reply : ℕ} (seen : Seen) → x.event ≡ Returns reply → slice_get watches x.caller ≡ Some seen
     → has_answer seen.answers reply ≡ false → Judged r starting log state made watches (x ∷ xs) first since
     → first_fault r starting log ≡ Some (Violation (line_of starting x.position) (Observer reply))
@@ -200,14 +200,14 @@ judged_unanswered seen event here unanswered j =
     let found = returns_at event j in head_unanswered seen found.0 found.1 here unanswered
 
 -- a commit that hasn't returned
-pub judged_waits : {r : Rules} {starting : List StartWord} {log : List Entry} {state : Amounts} {made : ℕ} {watches : List Seen} {x : Waiting} {xs : List Waiting}
+pub judged_waits : {r : Rules} {starting : List StartWord} {log : List Entry} {state : State} {made : ℕ} {watches : List Seen} {x : Waiting} {xs : List Waiting}
     {first : List ℕ} {since : List (List (ℕ × ℕ))} {method : Method} {args : Args} → x.event ≡ Commits method args None → Judged r starting log state made watches (x ∷ xs) first since
     → (first_fault r starting log ≡ None) × Judged r starting log state made watches (x ∷ xs) first since
 judged_waits event j = let found = commits_at event j in (head_waits found.0 found.1, j)
 
 -- a commit that has, by what it leads to
-pub judged_commits : {E : Type 0} {r : Rules} {starting : List StartWord} {log : List Entry} {state : Amounts} {made : ℕ} {watches : List Seen} {x : Waiting}
-    {xs : List Waiting} {first : List ℕ} {since : List (List (ℕ × ℕ))} {method : Method} {args : Args} {reply : ℕ} (after : Amounts) (more : ℕ)
+pub judged_commits : {E : Type 0} {r : Rules} {starting : List StartWord} {log : List Entry} {state : State} {made : ℕ} {watches : List Seen} {x : Waiting}
+    {xs : List Waiting} {first : List ℕ} {since : List (List (ℕ × ℕ))} {method : Method} {args : Args} {reply : ℕ} (after : State) (more : ℕ)
     (new : List Seen) (next_first : List ℕ) (next_since : List (List (ℕ × ℕ))) (val : Result Outcome E) → x.event ≡ Commits method args (Some reply)
     → Judged r starting log state made watches (x ∷ xs) first since
     → ((part : List (ℕ × ℕ)) (rest : List (List (ℕ × ℕ))) → since ≡ part ∷ rest

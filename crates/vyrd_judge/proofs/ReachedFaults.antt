@@ -11,6 +11,7 @@ use Rattle.vyrd_base.specs.declared.verdict.Why.{Why}
 use Rattle.vyrd_base.specs.declared.verdict.Why.TheVariants.{Reply, View, Observer}
 use Rattle.vyrd_base.specs.Callers.{Called, open_call, has_committed}
 use Rattle.vyrd_base.specs.Amounts.{Amounts, first_difference}
+use Rattle.vyrd_base.specs.States.{State}
 use Rattle.vyrd_base.specs.Words.{words_at}
 use Rattle.vyrd_base.specs.Commits.{next_reply, committed_at, commits_after, commit_count, once_returned, state_after}
 use Rattle.vyrd_base.specs.Faults.{step_fault, commit_fault, states_since_call, observer_fault, fault_at}
@@ -37,7 +38,7 @@ once_called f c kind earlier later called o opened replied =
     ap (λ p. option_and_then (λ k. option_and_then (f k) (next_reply c later)) p) opened ∙ ap (option_and_then (f called)) replied
 
 -- the fault of a commit that is reached
-pub commit_fault_at : (r : Rules) (starting : List StartWord) (states : List Amounts) (c : ℕ) (kind : Kind) (earlier later : List Entry) (state : Amounts) (watches : List Seen)
+pub commit_fault_at : (r : Rules) (starting : List StartWord) (states : List State) (c : ℕ) (kind : Kind) (earlier later : List Entry) (state : State) (watches : List Seen)
     (called : Called) (o : Option ℕ) → Commits kind → open_call c earlier ≡ Some called → next_reply c later ≡ o
     → Reached r states earlier (entry c kind ∷ later) state watches
     → fault_at r starting states (place_of (entry c kind) earlier later)
@@ -50,18 +51,18 @@ commit_fault_at r starting states c kind earlier later state watches called o co
     ∙ once_called (λ k reply. step_fault r shown k reply state) c kind earlier later called o opened replied
 
 -- the state after a commit that is reached
-state_after_at : (r : Rules) (c : ℕ) (kind : Kind) (earlier later : List Entry) (state : Amounts) (called : Called) (o : Option ℕ)
+state_after_at : (r : Rules) (c : ℕ) (kind : Kind) (earlier later : List Entry) (state : State) (called : Called) (o : Option ℕ)
     → open_call c earlier ≡ Some called → next_reply c later ≡ o
     → state_after r state (committed_at (place_of (entry c kind) earlier later))
     ≡ option_and_then (λ reply. r.next called.method called.args reply state) o
 state_after_at r c kind earlier later state called o opened replied =
     once_called (λ k reply. r.next k.method k.args reply state) c kind earlier later called o opened replied
 
-abbrev pub by_next : Rules → Amounts → ℕ → Option Amounts → Option Why
+abbrev pub by_next : Rules → Amounts → ℕ → Option State → Option Why
 by_next r shown reply o = elim o as (λ _. Option Why) [ None ↦ Some (Reply reply) | Some after ↦ option_map View (first_difference shown (r.shown after)) ]
 
 -- a commit that is right
-pub commit_right : (r : Rules) (starting : List StartWord) (states : List Amounts) (c : ℕ) (kind : Kind) (earlier later : List Entry) (state next : Amounts)
+pub commit_right : (r : Rules) (starting : List StartWord) (states : List State) (c : ℕ) (kind : Kind) (earlier later : List Entry) (state next : State)
     (watches closed new : List Seen) (called : Called) (reply : ℕ) → Commits kind → open_call c earlier ≡ Some called → next_reply c later ≡ Some reply
     → r.next called.method called.args reply state ≡ Some next → first_difference (shown_there r starting c kind earlier later) (r.shown next) ≡ None
     → OthersStay c watches closed → AllSee (r.answer next) closed new → Reached r states earlier (entry c kind ∷ later) state watches
@@ -75,7 +76,7 @@ commit_right r starting states c kind earlier later state next watches closed ne
 )
 
 -- a commit whose execution hasn't returned
-pub commit_waits : (r : Rules) (starting : List StartWord) (states : List Amounts) (c : ℕ) (kind : Kind) (earlier later : List Entry) (state : Amounts) (watches : List Seen)
+pub commit_waits : (r : Rules) (starting : List StartWord) (states : List State) (c : ℕ) (kind : Kind) (earlier later : List Entry) (state : State) (watches : List Seen)
     (called : Called) → Commits kind → open_call c earlier ≡ Some called → next_reply c later ≡ None
     → Reached r states earlier (entry c kind ∷ later) state watches
     → (fault_at r starting states (place_of (entry c kind) earlier later) ≡ None) × (length states ≤ commit_count (entry c kind ∷ earlier))
@@ -86,7 +87,7 @@ commit_waits r starting states c kind earlier later state watches called commits
 )
 
 -- the fault of a return that is reached
-return_fault_at : (r : Rules) (starting : List StartWord) (states : List Amounts) (c reply : ℕ) (earlier later : List Entry) (state : Amounts) (watches : List Seen)
+return_fault_at : (r : Rules) (starting : List StartWord) (states : List State) (c reply : ℕ) (earlier later : List Entry) (state : State) (watches : List Seen)
     (called : Called) → open_call c earlier ≡ Some called → Reached r states earlier (entry c (Return reply) ∷ later) state watches
     → fault_at r starting states (place_of (entry c (Return reply)) earlier later) ≡ observer_fault r (states_since_call states c earlier) (has_committed c earlier) reply called
 unfolding fault_at
@@ -96,7 +97,7 @@ return_fault_at r starting states c reply earlier later state watches called ope
     ∙ ap (option_and_then (observer_fault r (states_since_call states c earlier) (has_committed c earlier) reply)) opened
 
 -- a return without a commit, by what is kept of its execution
-pub observer_at : (r : Rules) (starting : List StartWord) (states : List Amounts) (c reply : ℕ) (earlier later : List Entry) (state : Amounts) (watches : List Seen)
+pub observer_at : (r : Rules) (starting : List StartWord) (states : List State) (c reply : ℕ) (earlier later : List Entry) (state : State) (watches : List Seen)
     (called : Called) (seen : Seen) → open_call c earlier ≡ Some called → has_committed c earlier ≡ false
     → IsWatched r states c earlier called seen
     → Reached r states earlier (entry c (Return reply) ∷ later) state watches
@@ -107,7 +108,7 @@ observer_at r starting states c reply earlier later state watches called seen op
     ∙ ap (λ b. cond b None (Some (Observer reply))) (sym (is.answers reply))
 
 -- a return of an execution that has a commit
-pub return_committed_at : (r : Rules) (starting : List StartWord) (states : List Amounts) (c reply : ℕ) (earlier later : List Entry) (state : Amounts) (watches : List Seen)
+pub return_committed_at : (r : Rules) (starting : List StartWord) (states : List State) (c reply : ℕ) (earlier later : List Entry) (state : State) (watches : List Seen)
     (called : Called) → open_call c earlier ≡ Some called → has_committed c earlier ≡ true
     → Reached r states earlier (entry c (Return reply) ∷ later) state watches
     → fault_at r starting states (place_of (entry c (Return reply)) earlier later) ≡ None

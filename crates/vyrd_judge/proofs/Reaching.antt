@@ -13,7 +13,7 @@ use Rattle.vyrd_base.specs.declared.log.Kind.TheVariants.{Call, Return}
 use Rattle.vyrd_base.specs.declared.log.Entry.{Entry}
 use Rattle.vyrd_base.specs.Callers.{Called, open_call, call_or_return, commit_or_call, has_committed, is_call, entries_before_call}
 use Rattle.vyrd_base.specs.Subjects.{must_commit}
-use Rattle.vyrd_base.specs.Amounts.{Amounts}
+use Rattle.vyrd_base.specs.States.{State}
 use Rattle.vyrd_base.specs.Commits.{is_commit, Committed, committed_at, commits_after, state_after, states_from, commit_count}
 use Rattle.vyrd_base.specs.Faults.{states_since_call}
 use Rattle.vyrd_base.proofs.BlockLaws.{entry, by_same, own_answer, open_call-quiet}
@@ -28,7 +28,7 @@ use Rattle.vyrd_base.proofs.CommittedLaws.{committed-other, committed-quiet, com
 use Rattle.vyrd_base.specs.Rules.{Rules}
 
 -- an open execution is watched on where the entry leaves its window
-watched_on : (r : Rules) {states : List Amounts} {c : ℕ} {e : Entry} {earlier : List Entry} {called : Called} {seen : Seen}
+watched_on : (r : Rules) {states : List State} {c : ℕ} {e : Entry} {earlier : List Entry} {called : Called} {seen : Seen}
     → states_since_call states c (e ∷ earlier) ≡ states_since_call states c earlier → IsWatched r states c earlier called seen
     → IsWatched r states c (e ∷ earlier) called seen
 watched_on r {called = called} window is = record {
@@ -39,7 +39,7 @@ watched_on r {called = called} window is = record {
 }
 
 -- an entry that is neither a call nor a return nor a commit
-pub reached_inside : (r : Rules) (states : List Amounts) (c : ℕ) (kind : Kind) (earlier later : List Entry) (state : Amounts)
+pub reached_inside : (r : Rules) (states : List State) (c : ℕ) (kind : Kind) (earlier later : List Entry) (state : State)
     (watches : List Seen) → call_or_return kind ≡ None → is_call kind ≡ false → is_commit kind ≡ false → commit_or_call kind ≡ None
     → Reached r states earlier (entry c kind ∷ later) state watches → Reached r states (entry c kind ∷ earlier) later state watches
 reached_inside r states c kind earlier later state watches inside uncalled quiet uncommitted val = record {
@@ -62,7 +62,7 @@ OthersStay c old new = (d : ℕ) → (c == d) ≡ false → slice_get new d ≡ 
 abbrev pub opened : ℕ → Kind → List Entry → Option Called
 opened c kind earlier = open_call c (entry c kind ∷ earlier)
 
-reached_changed : (r : Rules) (states : List Amounts) (c : ℕ) (kind : Kind) (earlier later : List Entry) (state : Amounts)
+reached_changed : (r : Rules) (states : List State) (c : ℕ) (kind : Kind) (earlier later : List Entry) (state : State)
     (watches new : List Seen) → is_commit kind ≡ false → OthersStay c watches new
     → ((called : Called) → opened c kind earlier ≡ Some called → has_method r.header called.method called.args ≡ true)
     → ((called : Called) → opened c kind earlier ≡ Some called → must_commit called.method ≡ false
@@ -92,7 +92,7 @@ opened_return : (c reply : ℕ) (earlier : List Entry) → opened c (Return repl
 opened_return c reply earlier = ap option_flatten (own_answer c call_or_return (Return reply) earlier)
 
 -- a call of a method that has to commit
-pub reached_owes : (r : Rules) (states : List Amounts) (c : ℕ) (method : Method) (args : Args) (earlier later : List Entry) (state : Amounts)
+pub reached_owes : (r : Rules) (states : List State) (c : ℕ) (method : Method) (args : Args) (earlier later : List Entry) (state : State)
     (watches : List Seen) → must_commit method ≡ true → has_method r.header method args ≡ true
     → Reached r states earlier (entry c (Call method args) ∷ later) state watches
     → Reached r states (entry c (Call method args) ∷ earlier) later state watches
@@ -108,7 +108,7 @@ reached_owes r states c method args earlier later state watches owes may val =
     apart e = cc
 
 -- a call of another method, which the state here answers
-pub reached_begins : (r : Rules) (states : List Amounts) (c : ℕ) (method : Method) (args : Args) (earlier later : List Entry) (state : Amounts)
+pub reached_begins : (r : Rules) (states : List State) (c : ℕ) (method : Method) (args : Args) (earlier later : List Entry) (state : State)
     (watches new : List Seen) → has_method r.header method args ≡ true → OthersStay c watches new
     → slice_get new c ≡ Some (record { is_open = true; method = method; args = args; answers = r.answer state method args ∷ [] })
     → Reached r states earlier (entry c (Call method args) ∷ later) state watches
@@ -148,7 +148,7 @@ reached_begins r states c method args earlier later state watches new may others
     }
 
 -- a return
-pub reached_return : (r : Rules) (states : List Amounts) (c reply : ℕ) (earlier later : List Entry) (state : Amounts)
+pub reached_return : (r : Rules) (states : List State) (c reply : ℕ) (earlier later : List Entry) (state : State)
     (watches new : List Seen) → OthersStay c watches new → Reached r states earlier (entry c (Return reply) ∷ later) state watches
     → Reached r states (entry c (Return reply) ∷ earlier) later state new
 reached_return r states c reply earlier later state watches new others val =
@@ -161,7 +161,7 @@ reached_return r states c reply earlier later state watches new others val =
     none e = cc
 
 -- a commit leads to the next state, which all see that are watched: its own execution isn't any more
-pub reached_commit : (r : Rules) (states : List Amounts) (c : ℕ) (kind : Kind) (earlier later : List Entry) (state next : Amounts)
+pub reached_commit : (r : Rules) (states : List State) (c : ℕ) (kind : Kind) (earlier later : List Entry) (state next : State)
     (watches closed new : List Seen) → call_or_return kind ≡ None → is_call kind ≡ false → is_commit kind ≡ true → commit_or_call kind ≡ Some true
     → state_after r state (committed_at (record { earlier = earlier; here = entry c kind; later = later })) ≡ Some next
     → OthersStay c watches closed → AllSee (r.answer next) closed new
@@ -199,7 +199,7 @@ reached_commit r states c kind earlier later state next watches closed new insid
       method = one.method ∙ is.method;
       args = one.args ∙ is.args;
       answers = λ reply.
-          let test : Amounts → Bool = λ s. r.answer s called.method called.args == reply in
+          let test : State → Bool = λ s. r.answer s called.method called.args == reply in
           one.answers reply
           ∙ ap (λ b. b || r.answer next seen.method seen.args == reply) (is.answers reply)
           ∙ ap (λ m. list_any test (states_since_call states d earlier) || r.answer next m seen.args == reply) is.method

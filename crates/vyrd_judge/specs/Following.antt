@@ -3,7 +3,7 @@ use Rattle.std.specs.Prelude.{◌≡◌, ◌≤◌, ◌^◌, ℕ, Bool, false, L
 use Rattle.vyrd_base.specs.declared.log.Entry.{Entry}
 use Rattle.vyrd_base.specs.declared.log.StartWord.{StartWord}
 use Rattle.vyrd_base.specs.declared.verdict.Verdict.{Verdict}
-use Rattle.vyrd_base.specs.Amounts.{Amounts}
+use Rattle.vyrd_base.specs.States.{State}
 use Rattle.vyrd_base.specs.Places.{newest_first}
 use Rattle.vyrd_base.specs.Front.{first_break}
 use Rattle.vyrd_base.specs.Commits.{commit_count}
@@ -32,7 +32,7 @@ pub record Kept : Type 0 where
   pub waiting : List Waiting
   pub taken : ℕ
   pub callers : List Caller
-  pub state : Amounts
+  pub state : State
   pub made : ℕ
   pub watches : List Seen
   pub entries : ℕ

@@ -5,7 +5,8 @@ use Rattle.vyrd_base.specs.declared.log.Entry.{Entry}
 use Rattle.vyrd_base.specs.declared.log.StartWord.{StartWord}
 use Rattle.vyrd_base.specs.Places.{places_after, newest_first_onto, newest_first, first_answer}
 use Rattle.vyrd_base.specs.Shape.{broken_rule}
-use Rattle.vyrd_base.specs.Amounts.{Amounts, first_difference}
+use Rattle.vyrd_base.specs.Amounts.{first_difference}
+use Rattle.vyrd_base.specs.States.{State}
 use Rattle.vyrd_base.specs.Callers.{Called, has_inner_commit}
 use Rattle.vyrd_base.specs.Words.{effects}
 use Rattle.vyrd_base.specs.Faults.{step_fault}
@@ -27,7 +28,7 @@ use Rattle.vyrd_base.specs.Rules.{Rules}
 -- judged wait, and so do the words at its commits. This stands however the log goes on: a commit
 -- that is judged has returned, and so its block has ended and its effects are known. The state is
 -- that at the place, after `made` steps.
-pub record Judged (r : Rules) (starting : List StartWord) (log : List Entry) (state : Amounts)
+pub record Judged (r : Rules) (starting : List StartWord) (log : List Entry) (state : State)
     (made : ℕ) (watches : List Seen) (queue : List Waiting) (first : List ℕ)
     (since : List (List (ℕ × ℕ))) : Type 0 where
   pub earlier : List Entry
@@ -52,7 +53,7 @@ pub record Judged (r : Rules) (starting : List StartWord) (log : List Entry) (st
 
 -- What the entry that waits first leads to: it is judged and no fault; or it is this fault, the
 -- first of the log; or nothing can be judged yet, and the log has no fault so far.
-abbrev pub HeadGives : Rules → List StartWord → List Entry → Amounts → ℕ → List Seen → Waiting
+abbrev pub HeadGives : Rules → List StartWord → List Entry → State → ℕ → List Seen → Waiting
     → List Waiting → List ℕ → List (List (ℕ × ℕ)) → Outcome → Type 0
 HeadGives r starting log state made watches x xs first since Goes =
     Judged r starting log state made watches xs first since
@@ -63,7 +64,7 @@ HeadGives r starting log state made watches x xs first since Ends =
     × Judged r starting log state made watches (x ∷ xs) first since
 
 -- the entry waits first in some log
-abbrev pub MayJudge : Rules → Amounts → ℕ → List Seen → Waiting → List ℕ → List (List (ℕ × ℕ))
+abbrev pub MayJudge : Rules → State → ℕ → List Seen → Waiting → List ℕ → List (List (ℕ × ℕ))
     → Type 0
 MayJudge r state made watches x first since =
     ∥ ((starting : List StartWord) × (log : List Entry) × (xs : List Waiting)
@@ -72,8 +73,8 @@ MayJudge r state made watches x first since =
 -- A commit that is right: its reply is allowed, its view is the state after it, all but its caller
 -- that are watched have seen that state, and the words go on to the next commit that waits.
 pub record CommitRight (r : Rules) (first : List ℕ) (part : List (ℕ × ℕ))
-    (rest : List (List (ℕ × ℕ))) (caller : ℕ) (called : Called) (reply : ℕ) (before : Amounts)
-    (made : ℕ) (old : List Seen) (after : Amounts) (more : ℕ) (new : List Seen)
+    (rest : List (List (ℕ × ℕ))) (caller : ℕ) (called : Called) (reply : ℕ) (before : State)
+    (made : ℕ) (old : List Seen) (after : State) (more : ℕ) (new : List Seen)
     (next_first : List ℕ) (next_since : List (List (ℕ × ℕ))) : Type 0 where
   pub next : r.next called.method called.args reply before ≡ Some after
   pub same : first_difference (r.view first) (r.shown after) ≡ None
@@ -85,7 +86,7 @@ pub record CommitRight (r : Rules) (first : List ℕ) (part : List (ℕ × ℕ))
 
 -- what a commit leads to, if these are the words there
 abbrev pub CommitLeads : Rules → List ℕ → List (ℕ × ℕ) → List (List (ℕ × ℕ)) → ℕ → Called → ℕ
-    → Amounts → ℕ → List Seen → Amounts → ℕ → List Seen → List ℕ → List (List (ℕ × ℕ)) → Outcome
+    → State → ℕ → List Seen → State → ℕ → List Seen → List ℕ → List (List (ℕ × ℕ)) → Outcome
     → Type 0
 CommitLeads r first part rest caller called reply before made old after more new next_first
     next_since Goes =
@@ -99,7 +100,7 @@ CommitLeads r first part rest caller called reply before made old after more new
     ⊥
 
 -- unless there was a fault, the views know the state that was compared last
-abbrev pub KnowsState : Rules → Cuts → Amounts → Outcome → Type 0
+abbrev pub KnowsState : Rules → Cuts → State → Outcome → Type 0
 KnowsState r views state Goes = (views.specified ≡ r.shown state) × (views.refused ≡ false)
 KnowsState r views state (Faults why) = Unit {0}
 KnowsState r views state Ends = (views.specified ≡ r.shown state) × (views.refused ≡ false)

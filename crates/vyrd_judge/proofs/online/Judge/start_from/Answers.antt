@@ -1,23 +1,20 @@
-use Rattle.std.proofs.Common.{◌≡◌, ℕ, ◌<◌, ◌^◌, ◌++◌, List, length, Option, ap, subst, sym, ◌∙◌}
-use Rattle.std.specs.Prelude.{replicate, is_none, All}
+use Rattle.std.proofs.Common.{◌≡◌, ℕ, ◌<◌, ◌^◌, List, length, Option, ap, subst, sym, ◌∙◌}
+use Rattle.std.specs.Prelude.{is_none, All}
 use Rattle.std.specs.Option.{option_map}
 use Rattle.vyrd_base.specs.declared.header.Header.{Header}
 use Rattle.vyrd_base.specs.declared.log.StartWord.{StartWord}
-use Rattle.vyrd_base.specs.Amounts.{Amounts}
-use Rattle.vyrd_base.specs.Layout.{lock_words}
-use Rattle.vyrd_base.specs.Represented.{state_of_words}
+use Rattle.vyrd_base.specs.States.{State}
 use Rattle.vyrd_base.specs.Rules.{rules_of, rules_by}
 use Rattle.vyrd_base.specs.Starts.{words_at_start, state_at_start}
 use Rattle.vyrd_words.proofs.StartWords.{length-words_at_start, small_at_start}
 use Rattle.vyrd_judge.proofs.online.Judge.start_from.Goals as goal
 
 -- the state at the start is that of the specification that was found
-state_found : (h : Header) (starting : List StartWord) (words : List ℕ) (o : Option Amounts)
-    → words ≡ words_at_start h starting → o ≡ state_of_words h (words ++ replicate (lock_words h) 0)
+state_found : (h : Header) (starting : List StartWord) (words : List ℕ) (o : Option State)
+    → words ≡ words_at_start h starting → o ≡ (rules_of h).start words
     → state_at_start (rules_of h) starting ≡ o
 unfolding state_at_start
-state_found h starting words o same found =
-    ap (λ ws. state_of_words h (ws ++ replicate (lock_words h) 0)) (sym same) ∙ sym found
+state_found h starting words o same found = ap (rules_of h).start (sym same) ∙ sym found
 
 pub start_from-requires-clause-count : goal.start_from-requires-clause-count
 start_from-requires-clause-count g c =

@@ -1,6 +1,7 @@
 use Rattle.std.proofs.Common.{◌≡◌, ℕ, List, Ok, set, ap, sym, subst, ◌∙◌, arith}
 use Rattle.std.specs.Prelude.{option_map}
 use Rattle.vyrd_base.specs.Amounts.{Amounts, first_difference}
+use Rattle.vyrd_base.specs.States.{State}
 use Rattle.vyrd_base.specs.Rules.{Rules, rules_by}
 use Rattle.vyrd_base.specs.declared.verdict.Why.TheVariants.{View}
 use Rattle.vyrd_base.proofs.ListLaws.{is_none}
@@ -15,7 +16,7 @@ use Rattle.vyrd_judge.proofs.replay.Replay.commit.Goals as goal
 
 -- What the comparison knows goes on to the next state. Rules that are the same have two names: those
 -- of the specification before its step and after it.
-known_on : (r q : Rules) (keys : List ℕ) (before after known : Amounts) → q ≡ r → known ≡ r.shown before
+known_on : (r q : Rules) (keys : List ℕ) (before after : State) (known : Amounts) → q ≡ r → known ≡ r.shown before
     → with_touched keys (r.shown after) (r.shown before) ≡ r.shown after
     → with_touched keys (q.shown after) known ≡ q.shown after
 known_on r q keys before after known same is makes =
