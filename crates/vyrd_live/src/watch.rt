@@ -20,6 +20,10 @@ use vyrd_memory::EventSink;
 use vyrd_relay::{Receiver, Relay};
 use vyrd_verifier::Sequencer;
 
+/// How many events are taken in at most before the callers are told how far the sink has come, and
+/// before it is looked whether they have ended. It is far fewer than a caller may be ahead.
+const ROUND: u32 = 64;
+
 /// The end of the relay, with the sequencer that takes in what comes there.
 #[derive(Drop)]
 pub(crate) struct Watch<S: EventSink + Drop> {
@@ -85,16 +89,39 @@ impl<S: EventSink + Drop> Watch<S> {
             if signals.has_ended() {
                 return;
             }
-            if !self.take_when_allowed(rt, relay, gate, signals) {
+            let came = self.take_round(rt, relay, gate, signals);
+            signals.advance(self.next());
+            if !came {
                 thread::yield_now();
             }
-            signals.advance(self.next());
         }
         unreachable!()
     }
 
+    /// Takes in the events that come next, each once the gate allows it, until there is none or
+    /// they are a round, and answers whether there was one.
+    fn take_round<R: Wait, G: Gate>(
+        &mut self,
+        rt: &R,
+        relay: &Relay,
+        gate: &G,
+        signals: &Signals,
+    ) -> bool
+        requires { self.old.receiver.queue ≡ relay.now.queue }
+        ensures goes_on { GoesOn S.has_taken S.fixed self.old self.new }
+        ensures none { result ≡ false → WasEmpty self.old.receiver }
+    {
+        for taken in 0..ROUND {
+            if !self.take_when_allowed(rt, relay, gate, signals) {
+                return taken > 0;
+            }
+        }
+        true
+    }
+
     /// Takes in the event that comes next, once the gate allows it, and answers whether there was
     /// one.
+    #[inline(always)]
     fn take_when_allowed<R: Wait, G: Gate>(
         &mut self,
         rt: &R,
@@ -140,6 +167,7 @@ impl<S: EventSink + Drop> Watch<S> {
     }
 
     /// Takes in an event, or sets the sequencer aside.
+    #[inline(always)]
     fn take_in(&mut self, event: Stamped)
         ensures same { self.new.receiver ≡ self.old.receiver }
         ensures watched { (taken : List Stamped) → HasWatched S.has_taken self.old taken
@@ -157,6 +185,7 @@ impl<S: EventSink + Drop> Watch<S> {
     }
 
     /// The least number that the sequencer waits for. There is none if it was set aside.
+    #[inline(always)]
     fn next(&self) -> Option<u64>
         ensures { result ≡ then_some self.now.stands self.now.sequencer.kept.next }
     {
@@ -243,7 +272,8 @@ fn await_turn<R: Wait, G: Gate>(rt: &R, gate: &G, callers: u32, taken: u64, sign
     unreachable!()
 }
 
-/// Whether the gate lets an event be taken in, or the workers have ended.
+/// Whether the gate lets an event be taken in, or the workers have ended. The gate mostly does, so
+/// it is asked first, and for the rest of a round also after they have ended.
 fn may_take<G: Gate>(gate: &G, callers: u32, taken: u64, signals: &Signals) -> bool {
-    signals.has_ended() || gate.may_start(callers, taken)
+    gate.may_start(callers, taken) || signals.has_ended()
 }
