@@ -1,6 +1,6 @@
 -- Words that are decoded part by part: what is in which place, and what a changed word leaves.
 use Rattle.std.proofs.Common.{◌≡◌, ℕ, zero, suc, ◌+◌, ◌-◌, ◌*◌, ◌/◌, ◌%◌, ◌<◌, ◌≤◌, Bool, true}
-use Rattle.std.proofs.Common.{false, ◌||◌, List, [], ◌∷◌, ◌++◌, length, length-set, map, get_or}
+use Rattle.std.proofs.Common.{false, ◌||◌, List, [], ◌∷◌, ◌++◌, length, map, get_or}
 use Rattle.std.proofs.Common.{set, drop}
 use Rattle.std.proofs.Common.{take, replicate, refl, ap, ◌∙◌, sym, subst, arith}
 use Rattle.std.proofs.Common.{get_or-set_same, get_or-set_other}
@@ -21,7 +21,7 @@ use Rattle.vyrd_base.proofs.TestLaws.{same_of, apart_of, isnt_same, neither_true
 use Rattle.vyrd_view.specs.Comparing.{AgreeElsewhere}
 use Rattle.vyrd_view.specs.Decoded.{Gives, words_of, pair_at, pairs_by, AreGiven}
 use Rattle.vyrd_view.specs.Pairs.{is_touched}
-use Rattle.vyrd_view.specs.Laws.Sums.{each_bounds, mapped-push, given_map_push, own_word}
+use Rattle.vyrd_view.specs.Laws.Sums.{mapped-push, given_map_push, own_word}
 
 -- a part ends within all parts
 pub part_within : (part parts width : ℕ) → part < parts → part * width + width ≤ parts * width
@@ -113,26 +113,6 @@ module _ (width places parts : ℕ) (gives : Gives) where
         own_part key (f m).1,
       )
 
-  -- zeroed words give nothing, if each part of zeroed words does
-  pub zeros_give : (q : ℕ)
-      → ((part j : ℕ) → (gives part (replicate width 0) j).1 ≡ 0)
-      → given q (pairs_by width places parts gives (replicate (parts * width) 0)) ≡ 0
-  zeros_give q quiet =
-      let zeroed : List ℕ = replicate (parts * width) 0 in
-      let pairs : List (ℕ × ℕ) = pairs_by width places parts gives zeroed in
-      let most : given q pairs ≤ length pairs * 0 = each_bounds 0 q pairs (λ m low.
-      let inside : m < parts * places =
-      omega (arith, low, length_below (pair_at width places gives zeroed) (parts * places)) in
-      let part : m / places < parts = part_of_within m parts places inside in
-      let none : (get_or pairs m (0, 0)).1 ≡ 0 =
-      ap (λ (p : ℕ × ℕ). p.1)
-      (element_below (pair_at width places gives zeroed) (parts * places) m (0, 0) inside)
-      ∙ ap (λ own. (gives (m / places) own (m % places)).1) (own_zeros width
-      (m / places) parts part)
-      ∙ quiet (m / places) (m % places) in
-      omega (arith, none)) in
-      omega (arith, most)
-
 -- ---- words that have changed
 
 -- a word of a part that no changed word is in hasn't changed
@@ -165,13 +145,6 @@ own_untouched width part parts before words changed low old new elsewhere untouc
     ∙ get_or_default (words_of width part before) i 0 d also)
 
 -- ---- one place more
-
-pub pairs_more : (f : ℕ → ℕ × ℕ) (m n : ℕ) (s t : List (ℕ × ℕ)) (p : ℕ × ℕ)
-    → s ≡ map f (numbers_below m) → t ≡ s ++ p ∷ [] → p ≡ f m → n ≡ m + 1
-    → t ≡ map f (numbers_below n)
-pairs_more f m n s t p is more here next =
-    more ∙ ap (λ xs. xs ++ p ∷ []) is ∙ ap (λ q. map f (numbers_below m) ++ q ∷ []) here
-    ∙ sym (mapped-push f m) ∙ ap (λ k. map f (numbers_below k)) (sym next)
 
 pub sums_more : (f : ℕ → ℕ × ℕ) (m n : ℕ) (s t : Amounts) (p : ℕ × ℕ)
     → s ≡ collected (map f (numbers_below m)) → t ≡ plus_amount s p.0 p.1 → p ≡ f m → n ≡ m + 1
@@ -254,23 +227,20 @@ part_places f now places part each before some m low at =
 
 -- ---- what is kept of the words before
 
-module _ (width places parts : ℕ) (gives : Gives) (before : List ℕ) (pairs : List (ℕ × ℕ))
-    (kept : pairs ≡ pairs_by width places parts gives before)
-    (count : length before ≡ parts * width) where
-  -- it is up to date where no changed word is
-  pub kept_others : (words changed : List ℕ) → length words ≡ parts * width
-      → AgreeElsewhere before words changed → (m : ℕ) → m < length pairs
-      → is_touched width (m / places) changed ≡ false
-      → get_or pairs m (0, 0) ≡ pair_at width places gives words m
-  kept_others words changed new elsewhere m low untouched =
-      let inside : m < parts * places = omega (
-        arith,
-        low,
-        ap length kept,
-        length_below (pair_at width places gives before) (parts * places),
-      ) in
-      ap (λ s. get_or s m (0, 0)) kept
-      ∙ element_below (pair_at width places gives before) (parts * places) m (0, 0) inside
-      ∙ ap (λ own. gives (m / places) own (m % places))
-      (sym (own_untouched width (m / places) parts before words changed
-      (part_of_within m parts places inside) count new elsewhere untouched))
+-- it is up to date where no changed word is
+pub kept_others : (width places parts held : ℕ) (gives : Gives) (before : List ℕ)
+    (pairs : List (ℕ × ℕ)) → pairs ≡ pairs_by width places held gives before → held ≤ parts
+    → length before ≡ parts * width → (words changed : List ℕ) → length words ≡ parts * width
+    → AgreeElsewhere before words changed → (m : ℕ) → m < length pairs
+    → is_touched width (m / places) changed ≡ false
+    → get_or pairs m (0, 0) ≡ pair_at width places gives words m
+kept_others width places parts held gives before pairs kept few count words changed new elsewhere m low untouched =
+    let f : ℕ → ℕ × ℕ = pair_at width places gives before in
+    let inside : m < held * places =
+    omega (arith, low, ap length kept, length_below f (held * places)) in
+    let part : m / places < parts =
+    omega (arith, part_of_within m held places inside, few) in
+    ap (λ s. get_or s m (0, 0)) kept ∙ element_below f (held * places) m (0, 0) inside
+    ∙ ap (λ own. gives (m / places) own (m % places))
+    (sym (own_untouched width (m / places) parts before words changed part count new elsewhere
+    untouched))

@@ -14,4 +14,5 @@ pub mod HomeLaws
 pub mod SidedLaws
 pub mod FreshLaws
 pub mod SummedLaws
+pub mod RoomLaws
 pub mod OutcomeLaws

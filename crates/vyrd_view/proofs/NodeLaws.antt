@@ -1,8 +1,7 @@
 -- The four places of a node.
-use Rattle.std.proofs.Common.{◌≡◌, ℕ, zero, suc, ◌+◌, ◌*◌, ◌/◌, ◌%◌, ◌^◌, ◌<◌, ◌≤◌, Bool, true, false, cond, ◌&&◌, ◌||◌, List, [], ◌∷◌, length, drop, get_or, refl, ap, ◌∙◌, sym, arith}
+use Rattle.std.proofs.Common.{◌≡◌, ℕ, zero, suc, ◌+◌, ◌*◌, ◌/◌, ◌%◌, ◌<◌, ◌≤◌, Bool, true, false, cond, ◌&&◌, ◌||◌, List, [], ◌∷◌, length, drop, get_or, refl, ap, ◌∙◌, sym, arith}
 use Rattle.std.specs.Prelude.{◌==◌, ◌≢◌, nat_lt}
-use Rattle.vyrd_base.specs.Tree.{node_word, count_of}
-use Rattle.vyrd_base.proofs.TestLaws.{same_of, apart_of, below_of, not_below_of, second_true}
+use Rattle.vyrd_base.proofs.TestLaws.{same_of, apart_of, below_of, not_below_of}
 use Rattle.vyrd_view.specs.Pairs.{is_touched}
 use Rattle.vyrd_view.specs.Chains.{entry_pair, node_pair, is_stale}
 use Rattle.vyrd_view.proofs.PlacedLaws.{touched_more}

@@ -1,6 +1,6 @@
 -- What is kept, and what one pair of it gives.
-use Rattle.std.proofs.Common.{◌≡◌, ℕ, zero, suc, ◌<◌, ◌≤◌, Bool, true, false, List, [], ◌∷◌, length}
-use Rattle.std.proofs.Common.{get_or, refl, ap, arith}
+use Rattle.std.proofs.Common.{◌≡◌, ℕ, zero, suc, ◌<◌, ◌≤◌, Bool, true, false, List, [], ◌∷◌, ◌++◌}
+use Rattle.std.proofs.Common.{length, get_or, refl, ap, arith}
 use Rattle.std.specs.Prelude.{nat_lt}
 use Rattle.std.proofs.lemmas.List.{get_or_past}
 use Rattle.vyrd_base.proofs.SumLaws.{own_part}
@@ -36,6 +36,15 @@ nothing_at_most most pairs none i = by_place (nat_lt i (length pairs)) refl
       arith,
       ap (λ (p : ℕ × ℕ). p.1) (get_or_past pairs i (0, 0) (not_below_of i (length pairs) e)),
     )
+
+-- one pair more
+pub each-push : (most : ℕ) (pairs : List (ℕ × ℕ)) (pair : ℕ × ℕ) → pair.1 ≤ most
+    → EachAtMost most pairs → EachAtMost most (pairs ++ pair ∷ [])
+each-push most [] pair small each zero = small
+each-push most [] pair small each (suc i) = omega arith
+each-push most (p ∷ pairs) pair small each zero = each zero
+each-push most (p ∷ pairs) pair small each (suc i) =
+    each-push most pairs pair small (λ j. each (suc j)) i
 
 -- what is kept, field by field
 pub all_kept : (kept : Kept) (pairs : List (ℕ × ℕ)) (specified : Amounts) (refused : Bool) → kept.pairs ≡ pairs → kept.specified ≡ specified

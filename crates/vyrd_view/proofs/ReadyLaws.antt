@@ -1,16 +1,14 @@
 -- What is kept of a tree's words before is ready to be brought up to date.
-use Rattle.std.proofs.Common.{◌≡◌, ℕ, ◌+◌, ◌*◌, ◌/◌, ◌^◌, ◌<◌, ◌≤◌, Bool, true, false, List, length}
-use Rattle.std.proofs.Common.{length-set, map, replicate, get_or, set, refl, ap, ◌∙◌, sym, subst}
+use Rattle.std.proofs.Common.{◌≡◌, ℕ, ◌+◌, ◌*◌, ◌/◌, ◌<◌, Bool, true, false, List, length}
+use Rattle.std.proofs.Common.{length-set, map, replicate, get_or, set, ap, ◌∙◌, sym}
 use Rattle.std.proofs.Common.{arith}
-use Rattle.std.specs.Prelude.{nat_lt}
-use Rattle.std.proofs.lemmas.List.{get_or_past, get_or-replicate, length-replicate}
+use Rattle.std.proofs.lemmas.List.{get_or-replicate, length-replicate}
 use Rattle.vyrd_base.specs.declared.subject.Subject.TheVariants.{Tree}
 use Rattle.vyrd_base.specs.Places.{numbers_below}
 use Rattle.vyrd_base.specs.Amounts.{collected, given}
 use Rattle.vyrd_base.specs.Tree.{chain_parts}
 use Rattle.vyrd_base.proofs.AmountLaws.{same_amounts}
 use Rattle.vyrd_base.proofs.SumLaws.{amount_of-collected, IsAmounts-collected}
-use Rattle.vyrd_base.proofs.TestLaws.{below_of, not_below_of}
 use Rattle.vyrd_base.proofs.PlaceLaws.{length_below, element_below}
 use Rattle.vyrd_view.specs.Chains.{is_on_chain, is_broken, node_pair, end_pair, tree_pair, is_stale}
 use Rattle.vyrd_view.specs.Chains.{has_link}

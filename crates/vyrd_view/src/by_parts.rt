@@ -9,8 +9,8 @@ ghost use Rattle.vyrd_view.specs.Known.{Known, view_by};
 use crate::changed::parts_changed;
 use crate::compare::Compare;
 use crate::decode::Decode;
-use crate::decoded::all_pairs;
 use crate::parts::Parts;
+use crate::room::{MOST_AT_FIRST, first_parts, grow, make_room};
 use crate::steps::Steps;
 use crate::words::copy_changed;
 use std::alloc::{AllocError, Global};
@@ -24,13 +24,15 @@ use std::sync::ledger::{Blank, Ledger};
 #[derive(Drop)]
 pub struct ByParts<D: Decode> {
     decoder: D,
+    /// How many parts have room for their words and for what they give. All words past them are 0.
+    held: usize,
     words: Vec<u64>,
     parts: Parts,
 }
 
 impl<D: Decode> Model for ByParts<D> {
-    ghost use Rattle.std.specs.Prelude.{◌≡◌, ◌*◌, false, length};
-    ghost use Rattle.vyrd_view.specs.Decoded.{pairs_by};
+    ghost use Rattle.std.specs.Prelude.{◌≡◌, ◌*◌, false};
+    ghost use Rattle.vyrd_view.specs.Decoded.{HaveRoom, padded};
     ghost use Rattle.vyrd_view.specs.Known.{Known};
 
     ghost Value = { Known };
@@ -38,20 +40,22 @@ impl<D: Decode> Model for ByParts<D> {
     ghost view = { λ c. record {
       shows = D.shows c.decoder;
       count = D.parts c.decoder * D.width c.decoder;
-      words = c.words.items;
+      words = padded (D.parts c.decoder * D.width c.decoder) c.words.items;
       specified = c.parts.specified;
       refused = c.parts.refused;
     } };
 
-    ghost invariant = { λ c. (length c.words.items ≡ D.parts c.decoder * D.width c.decoder)
-        × (c.parts.refused ≡ false → c.parts.pairs
-        ≡ pairs_by (D.width c.decoder) (D.places c.decoder) (D.parts c.decoder)
-        (D.gives c.decoder) c.words.items) };
+    ghost invariant = { λ c. c.parts.refused ≡ false
+        → HaveRoom (D.width c.decoder) (D.places c.decoder) (D.parts c.decoder) c.held
+        (D.gives c.decoder) c.words.items c.parts.pairs };
 }
 
 impl<D: Decode> ByParts<D> {
-    /// Zeroed words against an empty specification. It takes memory in proportion to the words: 8
-    /// bytes for each, and 64 to 112 for each place.
+    /// Zeroed words against an empty specification. For up to 4,096 parts it takes memory in
+    /// proportion to the words: 8 bytes for each, and 64 to 112 for each place. If there are more,
+    /// it takes as much for the places of 4,096 parts at most. Later calls take 8 bytes for each
+    /// word, and 16 for each place, up to the last part that a changed word is in, or up to twice
+    /// that; and what the ordered maps take of each key that finds no place in the table.
     pub fn new(alloc: Global, decoder: D) -> Result<ByParts<D>, AllocError>
         ensures { IfOk result (λ c. c ≡ record {
           shows = D.shows decoder;
@@ -61,12 +65,17 @@ impl<D: Decode> ByParts<D> {
           refused = false;
         }) }
     {
-        let words = vec![in alloc; 0; decoder.parts() * decoder.width()]?;
-        let pairs = all_pairs(alloc, &decoder, &words)?;
+        let held = first_parts(decoder.parts());
+        let keys = decoder.parts().min(MOST_AT_FIRST) * decoder.places();
+        let mut words = Vec::with_capacity(alloc, held * decoder.width())?;
+        let pairs = Vec::with_capacity(alloc, held * decoder.places())?;
+        let mut parts = Parts::new(alloc, pairs, keys)?;
+        grow(&decoder, 0, held, &mut words, &mut parts)?;
         Ok(ByParts {
             decoder,
+            held,
             words,
-            parts: Parts::new(alloc, pairs)?,
+            parts,
         })
     }
 
@@ -89,8 +98,23 @@ impl<D: Decode> ByParts<D> {
         ensures steps { steps.new
             ≤ steps.old + length changed.now * (1 + 2 * D.most_places self.old.shows) }
     {
-        copy_changed(&mut self.words, words, changed);
-        parts_changed(&self.decoder, &mut self.parts, words, changed, steps)
+        self.held = make_room(
+            &self.decoder,
+            self.held,
+            &mut self.words,
+            &mut self.parts,
+            changed,
+        )?;
+        let front = self.words.len();
+        copy_changed(&mut self.words, &words[..front], changed);
+        parts_changed(
+            &self.decoder,
+            &mut self.parts,
+            self.held,
+            words,
+            changed,
+            steps,
+        )
     }
 
     /// The specification has this amount of the key now; 0 says that the key isn't there.

@@ -12,27 +12,29 @@ use crate::steps::Steps;
 use std::alloc::AllocError;
 use std::sync::ledger::Ledger;
 
-/// Each part that a changed word is in gives what its words show now. Once memory was refused the
-/// parts may only be dropped.
+/// Each part that a changed word is in gives what its words show now. It is one of the first parts,
+/// as many as have places. Once memory was refused the parts may only be dropped.
 #[inline(always)]
 pub(crate) fn parts_changed<D: Decode, L: Ledger>(
     decoder: &D,
     parts: &mut Parts,
+    held: usize,
     words: &[u64],
     changed: &[u32],
     steps: &mut Steps<L>,
 ) -> Result<(), AllocError>
     requires sound { parts.old.refused ≡ false }
     requires count { length words.now ≡ D.parts decoder.now * D.width decoder.now }
-    requires within { All (λ w. w < length words.now) changed.now }
-    requires places { length parts.old.pairs ≡ D.parts decoder.now * D.places decoder.now }
+    requires held { held ≤ D.parts decoder.now }
+    requires within { All (λ w. w < held * D.width decoder.now) changed.now }
+    requires places { length parts.old.pairs ≡ held * D.places decoder.now }
     requires others { (m : ℕ) → m < length parts.old.pairs
         → is_touched (D.width decoder.now) (m / D.places decoder.now) changed.now ≡ false
         → slice_index_or parts.old.pairs m (0, 0)
         ≡ pair_at (D.width decoder.now) (D.places decoder.now) (D.gives decoder.now) words.now m }
     ensures ok { OnOk result (parts.new ≡ record parts.old {
-      pairs = pairs_by (D.width decoder.now) (D.places decoder.now) (D.parts decoder.now)
-          (D.gives decoder.now) words.now;
+      pairs = pairs_by (D.width decoder.now) (D.places decoder.now) held (D.gives decoder.now)
+          words.now;
     }) }
     ensures refused { OnErr result (parts.new.refused ≡ true) }
     ensures steps { steps.new ≤ steps.old + length changed.now * (1 + 2 * D.places decoder.now) }
@@ -57,7 +59,7 @@ fn part_changed<D: Decode, L: Ledger>(
     requires sound { parts.old.refused ≡ false }
     requires part { part < D.parts decoder.now }
     requires count { length words.now ≡ D.parts decoder.now * D.width decoder.now }
-    requires places { length parts.old.pairs ≡ D.parts decoder.now * D.places decoder.now }
+    requires places { part * D.places decoder.now + D.places decoder.now ≤ length parts.old.pairs }
     ensures sound { OnOk result (parts.new.refused ≡ false) }
     ensures specified { OnOk result (parts.new.specified ≡ parts.old.specified) }
     ensures places { OnOk result (length parts.new.pairs ≡ length parts.old.pairs) }

@@ -1,6 +1,6 @@
 //! How words are decoded, part by part.
 
-ghost use Rattle.std.specs.Prelude.{◌≡◌, ℕ, ◌*◌, ◌<◌, ◌≤◌, List, length, replicate};
+ghost use Rattle.std.specs.Prelude.{◌≡◌, ℕ, ◌*◌, ◌<◌, ◌≤◌, ◌^◌, List, length, replicate};
 ghost use Rattle.std.specs.Prelude.{slice_index_or};
 ghost use Rattle.vyrd_base.specs.Amounts.{collected};
 ghost use Rattle.vyrd_view.specs.Decoded.{Gives, pairs_by};
@@ -61,8 +61,8 @@ pub trait Decode: Sized + Copy + Drop {
     // The name of what the words show bounds the places.
     ghost bounded: { (d : Self) → places d ≤ most_places (shows d) };
 
-    // There are at most 4,096 parts.
-    ghost few: { (d : Self) → parts d ≤ 4096 };
+    // There are at most 2^20 parts.
+    ghost few: { (d : Self) → parts d ≤ 2 ^ 20 };
 
     // A part of zeroed words gives nothing, whatever its keys are.
     ghost quiet: { (d : Self) (part j : ℕ) → (gives d part (replicate (width d) 0) j).1 ≡ 0 };

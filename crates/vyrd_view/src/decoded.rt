@@ -56,44 +56,6 @@ fn add_part<D: Decode>(
     Ok(())
 }
 
-/// The pairs of all parts, in their places.
-pub(crate) fn all_pairs<D: Decode>(
-    alloc: Global,
-    decoder: &D,
-    words: &[u64],
-) -> Result<Vec<(u64, u64)>, AllocError>
-    requires count { length words.now ≡ D.parts decoder.now * D.width decoder.now }
-    ensures { IfOk result (λ pairs. pairs.items ≡ pairs_by (D.width decoder.now)
-        (D.places decoder.now) (D.parts decoder.now) (D.gives decoder.now) words.now) }
-{
-    let mut pairs = Vec::with_capacity(alloc, decoder.parts() * decoder.places())?;
-    for part in 0..decoder.parts() {
-        push_part(&mut pairs, decoder, part, words)?;
-    }
-    Ok(pairs)
-}
-
-/// The pairs of one part come after those of the parts before it.
-fn push_part<D: Decode>(
-    pairs: &mut Vec<(u64, u64)>,
-    decoder: &D,
-    part: usize,
-    words: &[u64],
-) -> Result<(), AllocError>
-    requires part { part < D.parts decoder.now }
-    requires count { length words.now ≡ D.parts decoder.now * D.width decoder.now }
-    requires pairs { pairs.old.items ≡ pairs_by (D.width decoder.now) (D.places decoder.now) part
-        (D.gives decoder.now) words.now }
-    ensures { OnOk result (pairs.new.items ≡ pairs_by (D.width decoder.now) (D.places decoder.now)
-        (part + 1) (D.gives decoder.now) words.now) }
-{
-    let given = decoded_part(decoder, part, words);
-    for place in 0..decoder.places() {
-        pairs.push(given[place])?;
-    }
-    Ok(())
-}
-
 /// What one part gives, place by place.
 #[inline(always)]
 pub(crate) fn decoded_part<D: Decode>(decoder: &D, part: usize, words: &[u64]) -> [(u64, u64); 4]

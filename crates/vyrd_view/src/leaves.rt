@@ -68,10 +68,11 @@ impl Leaves {
     {
         let mut marks = vec![in alloc; false; size]?;
         marks[0] = true;
-        let pairs = vec![in alloc; (0, 0); ENTRIES * size + 1]?;
+        let places = ENTRIES * size + 1;
+        let pairs = vec![in alloc; (0, 0); places]?;
         Ok(Leaves {
             words: vec![in alloc; 0; NODE_WORDS * size + TREE_WORDS]?,
-            parts: Parts::new(alloc, pairs)?,
+            parts: Parts::new(alloc, pairs, places)?,
             marks,
             next: vec![in alloc; false; size]?,
         })

@@ -36,6 +36,7 @@ mod leaves;
 mod no_parts;
 mod parts;
 mod rest;
+mod room;
 mod shown;
 mod sides;
 mod slots;

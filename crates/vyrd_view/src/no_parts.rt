@@ -52,7 +52,7 @@ impl NoParts {
     {
         Ok(NoParts {
             words: vec![in alloc; 0; words]?,
-            parts: Parts::new(alloc, Vec::new(alloc))?,
+            parts: Parts::new(alloc, Vec::new(alloc), 0)?,
         })
     }
 }

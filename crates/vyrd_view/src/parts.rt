@@ -1,7 +1,7 @@
 //! What the parts give, pair by pair.
 
-ghost use Rattle.std.specs.Prelude.{◌≡◌, ℕ, ◌+◌, ◌<◌, ◌≤◌, ◌^◌, [], true, false, length, slice_set};
-ghost use Rattle.std.specs.Prelude.{OnOk, OnErr, IfOk};
+ghost use Rattle.std.specs.Prelude.{◌≡◌, ℕ, ◌+◌, ◌<◌, ◌≤◌, [], ◌∷◌, ◌++◌, true, false, length};
+ghost use Rattle.std.specs.Prelude.{slice_set, OnOk, OnErr, IfOk};
 ghost use Rattle.vyrd_base.specs.Amounts.{with_amount, collected, first_difference, given};
 
 use crate::steps::Steps;
@@ -13,7 +13,7 @@ use std::sync::ledger::Ledger;
 /// A table has 2^3 places at least.
 const LEAST_BITS: u32 = 3;
 
-/// A table has 2^20 places at most. There are 4,097 pairs at most, so it has 2^14.
+/// A table has 2^20 places at most. It is made for 16,384 keys at most, so it has 2^16.
 const MOST_BITS: u32 = 20;
 
 /// The pairs of a key and an amount that the parts of the words give, each in a place of its own,
@@ -47,18 +47,34 @@ impl Model for Parts {
 }
 
 impl Parts {
-    /// These pairs, which give nothing, and an empty specification.
-    pub(crate) fn new(alloc: Global, pairs: Vec<(u64, u64)>) -> Result<Parts, AllocError>
+    /// These pairs, which give nothing, and an empty specification. The table is made for that many
+    /// keys.
+    pub(crate) fn new(
+        alloc: Global,
+        pairs: Vec<(u64, u64)>,
+        keys: usize,
+    ) -> Result<Parts, AllocError>
         requires { (q : ℕ) → given q pairs.items ≡ 0 }
         ensures { IfOk result
             (λ p. p ≡ record { pairs = pairs.items; specified = []; refused = false }) }
     {
-        let bits = table_bits(pairs.len());
+        let bits = table_bits(keys);
         Ok(Parts {
             pairs,
             sums: Sums::new(alloc, bits)?,
             refused: false,
         })
+    }
+
+    /// A pair that gives nothing gets a place, after all others.
+    pub(crate) fn push(&mut self, pair: (u64, u64)) -> Result<(), AllocError>
+        requires sound { self.old.refused ≡ false }
+        requires nothing { pair.1 ≡ 0 }
+        ensures { OnOk result
+            (self.new ≡ record self.old { pairs = self.old.pairs ++ pair ∷ [] }) }
+    {
+        self.pairs.push(pair)?;
+        Ok(())
     }
 
     /// The pair in this place gives way to another. If it is the same pair, nothing is compared.
@@ -143,6 +159,13 @@ impl Parts {
         ensures { result ≡ first_difference (collected self.now.pairs) self.now.specified }
     {
         self.sums.first_difference()
+    }
+
+    /// Memory was refused.
+    pub(crate) fn refuse(&mut self)
+        ensures { self.new.refused ≡ true }
+    {
+        self.refused = true;
     }
 
     /// Whether memory was refused.

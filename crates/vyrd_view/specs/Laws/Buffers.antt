@@ -21,7 +21,7 @@ buffers_narrow = (omega arith, omega arith, omega arith, omega arith)
 pub buffers_bounded : 1 ≤ 1
 buffers_bounded = omega arith
 
-pub buffers_few : (size : ℕ) → size ≤ 1024 → size ≤ 4096
+pub buffers_few : (size : ℕ) → size ≤ 1024 → size ≤ 2 ^ 20
 buffers_few size small = omega (arith, small)
 
 -- ---- the keys and the amounts

@@ -21,7 +21,7 @@ chunks_narrow = (omega arith, omega arith, omega arith, omega arith)
 pub chunks_bounded : 2 ≤ 2
 chunks_bounded = omega arith
 
-pub chunks_few : (size : ℕ) → size ≤ 1024 → size ≤ 4096
+pub chunks_few : (size : ℕ) → size ≤ 1024 → size ≤ 2 ^ 20
 chunks_few size small = omega (arith, small)
 
 -- ---- the keys and the amounts of places

@@ -20,7 +20,7 @@ slots_narrow = (omega arith, omega arith, omega arith, omega arith)
 pub slots_bounded : 1 ≤ 1
 slots_bounded = omega arith
 
-pub slots_few : (size : ℕ) → size ≤ 1024 → 4 * size ≤ 4096
+pub slots_few : (size : ℕ) → size ≤ 1024 → 4 * size ≤ 2 ^ 20
 slots_few size small = omega (arith, small)
 
 slot_at_most : (i j : ℕ) (own : List ℕ) → (slot_gives i own j).1 ≤ 1

@@ -1,7 +1,7 @@
 use Rattle.std.proofs.Common.{◌≡◌, ℕ, ◌+◌, ◌*◌, ◌<◌, List, length, get_or}
 use Rattle.std.proofs.Common.{set, length-set, ap, ◌∙◌, arith}
 use Rattle.vyrd_view.specs.Decoded.{pair_at}
-use Rattle.vyrd_view.proofs.DecodedLaws.{place_within, place_inside}
+use Rattle.vyrd_view.proofs.DecodedLaws.{place_inside}
 use Rattle.vyrd_view.proofs.DecodedLaws.{place_outside}
 use Rattle.vyrd_view.proofs.changed.part_changed.Goals as goal
 
@@ -18,9 +18,8 @@ loop-place-preserved g c =
     let low : c.loop-place.place < d.places decoder =
     omega (arith, c.loop-place-test.true, c.places-place-end.ensures) in
     let is : pair ≡ f m = c.counted_part-pairs.ensures.pairs c.loop-place.place low in
-    let inside : m < d.parts decoder * d.places decoder =
-    place_within c.args.part (d.parts decoder) (d.places decoder) c.loop-place.place c.requires.part low in
-    let within : m < length pairs = omega (arith, inside, c.loop-place.invariant.places, c.requires.places) in
+    let within : m < length pairs =
+    omega (arith, low, c.loop-place.invariant.places, c.requires.places) in
     let ok = c.in_ok-replace.ensures.ok in
     let now : c.replace.new.self.pairs ≡ set pairs m pair =
     ap (λ k. k.pairs) ok ∙ ap (λ k. set pairs k pair) at in

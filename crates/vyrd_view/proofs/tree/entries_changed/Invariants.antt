@@ -1,4 +1,4 @@
-use Rattle.std.proofs.Common.{◌≡◌, ℕ, ◌+◌, ◌*◌, ◌/◌, ◌<◌, ◌≤◌, ◌^◌, false, length, drop, get_or}
+use Rattle.std.proofs.Common.{◌≡◌, ℕ, ◌+◌, ◌*◌, ◌/◌, ◌<◌, ◌≤◌, false, length, drop, get_or}
 use Rattle.vyrd_view.specs.Chains.{node_pair, is_stale}
 use Rattle.vyrd_view.proofs.tree.entries_changed.Given as goal
 

@@ -1,35 +1,195 @@
-use Rattle.std.proofs.Common.{◌≡◌, ℕ, ◌+◌, ◌*◌, ◌≤◌, false, length, ap, sym, ◌∙◌, subst, arith}
-use Rattle.std.proofs.Math.Nat.{mul-le-mul_left}
+use Rattle.std.proofs.Common.{◌≡◌, ℕ, ◌+◌, ◌*◌, ◌≤◌, false, length, take, ap, sym, ◌∙◌, subst}
+use Rattle.std.proofs.Common.{◌++◌, drop, arith}
+use Rattle.std.proofs.Math.Nat.{mul-le-mul_left, mul-le-mul_right}
+use Rattle.std.proofs.lemmas.Result.{on_ok_weaker}
 use Rattle.vyrd_base.proofs.PlaceLaws.{length_below}
 use Rattle.vyrd_view.specs.Comparing.{AgreeElsewhere}
-use Rattle.vyrd_view.specs.Decoded.{pair_at}
-use Rattle.vyrd_view.proofs.DecodedLaws.{kept_others}
+use Rattle.vyrd_view.specs.Decoded.{HaveRoom, padded, pair_at, pairs_by}
+use Rattle.vyrd_view.specs.Kept.{Kept}
+use Rattle.vyrd_view.proofs.OutcomeLaws.{of_sound}
+use Rattle.vyrd_view.proofs.RoomLaws.{more_room, room_agrees, room_others, room_whole, room_stays}
+use Rattle.vyrd_view.proofs.RoomLaws.{front_length, written_back}
 use Rattle.vyrd_view.proofs.by_parts.ByParts.words_changed.Goals as goal
 
-pub parts_changed-requires-clause-places : goal.parts_changed-requires-clause-places
-parts_changed-requires-clause-places g c =
+pub make_room-requires-clause-places : goal.make_room-requires-clause-places
+make_room-requires-clause-places g c =
     let d = g.D.Decode in
     let kept = c.self.inside in
+    let decoder = kept.decoder in
     let sound : kept.parts.refused ≡ false =
     ap (λ k. k.refused) c.self.view_is ∙ c.requires.sound in
-    ap length (c.self.invariant.1 sound)
-    ∙ length_below (pair_at (d.width kept.decoder) (d.places kept.decoder) (d.gives kept.decoder)
-    kept.words.items) (d.parts kept.decoder * d.places kept.decoder)
+    let room : HaveRoom (d.width decoder) (d.places decoder) (d.parts decoder) kept.held
+    (d.gives decoder) kept.words.items kept.parts.pairs = c.self.invariant sound in
+    ap length room.given
+    ∙ length_below (pair_at (d.width decoder) (d.places decoder) (d.gives decoder)
+    (padded (d.parts decoder * d.width decoder) kept.words.items)) (kept.held * d.places decoder)
+
+pub copy_changed-requires-clause-elsewhere : goal.copy_changed-requires-clause-elsewhere
+copy_changed-requires-clause-elsewhere g c =
+    let d = g.D.Decode in
+    let kept = c.self.inside in
+    let decoder = kept.decoder in
+    let width : ℕ = d.width decoder in
+    let places : ℕ = d.places decoder in
+    let parts : ℕ = d.parts decoder in
+    let held : ℕ = c.in_ok-self-inside.field-0 in
+    let words = c.make_room.new.words.items in
+    let pairs = c.make_room.new.parts.pairs in
+    let sound : kept.parts.refused ≡ false =
+    ap (λ k. k.refused) c.self.view_is ∙ c.requires.sound in
+    let ok = c.in_ok-self-inside.ensures in
+    let grown : (padded (parts * width) words ≡ padded (parts * width) kept.words.items)
+    × HaveRoom width places parts held (d.gives decoder) words pairs =
+    more_room width places parts (d.gives decoder) ((g.met.D.Decode.narrow decoder).2) kept.held
+    held kept.words.items words kept.parts.pairs pairs (c.self.invariant sound) ok.more ok.held
+    ok.words ok.places ok.old ok.new in
+    let all : length c.args.words.now ≡ parts * width =
+    c.requires.count ∙ sym (ap (λ k. k.count) c.self.view_is) in
+    let elsewhere : AgreeElsewhere (padded (parts * width) words) c.args.words.now
+    c.args.changed.now =
+    subst (λ before. AgreeElsewhere before c.args.words.now c.args.changed.now)
+    (sym (grown.0 ∙ ap (λ k. k.words) c.self.view_is)) c.requires.elsewhere in
+    let count : c.len-front.result ≡ length words =
+    omega (arith, c.len-front.ensures, c.make_room.new.words.ok.0) in
+    subst (λ before. AgreeElsewhere before (take c.len-front.result c.args.words.now)
+    c.args.changed.now) (sym c.deref_mut.ensures.value)
+    (subst (λ n. AgreeElsewhere words (take n c.args.words.now) c.args.changed.now) (sym count)
+    (room_agrees width places parts held (d.gives decoder) words c.args.words.now c.args.changed.now
+    pairs grown.1 all elsewhere ok.room))
 
 pub parts_changed-requires-clause-others : goal.parts_changed-requires-clause-others
 parts_changed-requires-clause-others g c =
     let d = g.D.Decode in
     let kept = c.self.inside in
+    let decoder = kept.decoder in
+    let width : ℕ = d.width decoder in
+    let places : ℕ = d.places decoder in
+    let parts : ℕ = d.parts decoder in
+    let held : ℕ = c.in_ok-self-inside.field-0 in
+    let words = c.make_room.new.words.items in
+    let pairs = c.make_room.new.parts.pairs in
     let sound : kept.parts.refused ≡ false =
     ap (λ k. k.refused) c.self.view_is ∙ c.requires.sound in
-    let count : length c.args.words.now ≡ d.parts kept.decoder * d.width kept.decoder =
+    let ok = c.in_ok-self-inside.ensures in
+    let grown : (padded (parts * width) words ≡ padded (parts * width) kept.words.items)
+    × HaveRoom width places parts held (d.gives decoder) words pairs =
+    more_room width places parts (d.gives decoder) ((g.met.D.Decode.narrow decoder).2) kept.held
+    held kept.words.items words kept.parts.pairs pairs (c.self.invariant sound) ok.more ok.held
+    ok.words ok.places ok.old ok.new in
+    let all : length c.args.words.now ≡ parts * width =
     c.requires.count ∙ sym (ap (λ k. k.count) c.self.view_is) in
-    let elsewhere : AgreeElsewhere kept.words.items c.args.words.now c.args.changed.now =
+    let elsewhere : AgreeElsewhere (padded (parts * width) words) c.args.words.now
+    c.args.changed.now =
     subst (λ before. AgreeElsewhere before c.args.words.now c.args.changed.now)
-    (sym (ap (λ k. k.words) c.self.view_is)) c.requires.elsewhere in
-    kept_others (d.width kept.decoder) (d.places kept.decoder) (d.parts kept.decoder) (d.gives kept.decoder) kept.words.items
-    kept.parts.pairs (c.self.invariant.1 sound) c.self.invariant.0 c.args.words.now
-    c.args.changed.now count elsewhere
+    (sym (grown.0 ∙ ap (λ k. k.words) c.self.view_is)) c.requires.elsewhere in
+    room_others width places parts held (d.gives decoder) words c.args.words.now c.args.changed.now
+    pairs grown.1 all elsewhere ok.room
+
+pub invariant_of-self-2 : goal.invariant_of-self-2
+invariant_of-self-2 g c =
+    let d = g.D.Decode in
+    let kept = c.self.inside in
+    let decoder = kept.decoder in
+    let width : ℕ = d.width decoder in
+    let places : ℕ = d.places decoder in
+    let parts : ℕ = d.parts decoder in
+    let held : ℕ = c.in_ok-self-inside.field-0 in
+    let words = c.make_room.new.words.items in
+    let pairs = c.make_room.new.parts.pairs in
+    let sound : kept.parts.refused ≡ false =
+    ap (λ k. k.refused) c.self.view_is ∙ c.requires.sound in
+    let ok = c.in_ok-self-inside.ensures in
+    let grown : (padded (parts * width) words ≡ padded (parts * width) kept.words.items)
+    × HaveRoom width places parts held (d.gives decoder) words pairs =
+    more_room width places parts (d.gives decoder) ((g.met.D.Decode.narrow decoder).2) kept.held
+    held kept.words.items words kept.parts.pairs pairs (c.self.invariant sound) ok.more ok.held
+    ok.words ok.places ok.old ok.new in
+    let all : length c.args.words.now ≡ parts * width =
+    c.requires.count ∙ sym (ap (λ k. k.count) c.self.view_is) in
+    let elsewhere : AgreeElsewhere (padded (parts * width) words) c.args.words.now
+    c.args.changed.now =
+    subst (λ before. AgreeElsewhere before c.args.words.now c.args.changed.now)
+    (sym (grown.0 ∙ ap (λ k. k.words) c.self.view_is)) c.requires.elsewhere in
+    let count : c.len-front.result ≡ length words =
+    omega (arith, c.len-front.ensures, c.make_room.new.words.ok.0) in
+    let front : c.copy_changed.new.before ≡ take (length words) c.args.words.now =
+    c.copy_changed.ensures ∙ ap (λ n. take n c.args.words.now) count in
+    let back : take c.make_room.new.words.len (c.copy_changed.new.before
+    ++ drop (length c.copy_changed.new.before) words) ≡ take (length words) c.args.words.now =
+    written_back c.make_room.new.words.len c.copy_changed.new.before words
+    (omega (arith, c.make_room.new.words.ok.0)) (ap length front
+    ∙ front_length (parts * width) words c.args.words.now c.args.changed.now all
+    (omega (arith, grown.1.count, mul-le-mul_right width grown.1.few)) elsewhere) ∙ front in
+    let after : Kept = record {
+      pairs = pairs_by width places held (d.gives decoder) c.args.words.now;
+      specified = c.make_room.new.parts.specified;
+      refused = c.make_room.new.parts.refused;
+    } in
+    λ fine.
+    let now : c.parts_changed.new.parts ≡ after =
+    of_sound c.parts_changed.result (c.parts_changed.new.parts ≡ after)
+    c.parts_changed.new.parts.refused c.parts_changed.ensures.ok c.parts_changed.ensures.refused
+    fine in
+    subst (λ ws. HaveRoom width places parts held (d.gives decoder) ws
+    c.parts_changed.new.parts.pairs) (sym back)
+    (room_stays width places parts held (d.gives decoder) words c.args.words.now c.args.changed.now
+    pairs grown.1 all elsewhere ok.room
+    c.parts_changed.new.parts.pairs (ap (λ k. k.pairs) now))
+
+pub returns-clause-ok : goal.returns-clause-ok
+returns-clause-ok g c =
+    let d = g.D.Decode in
+    let kept = c.self.inside in
+    let decoder = kept.decoder in
+    let width : ℕ = d.width decoder in
+    let places : ℕ = d.places decoder in
+    let parts : ℕ = d.parts decoder in
+    let held : ℕ = c.in_ok-self-inside.field-0 in
+    let words = c.make_room.new.words.items in
+    let pairs = c.make_room.new.parts.pairs in
+    let sound : kept.parts.refused ≡ false =
+    ap (λ k. k.refused) c.self.view_is ∙ c.requires.sound in
+    let ok = c.in_ok-self-inside.ensures in
+    let grown : (padded (parts * width) words ≡ padded (parts * width) kept.words.items)
+    × HaveRoom width places parts held (d.gives decoder) words pairs =
+    more_room width places parts (d.gives decoder) ((g.met.D.Decode.narrow decoder).2) kept.held
+    held kept.words.items words kept.parts.pairs pairs (c.self.invariant sound) ok.more ok.held
+    ok.words ok.places ok.old ok.new in
+    let all : length c.args.words.now ≡ parts * width =
+    c.requires.count ∙ sym (ap (λ k. k.count) c.self.view_is) in
+    let elsewhere : AgreeElsewhere (padded (parts * width) words) c.args.words.now
+    c.args.changed.now =
+    subst (λ before. AgreeElsewhere before c.args.words.now c.args.changed.now)
+    (sym (grown.0 ∙ ap (λ k. k.words) c.self.view_is)) c.requires.elsewhere in
+    let count : c.len-front.result ≡ length words =
+    omega (arith, c.len-front.ensures, c.make_room.new.words.ok.0) in
+    let front : c.copy_changed.new.before ≡ take (length words) c.args.words.now =
+    c.copy_changed.ensures ∙ ap (λ n. take n c.args.words.now) count in
+    let back : take c.make_room.new.words.len (c.copy_changed.new.before
+    ++ drop (length c.copy_changed.new.before) words) ≡ take (length words) c.args.words.now =
+    written_back c.make_room.new.words.len c.copy_changed.new.before words
+    (omega (arith, c.make_room.new.words.ok.0)) (ap length front
+    ∙ front_length (parts * width) words c.args.words.now c.args.changed.now all
+    (omega (arith, grown.1.count, mul-le-mul_right width grown.1.few)) elsewhere) ∙ front in
+    let after : Kept = record {
+      pairs = pairs_by width places held (d.gives decoder) c.args.words.now;
+      specified = c.make_room.new.parts.specified;
+      refused = c.make_room.new.parts.refused;
+    } in
+    let whole : padded (parts * width) (take c.make_room.new.words.len (c.copy_changed.new.before
+    ++ drop (length c.copy_changed.new.before) words)) ≡ c.args.words.now =
+    ap (padded (parts * width)) back ∙ room_whole width places parts held (d.gives decoder) words c.args.words.now c.args.changed.now
+    pairs grown.1 all elsewhere ok.room in
+    on_ok_weaker {P = c.parts_changed.new.parts ≡ after} c.parts_changed.result
+    (λ now i. record {
+      shows = ap (λ k. k.shows) c.self.view_is i;
+      count = ap (λ k. k.count) c.self.view_is i;
+      words = whole i;
+      specified = (ap (λ k. k.specified) now ∙ ok.specified
+          ∙ ap (λ k. k.specified) c.self.view_is) i;
+      refused = (ap (λ k. k.refused) now ∙ ok.sound ∙ sym c.requires.sound) i;
+    })
+    c.parts_changed.ensures.ok
 
 pub returns-clause-steps : goal.returns-clause-steps
 returns-clause-steps g c =

@@ -1,0 +1,415 @@
+-- Words of which the last ones have no room of their own, since they are 0.
+use Rattle.std.proofs.Common.{◌≡◌, ℕ, zero, suc, ◌+◌, ◌-◌, ◌*◌, ◌/◌, ◌%◌, ◌<◌, ◌≤◌, Bool, true, false, ◌||◌}
+use Rattle.std.proofs.Common.{List, [], ◌∷◌, ◌++◌, length, map, get_or, take, drop, replicate, All, refl, ap, ◌∙◌}
+use Rattle.std.proofs.Common.{sym, subst, arith}
+use Rattle.std.specs.Prelude.{◌==◌, ◌≢◌, nat_lt, slice_index}
+use Rattle.std.specs.List.{list_any}
+use Rattle.std.proofs.lemmas.List.{ext_get_or, length-append, length-replicate, length-take}
+use Rattle.std.proofs.lemmas.List.{append_assoc, append-nil, drop_all, take_all}
+use Rattle.std.proofs.lemmas.List.{get_or_append_left, get_or-append_right, get_or_past, get_or-take}
+use Rattle.std.proofs.lemmas.List.{get_or-replicate}
+use Rattle.std.proofs.lemmas.List.Elements.{All-head, All-tail, All-weaker}
+use Rattle.std.proofs.lemmas.Nat.{div-mul-add, mod-mul-add}
+use Rattle.std.proofs.Math.Nat.{mul-le-mul_right, le-div_iff_mul-le, mod-lt}
+use Rattle.vyrd_base.specs.Places.{numbers_below}
+use Rattle.vyrd_base.specs.Amounts.{collected, given}
+use Rattle.vyrd_base.proofs.AmountLaws.{same_amounts}
+use Rattle.vyrd_base.proofs.PlaceLaws.{element_below, length_below}
+use Rattle.vyrd_base.proofs.SumLaws.{amount_of-collected, IsAmounts-collected, part_at_most}
+use Rattle.vyrd_base.proofs.TestLaws.{below_of, not_below_of, isnt_same, same_of, apart_of}
+use Rattle.vyrd_view.specs.Comparing.{AgreeElsewhere}
+use Rattle.vyrd_view.specs.Decoded.{Gives, HaveRoom, words_of, pair_at, pairs_by, padded}
+use Rattle.vyrd_view.specs.Pairs.{is_touched}
+use Rattle.vyrd_view.specs.Laws.Sums.{own_word, given_map_push, mapped-push}
+use Rattle.vyrd_view.proofs.DecodedLaws.{own_length, part_of_within, part_within, is_place}
+use Rattle.vyrd_view.proofs.DecodedLaws.{kept_others}
+use Rattle.vyrd_view.proofs.PlacedLaws.{mapped}
+
+-- a word past some zeroes, or among them
+zeroed : (k w : ℕ) → ◌≡◌ {A = ℕ} (slice_index (replicate k 0) w) 0
+zeroed k w = by_place (nat_lt w k) refl
+  where
+    by_place : (b : Bool) → nat_lt w k ≡ b → ◌≡◌ {A = ℕ} (get_or (replicate k 0) w 0) 0
+    by_place true e = get_or-replicate k w 0 0 (below_of w k e)
+    by_place false e = get_or_past (replicate k 0) w 0
+        (omega (arith, length-replicate {A = ℕ} k 0, not_below_of w k e))
+
+-- each word is the same with the zeroes that follow
+pub padded_index : (count : ℕ) (words : List ℕ) (w : ℕ)
+    → slice_index (padded count words) w ≡ slice_index words w
+padded_index count words w = by_place (nat_lt w (length words)) refl
+  where
+    more : ℕ
+    more = count - length words
+
+    by_place : (b : Bool) → nat_lt w (length words) ≡ b
+        → slice_index (padded count words) w ≡ slice_index words w
+    by_place true e = get_or_append_left words (replicate more 0) 0 w
+        (below_of w (length words) e)
+    by_place false e =
+        let past : length words ≤ w = not_below_of w (length words) e in
+        get_or-append_right words (replicate more 0) (length words) w 0 refl past
+        ∙ zeroed more (w - length words) ∙ sym (get_or_past words w 0 past)
+
+pub padded_length : (count : ℕ) (words : List ℕ) → length words ≤ count
+    → length (padded count words) ≡ count
+padded_length count words few =
+    length-append words (replicate (count - length words) 0)
+    ∙ ap (λ n. length words + n) (length-replicate (count - length words) 0)
+    ∙ omega (arith, few)
+
+-- the zeroes may come at once or one after another
+pub padded_again : (n count : ℕ) (words : List ℕ) → length words ≤ n → n ≤ count
+    → padded count (padded n words) ≡ padded count words
+padded_again n count words few less =
+    let inner : length (padded n words) ≡ n = padded_length n words few in
+    ext_get_or 0 (padded count (padded n words)) (padded count words)
+    (padded_length count (padded n words) (omega (arith, inner, less))
+    ∙ sym (padded_length count words (omega (arith, few, less))))
+    (λ w low. padded_index count (padded n words) w ∙ padded_index n words w
+    ∙ sym (padded_index count words w))
+
+-- as many words as there are
+pub padded_full : (n : ℕ) (words : List ℕ) → length words ≡ n → padded n words ≡ words
+padded_full n words count =
+    ext_get_or 0 (padded n words) words
+    (padded_length n words (omega (arith, count)) ∙ sym count)
+    (λ w low. padded_index n words w)
+
+-- zeroes alone
+pub padded_nothing : (n : ℕ) → padded n [] ≡ replicate n 0
+padded_nothing n =
+    let all : n - 0 ≡ n = omega arith in
+    ap (λ k. replicate k 0) all
+
+-- words that lie in some parts lie in more
+pub within_more : (few more width : ℕ) (changed : List ℕ) → few ≤ more
+    → All (λ w. w < few * width) changed → All (λ w. w < more * width) changed
+within_more few more width changed up within =
+    All-weaker (λ w. w < few * width) (λ w. w < more * width)
+    (λ w low. omega (arith, low, mul-le-mul_right width up)) changed within
+
+-- a word lies before the end of its part
+pub in_its_part : (w width : ℕ) → 1 ≤ width → w < (w / width + 1) * width
+in_its_part w width some =
+    let next : (w / width + 1) * width ≡ (w / width) * width + width = omega arith in
+    omega (arith, is_place width w, mod-lt w some, next)
+
+-- one word more that lies in some parts
+pub one_more_within : (changed : List ℕ) (index few more width : ℕ)
+    → ((i : ℕ) → i < index → get_or changed i 0 < few * width) → few * width ≤ more * width
+    → get_or changed index 0 < more * width → (i : ℕ) → i < index + 1
+    → get_or changed i 0 < more * width
+one_more_within changed index few more width before up here i low = by_place (i == index) refl
+  where
+    by_place : (b : Bool) → (i == index) ≡ b → get_or changed i 0 < more * width
+    by_place true e = omega (arith, here, ap (λ k. get_or changed k 0) (same_of i index e))
+    by_place false e = omega (arith, up, before i (omega (arith, low, apart_of i index e)))
+
+-- ---- the places of parts of zeroed words
+
+-- one place more
+pub quiet_more : (given : ℕ → ℕ × ℕ) (first s t : List (ℕ × ℕ)) (place : ℕ) (pair : ℕ × ℕ)
+    → s ≡ first ++ map given (numbers_below place) → t ≡ s ++ pair ∷ [] → pair ≡ given place
+    → t ≡ first ++ map given (numbers_below (place + 1))
+quiet_more given first s t place pair before now is =
+    now ∙ ap (λ xs. xs ++ pair ∷ []) before
+    ∙ append_assoc first (map given (numbers_below place)) (pair ∷ [])
+    ∙ ap (λ p. first ++ (map given (numbers_below place) ++ p ∷ [])) is
+    ∙ ap (λ xs. first ++ xs) (sym (mapped-push given place))
+
+-- one part more
+module _ (width places part : ℕ) (gives : Gives) (first s t : List (ℕ × ℕ)) (some : 1 ≤ places)
+    (count : length s ≡ part * places)
+    (now : t ≡ s ++ map (gives part (replicate width 0)) (numbers_below places)) where
+  abbrev own : ℕ → ℕ × ℕ
+  own = gives part (replicate width 0)
+
+  pub quiet_count : length t ≡ part * places + places
+  quiet_count = ap length now ∙ length-append s (map own (numbers_below places))
+      ∙ omega (arith, count, length_below own places)
+
+  pub quiet_old : (m : ℕ) → m < length s → get_or t m (0, 0) ≡ get_or s m (0, 0)
+  quiet_old m low = ap (λ xs. get_or xs m (0, 0)) now
+      ∙ get_or_append_left s (map own (numbers_below places)) (0, 0) m low
+
+  pub quiet_new : ((m : ℕ) → length first ≤ m → m < length s
+      → get_or s m (0, 0) ≡ gives (m / places) (replicate width 0) (m % places))
+      → (m : ℕ) → length first ≤ m → m < length t
+      → get_or t m (0, 0) ≡ gives (m / places) (replicate width 0) (m % places)
+  quiet_new before m past low = by_place (nat_lt m (length s)) refl
+    where
+      by_place : (b : Bool) → nat_lt m (length s) ≡ b
+          → get_or t m (0, 0) ≡ gives (m / places) (replicate width 0) (m % places)
+      by_place true e =
+          let inside : m < length s = below_of m (length s) e in
+          quiet_old m inside ∙ before m past inside
+      by_place false e =
+          let high : length s ≤ m = not_below_of m (length s) e in
+          let j : ℕ = m - length s in
+          let inside : j < places = omega (arith, low, high, quiet_count, count) in
+          let at : m ≡ part * places + j = omega (arith, high, count) in
+          let quotient : m / places ≡ part =
+          ap (λ k. k / places) at ∙ div-mul-add part places j inside in
+          let remainder : m % places ≡ j =
+          ap (λ k. k % places) at ∙ mod-mul-add part places j inside in
+          ap (λ xs. get_or xs m (0, 0)) now
+          ∙ get_or-append_right s (map own (numbers_below places)) (length s) m (0, 0) refl high
+          ∙ element_below own places j (0, 0) inside
+          ∙ ap (λ p. gives p (replicate width 0) j) (sym quotient)
+          ∙ ap (gives (m / places) (replicate width 0)) (sym remainder)
+
+-- ---- words that change
+
+-- a word that none of the changed words can be
+not_among : (n w : ℕ) (changed : List ℕ) → All (λ x. x < n) changed → n ≤ w
+    → list_any (λ x. x == w) changed ≡ false
+not_among n w [] low high = refl
+not_among n w (x ∷ xs) low high =
+    let apart : x ≢ w = λ same. absurd (omega (arith, same, All-head (λ y. y < n) x xs low, high)) in
+    ap (λ b. b || list_any (λ y. y == w) xs) (isnt_same x w apart)
+    ∙ not_among n w xs (All-tail (λ y. y < n) x xs low) high
+
+module _ (count : ℕ) (before words changed : List ℕ) (all : length words ≡ count)
+    (few : length before ≤ count)
+    (elsewhere : AgreeElsewhere (padded count before) words changed) where
+  pub front_length : length (take (length before) words) ≡ length before
+  front_length = length-take (length before) words ∙ omega (arith, all, few)
+
+  -- the words that have room agree too, elsewhere
+  pub front_agrees : AgreeElsewhere before (take (length before) words) changed
+  front_agrees w other = by_place (nat_lt w (length before)) refl
+    where
+      by_place : (b : Bool) → nat_lt w (length before) ≡ b
+          → slice_index (take (length before) words) w ≡ slice_index before w
+      by_place true e =
+          get_or-take (length before) words w 0 (below_of w (length before) e)
+          ∙ elsewhere w other ∙ padded_index count before w
+      by_place false e =
+          let past : length before ≤ w = not_below_of w (length before) e in
+          get_or_past (take (length before) words) w 0 (omega (arith, past, front_length))
+          ∙ sym (get_or_past before w 0 past)
+
+  -- and are all words, if no other one has changed
+  pub front_is_all : All (λ w. w < length before) changed
+      → padded count (take (length before) words) ≡ words
+  front_is_all within =
+      ext_get_or 0 (padded count (take (length before) words)) words
+      (padded_length count (take (length before) words) (omega (arith, front_length, few))
+      ∙ sym all)
+      (λ w low. padded_index count (take (length before) words) w
+      ∙ by_place w (nat_lt w (length before)) refl)
+    where
+      by_place : (w : ℕ) (b : Bool) → nat_lt w (length before) ≡ b
+          → slice_index (take (length before) words) w ≡ slice_index words w
+      by_place w true e = get_or-take (length before) words w 0 (below_of w (length before) e)
+      by_place w false e =
+          let past : length before ≤ w = not_below_of w (length before) e in
+          get_or_past (take (length before) words) w 0 (omega (arith, past, front_length))
+          ∙ sym (get_or_past before w 0 past) ∙ sym (padded_index count before w)
+          ∙ sym (elsewhere w (not_among (length before) w changed within past))
+
+-- ---- parts without room
+
+-- a part all of whose words are past those that have room
+pub own_padded : (width part parts held : ℕ) (words : List ℕ) → part < parts → held ≤ part
+    → length words ≡ held * width
+    → words_of width part (padded (parts * width) words) ≡ replicate width 0
+own_padded width part parts held words low past count =
+    let before : held * width ≤ part * width = mul-le-mul_right width past in
+    let inside : part * width + width ≤ parts * width = part_within part parts width low in
+    let all : length (padded (parts * width) words) ≡ parts * width =
+    padded_length (parts * width) words (omega (arith, before, inside, count)) in
+    let own : length (words_of width part (padded (parts * width) words)) ≡ width =
+    own_length width part parts (padded (parts * width) words) low all in
+    ext_get_or 0 (words_of width part (padded (parts * width) words)) (replicate width 0)
+    (own ∙ sym (length-replicate width 0))
+    (λ i inner. own_word width part (padded (parts * width) words) i (omega (arith, inner, own))
+    ∙ padded_index (parts * width) words (part * width + i)
+    ∙ get_or_past words (part * width + i) 0 (omega (arith, before, count))
+    ∙ sym (zeroed width i))
+
+module _ (width places parts held : ℕ) (gives : Gives) (words : List ℕ) (some : 1 ≤ places)
+    (few : held ≤ parts) (quiet : (part j : ℕ) → (gives part (replicate width 0) j).1 ≡ 0)
+    (zeros : (part : ℕ) → part < parts → held ≤ part
+    → words_of width part words ≡ replicate width 0) where
+  -- a place of a part of zeroed words
+  zero_place : (m : ℕ) → held * places ≤ m → m < parts * places
+      → (pair_at width places gives words m).1 ≡ 0
+  zero_place m past low =
+      let part : m / places < parts = part_of_within m parts places low in
+      let high : held ≤ m / places = (le-div_iff_mul-le (omega (arith, some))).1 past in
+      ap (λ own. (gives (m / places) own (m % places)).1) (zeros (m / places) part high)
+      ∙ quiet (m / places) (m % places)
+
+  given_more : (q k : ℕ) → held * places + k ≤ parts * places
+      → given q (map (pair_at width places gives words) (numbers_below (held * places + k)))
+      ≡ given q (pairs_by width places held gives words)
+  given_more q zero low =
+      let none : held * places + 0 ≡ held * places = omega arith in
+      ap (λ n. given q (map (pair_at width places gives words) (numbers_below n))) none
+  given_more q (suc k) low =
+      let f : ℕ → ℕ × ℕ = pair_at width places gives words in
+      let m : ℕ = held * places + k in
+      let next : held * places + suc k ≡ m + 1 = omega arith in
+      ap (λ n. given q (map f (numbers_below n))) next
+      ∙ omega (
+        arith,
+        given_map_push q f m,
+        part_at_most q (f m).0 (f m).1,
+        zero_place m (omega arith) (omega (arith, low)),
+        given_more q k (omega (arith, low)),
+      )
+
+  -- the first parts show what all do
+  pub held_shows : collected (pairs_by width places held gives words)
+      ≡ collected (pairs_by width places parts gives words)
+  held_shows =
+      let first : List (ℕ × ℕ) = pairs_by width places held gives words in
+      let all : List (ℕ × ℕ) = pairs_by width places parts gives words in
+      let less : held * places ≤ parts * places = mul-le-mul_right places few in
+      let whole : held * places + (parts * places - held * places) ≡ parts * places =
+      omega (arith, less) in
+      same_amounts (collected first) (collected all) (IsAmounts-collected first)
+      (IsAmounts-collected all)
+      (λ q. amount_of-collected first q
+      ∙ sym (given_more q (parts * places - held * places) (omega (arith, less)))
+      ∙ ap (λ n. given q (map (pair_at width places gives words) (numbers_below n))) whole
+      ∙ sym (amount_of-collected all q))
+
+-- the pairs of the parts that had room, and of those that get it
+pub room_pairs : (width places parts held more : ℕ) (gives : Gives) (words : List ℕ)
+    (before now : List (ℕ × ℕ)) → 1 ≤ places → more ≤ parts
+    → ((part : ℕ) → part < parts → held ≤ part → words_of width part words ≡ replicate width 0)
+    → before ≡ pairs_by width places held gives words → length now ≡ more * places
+    → ((m : ℕ) → m < length before → get_or now m (0, 0) ≡ get_or before m (0, 0))
+    → ((m : ℕ) → length before ≤ m → m < length now
+    → get_or now m (0, 0) ≡ gives (m / places) (replicate width 0) (m % places))
+    → now ≡ pairs_by width places more gives words
+room_pairs width places parts held more gives words before now some few zeros are count old new =
+    mapped f now (more * places) count (λ m low. by_place m low (nat_lt m (length before)) refl)
+  where
+    f : ℕ → ℕ × ℕ
+    f = pair_at width places gives words
+
+    length_is : length before ≡ held * places
+    length_is = ap length are ∙ length_below f (held * places)
+
+    by_place : (m : ℕ) → m < more * places → (b : Bool) → nat_lt m (length before) ≡ b
+        → get_or now m (0, 0) ≡ f m
+    by_place m low true e =
+        let inside : m < length before = below_of m (length before) e in
+        old m inside ∙ ap (λ s. get_or s m (0, 0)) are
+        ∙ element_below f (held * places) m (0, 0) (omega (arith, inside, length_is))
+    by_place m low false e =
+        let past : length before ≤ m = not_below_of m (length before) e in
+        let part : m / places < more = part_of_within m more places low in
+        let high : held ≤ m / places =
+        (le-div_iff_mul-le (omega (arith, some))).1 (omega (arith, past, length_is)) in
+        new m past (omega (arith, low, count))
+        ∙ ap (λ own. gives (m / places) own (m % places))
+        (sym (zeros (m / places) (omega (arith, part, few)) high))
+
+-- ---- room for more parts
+
+module _ (width places parts : ℕ) (gives : Gives) (some : 1 ≤ places) where
+  -- no part has room
+  pub no_room : HaveRoom width places parts 0 gives [] []
+  no_room =
+      let none : 0 * places ≡ 0 = omega arith in
+      record {
+        few = omega arith;
+        count = omega arith;
+        given = sym (ap (λ n. map (pair_at width places gives (padded (parts * width) []))
+            (numbers_below n)) none);
+      }
+
+  -- more parts get it, with zeroed words
+  pub more_room : (held more : ℕ) (before words : List ℕ) (pairs now : List (ℕ × ℕ))
+      → HaveRoom width places parts held gives before pairs → held ≤ more → more ≤ parts
+      → words ≡ padded (more * width) before → length now ≡ more * places
+      → ((m : ℕ) → m < length pairs → get_or now m (0, 0) ≡ get_or pairs m (0, 0))
+      → ((m : ℕ) → length pairs ≤ m → m < length now
+      → get_or now m (0, 0) ≡ gives (m / places) (replicate width 0) (m % places))
+      → (padded (parts * width) words ≡ padded (parts * width) before)
+      × HaveRoom width places parts more gives words now
+  more_room held more before words pairs now room up few are count old new = (
+    same,
+    record {
+      few = few;
+      count = ap length are ∙ padded_length (more * width) before less;
+      given = room_pairs width places parts held more gives (padded (parts * width) before) pairs now
+          some few
+          (λ part low past. own_padded width part parts held before low past room.count) room.given
+          count old new
+          ∙ ap (pairs_by width places more gives) (sym same);
+    },
+  )
+    where
+      less : length before ≤ more * width
+      less = omega (arith, mul-le-mul_right width up, room.count)
+
+      same : padded (parts * width) words ≡ padded (parts * width) before
+      same = ap (padded (parts * width)) are
+          ∙ padded_again (more * width) (parts * width) before less (mul-le-mul_right width few)
+
+-- ---- changed words of parts that have room
+
+module _ (width places parts held : ℕ) (gives : Gives) (before words changed : List ℕ)
+    (pairs : List (ℕ × ℕ)) (room : HaveRoom width places parts held gives before pairs)
+    (all : length words ≡ parts * width)
+    (elsewhere : AgreeElsewhere (padded (parts * width) before) words changed)
+    (within : All (λ w. w < held * width) changed) where
+  less : length before ≤ parts * width
+  less = omega (arith, room.count, mul-le-mul_right width room.few)
+
+  inner : All (λ w. w < length before) changed
+  inner = subst (λ n. All (λ w. w < n) changed) (sym room.count) within
+
+  pub room_places : length pairs ≡ held * places
+  room_places = ap length room.given
+      ∙ length_below (pair_at width places gives (padded (parts * width) before)) (held * places)
+
+  pub room_agrees : AgreeElsewhere before (take (length before) words) changed
+  room_agrees = front_agrees (parts * width) before words changed all less elsewhere
+
+  pub room_others : (m : ℕ) → m < length pairs → is_touched width (m / places) changed ≡ false
+      → get_or pairs m (0, 0) ≡ pair_at width places gives words m
+  room_others = kept_others width places parts held gives (padded (parts * width) before) pairs
+      room.given room.few (padded_length (parts * width) before less) words changed all elsewhere
+
+  -- what they have room for is up to date again
+  pub room_whole : padded (parts * width) (take (length before) words) ≡ words
+  room_whole = front_is_all (parts * width) before words changed all less elsewhere inner
+
+  pub room_stays : (now : List (ℕ × ℕ)) → now ≡ pairs_by width places held gives words
+      → HaveRoom width places parts held gives (take (length before) words) now
+  room_stays now are = record {
+    few = room.few;
+    count = length-take (length before) words ∙ omega (arith, all, less, room.count);
+    given = are ∙ ap (pairs_by width places held gives) (sym room_whole);
+  }
+
+-- all words that there are
+pub room_length : (width places parts held : ℕ) (gives : Gives) (words : List ℕ)
+    (pairs : List (ℕ × ℕ)) → HaveRoom width places parts held gives words pairs
+    → length (padded (parts * width) words) ≡ parts * width
+room_length width places parts held gives words pairs room =
+    padded_length (parts * width) words (omega (arith, room.count, mul-le-mul_right width room.few))
+
+-- what a call leaves that changes all words of a list
+pub written_back : (n : ℕ) (xs ys : List ℕ) → n ≡ length ys → length xs ≡ length ys
+    → take n (xs ++ drop (length xs) ys) ≡ xs
+written_back n xs ys all same =
+    ap (λ rest. take n (xs ++ rest)) (drop_all (length xs) ys (omega (arith, same)))
+    ∙ ap (take n) (append-nil xs) ∙ take_all n xs (omega (arith, all, same))
+
+-- what the parts with room give is what all words show
+pub room_shows : (width places parts held : ℕ) (gives : Gives) (words : List ℕ)
+    (pairs : List (ℕ × ℕ)) → HaveRoom width places parts held gives words pairs → 1 ≤ places
+    → ((part j : ℕ) → (gives part (replicate width 0) j).1 ≡ 0)
+    → collected pairs ≡ collected (pairs_by width places parts gives (padded (parts * width) words))
+room_shows width places parts held gives words pairs room some quiet =
+    ap collected room.given
+    ∙ held_shows width places parts held gives (padded (parts * width) words) some room.few quiet
+    (λ part low past. own_padded width part parts held words low past room.count)

@@ -1,7 +1,0 @@
-use Rattle.std.proofs.Common.{◌≡◌}
-use Rattle.vyrd_view.specs.Decoded.{pairs_by}
-use Rattle.vyrd_view.proofs.decoded.all_pairs.Given as goal
-
-abbrev pub invariant-loop-part : goal.invariant-loop-part
-invariant-loop-part g l = l.pairs.items
-    ≡ pairs_by (g.D.Decode.width l.decoder) (g.D.Decode.places l.decoder) l.part (g.D.Decode.gives l.decoder) l.words

@@ -1,9 +1,0 @@
-use Rattle.std.proofs.Common.{◌≡◌, ◌+◌, ◌*◌, map}
-use Rattle.vyrd_base.specs.Places.{numbers_below}
-use Rattle.vyrd_view.specs.Decoded.{pair_at}
-use Rattle.vyrd_view.proofs.decoded.push_part.Given as goal
-
-abbrev pub invariant-loop-place : goal.invariant-loop-place
-invariant-loop-place g l =
-    l.pairs.items ≡ map (pair_at (g.D.Decode.width l.decoder) (g.D.Decode.places l.decoder)
-    (g.D.Decode.gives l.decoder) l.words) (numbers_below (l.part * g.D.Decode.places l.decoder + l.place))
