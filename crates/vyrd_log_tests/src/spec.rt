@@ -388,6 +388,7 @@ fn shows<S: Spec>(alloc: Global, spec: &S, pairs: &[(u64, u64)]) -> bool {
 }
 
 /// What the first call with its reply leaves, by the trait alone.
+#[tactic(auto, using(crate::proofs::ShowingLaws::showing_laws))]
 fn first_step<S: BuiltIn>(
     alloc: Global,
     header: Header,
