@@ -18,7 +18,9 @@ use std::marker::{Brand, Model};
 use std::sync::ledger::{Blank, Ledger};
 
 /// The words of a structure and a specification's amounts, and where they differ. A changed word
-/// costs its part, which is decoded again, and a changed amount costs one step.
+/// costs its part, which is decoded again, and a changed amount costs one step. Words behind the
+/// last part that has changed take no room; a part is decoded once when it gets room, which isn't
+/// counted.
 ///
 /// The only error of its calls is that memory has run out. Then the value may only be dropped.
 #[derive(Drop)]
