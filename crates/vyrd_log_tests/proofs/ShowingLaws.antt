@@ -5,12 +5,12 @@ use Rattle.vyrd_base.specs.Amounts.{Amounts}
 use Rattle.vyrd_base.specs.States.{State, showing}
 
 -- a step that is allowed
-shown_next : (o : Option Amounts) (next : State) → option_map showing o ≡ Some next → Some next.shown ≡ o
+pub shown_next : (o : Option Amounts) (next : State) → option_map showing o ≡ Some next → Some next.shown ≡ o
 shown_next None next e = cc
 shown_next (Some amounts) next e = ap (option_map (λ s. s.shown)) (sym e)
 
 -- a reply that is refused
-no_next : (o : Option Amounts) → option_map showing o ≡ None → None ≡ o
+pub no_next : (o : Option Amounts) → option_map showing o ≡ None → None ≡ o
 no_next None e = refl
 no_next (Some amounts) e = cc
 
