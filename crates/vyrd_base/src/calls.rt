@@ -1,7 +1,7 @@
 //! The numbered calls of a device in memory, some of which are made to fail.
 
-ghost use Rattle.std.specs.Prelude.{◌≡◌, ◌-◌, ◌<◌, ◌≤◌, IfOk};
-ghost use Rattle.vyrd_base.specs.Devices.{HasRisen, next_count, fails_next};
+ghost use Rattle.std.specs.Prelude.{◌≡◌, IfOk};
+ghost use Rattle.vyrd_base.specs.Devices.{next_count, fails_next};
 
 use crate::device::Failed;
 use std::alloc::{AllocError, Global};
@@ -44,8 +44,6 @@ impl Calls {
         ensures failing { self.new.failing.items ≡ self.old.failing.items }
         ensures made { self.new.made ≡ self.old.made }
         ensures counted { self.new.faults ≡ next_count self.old.faults }
-        ensures later { self.old.faults ≤ self.new.faults }
-        ensures risen { HasRisen self.old.faults self.new.faults }
     {
         self.faults = self.faults.saturating_add(1);
         Failed

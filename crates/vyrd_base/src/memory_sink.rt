@@ -1,7 +1,7 @@
 //! A sink in memory.
 
-ghost use Rattle.std.specs.Prelude.{◌≡◌, ◌-◌, ◌<◌, ◌≤◌, min, [], length, Some, IfOk, OnErr, is_err};
-ghost use Rattle.vyrd_base.specs.Devices.{HasRisen, Takes, sure_room_of, next_count, write_fails};
+ghost use Rattle.std.specs.Prelude.{◌≡◌, ◌-◌, ◌<◌, ◌≤◌, min, [], length, IfOk, OnErr, is_err};
+ghost use Rattle.vyrd_base.specs.Devices.{Takes, AfterWrites, memory_sink, next_count, write_fails};
 
 use crate::calls::Calls;
 use crate::device::{Failed, Sink};
@@ -20,7 +20,7 @@ pub struct MemorySink {
 }
 
 impl Model for MemorySink {
-    ghost use Rattle.std.specs.Prelude.{◌==◌, ◌<◌, ◌≤◌, length, take, vec_capacity};
+    ghost use Rattle.std.specs.Prelude.{◌<◌, ◌≤◌, length, take, vec_capacity};
     ghost use Rattle.vyrd_base.specs.Devices.{SinkState};
 
     ghost Value = { SinkState };
@@ -76,23 +76,18 @@ impl MemorySink {
 }
 
 impl Sink for MemorySink {
-    ghost taken = { λ s. Some s.taken };
-
-    ghost faults = { λ s. s.faults };
-
-    ghost left_off = { λ s. Some s.left_off };
-
-    ghost sure_room = { sure_room_of };
+    ghost known = { memory_sink };
 
     fn write(&mut self, piece: &[u8]) -> Result<usize, Failed>
         requires { 0 < length piece.now }
         ensures taken { IfOk result
-            (λ n. Takes (Some self.old.taken) n piece.now (Some self.new.taken)) }
+            (λ n. Takes (memory_sink self.old) n piece.now (memory_sink self.new)) }
         ensures size { IfOk result (λ n. n
             ≡ min (min (length piece.now) self.old.cut) (self.old.room - length self.old.taken)) }
         ensures kept { OnErr result (self.new.taken ≡ self.old.taken) }
-        ensures stopped { OnErr result (self.new.left_off ≡ self.new.taken) }
-        ensures goes_on { IfOk result (λ _. self.new.left_off ≡ self.old.left_off) }
+        ensures sink { AfterWrites (is_err result)
+            (length piece.now ≤ (memory_sink self.old).sure_room) (memory_sink self.old)
+            (memory_sink self.new) }
 
         // It fails exactly when it finds no room, or when the number of this write is one of those
         // that were given.
@@ -101,10 +96,6 @@ impl Sink for MemorySink {
         ensures failing { self.new.failing ≡ self.old.failing }
         ensures room { self.new.room ≡ self.old.room }
         ensures cut { self.new.cut ≡ self.old.cut }
-        ensures risen { OnErr result (self.new.faults ≡ next_count self.old.faults) }
-        ensures counted { self.old.faults ≤ self.new.faults }
-        ensures cause { OnErr result (HasRisen self.old.faults self.new.faults) }
-        ensures failures_alone { IfOk result (λ _. self.new.faults ≡ self.old.faults) }
     {
         let left = self.room - self.taken.len();
         if self.calls.next_fails() || left == 0 {

@@ -1,8 +1,8 @@
 //! A source in memory.
 
-ghost use Rattle.std.specs.Prelude.{◌≡◌, ◌==◌, ◌<◌, ◌≤◌, min, length, drop, Some, Ok, IfOk, OnErr};
-ghost use Rattle.std.specs.Prelude.{is_err};
-ghost use Rattle.vyrd_base.specs.Devices.{HasRisen, Gives, IsAtEnd, next_count, fails_next};
+ghost use Rattle.std.specs.Prelude.{◌≡◌, ◌<◌, false, min, length, IfOk, OnErr, is_err};
+ghost use Rattle.vyrd_base.specs.Devices.{Gives, GivesNothing, AfterReads, memory_source};
+ghost use Rattle.vyrd_base.specs.Devices.{next_count, fails_next};
 
 use crate::calls::Calls;
 use crate::device::{Failed, Source};
@@ -17,12 +17,13 @@ pub struct MemorySource {
     /// How many bytes were given when a read last failed, which contracts see as what was still to
     /// come.
     left_off: usize,
+    ended: bool,
     cut: usize,
     calls: Calls,
 }
 
 impl Model for MemorySource {
-    ghost use Rattle.std.specs.Prelude.{◌==◌, ◌<◌, ◌≤◌, length, drop};
+    ghost use Rattle.std.specs.Prelude.{◌<◌, ◌≤◌, length, drop};
     ghost use Rattle.vyrd_base.specs.Devices.{SourceState};
 
     ghost Value = { SourceState };
@@ -30,6 +31,7 @@ impl Model for MemorySource {
     ghost view = { λ s. record {
       rest = drop s.given s.bytes.items;
       cut = s.cut;
+      ended = s.ended;
       left_off = drop s.left_off s.bytes.items;
       made = s.calls.made;
       failing = s.calls.failing.items;
@@ -53,6 +55,7 @@ impl MemorySource {
         requires { 0 < cut }
         ensures rest { IfOk result (λ s. s.rest ≡ bytes.now) }
         ensures cut { IfOk result (λ s. s.cut ≡ cut) }
+        ensures ended { IfOk result (λ s. s.ended ≡ false) }
         ensures made { IfOk result (λ s. s.made ≡ 0) }
         ensures failing { IfOk result (λ s. s.failing ≡ failing.now) }
         ensures faults { IfOk result (λ s. s.faults ≡ 0) }
@@ -61,6 +64,7 @@ impl MemorySource {
             bytes: Vec::from_slice(alloc, bytes)?,
             given: 0,
             left_off: 0,
+            ended: false,
             cut,
             calls: Calls::new(alloc, failing)?,
         })
@@ -68,34 +72,25 @@ impl MemorySource {
 }
 
 impl Source for MemorySource {
-    ghost rest = { λ s. Some s.rest };
-
-    ghost faults = { λ s. s.faults };
-
-    ghost left_off = { λ s. Some s.left_off };
-
-    ghost is_sure = { λ s. length s.failing == 0 };
+    ghost known = { memory_source };
 
     fn read(&mut self, buf: &mut [u8]) -> Result<usize, Failed>
-        requires { 0 < length buf.old }
+        requires room { 0 < length buf.old }
+        requires unended { self.old.ended ≡ false }
         ensures given { IfOk result
-            (λ n. Gives (Some self.old.rest) n buf.new (Some self.new.rest)) }
+            (λ n. Gives (memory_source self.old) n buf.new (memory_source self.new)) }
         ensures size { IfOk result
             (λ n. n ≡ min (min (length self.old.rest) self.old.cut) (length buf.old)) }
-        ensures at_end { result ≡ Ok 0 → IsAtEnd (Some self.new.rest) }
-        ensures kept { OnErr result (self.new.rest ≡ self.old.rest) }
-        ensures stopped { OnErr result (self.new.left_off ≡ self.new.rest) }
-        ensures goes_on { IfOk result (λ _. self.new.left_off ≡ self.old.left_off) }
+        ensures kept { OnErr result
+            (GivesNothing (memory_source self.old) (memory_source self.new)) }
+        ensures source { AfterReads (is_err result) (memory_source self.old)
+            (memory_source self.new) }
 
         // It fails exactly when the number of this read is one of those that were given.
         ensures fails { is_err result ≡ fails_next self.old.made self.old.failing }
         ensures made { self.new.made ≡ next_count self.old.made }
         ensures failing { self.new.failing ≡ self.old.failing }
         ensures cut { self.new.cut ≡ self.old.cut }
-        ensures risen { OnErr result (self.new.faults ≡ next_count self.old.faults) }
-        ensures counted { self.old.faults ≤ self.new.faults }
-        ensures cause { OnErr result (HasRisen self.old.faults self.new.faults) }
-        ensures failures_alone { IfOk result (λ _. self.new.faults ≡ self.old.faults) }
     {
         if self.calls.next_fails() {
             self.left_off = self.given;
@@ -105,6 +100,7 @@ impl Source for MemorySource {
         let n = rest.len().min(self.cut).min(buf.len());
         buf[..n].copy_from_slice(&rest[..n]);
         self.given += n;
+        self.ended = n == 0;
         Ok(n)
     }
 }

@@ -1,10 +1,11 @@
 //! A source and a sink over std's reader and writer. As devices they tell no bytes; each passes on
 //! what its stream says. A call that a signal broke off is made again.
 
-ghost use Rattle.std.specs.Prelude.{◌≡◌, ◌≤◌, false, None, IfOk, OnErr};
+ghost use Rattle.std.specs.Prelude.{◌≡◌, false, IfOk, OnErr, is_err};
 ghost use Rattle.std.specs.Io.{ReadsAtMost, WritesAtMost};
 ghost use Rattle.std.specs.Io.KnownBytes.{ReadConsumes, WriteAppends};
-ghost use Rattle.vyrd_base.specs.Devices.{HasRisen, Gives, Takes};
+ghost use Rattle.vyrd_base.specs.Devices.{Gives, GivesNothing, AfterReads, untold_source};
+ghost use Rattle.vyrd_base.specs.Devices.{Takes, AfterWrites, untold_sink};
 
 use crate::device::{Failed, Sink, Source};
 use std::io;
@@ -15,39 +16,46 @@ use std::io::{ErrorKind, Read, Write};
 pub struct StdSource<R> {
     /// The reader.
     pub inner: R,
+    ended: bool,
     faults: u64,
 }
 
 impl<R> StdSource<R> {
-    /// A source of what the reader gives, with no fault counted yet.
+    /// A source of what the reader gives, whose end isn't said yet, and with no fault counted.
     pub fn new(inner: R) -> StdSource<R>
         ensures inner { result.inner ≡ inner }
+        ensures ended { result.ended ≡ false }
         ensures faults { result.faults ≡ 0 }
     {
-        StdSource { inner, faults: 0 }
+        StdSource {
+            inner,
+            ended: false,
+            faults: 0,
+        }
     }
 }
 
 impl<R: Read> Source for StdSource<R> {
-    ghost rest = { λ _. None };
+    ghost known = { λ s. untold_source s.ended s.faults };
 
-    ghost faults = { λ s. s.faults };
-
-    ghost left_off = { λ _. None };
-
-    ghost is_sure = { λ _. false };
-
-    /// If the reader tells its bytes, they are what is given.
+    /// If the reader tells its bytes, they are what is given. The end is said when the reader gives
+    /// no byte.
     fn read(&mut self, buf: &mut [u8]) -> Result<usize, Failed>
-        ensures given { IfOk result (λ n. Gives None n buf.new None) }
-        ensures counted { self.old.faults ≤ self.new.faults }
-        ensures cause { OnErr result (HasRisen self.old.faults self.new.faults) }
-        ensures failures_alone { IfOk result (λ _. self.new.faults ≡ self.old.faults) }
+        requires unended { self.old.ended ≡ false }
+        ensures given { IfOk result (λ n. Gives (untold_source self.old.ended self.old.faults) n
+            buf.new (untold_source self.new.ended self.new.faults)) }
+        ensures kept { OnErr result (GivesNothing (untold_source self.old.ended self.old.faults)
+            (untold_source self.new.ended self.new.faults)) }
+        ensures source { AfterReads (is_err result) (untold_source self.old.ended self.old.faults)
+            (untold_source self.new.ended self.new.faults) }
         ensures passed { ReadConsumes (R.remaining self.old.inner) (R.remaining self.new.inner)
             result buf.new }
     {
         match read_again(&mut self.inner, buf) {
-            Ok(n) => Ok(n),
+            Ok(n) => {
+                self.ended = n == 0;
+                Ok(n)
+            }
             Err(_) => {
                 self.faults = self.faults.saturating_add(1);
                 Err(Failed)
@@ -75,21 +83,15 @@ impl<W> StdSink<W> {
 }
 
 impl<W: Write> Sink for StdSink<W> {
-    ghost taken = { λ _. None };
-
-    ghost faults = { λ s. s.faults };
-
-    ghost left_off = { λ _. None };
-
-    ghost sure_room = { λ _. 0 };
+    ghost known = { λ s. untold_sink s.faults };
 
     /// A writer that takes no byte has failed. If the writer tells its bytes, what is taken is
     /// added to them.
     fn write(&mut self, piece: &[u8]) -> Result<usize, Failed>
-        ensures taken { IfOk result (λ n. Takes None n piece.now None) }
-        ensures counted { self.old.faults ≤ self.new.faults }
-        ensures cause { OnErr result (HasRisen self.old.faults self.new.faults) }
-        ensures failures_alone { IfOk result (λ _. self.new.faults ≡ self.old.faults) }
+        ensures taken { IfOk result
+            (λ n. Takes (untold_sink self.old.faults) n piece.now (untold_sink self.new.faults)) }
+        ensures sink { AfterWrites (is_err result) ⊥ (untold_sink self.old.faults)
+            (untold_sink self.new.faults) }
         ensures passed { WriteAppends (W.contents self.old.inner) (W.contents self.new.inner) result
             piece.now }
     {

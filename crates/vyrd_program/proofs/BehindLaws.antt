@@ -2,15 +2,15 @@
 use Rattle.std.proofs.Common.{◌≡◌, ℕ, ◌+◌, ◌≤◌, List, ◌++◌, length, take, drop, Option, ap, subst, sym, ◌∙◌, arith}
 use Rattle.std.proofs.lemmas.List.{take_all}
 use Rattle.std.proofs.Math.Seq.{take-add, take-append_seam}
-use Rattle.vyrd_base.specs.Devices.{Gives}
+use Rattle.vyrd_base.specs.Devices.{SourceKnown, Gives}
 use Rattle.vyrd_program.specs.Inputs.{IsTaken}
 use Rattle.vyrd_program.proofs.TakenLaws.{taken_more}
 
-pub taken_behind : (before between after : Option (List ℕ)) (count n : ℕ) (old new : List ℕ) → IsTaken before (take count old) between
-    → take count new ≡ take count old → Gives between n (drop count new) after → IsTaken before (take (count + n) new) after
+pub taken_behind : (before between after : SourceKnown) (count n : ℕ) (old new : List ℕ) → IsTaken before.rest (take count old) between.rest
+    → take count new ≡ take count old → Gives between n (drop count new) after → IsTaken before.rest (take (count + n) new) after.rest
 taken_behind before between after count n old new told front gives =
-    subst (λ bytes. IsTaken before bytes after) (ap (λ bytes. bytes ++ take n (drop count new)) (sym front) ∙ sym (take-add count n new))
-    (taken_more before between after (take count old) (take n (drop count new)) told gives.bytes)
+    subst (λ bytes. IsTaken before.rest bytes after.rest) (ap (λ bytes. bytes ++ take n (drop count new)) (sym front) ∙ sym (take-add count n new))
+    (taken_more before.rest between.rest after.rest (take count old) (take n (drop count new)) told gives.bytes)
 
 -- bytes that were put after others leave these at the front
 pub front_kept : (old new more : List ℕ) (count many : ℕ) → length old ≡ count → count ≤ many → new ≡ take many old ++ more → take count new ≡ old

@@ -1,11 +1,11 @@
 -- The verdict that was reached is that of the whole input.
-use Rattle.std.proofs.Common.{◌≡◌, ℕ, ◌≤◌, List, ◌++◌, Option, Some, None, ap, ◌∙◌, sym, inl, inr}
+use Rattle.std.proofs.Common.{◌≡◌, ℕ, ◌≤◌, List, [], ◌++◌, Option, Some, None, ap, ◌∙◌, sym, inl, inr}
 use Rattle.std.specs.Prelude.{◌⊎◌, IfSome}
 use Rattle.vyrd_base.specs.declared.verdict.Verdict.{Verdict}
-use Rattle.vyrd_base.specs.Devices.{IsAtEnd}
+use Rattle.vyrd_base.specs.Devices.{SourceKnown, IsAtEnd}
 use Rattle.vyrd_base.specs.TextVerdicts.{text_verdict, text_verdict_so_far}
 use Rattle.vyrd_base.proofs.TextLasts.{text_verdict_stands}
-use Rattle.vyrd_program.specs.Inputs.{IsVerdictOf}
+use Rattle.vyrd_program.specs.Inputs.{IsTaken, IsVerdictOf}
 use Rattle.vyrd_program.specs.Outputs.{status_of}
 use Rattle.vyrd_program.specs.Checks.{IsSettled}
 use Rattle.vyrd_program.specs.Progress.{IsReached}
@@ -17,21 +17,31 @@ same_bytes xs ys e = cc
 
 -- the verdict that was reached, of an input whose bytes are told
 verdict_of_told : (max : ℕ) (input taken left : List ℕ) (v : Verdict) → 1 ≤ max → input ≡ taken ++ left
-    → (IsAtEnd (Some left) × (v ≡ text_verdict max taken)) ⊎ (text_verdict_so_far max taken ≡ Some v) → v ≡ text_verdict max input
+    → ((left ≡ []) × (v ≡ text_verdict max taken)) ⊎ (text_verdict_so_far max taken ≡ Some v) → v ≡ text_verdict max input
 verdict_of_told max input taken left v low whole (inl ended) =
     ended.1 ∙ ap (text_verdict max) (sym (whole ∙ ap (λ xs. taken ++ xs) ended.0 ∙ no_more_bytes taken))
 verdict_of_told max input taken left v low whole (inr there) = sym (ap (text_verdict max) whole ∙ text_verdict_stands max taken left v low there)
 
-pub reached_judged : (max : ℕ) (before after : Option (List ℕ)) (v : Verdict) → 1 ≤ max → IsReached max before after v → IsVerdictOf max before v
-reached_judged max None after v low r = tt
-reached_judged max (Some input) None v low r = absurd (never r.told)
+-- the same, if they are told
+verdict_of_rest : (max : ℕ) (before after : Option (List ℕ)) (taken : List ℕ) (v : Verdict) → 1 ≤ max → IsTaken before taken after
+    → (IfSome after (λ left. left ≡ []) × (v ≡ text_verdict max taken)) ⊎ (text_verdict_so_far max taken ≡ Some v) → IsVerdictOf max before v
+verdict_of_rest max None after taken v low told reached = tt
+verdict_of_rest max (Some input) None taken v low told reached = absurd (never told)
   where
     never : ◌≡◌ {A = Option (List ℕ)} (Some input) None → ⊥
     never e = cc
-reached_judged max (Some input) (Some left) v low r =
-    verdict_of_told max input r.taken left v low (same_bytes input (r.taken ++ left) r.told) r.reached
+verdict_of_rest max (Some input) (Some left) taken v low told reached =
+    verdict_of_told max input taken left v low (same_bytes input (taken ++ left) told) reached
 
-pub reached_settled : (max : ℕ) (before after : Option (List ℕ)) (v : Verdict) → 1 ≤ max → IsReached max before after v → IsSettled max before after
+pub reached_judged : (max : ℕ) (before after : SourceKnown) (v : Verdict) → 1 ≤ max → IsReached max before after v → IsVerdictOf max before.rest v
+reached_judged max before after v low r = verdict_of_rest max before.rest after.rest r.taken v low r.told (by_end r.reached)
+  where
+    by_end : (IsAtEnd after × (v ≡ text_verdict max r.taken)) ⊎ (text_verdict_so_far max r.taken ≡ Some v)
+        → (IfSome after.rest (λ left. left ≡ []) × (v ≡ text_verdict max r.taken)) ⊎ (text_verdict_so_far max r.taken ≡ Some v)
+    by_end (inl ended) = inl (ended.0.none, ended.1)
+    by_end (inr there) = inr there
+
+pub reached_settled : (max : ℕ) (before after : SourceKnown) (v : Verdict) → 1 ≤ max → IsReached max before after v → IsSettled max before after
 reached_settled max before after v low r = record { taken = r.taken; told = r.told; enough = by_end r.reached }
   where
     of_whole : (o : Option (List ℕ)) → IsVerdictOf max o v → text_verdict_so_far max r.taken ≡ Some v
@@ -40,12 +50,12 @@ reached_settled max before after v low r = record { taken = r.taken; told = r.to
     of_whole (Some input) is there = there ∙ ap Some is
 
     by_end : (IsAtEnd after × (v ≡ text_verdict max r.taken)) ⊎ (text_verdict_so_far max r.taken ≡ Some v)
-        → IsAtEnd after ⊎ IfSome before (λ input. text_verdict_so_far max r.taken ≡ Some (text_verdict max input))
+        → IsAtEnd after ⊎ IfSome before.rest (λ input. text_verdict_so_far max r.taken ≡ Some (text_verdict max input))
     by_end (inl ended) = inl ended.0
-    by_end (inr there) = inr (of_whole before (reached_judged max before after v low r) there)
+    by_end (inr there) = inr (of_whole before.rest (reached_judged max before after v low r) there)
 
 -- acceptance is reached at the source's end alone
-pub reached_accepted : (max : ℕ) (before after : Option (List ℕ)) (v : Verdict) → status_of v ≡ 0 → IsReached max before after v → IsAtEnd after
+pub reached_accepted : (max : ℕ) (before after : SourceKnown) (v : Verdict) → status_of v ≡ 0 → IsReached max before after v → IsAtEnd after
 reached_accepted max before after v accepted r = by_end r.reached
   where
     by_end : (IsAtEnd after × (v ≡ text_verdict max r.taken)) ⊎ (text_verdict_so_far max r.taken ≡ Some v) → IsAtEnd after

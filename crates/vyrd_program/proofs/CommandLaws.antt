@@ -1,6 +1,7 @@
 -- From what is made ready for words of a form to what is written. `said` is the form of the words, if they have one.
 use Rattle.std.proofs.Common.{◌≡◌, ℕ, ◌≤◌, List, [], length, true, false, Option, Some, None, refl, ap, ◌∙◌, sym, subst, arith, inl, inr}
 use Rattle.std.specs.Prelude.{◌≢◌, ◌⊎◌}
+use Rattle.vyrd_base.specs.Devices.{SourceKnown}
 use Rattle.vyrd_check.specs.Checking.{most_lines}
 use Rattle.vyrd_program.specs.declared.form.Form.{Form}
 use Rattle.vyrd_program.specs.declared.form.Form.TheVariants as asked
@@ -51,15 +52,13 @@ written_status said form status own is given ready = subst (λ said. IsStatus sa
     by_status (inl five) = inr (inr (inl five))
     by_status (inr same) = subst (λ n. IsStatus (Some form) n) (sym same) ready
 
-pub no_usage : (said : Option Form) (form : Form) (status own : ℕ) → said ≡ Some form → (status ≡ 5) ⊎ (status ≡ own)
-    → IsStatus (Some form) own → status ≡ 3 → ⊥
-no_usage said form status own is given ready three = by_status (written_status (Some form) form status own refl given ready)
-  where
-    by_status : IsStatus (Some form) status → ⊥
-    by_status (inl answered) = no_answer form status (omega (arith, three)) (omega (arith, three)) answered
-    by_status (inr (inl four)) = omega (arith, three, four.0)
-    by_status (inr (inr (inl five))) = omega (arith, three, five)
-    by_status (inr (inr (inr six))) = omega (arith, three, six.0)
+-- status 3 is that of no form
+pub three_is_usage : (said : Option Form) → IsStatus said 3 → said ≡ None
+three_is_usage None status = refl
+three_is_usage (Some form) (inl answered) = absurd (no_answer form 3 (omega arith) (omega arith) answered)
+three_is_usage (Some form) (inr (inl four)) = absurd (omega (arith, four.0))
+three_is_usage (Some form) (inr (inr (inl five))) = absurd (omega (arith, five))
+three_is_usage (Some form) (inr (inr (inr six))) = absurd (omega (arith, six.0))
 
 pub written_answer : (said : Option Form) (form : Form) (input before after : Option (List ℕ)) (status own : ℕ) (text : List ℕ) → said ≡ Some form
     → (status ≡ 5) ⊎ (status ≡ own) → (IsAnswerStatus (Some form) own → IsAnswer (Some form) input own text)
@@ -108,11 +107,13 @@ text_fits said form input own room text is status_is unwritten silent ready fits
   | inr empty ↦ (let none : length text ≡ 0 = ap length empty in omega (arith, none))
 ]
 
-pub enough_taken : (said : Option Form) (form : Form) (before after : Option (List ℕ)) (status own : ℕ) → said ≡ Some form
-    → (status ≡ 5) ⊎ (status ≡ own) → (IsAnswerStatus (Some form) own → IsEnough (Some form) before after)
-    → IsAnswerStatus said status → IsEnough said before after
+pub enough_taken : (said : Option Form) (form : Form) (before after : SourceKnown) (status own : ℕ) → said ≡ Some form
+    → (status ≡ 5) ⊎ (status ≡ own) → (IsAnswerStatus (Some form) own → IsEnough (Some form) own before after)
+    → IsAnswerStatus said status → IsEnough said status before after
 enough_taken said form before after status own is given enough answered =
-    subst (λ said. IsEnough said before after) (sym is) (enough (ready_status said form status own is given answered))
+    let same = same_status said form status own is given answered in
+    subst (λ said. IsEnough said status before after) (sym is)
+    (subst (λ n. IsEnough (Some form) n before after) (sym same) (enough (ready_status said form status own is given answered)))
 
 -- What is true of a form that is known isn't false of the form.
 differ : true ≡ false → ⊥
@@ -166,10 +167,10 @@ checked_in_part said input before after is part =
       written = part.written;
     })
 
-pub checked_enough : (said : Option Form) (before after : Option (List ℕ)) (status : ℕ) → said ≡ Some asked.Check
-    → (status ≤ 2 → IsSettled most_lines before after) → IsAnswerStatus said status → IsEnough said before after
+pub checked_enough : (said : Option Form) (before after : SourceKnown) (status : ℕ) → said ≡ Some asked.Check
+    → (status ≤ 2 → IsSettled most_lines before after) → IsAnswerStatus said status → IsEnough said status before after
 checked_enough said before after status is enough answered =
-    subst (λ said. IsEnough said before after) (sym is) (enough (subst (λ said. IsAnswerStatus said status) is answered))
+    subst (λ said. IsEnough said status before after) (sym is) (enough (subst (λ said. IsAnswerStatus said status) is answered))
 
 pub line_fits : (said : Option Form) (input : Option (List ℕ)) (room : ℕ) → said ≡ Some asked.Check → HasRoom said input room
     → HasRoomForAnswer most_lines input room

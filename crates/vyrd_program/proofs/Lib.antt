@@ -13,4 +13,6 @@ pub mod EveryLaws
 pub mod EveryWritten
 pub mod MoversLaws
 pub mod BatchLaws
+pub mod StatusLaws
 pub mod CommandLaws
+pub mod CountLaws

@@ -2,49 +2,44 @@
 use Rattle.std.proofs.Common.{◌≡◌, ℕ, List, [], ◌+◌, ◌++◌, length, length-append, refl, Option, Some, None, ap, ◌∙◌, sym, subst, arith, inl, inr, append-nil}
 use Rattle.std.specs.Prelude.{◌⊎◌, IfSome, IfOk, Result, Ok, Err}
 use Rattle.std.specs.declared.alloc.AllocError.{AllocError}
-use Rattle.vyrd_base.specs.Devices.{IsAtEnd}
+use Rattle.vyrd_base.specs.Devices.{SourceKnown, IsAtEnd}
 use Rattle.vyrd_mover.specs.declared.blocks.Blocks.{Blocks}
 use Rattle.vyrd_mover.specs.BlocksText.{blocks_text}
 use Rattle.vyrd_mover.specs.EventsRead.{AreBlocksOf}
-use Rattle.vyrd_mover.specs.HistoryText.{Recorded}
+use Rattle.vyrd_mover.specs.HistoryText.{Recorded, history_text}
 use Rattle.vyrd_mover.specs.HistoryReading.{Refusal, history_reading}
 use Rattle.vyrd_mover.specs.HistoryReaders.{ReaderState, HasRead}
 use Rattle.vyrd_mover.specs.LongHistories.{longest_history}
 use Rattle.vyrd_mover.proofs.SettledLaws.{reading_settled}
+use Rattle.vyrd_mover.proofs.TextLaws.{reading_sound}
 use Rattle.vyrd_program.specs.declared.answer.Answer.{Answer}
-use Rattle.vyrd_program.specs.Inputs.{IsTaken, IsInputRead, IsInputTaken, IsMoreRead}
+use Rattle.vyrd_program.specs.Inputs.{IsTaken, IsInputRead, IsMoreRead}
 use Rattle.vyrd_program.specs.Moved.{IsMoversAnswer, status_of_blocks}
-use Rattle.vyrd_program.proofs.TakenLaws.{taken_more, taken_nothing}
+use Rattle.vyrd_program.proofs.TakenLaws.{taken_more, taken_nothing, whole_input, long_refused}
 
-pub history_is_input : (before after : Option (List ℕ)) (bytes : List ℕ) → IsInputRead longest_history before after bytes
-    → IfSome before (λ input. history_reading bytes ≡ history_reading input)
-history_is_input before None bytes is = subst (λ before. IfSome before (λ input. history_reading bytes ≡ history_reading input)) (sym is.told) tt
-history_is_input before (Some left) bytes is =
-    subst (λ before. IfSome before (λ input. history_reading bytes ≡ history_reading input)) (sym is.told) (by_end is.enough)
-  where
-    by_end : IsAtEnd (Some left) ⊎ (length bytes ≡ longest_history) → history_reading bytes ≡ history_reading (bytes ++ left)
-    by_end (inl none) = ap history_reading (sym (ap (λ left. bytes ++ left) none ∙ append-nil bytes))
-    by_end (inr long) = sym (reading_settled bytes left (omega (arith, long)))
+pub history_is_input : (before after : SourceKnown) (bytes : List ℕ) → IsInputRead longest_history before after bytes
+    → IfSome before.rest (λ input. history_reading bytes ≡ history_reading input)
+history_is_input before after bytes is = whole_input history_reading longest_history before after bytes (λ more long. reading_settled bytes more (omega (arith, long))) is
 
 -- what was read of an input, so far, by a reader of a history
-pub record ReadSoFar (before after : Option (List ℕ)) (reader : ReaderState) (count : ℕ) : Type 0 where
+pub record ReadSoFar (before after : SourceKnown) (reader : ReaderState) (count : ℕ) : Type 0 where
   pub taken : List ℕ
-  pub told : IsTaken before taken after
+  pub told : IsTaken before.rest taken after.rest
   pub many : length taken ≡ count
   pub read : HasRead reader taken
 
-pub nothing_read : (before : Option (List ℕ)) (reader : ReaderState) → HasRead reader [] → ReadSoFar before before reader 0
-nothing_read before reader read = record { taken = []; told = taken_nothing before; many = refl; read = read }
+pub nothing_read : (before : SourceKnown) (reader : ReaderState) → HasRead reader [] → ReadSoFar before before reader 0
+nothing_read before reader read = record { taken = []; told = taken_nothing before.rest; many = refl; read = read }
 
 -- one piece more
-pub piece_read : (before between after : Option (List ℕ)) (reader new : ReaderState) (count most n : ℕ) (piece : List ℕ)
+pub piece_read : (before between after : SourceKnown) (reader new : ReaderState) (count most n : ℕ) (piece : List ℕ)
     → (so_far : ReadSoFar before between reader count) → IsMoreRead most between after [] piece n → HasRead new (so_far.taken ++ piece)
     → ReadSoFar before after new (count + n)
 piece_read before between after reader new count most n piece so_far more read =
-    let told = subst (λ xs. IsTaken between xs after) (sym more.grown) more.told in
+    let told = subst (λ xs. IsTaken between.rest xs after.rest) (sym more.grown) more.told in
     record {
       taken = so_far.taken ++ piece;
-      told = taken_more before between after so_far.taken piece so_far.told told;
+      told = taken_more before.rest between.rest after.rest so_far.taken piece so_far.told told;
       many = omega (arith, length-append so_far.taken piece, so_far.many, ap length more.grown, more.many);
       read = read;
     }
@@ -61,10 +56,13 @@ pub told_is_answered : (told : Result Answer AllocError) (reading : Result Recor
 told_is_answered (Ok answer) reading blocks are status text = blocks_are_answered reading blocks answer.status answer.text.items are status text
 told_is_answered (Err e) reading blocks are status text = tt
 
--- what was read of an input was taken of it
-pub input_taken : (most : ℕ) (before after : Option (List ℕ)) (bytes : List ℕ) → IsInputRead most before after bytes → IsInputTaken most before after
-input_taken most before after bytes is = by_end is.enough
+-- a history as long as can be read is refused
+pub movers_refused : (bytes : List ℕ) (status : ℕ) (text : List ℕ) → IsMoversAnswer (history_reading bytes) status text
+    → length bytes ≡ longest_history → status ≡ 10
+movers_refused bytes status text answer long = by_reading (history_reading bytes) refl answer
   where
-    by_end : IsAtEnd after ⊎ (length bytes ≡ most) → IsInputTaken most before after
-    by_end (inl none) = inl none
-    by_end (inr all) = inr (bytes, is.told, all)
+    by_reading : (r : Result Recorded Refusal) → history_reading bytes ≡ r → IsMoversAnswer r status text → status ≡ 10
+    by_reading (Err refusal) e answer = answer.0
+    by_reading (Ok r) e answer =
+        absurd (long_refused history_reading bytes history_text (λ bytes r e. (reading_sound bytes r e).text)
+        (λ more. reading_settled bytes more (omega (arith, long))) r e)

@@ -4,7 +4,7 @@ use Rattle.std.specs.Prelude.{is_some, nat_le, IfSome, IfNone}
 use Rattle.std.proofs.lemmas.Bool.Decides.{nat_tests}
 use Rattle.std.proofs.lemmas.List.{length-take}
 use Rattle.vyrd_base.specs.declared.verdict.Verdict.{Verdict}
-use Rattle.vyrd_base.specs.Devices.{Gives, IsAtEnd}
+use Rattle.vyrd_base.specs.Devices.{SourceKnown, Gives}
 use Rattle.vyrd_base.specs.Reading.{reading}
 use Rattle.vyrd_base.specs.TextVerdicts.{text_verdict, text_verdict_so_far}
 use Rattle.vyrd_base.proofs.TextLasts.{text_verdict_lasts}
@@ -45,12 +45,13 @@ begins_later max taken piece first more low nothing same there = by_length (nat_
         both e f = cc
 
 -- before the first read
-pub checking_starts : (max : ℕ) (before : Option (List ℕ)) (checker : CheckerState) → checker.kept.reader.max_lines ≡ max
-    → HasChecked checker [] → IsChecking max before before checker 0
+pub checking_starts : (max : ℕ) (before : SourceKnown) (checker : CheckerState) → checker.kept.reader.max_lines ≡ max
+    → HasChecked checker [] → before.ended ≡ false → IsChecking max before before checker 0
 unfolding text_verdict_so_far reading
-checking_starts max before checker limit checked = record {
+checking_starts max before checker limit checked unended = record {
   taken = [];
-  told = taken_nothing before;
+  told = taken_nothing before.rest;
+  unended = unended;
   checked = checked;
   limit = limit;
   nothing = refl;
@@ -58,18 +59,18 @@ checking_starts max before checker limit checked = record {
 }
 
 -- nothing was read yet
-pub nothing_no_further : (max : ℕ) (before : Option (List ℕ)) → IsReadNoFurther max before before
+pub nothing_no_further : (max : ℕ) (before : SourceKnown) → IsReadNoFurther max before before
 nothing_no_further max before = record {
   taken = [];
-  told = taken_nothing before;
+  told = taken_nothing before.rest;
   no_more = λ first more same there. omega arith;
 }
 
-pub same_no_further : (max : ℕ) (before now after : Option (List ℕ)) (checker : CheckerState) (rounds : ℕ) → 1 ≤ max
-    → IsChecking max before now checker rounds → after ≡ now → IsReadNoFurther max before after
+pub same_no_further : (max : ℕ) (before now after : SourceKnown) (checker : CheckerState) (rounds : ℕ) → 1 ≤ max
+    → IsChecking max before now checker rounds → after.rest ≡ now.rest → IsReadNoFurther max before after
 same_no_further max before now after checker rounds low r kept = record {
   taken = r.taken;
-  told = subst (IsTaken before r.taken) (sym kept) r.told;
+  told = subst (IsTaken before.rest r.taken) (sym kept) r.told;
   no_more = λ first more same there.
       omega (arith, begins_later max r.taken [] first more low r.nothing (no_more_bytes r.taken ∙ same) there);
 }
@@ -78,13 +79,13 @@ length_piece : (n : ℕ) (buffer : List ℕ) → n ≤ length buffer → length 
 length_piece n buffer within = length-take n buffer ∙ omega arith
 
 -- one read after bytes without a verdict is no further than it may be
-pub read_no_further : (max : ℕ) (before now after : Option (List ℕ)) (checker : CheckerState) (buffer : List ℕ) (n rounds : ℕ) → 1 ≤ max
+pub read_no_further : (max : ℕ) (before now after : SourceKnown) (checker : CheckerState) (buffer : List ℕ) (n rounds : ℕ) → 1 ≤ max
     → IsChecking max before now checker rounds → Gives now n buffer after → length buffer ≤ longest_read → IsReadNoFurther max before after
 read_no_further max before now after checker buffer n rounds low r gives short =
     let piece = take n buffer in
     record {
       taken = r.taken ++ piece;
-      told = taken_more before now after r.taken piece r.told gives.bytes;
+      told = taken_more before.rest now.rest after.rest r.taken piece r.told gives.bytes;
       no_more = λ first more same there.
           omega (
             arith,
@@ -96,7 +97,7 @@ read_no_further max before now after checker buffer n rounds low r gives short =
     }
 
 -- without a verdict the checking goes on
-pub checking_goes_on : (max : ℕ) (before now after : Option (List ℕ)) (old new : CheckerState) (buffer : List ℕ) (n rounds : ℕ)
+pub checking_goes_on : (max : ℕ) (before now after : SourceKnown) (old new : CheckerState) (buffer : List ℕ) (n rounds : ℕ)
     → (r : IsChecking max before now old rounds) → Gives now n buffer after → 0 < n → new.kept.reader.max_lines ≡ old.kept.reader.max_lines
     → HasChecked new (r.taken ++ take n buffer) → None ≡ text_verdict_so_far old.kept.reader.max_lines (r.taken ++ take n buffer)
     → IsChecking max before after new (rounds + 1)
@@ -104,7 +105,8 @@ checking_goes_on max before now after old new buffer n rounds r gives some limit
     let piece = take n buffer in
     record {
       taken = r.taken ++ piece;
-      told = taken_more before now after r.taken piece r.told gives.bytes;
+      told = taken_more before.rest now.rest after.rest r.taken piece r.told gives.bytes;
+      unended = gives.goes_on some;
       checked = checked;
       limit = limit ∙ r.limit;
       nothing = ap (λ m. text_verdict_so_far m (r.taken ++ piece)) (sym r.limit) ∙ sym nothing;
@@ -112,35 +114,35 @@ checking_goes_on max before now after old new buffer n rounds r gives some limit
     }
 
 -- with one it is reached
-pub verdict_reached : (max : ℕ) (before now after : Option (List ℕ)) (old : CheckerState) (buffer : List ℕ) (n rounds : ℕ) (v : Verdict)
+pub verdict_reached : (max : ℕ) (before now after : SourceKnown) (old : CheckerState) (buffer : List ℕ) (n rounds : ℕ) (v : Verdict)
     → (r : IsChecking max before now old rounds) → Gives now n buffer after
     → Some v ≡ text_verdict_so_far old.kept.reader.max_lines (r.taken ++ take n buffer) → IsReached max before after v
 verdict_reached max before now after old buffer n rounds v r gives there =
     let piece = take n buffer in
     record {
       taken = r.taken ++ piece;
-      told = taken_more before now after r.taken piece r.told gives.bytes;
+      told = taken_more before.rest now.rest after.rest r.taken piece r.told gives.bytes;
       reached = inr (ap (λ m. text_verdict_so_far m (r.taken ++ piece)) (sym r.limit) ∙ sym there);
     }
 
 -- at the source's end it is reached too
-pub end_reached : (max : ℕ) (before now after : Option (List ℕ)) (old : CheckerState) (buffer : List ℕ) (rounds : ℕ) (v : Verdict)
-    → (r : IsChecking max before now old rounds) → Gives now 0 buffer after → IsAtEnd after
+pub end_reached : (max : ℕ) (before now after : SourceKnown) (old : CheckerState) (buffer : List ℕ) (rounds : ℕ) (v : Verdict)
+    → (r : IsChecking max before now old rounds) → Gives now 0 buffer after
     → v ≡ text_verdict old.kept.reader.max_lines r.taken → IsReached max before after v
-end_reached max before now after old buffer rounds v r gives ended is = record {
+end_reached max before now after old buffer rounds v r gives is = record {
   taken = r.taken;
-  told = subst (λ bytes. IsTaken before bytes after) (no_more_bytes r.taken) (taken_more before now after r.taken [] r.told gives.bytes);
-  reached = inl (ended, is ∙ ap (λ m. text_verdict m r.taken) r.limit);
+  told = subst (λ bytes. IsTaken before.rest bytes after.rest) (no_more_bytes r.taken) (taken_more before.rest now.rest after.rest r.taken [] r.told gives.bytes);
+  reached = inl (gives.at_end refl, is ∙ ap (λ m. text_verdict m r.taken) r.limit);
 }
 
 -- that many rounds never come
-pub rounds_end : (max : ℕ) (before now : Option (List ℕ)) (checker : CheckerState) (rounds : ℕ) → 1 ≤ max → max ≤ 268435456
+pub rounds_end : (max : ℕ) (before now : SourceKnown) (checker : CheckerState) (rounds : ℕ) → 1 ≤ max → max ≤ 268435456
     → IsChecking max before now checker rounds → rounds ≤ 65 * 268435456
 rounds_end max before now checker rounds low high r =
     omega (arith, high, bytes_short max r.taken low (text_right max r.taken r.nothing), r.rounds_taken)
 
 -- What a piece that was fed leads to.
-pub fed_goes_on : (max : ℕ) (before now after : Option (List ℕ)) (old new : CheckerState) (buffer : List ℕ) (n rounds : ℕ) (o : Option Verdict)
+pub fed_goes_on : (max : ℕ) (before now after : SourceKnown) (old new : CheckerState) (buffer : List ℕ) (n rounds : ℕ) (o : Option Verdict)
     → (r : IsChecking max before now old rounds) → Gives now n buffer after → 0 < n → new.kept.reader.max_lines ≡ old.kept.reader.max_lines
     → HasChecked new (r.taken ++ take n buffer) → o ≡ text_verdict_so_far old.kept.reader.max_lines (r.taken ++ take n buffer)
     → IfNone o (IsChecking max before after new (rounds + 1))
@@ -148,7 +150,7 @@ fed_goes_on max before now after old new buffer n rounds None r gives some limit
     checking_goes_on max before now after old new buffer n rounds r gives some limit checked is
 fed_goes_on max before now after old new buffer n rounds (Some v) r gives some limit checked is = tt
 
-pub fed_reached : (max : ℕ) (before now after : Option (List ℕ)) (old : CheckerState) (buffer : List ℕ) (n rounds : ℕ) (o : Option Verdict)
+pub fed_reached : (max : ℕ) (before now after : SourceKnown) (old : CheckerState) (buffer : List ℕ) (n rounds : ℕ) (o : Option Verdict)
     → (r : IsChecking max before now old rounds) → Gives now n buffer after
     → o ≡ text_verdict_so_far old.kept.reader.max_lines (r.taken ++ take n buffer) → IfSome o (IsReached max before after)
 fed_reached max before now after old buffer n rounds None r gives is = tt

@@ -1,8 +1,8 @@
 -- What is known of the run of a workload that keeps its limits, and of the input that it was read from.
 use Rattle.std.proofs.Common.{◌≡◌, ℕ, true, List, [], ◌++◌, length, Option, Some, None, refl, ap, ◌∙◌, sym, subst, arith, inl, inr, append-nil}
-use Rattle.std.specs.Prelude.{◌⊎◌, IfSome, MatchOption}
+use Rattle.std.specs.Prelude.{IfSome, MatchOption, Result, Ok, Err}
 use Rattle.vyrd_base.specs.declared.history.Stamped.{Stamped}
-use Rattle.vyrd_base.specs.Devices.{IsAtEnd}
+use Rattle.vyrd_base.specs.Devices.{SourceKnown}
 use Rattle.vyrd_base.specs.Histories.{cells_of, is_legal, log_of}
 use Rattle.vyrd_base.specs.declared.verdict.Verdict.{Verdict}
 use Rattle.vyrd_base.specs.Rules.{rules_of}
@@ -12,17 +12,20 @@ use Rattle.vyrd_memory.specs.Runs.{PlayToTheEnd}
 use Rattle.vyrd_memory.proofs.LegalRuns.{run_is_legal, run_plays}
 use Rattle.vyrd_memory.proofs.RaceLaws.{only_races}
 use Rattle.vyrd_trace.specs.Hands.{most_events}
-use Rattle.vyrd_work.specs.Workloads.{Workload}
+use Rattle.vyrd_work.specs.Workloads.{Workload, work_text}
 use Rattle.vyrd_work.specs.WorkLimits.{KeepsLimits}
-use Rattle.vyrd_work.specs.WorkReading.{work_reading}
+use Rattle.vyrd_work.specs.WorkReading.{Refusal, work_reading}
 use Rattle.vyrd_work.specs.WorkScripts.{work_scripts}
 use Rattle.vyrd_work.specs.LongInputs.{longest_input}
 use Rattle.vyrd_work.proofs.SoundScripts.{scripts_sound}
+use Rattle.vyrd_work.proofs.TextLaws.{reading_sound}
 use Rattle.vyrd_work.proofs.SettledLaws.{reading_settled}
 use Rattle.vyrd_live.specs.LiveRuns.{AllHadRoom}
+use Rattle.vyrd_program.specs.declared.show.Show.{Show}
 use Rattle.vyrd_program.specs.Inputs.{IsInputRead}
-use Rattle.vyrd_program.specs.Steps.{NamesOnlyRaces, IsTurnedTo}
-use Rattle.vyrd_program.specs.Runs.{IsLiveRun}
+use Rattle.vyrd_program.specs.Steps.{NamesOnlyRaces, IsTurnedTo, IsStepAnswer}
+use Rattle.vyrd_program.specs.Runs.{IsLiveRun, IsRunAnswer}
+use Rattle.vyrd_program.proofs.TakenLaws.{whole_input, long_refused}
 
 -- the history of a run by turns is legal, and each script is played to its end in it
 pub turned_is_legal : (w : Workload) (history : List Stamped) → KeepsLimits w → RunsTo (work_scripts w) w.turns history
@@ -62,15 +65,30 @@ is_live w history v limits legal parts room is = record {
 }
 
 -- what was read of an input says what the whole input says
-pub reading_is_input : (before after : Option (List ℕ)) (bytes : List ℕ) → IsInputRead longest_input before after bytes
-    → IfSome before (λ input. work_reading bytes ≡ work_reading input)
-reading_is_input before None bytes is = subst (λ before. IfSome before (λ input. work_reading bytes ≡ work_reading input)) (sym is.told) tt
-reading_is_input before (Some left) bytes is =
-    subst (λ before. IfSome before (λ input. work_reading bytes ≡ work_reading input)) (sym is.told) (by_end is.enough)
+pub reading_is_input : (before after : SourceKnown) (bytes : List ℕ) → IsInputRead longest_input before after bytes
+    → IfSome before.rest (λ input. work_reading bytes ≡ work_reading input)
+reading_is_input before after bytes is = whole_input work_reading longest_input before after bytes (λ more long. reading_settled bytes more (omega (arith, long))) is
+
+-- a workload as long as can be read is refused, by turns and in a live run
+long_work : {P : Type 0} (bytes : List ℕ) (w : Workload) → length bytes ≡ longest_input → work_reading bytes ≡ Ok w → P
+long_work bytes w long e = absurd (long_refused work_reading bytes work_text (λ bytes w e. (reading_sound bytes w e).text)
+    (λ more. reading_settled bytes more (omega (arith, long))) w e)
+
+pub step_refused : (show : Show) (bytes : List ℕ) (status : ℕ) (text : List ℕ) → IsStepAnswer show (work_reading bytes) status text
+    → length bytes ≡ longest_input → status ≡ 7
+step_refused show bytes status text answer long = by_reading (work_reading bytes) refl answer
   where
-    by_end : IsAtEnd (Some left) ⊎ (length bytes ≡ longest_input) → work_reading bytes ≡ work_reading (bytes ++ left)
-    by_end (inl none) = ap work_reading (sym (ap (λ left. bytes ++ left) none ∙ append-nil bytes))
-    by_end (inr long) = sym (reading_settled bytes left (omega (arith, long)))
+    by_reading : (r : Result Workload Refusal) → work_reading bytes ≡ r → IsStepAnswer show r status text → status ≡ 7
+    by_reading (Err refusal) e answer = answer.0
+    by_reading (Ok w) e answer = long_work bytes w long e
+
+pub run_refused : (show : Show) (bytes : List ℕ) (status : ℕ) (text : List ℕ) → IsRunAnswer show (work_reading bytes) status text
+    → length bytes ≡ longest_input → status ≡ 7
+run_refused show bytes status text answer long = by_reading (work_reading bytes) refl answer
+  where
+    by_reading : (r : Result Workload Refusal) → work_reading bytes ≡ r → IsRunAnswer show r status text → status ≡ 7
+    by_reading (Err refusal) e answer = answer.0
+    by_reading (Ok w) e answer = long_work bytes w long e
 
 -- what is said where there is a value
 pub of_match : {A : Type 0} (P : Type 0) (Q : A → Type 0) (o : Option A) (x : A) → o ≡ Some x → MatchOption o P Q → Q x

@@ -1,22 +1,23 @@
 -- What `batch` answers about an input: at which log it is refused, or a line for each log's
 -- verdict.
 use Rattle.std.specs.Prelude.{◌≡◌, ◌≤◌, ◌⊎◌, ℕ, List, length, Option, Result, Ok, Err, IfSome}
+use Rattle.vyrd_base.specs.Devices.{SourceKnown}
 use Rattle.vyrd_batch.specs.Batches.{batch_logs}
 use Rattle.vyrd_batch.specs.BatchAnswers.{verdicts_of, batch_text, batch_status, refused_line}
 use Rattle.vyrd_batch.specs.LongBatches.{longest_batch_input}
 use Rattle.vyrd_batch.specs.Rounds.{BatchView, IsJudged}
 use Rattle.vyrd_program.specs.Inputs.{IsInputRead, IsTaken}
 
--- The first `count` bytes of an input were read, and its first logs judged. These bytes are left.
-pub record IsReading (before now : Option (List ℕ)) (judge : BatchView) (rest : List ℕ)
+-- The first `count` bytes of a source were read, and its first logs judged. These bytes are left.
+pub record IsReading (before now : SourceKnown) (judge : BatchView) (rest : List ℕ)
     (count : ℕ) : Type 0 where
   pub taken : List ℕ
-  pub told : IsTaken before taken now
+  pub told : IsTaken before.rest taken now.rest
   pub judged : IsJudged taken judge rest
   pub many : length taken ≡ count
 
--- An input was read as far as it is, and its first logs judged. These bytes are left.
-pub record IsBatchRead (before after : Option (List ℕ)) (judge : BatchView)
+-- A source was read as far as it is, and its first logs judged. These bytes are left.
+pub record IsBatchRead (before after : SourceKnown) (judge : BatchView)
     (rest : List ℕ) : Type 0 where
   pub taken : List ℕ
   pub read : IsInputRead longest_batch_input before after taken

@@ -2,7 +2,7 @@
 use Rattle.std.specs.Prelude.{◌≡◌, ◌⊎◌, ◌≤◌, ◌+◌, ℕ, Bool, true, List, ◌++◌, length, Option, Some}
 use Rattle.std.specs.Prelude.{None, is_some, IfSome}
 use Rattle.vyrd_base.specs.declared.verdict.Verdict.{Verdict}
-use Rattle.vyrd_base.specs.Devices.{IsAtEnd}
+use Rattle.vyrd_base.specs.Devices.{SourceKnown, IsAtEnd}
 use Rattle.vyrd_base.specs.VerdictText.{verdict_text}
 use Rattle.vyrd_base.specs.TextVerdicts.{text_verdict, text_verdict_so_far}
 use Rattle.vyrd_program.specs.Inputs.{IsTaken, IsVerdictOf, longest_read}
@@ -15,29 +15,29 @@ pub record IsJudged (max : ℕ) (input : Option (List ℕ)) (status : ℕ) (text
   pub status_is : status ≡ status_of verdict
   pub text_is : text ≡ verdict_text verdict
 
--- Enough was taken of an input: all, so that no byte is left if they are told, or enough that it
--- has the whole input's verdict already.
-pub record IsSettled (max : ℕ) (before after : Option (List ℕ)) : Type 0 where
+-- Enough was taken of a source: all to its end, or enough that it has the whole input's verdict
+-- already.
+pub record IsSettled (max : ℕ) (before after : SourceKnown) : Type 0 where
   pub taken : List ℕ
-  pub told : IsTaken before taken after
+  pub told : IsTaken before.rest taken after.rest
   pub enough : IsAtEnd after
-      ⊎ IfSome before (λ input. text_verdict_so_far max taken ≡ Some (text_verdict max input))
+      ⊎ IfSome before.rest (λ input. text_verdict_so_far max taken ≡ Some (text_verdict max input))
 
--- what was taken of an input has no verdict yet
-pub record IsUnsettled (max : ℕ) (before after : Option (List ℕ)) : Type 0 where
+-- what was taken of a source has no verdict yet
+pub record IsUnsettled (max : ℕ) (before after : SourceKnown) : Type 0 where
   pub taken : List ℕ
-  pub told : IsTaken before taken after
+  pub told : IsTaken before.rest taken after.rest
   pub nothing : text_verdict_so_far max taken ≡ None
 
 -- whether bytes have a verdict already, however they go on
 abbrev pub has_verdict : ℕ → List ℕ → Bool
 has_verdict max bytes = is_some (text_verdict_so_far max bytes)
 
--- What was taken of an input is at most one read more than its shortest beginning that has a
+-- What was taken of a source is at most one read more than its shortest beginning that has a
 -- verdict.
-pub record IsReadNoFurther (max : ℕ) (before after : Option (List ℕ)) : Type 0 where
+pub record IsReadNoFurther (max : ℕ) (before after : SourceKnown) : Type 0 where
   pub taken : List ℕ
-  pub told : IsTaken before taken after
+  pub told : IsTaken before.rest taken after.rest
   pub no_more : (first more : List ℕ) → taken ≡ first ++ more → has_verdict max first ≡ true
       → length taken ≤ length first + longest_read
 

@@ -2,6 +2,7 @@
 -- of the forms get the usage line.
 use Rattle.std.specs.Prelude.{◌≡◌, ◌≤◌, ◌⊎◌, ⊤, ℕ, Bool, true, false, List, length, Option, Some}
 use Rattle.std.specs.Prelude.{None, is_some}
+use Rattle.vyrd_base.specs.Devices.{SourceKnown}
 use Rattle.vyrd_check.specs.Checking.{most_lines}
 use Rattle.vyrd_work.specs.LongInputs.{longest_input}
 use Rattle.vyrd_mover.specs.LongHistories.{longest_history}
@@ -53,18 +54,22 @@ abbrev pub IsStatus : Option Form → ℕ → Type 0
 IsStatus form status = IsAnswerStatus form status ⊎ ((status ≡ 4) × (reads form ≡ true))
     ⊎ (status ≡ 5) ⊎ ((status ≡ 6) × (is_some form ≡ true))
 
--- As much was taken of the source as an answer needs.
-abbrev pub IsEnough : Option Form → Option (List ℕ) → Option (List ℕ) → Type 0
-IsEnough None before after = ⊤
-IsEnough (Some asked.Check) before after = IsSettled most_lines before after
-IsEnough (Some (asked.Step show)) before after = IsInputTaken longest_input before after
-IsEnough (Some (asked.Run show)) before after = IsInputTaken longest_input before after
-IsEnough (Some (asked.Gen n)) before after = ⊤
-IsEnough (Some asked.Movers) before after = IsInputTaken longest_history before after
-IsEnough (Some asked.Batch) before after = IsInputTaken longest_batch_input before after
+-- As much was taken of the source as an answer with this status needs.
+abbrev pub IsEnough : Option Form → ℕ → SourceKnown → SourceKnown → Type 0
+IsEnough None status before after = ⊤
+IsEnough (Some asked.Check) status before after = IsSettled most_lines before after
+IsEnough (Some (asked.Step show)) status before after =
+    IsInputTaken longest_input 7 status before after
+IsEnough (Some (asked.Run show)) status before after =
+    IsInputTaken longest_input 7 status before after
+IsEnough (Some (asked.Gen n)) status before after = ⊤
+IsEnough (Some asked.Movers) status before after =
+    IsInputTaken longest_history 10 status before after
+IsEnough (Some asked.Batch) status before after =
+    IsInputTaken longest_batch_input 11 status before after
 
 -- And no more than that: of a log at most one read more, and of all other inputs no byte more.
-abbrev pub IsNoFurther : Option Form → Option (List ℕ) → Option (List ℕ) → Type 0
+abbrev pub IsNoFurther : Option Form → SourceKnown → SourceKnown → Type 0
 IsNoFurther None before after = ⊤
 IsNoFurther (Some asked.Check) before after = IsReadNoFurther most_lines before after
 IsNoFurther (Some (asked.Step show)) before after = IsFewTaken longest_input before after

@@ -10,4 +10,5 @@ pub mod Generated
 pub mod CorrectInputs
 pub mod Moved
 pub mod Batches
+pub mod Counts
 pub mod Commands

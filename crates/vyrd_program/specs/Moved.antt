@@ -1,6 +1,7 @@
 -- What `movers` answers about an input: how the bytes are refused as a history, or what is said of
 -- the history's blocks.
 use Rattle.std.specs.Prelude.{◌≡◌, ◌≤◌, ◌⊎◌, ℕ, List, Option, Result, Ok, Err, IfSome}
+use Rattle.vyrd_base.specs.Devices.{SourceKnown}
 use Rattle.vyrd_base.specs.Histories.{cells_of}
 use Rattle.vyrd_mover.specs.declared.blocks.Blocks.{Blocks}
 use Rattle.vyrd_mover.specs.declared.blocks.Blocks.TheVariants.{Reducible, Broken}
@@ -29,8 +30,8 @@ IsMoversAnswer (Err refusal) status text =
 IsMoversAnswer (Ok r) status text =
     (status ≡ status_of_blocks (said_of_blocks r)) × (text ≡ blocks_text (said_of_blocks r))
 
--- These bytes were read of an input, by a reader of a history.
-pub record IsHistoryRead (before after : Option (List ℕ)) (reader : ReaderState) : Type 0 where
+-- These bytes were read of a source, by a reader of a history.
+pub record IsHistoryRead (before after : SourceKnown) (reader : ReaderState) : Type 0 where
   pub bytes : List ℕ
   pub input : IsInputRead longest_history before after bytes
   pub read : HasRead reader bytes

@@ -1,16 +1,15 @@
 //! What `batch` answers.
 
-ghost use Rattle.std.specs.Prelude.{◌≡◌, ◌≤◌, ◌<◌, ◌^◌, ◌⊎◌, true, ℕ, List, [], length, Ok, Err};
-ghost use Rattle.std.specs.Prelude.{IfOk, OnOk};
-ghost use Rattle.vyrd_base.specs.Devices.{HasRisen};
+ghost use Rattle.std.specs.Prelude.{◌≡◌, ◌≤◌, ◌<◌, ◌^◌, ◌⊎◌, ◌==◌, false, ℕ, List, []};
+ghost use Rattle.std.specs.Prelude.{length, IfOk, OnOk};
+ghost use Rattle.vyrd_base.specs.Devices.{AfterReads};
 ghost use Rattle.vyrd_batch.specs.Batches.{batch_logs};
 ghost use Rattle.vyrd_batch.specs.BatchAnswers.{batch_status, batch_text, refused_line};
 ghost use Rattle.vyrd_batch.specs.LongBatches.{longest_batch_input};
 ghost use Rattle.vyrd_batch.specs.Rounds.{IsJudged};
-ghost use Rattle.vyrd_program.specs.Inputs.{IsInputTaken, IsFewTaken, UnlessFailed};
+ghost use Rattle.vyrd_program.specs.Inputs.{IsInputTaken, IsFewTaken, is_failed};
 ghost use Rattle.vyrd_program.specs.Batches.{AnswersBatch, IsBatchAnswer, IsBatchRead};
 ghost use Rattle.vyrd_program.specs.Batches.{IsBatchStatus};
-ghost use Rattle.vyrd_program.specs.declared.read_log.ReadFault.TheVariants.{Failed};
 
 use crate::answer::{Answer, BATCH_REFUSED, MEMORY, READ_FAULT};
 use crate::read_input::{LONGEST_BATCH, read_more};
@@ -32,18 +31,16 @@ const ROUND: usize = 524_288;
 /// longest log, and of the verdicts. An input that isn't a batch is read on too, but no more than a
 /// round of it is kept.
 pub fn batch<R: Threads + Sync, S: Source>(rt: &R, alloc: Global, source: &mut S) -> Answer
+    requires unended { (S.known source.old).ended ≡ false }
     ensures statuses { IsBatchStatus result.status ⊎ (result.status ≡ 4) ⊎ (result.status ≡ 6) }
     ensures answers { IsBatchStatus result.status
-        → AnswersBatch (S.rest source.old) result.status result.text.items }
+        → AnswersBatch (S.known source.old).rest result.status result.text.items }
     ensures consumed { IsBatchStatus result.status
-        → IsInputTaken longest_batch_input (S.rest source.old) (S.rest source.new) }
-    ensures few { IsFewTaken longest_batch_input (S.rest source.old) (S.rest source.new) }
+        → IsInputTaken longest_batch_input 11 result.status (S.known source.old)
+        (S.known source.new) }
+    ensures few { IsFewTaken longest_batch_input (S.known source.old) (S.known source.new) }
     ensures silent { result.status ≡ 4 ⊎ result.status ≡ 6 → result.text.items ≡ [] }
-    ensures cause { result.status ≡ 4 → HasRisen (S.faults source.old) (S.faults source.new) }
-    ensures stopped { result.status ≡ 4 → S.rest source.new ≡ S.left_off source.new }
-    ensures failures_alone { (S.faults source.new ≡ S.faults source.old) ⊎ (result.status ≡ 4) }
-    ensures counted { S.faults source.old ≤ S.faults source.new }
-    ensures sure { S.is_sure source.old ≡ true → S.faults source.new ≡ S.faults source.old }
+    ensures source { AfterReads (result.status == 4) (S.known source.old) (S.known source.new) }
 {
     let mut judge = BatchJudge::new(alloc);
     match read_rounds(rt, alloc, &mut judge, source) {
@@ -65,14 +62,11 @@ fn read_rounds<R: Threads + Sync, S: Source>(
     source: &mut S,
 ) -> Result<Vec<u8>, ReadFault>
     requires fresh { IsJudged [] judge.old [] }
+    requires unended { (S.known source.old).ended ≡ false }
     ensures read { IfOk result
-        (λ rest. IsBatchRead (S.rest source.old) (S.rest source.new) judge.new rest.items) }
-    ensures few { IsFewTaken longest_batch_input (S.rest source.old) (S.rest source.new) }
-    ensures failed { result ≡ Err Failed → HasRisen (S.faults source.old) (S.faults source.new) }
-    ensures stopped { result ≡ Err Failed → S.rest source.new ≡ S.left_off source.new }
-    ensures failures_alone { UnlessFailed result (S.faults source.new ≡ S.faults source.old) }
-    ensures counted { S.faults source.old ≤ S.faults source.new }
-    ensures sure { S.is_sure source.old ≡ true → S.faults source.new ≡ S.faults source.old }
+        (λ rest. IsBatchRead (S.known source.old) (S.known source.new) judge.new rest.items) }
+    ensures few { IsFewTaken longest_batch_input (S.known source.old) (S.known source.new) }
+    ensures source { AfterReads (is_failed result) (S.known source.old) (S.known source.new) }
 {
     let mut bytes = Vec::new(alloc);
     let mut count = 0;

@@ -1,6 +1,6 @@
 //! Worked cases of the top call, and the devices that they run over.
 
-ghost use Rattle.std.specs.Prelude.{◌<◌};
+ghost use Rattle.std.specs.Prelude.{◌≡◌, ◌<◌, false};
 
 use crate::program::vyrd;
 use std::alloc::Global;
@@ -105,7 +105,9 @@ impl Case<'_> {
         alloc: Global,
         source: &mut S,
         sink: &mut MemorySink,
-    ) -> Result<(), Fail> {
+    ) -> Result<(), Fail>
+        requires { (S.known source.old).ended ≡ false }
+    {
         let ended = vyrd(rt, alloc, self.words, source, sink, &OpenGate);
         assert_eq!(rt;
             (ended.status, sink.taken()),

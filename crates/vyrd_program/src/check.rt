@@ -1,7 +1,7 @@
 //! What `check` answers.
 
-ghost use Rattle.std.specs.Prelude.{◌≡◌, ◌≤◌, ◌<◌, ◌⊎◌, true, [], IfOk};
-ghost use Rattle.vyrd_base.specs.Devices.{HasRisen, IsAtEnd};
+ghost use Rattle.std.specs.Prelude.{◌≡◌, ◌≤◌, ◌<◌, ◌⊎◌, ◌==◌, false, [], IfOk};
+ghost use Rattle.vyrd_base.specs.Devices.{IsAtEnd, AfterReads};
 ghost use Rattle.vyrd_base.specs.VerdictText.{verdict_text};
 ghost use Rattle.vyrd_check.specs.Checking.{most_lines};
 ghost use Rattle.vyrd_program.specs.Outputs.{status_of};
@@ -18,21 +18,18 @@ use vyrd_text::write_verdict;
 pub fn check<S: Source>(alloc: Global, max_lines: u64, source: &mut S) -> Answer
     requires low { 1 ≤ max_lines }
     requires high { max_lines ≤ most_lines }
+    requires unended { (S.known source.old).ended ≡ false }
     ensures statuses { (result.status ≤ 2) ⊎ (result.status ≡ 4) ⊎ (result.status ≡ 6) }
     ensures verdict { result.status ≤ 2
-        → IsJudged max_lines (S.rest source.old) result.status result.text.items }
+        → IsJudged max_lines (S.known source.old).rest result.status result.text.items }
     ensures consumed { result.status ≤ 2
-        → IsSettled max_lines (S.rest source.old) (S.rest source.new) }
-    ensures accepted_at_end { result.status ≡ 0 → IsAtEnd (S.rest source.new) }
-    ensures no_further { IsReadNoFurther max_lines (S.rest source.old) (S.rest source.new) }
+        → IsSettled max_lines (S.known source.old) (S.known source.new) }
+    ensures accepted_at_end { result.status ≡ 0 → IsAtEnd (S.known source.new) }
+    ensures no_further { IsReadNoFurther max_lines (S.known source.old) (S.known source.new) }
     ensures unsettled { result.status ≡ 4
-        → IsUnsettled max_lines (S.rest source.old) (S.rest source.new) }
+        → IsUnsettled max_lines (S.known source.old) (S.known source.new) }
     ensures silent { 2 < result.status → result.text.items ≡ [] }
-    ensures cause { result.status ≡ 4 → HasRisen (S.faults source.old) (S.faults source.new) }
-    ensures stopped { result.status ≡ 4 → S.rest source.new ≡ S.left_off source.new }
-    ensures failures_alone { (S.faults source.new ≡ S.faults source.old) ⊎ (result.status ≡ 4) }
-    ensures counted { S.faults source.old ≤ S.faults source.new }
-    ensures sure { S.is_sure source.old ≡ true → S.faults source.new ≡ S.faults source.old }
+    ensures source { AfterReads (result.status == 4) (S.known source.old) (S.known source.new) }
 {
     match read_verdict(alloc, max_lines, source) {
         Ok(verdict) => match answer_with(alloc, verdict) {

@@ -1,7 +1,7 @@
 //! What words of a form are answered, made ready before its first byte is written.
 
-ghost use Rattle.std.specs.Prelude.{◌≡◌, ◌≢◌, ◌≤◌, ◌⊎◌, ℕ, true, false, [], Some};
-ghost use Rattle.vyrd_base.specs.Devices.{HasRisen};
+ghost use Rattle.std.specs.Prelude.{◌≡◌, ◌≢◌, ◌≤◌, ◌⊎◌, ◌==◌, ℕ, false, [], Some};
+ghost use Rattle.vyrd_base.specs.Devices.{AfterReads};
 ghost use Rattle.vyrd_memory.specs.Bounds.{most_ops};
 ghost use Rattle.vyrd_program.specs.declared.form.Form.TheVariants.{Check, Gen};
 ghost use Rattle.vyrd_program.specs.Commands.{IsStatus, IsAnswerStatus, IsAnswer, reads, IsEnough};
@@ -31,20 +31,17 @@ pub(crate) fn carry_out<R: Threads + Wait + Sync, S: Source, G: Gate>(
     requires other { form ≢ Check }
     requires some { (n : ℕ) → form ≡ Gen n → 1 ≤ n }
     requires few { (n : ℕ) → form ≡ Gen n → n ≤ most_ops }
+    requires unended { (S.known source.old).ended ≡ false }
     ensures statuses { IsStatus (Some form) result.status }
     ensures unwritten { result.status ≢ 5 }
     ensures answer { IsAnswerStatus (Some form) result.status
-        → IsAnswer (Some form) (S.rest source.old) result.status result.text.items }
+        → IsAnswer (Some form) (S.known source.old).rest result.status result.text.items }
     ensures consumed { IsAnswerStatus (Some form) result.status
-        → IsEnough (Some form) (S.rest source.old) (S.rest source.new) }
-    ensures no_further { IsNoFurther (Some form) (S.rest source.old) (S.rest source.new) }
+        → IsEnough (Some form) result.status (S.known source.old) (S.known source.new) }
+    ensures no_further { IsNoFurther (Some form) (S.known source.old) (S.known source.new) }
     ensures untouched { reads (Some form) ≡ false → source.new ≡ source.old }
     ensures silent { (result.status ≡ 4) ⊎ (result.status ≡ 6) → result.text.items ≡ [] }
-    ensures cause { result.status ≡ 4 → HasRisen (S.faults source.old) (S.faults source.new) }
-    ensures stopped { result.status ≡ 4 → S.rest source.new ≡ S.left_off source.new }
-    ensures failures_alone { (S.faults source.new ≡ S.faults source.old) ⊎ (result.status ≡ 4) }
-    ensures counted { S.faults source.old ≤ S.faults source.new }
-    ensures sure { S.is_sure source.old ≡ true → S.faults source.new ≡ S.faults source.old }
+    ensures source { AfterReads (result.status == 4) (S.known source.old) (S.known source.new) }
 {
     match form {
         Form::Check => unreachable!(),

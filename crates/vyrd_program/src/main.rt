@@ -20,6 +20,7 @@ mod form;
 mod generate;
 #[cfg(test)]
 mod hostile_tests;
+mod laws;
 mod limited;
 mod movers;
 #[cfg(test)]

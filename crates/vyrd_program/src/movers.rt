@@ -1,17 +1,15 @@
 //! What `movers` answers.
 
-ghost use Rattle.std.specs.Prelude.{◌≡◌, ◌≤◌, ◌⊎◌, ℕ, true, List, [], IfOk, OnOk};
-ghost use Rattle.std.specs.Prelude.{Err};
-ghost use Rattle.vyrd_base.specs.Devices.{HasRisen};
+ghost use Rattle.std.specs.Prelude.{◌≡◌, ◌⊎◌, ◌==◌, ℕ, false, List, [], IfOk, OnOk};
+ghost use Rattle.vyrd_base.specs.Devices.{AfterReads};
 ghost use Rattle.vyrd_mover.specs.BlocksText.{blocks_text};
 ghost use Rattle.vyrd_mover.specs.HistoryReading.{history_reading};
 ghost use Rattle.vyrd_mover.specs.HistoryReaders.{HasRead};
 ghost use Rattle.vyrd_mover.specs.LongHistories.{longest_history};
 ghost use Rattle.vyrd_mover.specs.Refusals.{history_refusal_text};
-ghost use Rattle.vyrd_program.specs.Inputs.{IsInputTaken, IsFewTaken, UnlessFailed};
+ghost use Rattle.vyrd_program.specs.Inputs.{IsInputTaken, IsFewTaken, is_failed};
 ghost use Rattle.vyrd_program.specs.Moved.{AnswersMovers, IsMoversAnswer, IsMoversStatus};
 ghost use Rattle.vyrd_program.specs.Moved.{IsHistoryRead};
-ghost use Rattle.vyrd_program.specs.declared.read_log.ReadFault.TheVariants.{Failed};
 ghost use Rattle.vyrd_program.specs.Moved.{status_of_blocks};
 
 use crate::answer::{Answer, HISTORY_REFUSED, MEMORY, READ_FAULT};
@@ -30,18 +28,15 @@ const LONGEST_HISTORY: usize = 268_435_457;
 /// The answer to a history: whether its blocks are reducible, or the first that isn't; or that it
 /// is refused; or nothing after a failed read or if there is no memory.
 pub fn movers<S: Source>(alloc: Global, source: &mut S) -> Answer
+    requires unended { (S.known source.old).ended ≡ false }
     ensures statuses { IsMoversStatus result.status ⊎ (result.status ≡ 4) ⊎ (result.status ≡ 6) }
     ensures answers { IsMoversStatus result.status
-        → AnswersMovers (S.rest source.old) result.status result.text.items }
+        → AnswersMovers (S.known source.old).rest result.status result.text.items }
     ensures consumed { IsMoversStatus result.status
-        → IsInputTaken longest_history (S.rest source.old) (S.rest source.new) }
-    ensures few { IsFewTaken longest_history (S.rest source.old) (S.rest source.new) }
+        → IsInputTaken longest_history 10 result.status (S.known source.old) (S.known source.new) }
+    ensures few { IsFewTaken longest_history (S.known source.old) (S.known source.new) }
     ensures silent { result.status ≡ 4 ⊎ result.status ≡ 6 → result.text.items ≡ [] }
-    ensures cause { result.status ≡ 4 → HasRisen (S.faults source.old) (S.faults source.new) }
-    ensures stopped { result.status ≡ 4 → S.rest source.new ≡ S.left_off source.new }
-    ensures failures_alone { (S.faults source.new ≡ S.faults source.old) ⊎ (result.status ≡ 4) }
-    ensures counted { S.faults source.old ≤ S.faults source.new }
-    ensures sure { S.is_sure source.old ≡ true → S.faults source.new ≡ S.faults source.old }
+    ensures source { AfterReads (result.status == 4) (S.known source.old) (S.known source.new) }
 {
     let mut reader = HistoryReader::new(alloc);
     match read_history(alloc, &mut reader, source) {
@@ -63,15 +58,12 @@ fn read_history<S: Source>(
     reader: &mut HistoryReader,
     source: &mut S,
 ) -> Result<(), ReadFault>
-    requires { HasRead reader.old [] }
+    requires fresh { HasRead reader.old [] }
+    requires unended { (S.known source.old).ended ≡ false }
     ensures read { OnOk result
-        (IsHistoryRead (S.rest source.old) (S.rest source.new) reader.new) }
-    ensures few { IsFewTaken longest_history (S.rest source.old) (S.rest source.new) }
-    ensures failed { result ≡ Err Failed → HasRisen (S.faults source.old) (S.faults source.new) }
-    ensures stopped { result ≡ Err Failed → S.rest source.new ≡ S.left_off source.new }
-    ensures failures_alone { UnlessFailed result (S.faults source.new ≡ S.faults source.old) }
-    ensures counted { S.faults source.old ≤ S.faults source.new }
-    ensures sure { S.is_sure source.old ≡ true → S.faults source.new ≡ S.faults source.old }
+        (IsHistoryRead (S.known source.old) (S.known source.new) reader.new) }
+    ensures few { IsFewTaken longest_history (S.known source.old) (S.known source.new) }
+    ensures source { AfterReads (is_failed result) (S.known source.old) (S.known source.new) }
 {
     let mut piece = Vec::new(alloc);
     let mut count = 0;

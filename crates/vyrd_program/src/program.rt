@@ -1,8 +1,8 @@
 //! The top call.
 
-ghost use Rattle.std.specs.Prelude.{◌≡◌, ◌≢◌, ◌≤◌, ◌⊎◌, true, false, ℕ, [], Some, None};
-ghost use Rattle.std.specs.Prelude.{length};
-ghost use Rattle.vyrd_base.specs.Devices.{HasRisen, IsAtEnd};
+ghost use Rattle.std.specs.Prelude.{◌≡◌, ◌≢◌, ◌≤◌, ◌⊎◌, ◌==◌, false, ℕ, [], length};
+ghost use Rattle.std.specs.Prelude.{Some};
+ghost use Rattle.vyrd_base.specs.Devices.{IsAtEnd, AfterReads, AfterWrites};
 ghost use Rattle.vyrd_check.specs.Checking.{most_lines};
 ghost use Rattle.vyrd_program.specs.declared.show.Show.{Show};
 ghost use Rattle.vyrd_program.specs.declared.form.Form.TheVariants.{Check, Step, Run, Gen};
@@ -68,70 +68,53 @@ pub fn vyrd<R: Threads + Wait + Sync, S: Source, K: Sink, G: Gate>(
     sink: &mut K,
     gate: &G,
 ) -> Ended
+    requires unended { (S.known source.old).ended ≡ false }
+
     // Which statuses come under which form, and what is written in those of an answer: the text of
     // the answer with this status to all that the source held.
     ensures statuses { IsStatus (form_said words.now) result.status }
     ensures answered { IsAnswerStatus (form_said words.now) result.status
-        → HasAnswered (form_said words.now) (S.rest source.old) result.status (K.taken sink.old)
-        (K.taken sink.new) }
+        → HasAnswered (form_said words.now) (S.known source.old).rest result.status
+        (K.known sink.old).taken (K.known sink.new).taken }
 
     // What is taken of the source: as much as an answer needs, and no more. A log is accepted at
     // the source's end alone, and a read that fails after its verdict is never made.
     ensures consumed { IsAnswerStatus (form_said words.now) result.status
-        → IsEnough (form_said words.now) (S.rest source.old) (S.rest source.new) }
-    ensures no_further { IsNoFurther (form_said words.now) (S.rest source.old) (S.rest source.new) }
+        → IsEnough (form_said words.now) result.status (S.known source.old) (S.known source.new) }
+    ensures no_further { IsNoFurther (form_said words.now) (S.known source.old)
+        (S.known source.new) }
     ensures untouched { reads (form_said words.now) ≡ false → source.new ≡ source.old }
     ensures accepted_at_end { form_said words.now ≡ Some Check → result.status ≡ 0
-        → IsAtEnd (S.rest source.new) }
+        → IsAtEnd (S.known source.new) }
     ensures unsettled { form_said words.now ≡ Some Check → result.status ≡ 4
-        → IsUnsettled most_lines (S.rest source.old) (S.rest source.new) }
+        → IsUnsettled most_lines (S.known source.old) (S.known source.new) }
 
     // A correct structure is accepted, in whatever order its callers' events come. Only a tree may
     // have more events than there is room for.
     ensures every_step { (show : Show) → form_said words.now ≡ Some (Step show)
-        → SaysCorrect (S.rest source.old) → IsStepStatus result.status
+        → SaysCorrect (S.known source.old).rest → IsStepStatus result.status
         → result.status ≡ 0 }
     ensures every_run { (show : Show) → form_said words.now ≡ Some (Run show)
-        → SaysCorrect (S.rest source.old) → IsRunStatus result.status
+        → SaysCorrect (S.known source.old).rest → IsRunStatus result.status
         → (result.status ≡ 0) ⊎ (result.status ≡ 9) }
     ensures run_has_room { (show : Show) → form_said words.now ≡ Some (Run show)
-        → SaysFewEvents (S.rest source.old)
+        → SaysFewEvents (S.known source.old).rest
         → result.status ≢ 9 }
     ensures every_gen { (n : ℕ) → form_said words.now ≡ Some (Gen n) → IsGenStatus result.status
         → result.status ≡ 0 }
 
-    // 3: the words are none of the forms.
-    ensures usage_form { result.status ≡ 3 → form_said words.now ≡ None }
-
-    // 4, exactly when a read failed: nothing was written.
-    ensures read_fault { result.status ≡ 4 → HasRisen (S.faults source.old) (S.faults source.new) }
-    ensures read_failures_alone { (S.faults source.new ≡ S.faults source.old)
-        ⊎ (result.status ≡ 4) }
-    ensures read_fault_stops { result.status ≡ 4 → S.rest source.new ≡ S.left_off source.new }
-    ensures read_fault_silent { result.status ≡ 4 → K.taken sink.new ≡ K.taken sink.old }
+    // 4, exactly when a read failed, and 6 if there was no memory: nothing was written.
+    ensures source { AfterReads (result.status == 4) (S.known source.old) (S.known source.new) }
+    ensures silent { (result.status ≡ 4) ⊎ (result.status ≡ 6)
+        → (K.known sink.new).taken ≡ (K.known sink.old).taken }
 
     // 5, exactly when a write failed: some of the first bytes of an answer were written.
-    ensures write_fault { result.status ≡ 5 → HasRisen (K.faults sink.old) (K.faults sink.new) }
-    ensures write_failures_alone { (K.faults sink.new ≡ K.faults sink.old) ⊎ (result.status ≡ 5) }
-    ensures write_fault_stops { result.status ≡ 5 → K.taken sink.new ≡ K.left_off sink.new }
+    ensures sink { AfterWrites (result.status == 5)
+        (HasRoom (form_said words.now) (S.known source.old).rest (K.known sink.old).sure_room)
+        (K.known sink.old) (K.known sink.new) }
     ensures answered_in_part { result.status ≡ 5
-        → HasAnsweredInPart (form_said words.now) (S.rest source.old) (K.taken sink.old)
-        (K.taken sink.new) }
-
-    // 6: there was no memory, and nothing was written.
-    ensures memory { result.status ≡ 6 → K.taken sink.new ≡ K.taken sink.old }
-
-    // If no count of faults has risen, neither a read nor a write has failed.
-    ensures complete { ¬ (HasRisen (S.faults source.old) (S.faults source.new))
-        → ¬ (HasRisen (K.faults sink.old) (K.faults sink.new))
-        → (result.status ≢ 4) × (result.status ≢ 5) }
-
-    // No count falls, and over sure devices none rises.
-    ensures source_counted { S.faults source.old ≤ S.faults source.new }
-    ensures sink_counted { K.faults sink.old ≤ K.faults sink.new }
-    ensures source_sure { S.is_sure source.old ≡ true → S.faults source.new ≡ S.faults source.old }
-    ensures sink_sure { HasRoom (form_said words.now) (S.rest source.old) (K.sure_room sink.old)
-        → K.faults sink.new ≡ K.faults sink.old }
+        → HasAnsweredInPart (form_said words.now) (S.known source.old).rest (K.known sink.old).taken
+        (K.known sink.new).taken }
 {
     match form_of(words) {
         Some(Form::Check) => check_limited(alloc, MAX_LINES, source, sink),
@@ -147,19 +130,14 @@ pub fn vyrd<R: Threads + Wait + Sync, S: Source, K: Sink, G: Gate>(
 pub(crate) fn give<K: Sink>(sink: &mut K, answer: Answer) -> Ended
     ensures given { result.status ≢ 5
         → (result.status ≡ answer.status)
-        × Appends (K.taken sink.old) (K.taken sink.new) answer.text.items }
+        × Appends (K.known sink.old).taken (K.known sink.new).taken answer.text.items }
     ensures in_part { result.status ≡ 5 → answer.status ≢ 5
-        → AppendsFront (K.taken sink.old) (K.taken sink.new) answer.text.items }
+        → AppendsFront (K.known sink.old).taken (K.known sink.new).taken answer.text.items }
     ensures silent { answer.text.items ≡ [] → result.status ≡ answer.status }
     ensures statuses { (result.status ≡ 5) ⊎ (result.status ≡ answer.status) }
-    ensures cause { result.status ≡ 5 → answer.status ≢ 5
-        → HasRisen (K.faults sink.old) (K.faults sink.new) }
-    ensures stopped { result.status ≡ 5 → answer.status ≢ 5
-        → K.taken sink.new ≡ K.left_off sink.new }
-    ensures failures_alone { (K.faults sink.new ≡ K.faults sink.old) ⊎ (result.status ≡ 5) }
-    ensures counted { K.faults sink.old ≤ K.faults sink.new }
-    ensures sure { length answer.text.items ≤ K.sure_room sink.old
-        → K.faults sink.new ≡ K.faults sink.old }
+    ensures sink { answer.status ≢ 5 → AfterWrites (result.status == 5)
+        (length answer.text.items ≤ (K.known sink.old).sure_room) (K.known sink.old)
+        (K.known sink.new) }
 {
     let status = match deliver(sink, &answer.text) {
         Ok(()) => answer.status,
@@ -171,15 +149,12 @@ pub(crate) fn give<K: Sink>(sink: &mut K, answer: Answer) -> Ended
 /// Writes the usage line.
 fn give_usage<K: Sink>(sink: &mut K) -> Ended
     ensures statuses { (result.status ≡ 3) ⊎ (result.status ≡ 5) }
-    ensures given { result.status ≡ 3 → Appends (K.taken sink.old) (K.taken sink.new) usage_line }
+    ensures given { result.status ≡ 3
+        → Appends (K.known sink.old).taken (K.known sink.new).taken usage_line }
     ensures in_part { result.status ≡ 5
-        → AppendsFront (K.taken sink.old) (K.taken sink.new) usage_line }
-    ensures cause { result.status ≡ 5 → HasRisen (K.faults sink.old) (K.faults sink.new) }
-    ensures stopped { result.status ≡ 5 → K.taken sink.new ≡ K.left_off sink.new }
-    ensures failures_alone { (K.faults sink.new ≡ K.faults sink.old) ⊎ (result.status ≡ 5) }
-    ensures counted { K.faults sink.old ≤ K.faults sink.new }
-    ensures sure { length usage_line ≤ K.sure_room sink.old
-        → K.faults sink.new ≡ K.faults sink.old }
+        → AppendsFront (K.known sink.old).taken (K.known sink.new).taken usage_line }
+    ensures sink { AfterWrites (result.status == 5)
+        (length usage_line ≤ (K.known sink.old).sure_room) (K.known sink.old) (K.known sink.new) }
 {
     let status = match deliver(sink, USAGE_LINE) {
         Ok(()) => USAGE,

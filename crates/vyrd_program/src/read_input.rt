@@ -1,11 +1,10 @@
 //! Reading an input, whole or read by read.
 
-ghost use Rattle.std.specs.Prelude.{◌≡◌, ◌+◌, ◌≤◌, ◌<◌, true, take, drop, vec_len, IfOk, OnOk};
-ghost use Rattle.std.specs.Prelude.{OnErr, Ok, Err};
-ghost use Rattle.vyrd_base.specs.Devices.{HasRisen, Gives, IsAtEnd};
+ghost use Rattle.std.specs.Prelude.{◌≡◌, ◌+◌, ◌≤◌, ◌<◌, false, take, drop, vec_len};
+ghost use Rattle.std.specs.Prelude.{IfOk, OnOk, OnErr};
+ghost use Rattle.vyrd_base.specs.Devices.{Gives, GivesNothing, AfterReads};
 ghost use Rattle.vyrd_program.specs.Inputs.{IsInputRead, IsMoreRead, IsFewTaken, longest_read};
-ghost use Rattle.vyrd_program.specs.Inputs.{UnlessFailed};
-ghost use Rattle.vyrd_program.specs.declared.read_log.ReadFault.TheVariants.{Failed};
+ghost use Rattle.vyrd_program.specs.Inputs.{is_failed};
 
 use crate::read_log::{LONGEST_READ, ReadFault};
 use std::alloc::{AllocError, Global};
@@ -28,14 +27,11 @@ pub fn read_input<S: Source>(
     most: usize,
     source: &mut S,
 ) -> Result<Vec<u8>, ReadFault>
+    requires unended { (S.known source.old).ended ≡ false }
     ensures read { IfOk result
-        (λ bytes. IsInputRead most (S.rest source.old) (S.rest source.new) bytes.items) }
-    ensures few { IsFewTaken most (S.rest source.old) (S.rest source.new) }
-    ensures failed { result ≡ Err Failed → HasRisen (S.faults source.old) (S.faults source.new) }
-    ensures stopped { result ≡ Err Failed → S.rest source.new ≡ S.left_off source.new }
-    ensures failures_alone { UnlessFailed result (S.faults source.new ≡ S.faults source.old) }
-    ensures counted { S.faults source.old ≤ S.faults source.new }
-    ensures sure { S.is_sure source.old ≡ true → S.faults source.new ≡ S.faults source.old }
+        (λ bytes. IsInputRead most (S.known source.old) (S.known source.new) bytes.items) }
+    ensures few { IsFewTaken most (S.known source.old) (S.known source.new) }
+    ensures source { AfterReads (is_failed result) (S.known source.old) (S.known source.new) }
 {
     let mut bytes = Vec::new(alloc);
     let mut count = 0;
@@ -60,17 +56,13 @@ pub fn read_more<S: Source>(
     bytes: &mut Vec<u8>,
     source: &mut S,
 ) -> Result<usize, ReadFault>
-    requires { 0 < most }
+    requires some { 0 < most }
+    requires unended { (S.known source.old).ended ≡ false }
     ensures more { IfOk result
-        (IsMoreRead most (S.rest source.old) (S.rest source.new) bytes.old.items bytes.new.items) }
-    ensures at_end { result ≡ Ok 0 → IsAtEnd (S.rest source.new) }
-    ensures kept { OnErr result (S.rest source.new ≡ S.rest source.old) }
-    ensures failed { result ≡ Err Failed → HasRisen (S.faults source.old) (S.faults source.new) }
-    ensures stopped { result ≡ Err Failed → S.rest source.new ≡ S.left_off source.new }
-    ensures failures_alone { UnlessFailed result (S.faults source.new ≡ S.faults source.old) }
-    ensures counted { S.faults source.old ≤ S.faults source.new }
-    ensures sure { S.is_sure source.old ≡ true → S.faults source.new ≡ S.faults source.old }
-    ensures stays_sure { S.is_sure source.old ≡ true → S.is_sure source.new ≡ true }
+        (IsMoreRead most (S.known source.old) (S.known source.new) bytes.old.items
+        bytes.new.items) }
+    ensures kept { OnErr result (GivesNothing (S.known source.old) (S.known source.new)) }
+    ensures source { AfterReads (is_failed result) (S.known source.old) (S.known source.new) }
 {
     let count = bytes.len();
     bytes.resize(count + LONGEST_READ.min(most), 0)?;
@@ -105,18 +97,13 @@ fn read_behind<S: Source>(
 ) -> Result<usize, ReadFault>
     requires room { count < vec_len bytes.old }
     requires short { vec_len bytes.old ≤ count + longest_read }
+    requires unended { (S.known source.old).ended ≡ false }
     ensures given { IfOk result
-        (λ n. Gives (S.rest source.old) n (drop count bytes.new.items) (S.rest source.new)) }
-    ensures at_end { result ≡ Ok 0 → IsAtEnd (S.rest source.new) }
-    ensures kept { OnErr result (S.rest source.new ≡ S.rest source.old) }
+        (λ n. Gives (S.known source.old) n (drop count bytes.new.items) (S.known source.new)) }
+    ensures kept { OnErr result (GivesNothing (S.known source.old) (S.known source.new)) }
     ensures front { take count bytes.new.items ≡ take count bytes.old.items }
     ensures len { vec_len bytes.new ≡ vec_len bytes.old }
-    ensures failed { result ≡ Err Failed → HasRisen (S.faults source.old) (S.faults source.new) }
-    ensures stopped { result ≡ Err Failed → S.rest source.new ≡ S.left_off source.new }
-    ensures failures_alone { UnlessFailed result (S.faults source.new ≡ S.faults source.old) }
-    ensures counted { S.faults source.old ≤ S.faults source.new }
-    ensures sure { S.is_sure source.old ≡ true → S.faults source.new ≡ S.faults source.old }
-    ensures stays_sure { S.is_sure source.old ≡ true → S.is_sure source.new ≡ true }
+    ensures source { AfterReads (is_failed result) (S.known source.old) (S.known source.new) }
 {
     let (_, room) = bytes.split_at_mut(count);
     match source.read(room) {

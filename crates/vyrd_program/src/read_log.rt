@@ -1,10 +1,10 @@
 //! Reading a log from a source.
 
-ghost use Rattle.std.specs.Prelude.{◌≡◌, ◌≤◌, ◌<◌, ◌+◌, ℕ, true, List, [], length, vec_len, Option};
+ghost use Rattle.std.specs.Prelude.{◌≡◌, ◌≤◌, ◌<◌, ◌+◌, ℕ, false, [], length, vec_len};
 ghost use Rattle.std.specs.Prelude.{IfOk, IfSome, IfNone, Err};
-ghost use Rattle.vyrd_base.specs.Devices.{HasRisen};
+ghost use Rattle.vyrd_base.specs.Devices.{SourceKnown, AfterReads};
 ghost use Rattle.vyrd_check.specs.Checking.{HasChecked, most_lines};
-ghost use Rattle.vyrd_program.specs.Inputs.{longest_read, UnlessFailed};
+ghost use Rattle.vyrd_program.specs.Inputs.{longest_read, is_failed};
 ghost use Rattle.vyrd_program.specs.Checks.{IsReadNoFurther, IsUnsettled};
 ghost use Rattle.vyrd_program.specs.Progress.{IsChecking, IsReached};
 ghost use Rattle.vyrd_program.specs.declared.read_log.ReadFault.TheVariants.{Failed, Memory};
@@ -44,15 +44,12 @@ pub fn read_verdict<S: Source>(
 ) -> Result<Verdict, ReadFault>
     requires low { 1 ≤ max_lines }
     requires high { max_lines ≤ most_lines }
-    ensures reached { IfOk result (IsReached max_lines (S.rest source.old) (S.rest source.new)) }
-    ensures no_further { IsReadNoFurther max_lines (S.rest source.old) (S.rest source.new) }
+    requires unended { (S.known source.old).ended ≡ false }
+    ensures reached { IfOk result (IsReached max_lines (S.known source.old) (S.known source.new)) }
+    ensures no_further { IsReadNoFurther max_lines (S.known source.old) (S.known source.new) }
     ensures unsettled { result ≡ Err Failed
-        → IsUnsettled max_lines (S.rest source.old) (S.rest source.new) }
-    ensures failed { result ≡ Err Failed → HasRisen (S.faults source.old) (S.faults source.new) }
-    ensures stopped { result ≡ Err Failed → S.rest source.new ≡ S.left_off source.new }
-    ensures failures_alone { UnlessFailed result (S.faults source.new ≡ S.faults source.old) }
-    ensures counted { S.faults source.old ≤ S.faults source.new }
-    ensures sure { S.is_sure source.old ≡ true → S.faults source.new ≡ S.faults source.old }
+        → IsUnsettled max_lines (S.known source.old) (S.known source.new) }
+    ensures source { AfterReads (is_failed result) (S.known source.old) (S.known source.new) }
 {
     let mut buffer = zeros(alloc, LONGEST_READ)?;
     let mut checker = Checker::new(alloc, max_lines);
@@ -69,17 +66,14 @@ fn read_on<S: Source>(
     requires low { 1 ≤ checker.old.kept.reader.max_lines }
     requires high { checker.old.kept.reader.max_lines ≤ most_lines }
     requires fresh { HasChecked checker.old [] }
+    requires unended { (S.known source.old).ended ≡ false }
     ensures reached { IfOk result
-        (IsReached checker.old.kept.reader.max_lines (S.rest source.old) (S.rest source.new)) }
-    ensures no_further { IsReadNoFurther checker.old.kept.reader.max_lines (S.rest source.old)
-        (S.rest source.new) }
+        (IsReached checker.old.kept.reader.max_lines (S.known source.old) (S.known source.new)) }
+    ensures no_further { IsReadNoFurther checker.old.kept.reader.max_lines (S.known source.old)
+        (S.known source.new) }
     ensures unsettled { result ≡ Err Failed
-        → IsUnsettled checker.old.kept.reader.max_lines (S.rest source.old) (S.rest source.new) }
-    ensures failed { result ≡ Err Failed → HasRisen (S.faults source.old) (S.faults source.new) }
-    ensures stopped { result ≡ Err Failed → S.rest source.new ≡ S.left_off source.new }
-    ensures failures_alone { UnlessFailed result (S.faults source.new ≡ S.faults source.old) }
-    ensures counted { S.faults source.old ≤ S.faults source.new }
-    ensures sure { S.is_sure source.old ≡ true → S.faults source.new ≡ S.faults source.old }
+        → IsUnsettled checker.old.kept.reader.max_lines (S.known source.old) (S.known source.new) }
+    ensures source { AfterReads (is_failed result) (S.known source.old) (S.known source.new) }
 {
     for round in 0..u64::MAX {
         if let Some(verdict) = read_piece(checker, buffer, source)? {
@@ -105,23 +99,19 @@ fn read_piece<S: Source>(
 ) -> Result<Option<Verdict>, ReadFault>
     requires room { 0 < length buffer.old }
     requires short { length buffer.old ≤ longest_read }
-    ensures goes_on { (max : ℕ) (before : Option (List ℕ)) (rounds : ℕ) → 1 ≤ max
-        → IsChecking max before (S.rest source.old) checker.old rounds
+    requires unended { (S.known source.old).ended ≡ false }
+    ensures goes_on { (max : ℕ) (before : SourceKnown) (rounds : ℕ) → 1 ≤ max
+        → IsChecking max before (S.known source.old) checker.old rounds
         → IfOk result (λ verdict. IfNone verdict
-        (IsChecking max before (S.rest source.new) checker.new (rounds + 1))) }
-    ensures reached { (max : ℕ) (before : Option (List ℕ)) (rounds : ℕ) → 1 ≤ max
-        → IsChecking max before (S.rest source.old) checker.old rounds
-        → IfOk result (λ verdict. IfSome verdict (IsReached max before (S.rest source.new))) }
-    ensures no_further { (max : ℕ) (before : Option (List ℕ)) (rounds : ℕ) → 1 ≤ max
-        → IsChecking max before (S.rest source.old) checker.old rounds
-        → IsReadNoFurther max before (S.rest source.new) }
-    ensures kept { result ≡ Err Failed → S.rest source.new ≡ S.rest source.old }
-    ensures failed { result ≡ Err Failed → HasRisen (S.faults source.old) (S.faults source.new) }
-    ensures stopped { result ≡ Err Failed → S.rest source.new ≡ S.left_off source.new }
-    ensures failures_alone { UnlessFailed result (S.faults source.new ≡ S.faults source.old) }
-    ensures counted { S.faults source.old ≤ S.faults source.new }
-    ensures sure { S.is_sure source.old ≡ true → S.faults source.new ≡ S.faults source.old }
-    ensures stays_sure { S.is_sure source.old ≡ true → S.is_sure source.new ≡ true }
+        (IsChecking max before (S.known source.new) checker.new (rounds + 1))) }
+    ensures reached { (max : ℕ) (before : SourceKnown) (rounds : ℕ) → 1 ≤ max
+        → IsChecking max before (S.known source.old) checker.old rounds
+        → IfOk result (λ verdict. IfSome verdict (IsReached max before (S.known source.new))) }
+    ensures no_further { (max : ℕ) (before : SourceKnown) (rounds : ℕ) → 1 ≤ max
+        → IsChecking max before (S.known source.old) checker.old rounds
+        → IsReadNoFurther max before (S.known source.new) }
+    ensures kept { result ≡ Err Failed → (S.known source.new).rest ≡ (S.known source.old).rest }
+    ensures source { AfterReads (is_failed result) (S.known source.old) (S.known source.new) }
 {
     let n = match source.read(buffer) {
         Ok(n) => n,

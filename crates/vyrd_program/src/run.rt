@@ -1,7 +1,7 @@
 //! What `run` answers.
 
-ghost use Rattle.std.specs.Prelude.{◌≡◌, ◌≤◌, ◌⊎◌, true, [], Ok, IfOk};
-ghost use Rattle.vyrd_base.specs.Devices.{HasRisen};
+ghost use Rattle.std.specs.Prelude.{◌≡◌, ◌≤◌, ◌⊎◌, ◌==◌, false, [], Ok, IfOk};
+ghost use Rattle.vyrd_base.specs.Devices.{AfterReads};
 ghost use Rattle.vyrd_work.specs.Workloads.{workload_of};
 ghost use Rattle.vyrd_work.specs.WorkLimits.{KeepsLimits};
 ghost use Rattle.vyrd_work.specs.WorkReading.{work_reading};
@@ -36,18 +36,15 @@ pub fn run<R: Threads + Wait + Sync, S: Source, G: Gate>(
     source: &mut S,
     gate: &G,
 ) -> Answer
+    requires unended { (S.known source.old).ended ≡ false }
     ensures statuses { IsRunStatus result.status ⊎ (result.status ≡ 4) ⊎ (result.status ≡ 6) }
     ensures answers { IsRunStatus result.status
-        → AnswersRun show (S.rest source.old) result.status result.text.items }
+        → AnswersRun show (S.known source.old).rest result.status result.text.items }
     ensures consumed { IsRunStatus result.status
-        → IsInputTaken longest_input (S.rest source.old) (S.rest source.new) }
-    ensures few { IsFewTaken longest_input (S.rest source.old) (S.rest source.new) }
+        → IsInputTaken longest_input 7 result.status (S.known source.old) (S.known source.new) }
+    ensures few { IsFewTaken longest_input (S.known source.old) (S.known source.new) }
     ensures silent { result.status ≡ 4 ⊎ result.status ≡ 6 → result.text.items ≡ [] }
-    ensures cause { result.status ≡ 4 → HasRisen (S.faults source.old) (S.faults source.new) }
-    ensures stopped { result.status ≡ 4 → S.rest source.new ≡ S.left_off source.new }
-    ensures failures_alone { (S.faults source.new ≡ S.faults source.old) ⊎ (result.status ≡ 4) }
-    ensures counted { S.faults source.old ≤ S.faults source.new }
-    ensures sure { S.is_sure source.old ≡ true → S.faults source.new ≡ S.faults source.old }
+    ensures source { AfterReads (result.status == 4) (S.known source.old) (S.known source.new) }
 {
     match read_input(alloc, LONGEST_WORK, source) {
         Ok(bytes) => match answer_to(rt, alloc, show, bytes, gate) {

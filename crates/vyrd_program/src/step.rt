@@ -1,7 +1,7 @@
 //! What `step` answers.
 
-ghost use Rattle.std.specs.Prelude.{◌≡◌, ◌≤◌, ◌⊎◌, true, [], Ok, IfOk};
-ghost use Rattle.vyrd_base.specs.Devices.{HasRisen};
+ghost use Rattle.std.specs.Prelude.{◌≡◌, ◌⊎◌, ◌==◌, false, [], Ok, IfOk};
+ghost use Rattle.vyrd_base.specs.Devices.{AfterReads};
 ghost use Rattle.vyrd_work.specs.Workloads.{workload_of};
 ghost use Rattle.vyrd_work.specs.WorkLimits.{KeepsLimits};
 ghost use Rattle.vyrd_work.specs.WorkReading.{work_reading};
@@ -24,18 +24,15 @@ use vyrd_work::{AnyMachine, Work, WorkFault, read_work};
 /// verdict about it; or that it is refused, or gets stuck; or nothing if a read failed or there is
 /// no memory.
 pub fn step<S: Source>(alloc: Global, show: Show, source: &mut S) -> Answer
+    requires unended { (S.known source.old).ended ≡ false }
     ensures statuses { IsStepStatus result.status ⊎ (result.status ≡ 4) ⊎ (result.status ≡ 6) }
     ensures answers { IsStepStatus result.status
-        → AnswersInput show (S.rest source.old) result.status result.text.items }
+        → AnswersInput show (S.known source.old).rest result.status result.text.items }
     ensures consumed { IsStepStatus result.status
-        → IsInputTaken longest_input (S.rest source.old) (S.rest source.new) }
-    ensures few { IsFewTaken longest_input (S.rest source.old) (S.rest source.new) }
+        → IsInputTaken longest_input 7 result.status (S.known source.old) (S.known source.new) }
+    ensures few { IsFewTaken longest_input (S.known source.old) (S.known source.new) }
     ensures silent { result.status ≡ 4 ⊎ result.status ≡ 6 → result.text.items ≡ [] }
-    ensures cause { result.status ≡ 4 → HasRisen (S.faults source.old) (S.faults source.new) }
-    ensures stopped { result.status ≡ 4 → S.rest source.new ≡ S.left_off source.new }
-    ensures failures_alone { (S.faults source.new ≡ S.faults source.old) ⊎ (result.status ≡ 4) }
-    ensures counted { S.faults source.old ≤ S.faults source.new }
-    ensures sure { S.is_sure source.old ≡ true → S.faults source.new ≡ S.faults source.old }
+    ensures source { AfterReads (result.status == 4) (S.known source.old) (S.known source.new) }
 {
     match read_input(alloc, LONGEST_WORK, source) {
         Ok(bytes) => match answer_to(alloc, show, bytes) {

@@ -1,13 +1,14 @@
-use Rattle.std.proofs.Common.{◌+◌, ◌-◌, ◌∙◌, arith}
+use Rattle.std.proofs.Common.{◌+◌, ◌-◌, arith, false}
+use Rattle.vyrd_base.proofs.DeviceLaws.{reads_in_row}
 use Rattle.vyrd_batch.specs.LongBatches.{longest_batch_input}
 use Rattle.vyrd_program.proofs.BatchLaws.{reading_more, reading_judged, few_read}
 use Rattle.vyrd_program.proofs.batch.read_rounds.Goals as goal
 
 pub returns-in_err-next-clause-few : goal.returns-in_err-next-clause-few
 returns-in_err-next-clause-few g c =
-    let before = g.S.Source.rest c.args.source.now in
-    let between = g.S.Source.rest c.loop-count.source in
-    let after = g.S.Source.rest c.read_more.new.source in
+    let before = g.S.Source.known c.args.source.now in
+    let between = g.S.Source.known c.loop-count.source in
+    let after = g.S.Source.known c.read_more.new.source in
     let more = c.in_ok-n.ensures.more in
     let many = c.loop-count.count + c.in_ok-n.n in
     few_read before after c.loop-count.judge c.read_more.new.bytes.items many
@@ -17,9 +18,9 @@ returns-in_err-next-clause-few g c =
 
 pub loop-count-preserved : goal.loop-count-preserved
 loop-count-preserved g c =
-    let before = g.S.Source.rest c.args.source.now in
-    let between = g.S.Source.rest c.loop-count.source in
-    let after = g.S.Source.rest c.read_more.new.source in
+    let before = g.S.Source.known c.args.source.now in
+    let between = g.S.Source.known c.loop-count.source in
+    let after = g.S.Source.known c.read_more.new.source in
     let more = c.in_ok-n.ensures.more in
     let many = c.loop-count.count + c.in_ok-n.n in
     record {
@@ -27,8 +28,6 @@ loop-count-preserved g c =
           (reading_more before between after c.loop-count.judge c.loop-count.bytes.items c.read_more.new.bytes.items c.loop-count.count c.in_ok-n.n
           (longest_batch_input - c.loop-count.count) c.loop-count.invariant.reading more) c.in_ok-next.ensures;
       few = omega (arith, more.few, c.loop-count.invariant.few);
-      faults = c.in_ok-n.ensures.failures_alone ∙ c.loop-count.invariant.faults;
-      counted = omega (arith, c.loop-count.invariant.counted, c.in_ok-n.ensures.counted);
-      sure = λ e. c.in_ok-n.ensures.stays_sure (c.loop-count.invariant.sure e);
-      uncounted = λ e. c.in_ok-n.ensures.sure (c.loop-count.invariant.sure e) ∙ c.loop-count.invariant.uncounted e;
+      unended = more.goes_on (omega (arith, c.if-n-eq0.false));
+      source = reads_in_row false before between after c.loop-count.invariant.source c.in_ok-n.ensures.source;
     }

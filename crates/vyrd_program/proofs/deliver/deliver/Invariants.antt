@@ -1,15 +1,14 @@
-use Rattle.std.proofs.Common.{◌≡◌, ◌+◌, ◌-◌, ◌≤◌, length, take}
+use Rattle.std.proofs.Common.{◌+◌, ◌-◌, ◌≤◌, false, length, take}
+use Rattle.vyrd_base.specs.Devices.{AfterWrites}
 use Rattle.vyrd_program.specs.Outputs.{Appends}
 use Rattle.vyrd_program.proofs.deliver.deliver.Given as goal
 
 abbrev pub invariant-loop-written : goal.invariant-loop-written
 invariant-loop-written g l = record {
   within : l.written ≤ length l.text;
-  taken : Appends (g.K.Sink.taken l.fn.sink) (g.K.Sink.taken l.sink) (take l.written l.text);
-  faults : g.K.Sink.faults l.sink ≡ g.K.Sink.faults l.fn.sink;
-  counted : g.K.Sink.faults l.fn.sink ≤ g.K.Sink.faults l.sink;
-  sure : length l.text ≤ g.K.Sink.sure_room l.fn.sink → length l.text ≤ g.K.Sink.sure_room l.sink + l.written;
-  uncounted : length l.text ≤ g.K.Sink.sure_room l.fn.sink → g.K.Sink.faults l.sink ≡ g.K.Sink.faults l.fn.sink;
+  taken : Appends (g.K.Sink.known l.fn.sink).taken (g.K.Sink.known l.sink).taken (take l.written l.text);
+  room : (g.K.Sink.known l.fn.sink).sure_room ≤ (g.K.Sink.known l.sink).sure_room + l.written;
+  sink : AfterWrites false (length l.text ≤ (g.K.Sink.known l.fn.sink).sure_room) (g.K.Sink.known l.fn.sink) (g.K.Sink.known l.sink);
 }
 
 abbrev pub decreases-loop-written : goal.decreases-loop-written

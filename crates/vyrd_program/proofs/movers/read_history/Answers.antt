@@ -1,4 +1,5 @@
-use Rattle.std.proofs.Common.{◌∙◌, ◌-◌, ◌++◌, refl, subst, arith}
+use Rattle.std.proofs.Common.{◌-◌, ◌++◌, subst, arith, false}
+use Rattle.vyrd_base.proofs.DeviceLaws.{no_read, reads_in_row}
 use Rattle.vyrd_mover.specs.HistoryReaders.{HasRead}
 use Rattle.vyrd_mover.specs.LongHistories.{longest_history}
 use Rattle.vyrd_program.specs.Inputs.{IsMoreRead}
@@ -8,18 +9,16 @@ use Rattle.vyrd_program.proofs.movers.read_history.Goals as goal
 pub loop-count-init : goal.loop-count-init
 loop-count-init g c = record {
   few = omega arith;
-  read = nothing_read (g.S.Source.rest c.args.source.now) c.args.reader.now c.requires;
-  faults = refl;
-  counted = omega arith;
-  sure = λ e. e;
-  uncounted = λ e. refl;
+  read = nothing_read (g.S.Source.known c.args.source.now) c.args.reader.now c.requires.fresh;
+  unended = c.requires.unended;
+  source = no_read (g.S.Source.known c.args.source.now);
 }
 
 pub loop-count-preserved : goal.loop-count-preserved
 loop-count-preserved g c =
-    let before = g.S.Source.rest c.args.source.now in
-    let between = g.S.Source.rest c.loop-count.source in
-    let after = g.S.Source.rest c.read_more.new.source in
+    let before = g.S.Source.known c.args.source.now in
+    let between = g.S.Source.known c.loop-count.source in
+    let after = g.S.Source.known c.read_more.new.source in
     let most = longest_history - c.loop-count.count in
     let piece = c.read_more.new.bytes.items in
     let n = c.in_ok-n.n in
@@ -29,8 +28,6 @@ loop-count-preserved g c =
     record {
       few = omega (arith, more.few, c.loop-count-test.true);
       read = piece_read before between after c.loop-count.reader c.feed.new.self c.loop-count.count most n piece so_far more fed;
-      faults = c.in_ok-n.ensures.failures_alone ∙ c.loop-count.invariant.faults;
-      counted = omega (arith, c.loop-count.invariant.counted, c.in_ok-n.ensures.counted);
-      sure = λ e. c.in_ok-n.ensures.stays_sure (c.loop-count.invariant.sure e);
-      uncounted = λ e. c.in_ok-n.ensures.sure (c.loop-count.invariant.sure e) ∙ c.loop-count.invariant.uncounted e;
+      unended = more.goes_on (omega (arith, c.if-n-eq0.false));
+      source = reads_in_row false before between after c.loop-count.invariant.source c.in_ok-n.ensures.source;
     }

@@ -11,15 +11,15 @@ returns-in_err-buffer-clause-no_further g c = nothing_no_further _ _
 
 pub returns-clause-reached : goal.returns-clause-reached
 returns-clause-reached g c =
-    subst (λ max. IfOk c.read_on.result (IsReached max (g.S.Source.rest c.args.source.now) (g.S.Source.rest c.read_on.new.source)))
+    subst (λ max. IfOk c.read_on.result (IsReached max (g.S.Source.known c.args.source.now) (g.S.Source.known c.read_on.new.source)))
     c.new-checker.ensures.limit c.read_on.ensures.reached
 
 pub returns-clause-no_further : goal.returns-clause-no_further
 returns-clause-no_further g c =
-    subst (λ max. IsReadNoFurther max (g.S.Source.rest c.args.source.now) (g.S.Source.rest c.read_on.new.source))
+    subst (λ max. IsReadNoFurther max (g.S.Source.known c.args.source.now) (g.S.Source.known c.read_on.new.source))
     c.new-checker.ensures.limit c.read_on.ensures.no_further
 
 pub returns-clause-unsettled : goal.returns-clause-unsettled
 returns-clause-unsettled g c =
-    subst (λ max. c.read_on.result ≡ Err Failed → IsUnsettled max (g.S.Source.rest c.args.source.now) (g.S.Source.rest c.read_on.new.source))
+    subst (λ max. c.read_on.result ≡ Err Failed → IsUnsettled max (g.S.Source.known c.args.source.now) (g.S.Source.known c.read_on.new.source))
     c.new-checker.ensures.limit c.read_on.ensures.unsettled
