@@ -3,7 +3,7 @@
 use Rattle.std.proofs.Common.{◌≡◌, ℕ, Bool, true, false, not, cond, ◌&&◌, ◌||◌, List, [], ◌∷◌, ◌++◌, Some, None, refl, ap, subst, ◌∙◌, sym}
 use Rattle.std.specs.Prelude.{◌==◌, unwrap_or}
 use Rattle.std.specs.List.{list_any}
-use Rattle.std.specs.Option.{option_or, option_map_or}
+use Rattle.std.specs.Option.{option_or, option_map_or, option_flatten}
 use Rattle.vyrd_base.specs.declared.header.Header.{Header}
 use Rattle.vyrd_base.specs.declared.subject.Method.{Method}
 use Rattle.vyrd_base.specs.declared.multiset.MultisetMethod.TheVariants.{Insert as MsInsert}
@@ -22,7 +22,7 @@ use Rattle.vyrd_base.specs.declared.log.Kind.TheVariants.{Call, Return, Write, C
 use Rattle.vyrd_base.specs.declared.log.Entry.{Entry}
 use Rattle.vyrd_base.specs.declared.verdict.Why.TheVariants.{Observer}
 use Rattle.vyrd_base.specs.Places.{newest_first, first_answer}
-use Rattle.vyrd_base.specs.Subjects.{is_observer, must_commit}
+use Rattle.vyrd_base.specs.Subjects.{is_observer, must_commit, is_built_in, subject_of}
 use Rattle.vyrd_base.specs.Callers.{Called, by_caller, open_call, call_or_return, has_committed, commit_or_call}
 use Rattle.vyrd_base.specs.Shape.{broken_rule, checks_at, is_observing, owes_commit}
 use Rattle.vyrd_base.specs.Front.{first_break, WellFormed}
@@ -34,7 +34,7 @@ use Rattle.vyrd_base.proofs.BlockLaws.{entry, by_same, own_answer, other_answer,
 use Rattle.vyrd_base.proofs.ShadowLaws.{all_kept, well_formed-first_break}
 use Rattle.vyrd_base.proofs.StateLaws.{open_call-other}
 use Rattle.vyrd_base.proofs.StructureLaws.{once_or_never}
-use Rattle.vyrd_base.proofs.KeptLaws.{commit_kept, block_commit_runs, return_kept}
+use Rattle.vyrd_base.proofs.KeptLaws.{commit_kept, block_commit_runs, return_kept, call_kept, method_subject}
 
 -- another caller's entry, one that neither begins, commits nor ends an execution, and the caller's
 -- own
@@ -106,6 +106,36 @@ committed_runs h c (e ∷ earlier) wf = step (committed_runs h c earlier wf.1)
         let was = so (sym (committed-other c e.caller e.kind earlier other) ∙ is) in
         (was.0, open_call-other c e.caller e.kind earlier other ∙ was.1, was.2))
 
+-- an entry of the caller: it calls what is of the header's subject, or goes on with what is
+still_ours : (h : Header) (c : ℕ) (kind : Kind) (earlier : List Entry) (called : Called)
+    → (open_call c earlier ≡ Some called → subject_of called.method ≡ h.subject)
+    → broken_rule h earlier (entry c kind) ≡ None → open_call c (entry c kind ∷ earlier) ≡ Some called
+    → subject_of called.method ≡ h.subject
+still_ours h c kind earlier called before kept is = by_kind kind kept (sym (ap option_flatten (own_answer c call_or_return kind earlier)) ∙ is)
+  where
+    by_kind : (k : Kind) → broken_rule h earlier (entry c k) ≡ None
+        → option_flatten (option_or (call_or_return k) (first_answer (by_caller c call_or_return) earlier)) ≡ Some called
+        → subject_of called.method ≡ h.subject
+    by_kind (Call method args) keeps it =
+        let same : record { method = method; args = args } ≡ called = cc in
+        ap (λ x. subject_of x.method) (sym same) ∙ method_subject h method args (call_kept h c method args earlier keeps)
+    by_kind (Return reply) keeps it = cc
+    by_kind (Write word value) keeps it = before it
+    by_kind Commit keeps it = before it
+    by_kind BlockOpen keeps it = before it
+    by_kind BlockClose keeps it = before it
+    by_kind BlockCommit keeps it = before it
+
+-- what is called in an open execution is of the header's subject
+open_is_ours : (h : Header) (c : ℕ) (earlier : List Entry) (called : Called) → WellFormed h earlier
+    → open_call c earlier ≡ Some called → subject_of called.method ≡ h.subject
+open_is_ours h c [] called wf is = cc
+open_is_ours h c (e ∷ earlier) called wf is = by_same e.caller c
+    (λ same. still_ours h c e.kind earlier called (open_is_ours h c earlier called wf.1)
+    (subst (λ d. broken_rule h earlier (entry d e.kind) ≡ None) same wf.0)
+    (subst (λ d. open_call c (entry d e.kind ∷ earlier) ≡ Some called) same is))
+    (λ other. open_is_ours h c earlier called wf.1 (sym (open_call-other c e.caller e.kind earlier other) ∙ is))
+
 -- an execution that returns without a commit need not have one
 pub return_free : (h : Header) (c reply : ℕ) (earlier : List Entry) (called : Called)
     → broken_rule h earlier (entry c (Return reply)) ≡ None → open_call c earlier ≡ Some called
@@ -123,12 +153,12 @@ return_free h c reply earlier called kept opened none =
 
 -- Each method of the built-in subjects commits once or never. So a return lacks a commit if its execution has none and isn't an observer's
 pub lacks_commit : (c : ℕ) (earlier : List Entry) (called : Called)
-    → open_call c earlier ≡ Some called
+    → open_call c earlier ≡ Some called → is_built_in (subject_of called.method) ≡ true
     → (owes_commit c earlier && not (has_committed c earlier))
     ≡ not (is_observing c earlier || has_committed c earlier)
-lacks_commit c earlier called opened =
+lacks_commit c earlier called opened built =
     ap (λ o. option_map_or (λ k. must_commit k.method) o false && not (has_committed c earlier)) opened
-    ∙ ap (λ b. b && not (has_committed c earlier)) (once_or_never called.method)
+    ∙ ap (λ b. b && not (has_committed c earlier)) (once_or_never called.method built)
     ∙ by_truth (is_observer called.method) (has_committed c earlier)
     ∙ ap (λ o. not (option_map_or (λ k. is_observer k.method) o false || has_committed c earlier))
     (sym opened)
@@ -138,10 +168,10 @@ lacks_commit c earlier called opened =
     by_truth false b = refl
 
 -- and those that return without a commit are the observers'
-pub returns_committed : (h : Header) (c reply : ℕ) (earlier : List Entry) → WellFormed h earlier
+pub returns_committed : (h : Header) (c reply : ℕ) (earlier : List Entry) → is_built_in h.subject ≡ true → WellFormed h earlier
     → broken_rule h earlier (entry c (Return reply)) ≡ None
     → has_committed c earlier ≡ not (is_observing c earlier)
-returns_committed h c reply earlier wf kept = by_truth (has_committed c earlier) refl
+returns_committed h c reply earlier built wf kept = by_truth (has_committed c earlier) refl
   where
     called : (k : Called) × (open_call c earlier ≡ Some k)
     called = return_kept h c reply earlier kept
@@ -160,23 +190,24 @@ returns_committed h c reply earlier wf kept = by_truth (has_committed c earlier)
         is ∙ ap not (sym (observing runs.1 runs.2))
     by_truth false is =
         is ∙ ap not (sym (observing called.1 (looks (is_observer called.0.method)
-        (sym (once_or_never called.0.method)
+        (sym (once_or_never called.0.method
+        (ap is_built_in (open_is_ours h c earlier called.0 wf called.1) ∙ built))
         ∙ return_free h c reply earlier called.0 kept called.1 is))))
 
 -- the same of a log
-returns_last : (h : Header) (es : List Entry) (c reply : ℕ)
+returns_last : (h : Header) (es : List Entry) (c reply : ℕ) → is_built_in h.subject ≡ true
     → first_break h (es ++ entry c (Return reply) ∷ []) ≡ None
     → has_committed c (newest_first es) ≡ not (is_observing c (newest_first es))
-returns_last h es c reply kept =
+returns_last h es c reply built kept =
     let wf : WellFormed h (entry c (Return reply) ∷ newest_first es) =
     subst (WellFormed h) (newest_first-push es (entry c (Return reply)))
     (well_formed-first_break h (es ++ entry c (Return reply) ∷ []) kept) in
-    returns_committed h c reply (newest_first es) wf.1 wf.0
+    returns_committed h c reply (newest_first es) built wf.1 wf.0
 
-pub returns_observed : (h : Header) (es : List Entry) (c reply : ℕ)
+pub returns_observed : (h : Header) (es : List Entry) (c reply : ℕ) → is_built_in h.subject ≡ true
     → first_break h (es ++ record { caller = c; kind = Return reply } ∷ []) ≡ None
     → not (has_committed c (newest_first es)) ≡ is_observing c (newest_first es)
-returns_observed h es c reply kept = ap not (returns_last h es c reply kept) ∙ twice _
+returns_observed h es c reply built kept = ap not (returns_last h es c reply built kept) ∙ twice _
   where
     twice : (b : Bool) → not (not b) ≡ b
     twice true = refl
@@ -184,14 +215,14 @@ returns_observed h es c reply kept = ap not (returns_last h es c reply kept) ∙
 
 -- so the fault of a return goes by its method
 pub fault_by_method : (r : Rules) (window : List State) (es : List Entry) (c reply : ℕ)
-    (called : Called)
+    (called : Called) → is_built_in r.header.subject ≡ true
     → first_break r.header (es ++ record { caller = c; kind = Return reply } ∷ []) ≡ None
     → open_call c (newest_first es) ≡ Some called
     → observer_fault r window (has_committed c (newest_first es)) reply called
     ≡ cond (not (is_observer called.method)
     || list_any (λ state. r.answer state called.method called.args == reply) window)
     None (Some (Observer reply))
-fault_by_method r window es c reply called kept opened =
+fault_by_method r window es c reply called built kept opened =
     ap (λ b. observer_fault r window b reply called)
-    (returns_last r.header es c reply kept
+    (returns_last r.header es c reply built kept
     ∙ ap (λ o. not (option_map_or (λ k. is_observer k.method) o false)) opened)

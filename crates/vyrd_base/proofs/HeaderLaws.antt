@@ -1,51 +1,120 @@
--- What the limits of a header say of its size, of its callers and of its words.
-use Rattle.std.proofs.Common.{◌≡◌, ℕ, ◌+◌, ◌<◌, ◌≤◌, ◌^◌, true, ◌&&◌, List, length, ap, ◌∙◌, arith}
-use Rattle.std.specs.Prelude.{nat_le}
+-- What the limits of a header say of its version, its size, its callers and its words.
+use Rattle.std.proofs.Common.{◌≡◌, ℕ, zero, suc, ◌+◌, ◌<◌, ◌≤◌, ◌^◌, true, ◌&&◌, List, length, refl, ap, ◌∙◌, sym, arith}
+use Rattle.std.specs.Prelude.{nat_le, ◌==◌}
 use Rattle.std.proofs.lemmas.Bool.Decides.{nat_tests}
 use Rattle.vyrd_base.specs.declared.header.Header.{Header}
 use Rattle.vyrd_base.specs.declared.subject.Subject.{Subject}
-use Rattle.vyrd_base.specs.Limits.{is_known_version, is_sized}
+use Rattle.vyrd_base.specs.declared.subject.Subject.TheVariants.{Multiset, Cache, Tree, Buffers, Own}
+use Rattle.vyrd_base.specs.Limits.{is_known_version, is_sized, is_within, is_own_sized, is_own_within}
+use Rattle.vyrd_base.specs.Subjects.{is_built_in, limits_of}
 use Rattle.vyrd_base.specs.Layout.{plain_words_of, lock_words_of, plain_words, lock_words}
 use Rattle.vyrd_base.proofs.StructureLaws.{words_within}
-use Rattle.vyrd_base.proofs.TestLaws.{first_true, second_true, at_most_of}
+use Rattle.vyrd_base.proofs.TestLaws.{first_true, second_true, at_most_of, same_of}
 
 small_number : (n most : ℕ) → most < 2 ^ 32 → nat_le n most ≡ true → n < 2 ^ 32
 small_number n most m e = grind (arith, nat_tests)
 
--- numbers within the limits have 32 bits
+-- numbers within the limits of built-in subjects have 32 bits
 pub small_size : (size callers : ℕ) → is_sized size callers ≡ true → size < 2 ^ 32
 small_size size callers e = small_number size 1024 (omega arith) (second_true (nat_le 1 size) _ (first_true _ _ (first_true _ _ e)))
 
 pub small_callers : (size callers : ℕ) → is_sized size callers ≡ true → callers < 2 ^ 32
 small_callers size callers e = small_number callers 64 (omega arith) (second_true (nat_le 1 size && nat_le size 1024 && nat_le 1 callers) _ e)
 
--- and a header's are within them
-pub sized : (h : Header) → is_sized h.size h.callers ≡ true
-sized h = second_true (is_known_version h.version) _ h.within
+-- there are three versions
+pub known_version : (n : ℕ) → is_known_version n ≡ true → n ≤ 2
+known_version zero e = omega arith
+known_version (suc zero) e = omega arith
+known_version (suc (suc zero)) e = omega arith
+known_version (suc (suc (suc n))) e = cc
+
+-- a header of a built-in subject has the limits of these
+pub limits_built_in : (subject : Subject) (version size callers : ℕ) → is_built_in subject ≡ true
+    → limits_of subject version size callers ≡ is_within version size callers
+limits_built_in Multiset version size callers built = refl
+limits_built_in Cache version size callers built = refl
+limits_built_in Tree version size callers built = refl
+limits_built_in Buffers version size callers built = refl
+limits_built_in Own version size callers built = cc
+
+pub within : (h : Header) → is_built_in h.subject ≡ true → is_within h.version h.size h.callers ≡ true
+within h built = sym (limits_built_in h.subject h.version h.size h.callers built) ∙ h.within
+
+pub sized : (h : Header) → is_built_in h.subject ≡ true → is_sized h.size h.callers ≡ true
+sized h built = second_true (is_known_version h.version) _ (within h built)
+
+-- the size is from 1 to 1,024 then
+pub some_size : (h : Header) → is_built_in h.subject ≡ true → 1 ≤ h.size
+some_size h built = at_most_of 1 h.size (first_true (nat_le 1 h.size) _ (first_true _ _ (first_true _ _ (sized h built))))
+
+pub low_size : (h : Header) → is_built_in h.subject ≡ true → h.size ≤ 1024
+low_size h built = at_most_of h.size 1024 (second_true (nat_le 1 h.size) _ (first_true _ _ (first_true _ _ (sized h built))))
+
+-- what holds of the numbers of every header
+record AreLimited (version size callers words : ℕ) : Type 0 where
+  known : version ≤ 3
+  sized : size ≤ 1048576
+  some : 1 ≤ callers
+  few : callers ≤ 1024
+  short : words < 2 ^ 21
+
+built_in_limited : (version size callers words : ℕ) → (size ≤ 1024 → words < 2 ^ 16) → is_within version size callers ≡ true
+    → AreLimited version size callers words
+built_in_limited version size callers words few e =
+    let sizes : is_sized size callers ≡ true = second_true (is_known_version version) _ e in
+    let low : size ≤ 1024 = at_most_of size 1024 (second_true (nat_le 1 size) _ (first_true _ _ (first_true _ _ sizes))) in
+    let many : callers ≤ 64 = at_most_of callers 64 (second_true (nat_le 1 size && nat_le size 1024 && nat_le 1 callers) _ sizes) in
+    record {
+      known = omega (arith, known_version version (first_true _ _ e));
+      sized = omega (arith, low);
+      some = at_most_of 1 callers (second_true (nat_le 1 size && nat_le size 1024) _ (first_true _ _ sizes));
+      few = omega (arith, many);
+      short = omega (arith, few low);
+    }
+
+own_limited : (version size callers : ℕ) → is_own_within version size callers ≡ true → AreLimited version size callers (size + 0)
+own_limited version size callers e =
+    let sizes : is_own_sized size callers ≡ true = second_true (version == 3) _ e in
+    let third : version ≡ 3 = same_of version 3 (first_true (version == 3) _ e) in
+    let low : size ≤ 1048576 = at_most_of size 1048576 (first_true _ _ (first_true _ _ sizes)) in
+    record {
+      known = omega (arith, third);
+      sized = low;
+      some = at_most_of 1 callers (second_true (nat_le size 1048576) _ (first_true _ _ sizes));
+      few = at_most_of callers 1024 (second_true (nat_le size 1048576 && nat_le 1 callers) _ sizes);
+      short = omega (arith, low);
+    }
+
+limited : (subject : Subject) (version size callers : ℕ) → limits_of subject version size callers ≡ true
+    → AreLimited version size callers (plain_words_of subject size + lock_words_of subject size)
+limited Multiset version size callers e = built_in_limited version size callers _ (words_within Multiset size) e
+limited Cache version size callers e = built_in_limited version size callers _ (words_within Cache size) e
+limited Tree version size callers e = built_in_limited version size callers _ (words_within Tree size) e
+limited Buffers version size callers e = built_in_limited version size callers _ (words_within Buffers size) e
+limited Own version size callers e = own_limited version size callers e
+
+pub low_version : (h : Header) → h.version ≤ 3
+low_version h = (limited h.subject h.version h.size h.callers h.within).known
+
+pub most_size : (h : Header) → h.size ≤ 1048576
+most_size h = (limited h.subject h.version h.size h.callers h.within).sized
 
 pub size_in_32_bits : (h : Header) → h.size < 2 ^ 32
-size_in_32_bits h = small_size h.size h.callers (sized h)
+size_in_32_bits h = omega (arith, most_size h)
+
+-- the callers are from 1 to 1,024
+pub some_callers : (h : Header) → 1 ≤ h.callers
+some_callers h = (limited h.subject h.version h.size h.callers h.within).some
+
+pub few_callers : (h : Header) → h.callers ≤ 1024
+few_callers h = (limited h.subject h.version h.size h.callers h.within).few
 
 pub callers_in_32_bits : (h : Header) → h.callers < 2 ^ 32
-callers_in_32_bits h = small_callers h.size h.callers (sized h)
+callers_in_32_bits h = omega (arith, few_callers h)
 
--- the size is from 1 to 1,024
-pub some_size : (h : Header) → 1 ≤ h.size
-some_size h = at_most_of 1 h.size (first_true (nat_le 1 h.size) _ (first_true _ _ (first_true _ _ (sized h))))
-
-pub low_size : (h : Header) → h.size ≤ 1024
-low_size h = at_most_of h.size 1024 (second_true (nat_le 1 h.size) _ (first_true _ _ (first_true _ _ (sized h))))
-
--- the callers are from 1 to 64
-pub some_callers : (h : Header) → 1 ≤ h.callers
-some_callers h = at_most_of 1 h.callers (second_true (nat_le 1 h.size && nat_le h.size 1024) _ (first_true _ _ (sized h)))
-
-pub few_callers : (h : Header) → h.callers ≤ 64
-few_callers h = at_most_of h.callers 64 (second_true (nat_le 1 h.size && nat_le h.size 1024 && nat_le 1 h.callers) _ (sized h))
-
--- the words, plain and locks, have numbers of 16 bits
-pub few_words : (h : Header) → plain_words h + lock_words h < 2 ^ 16
-few_words h = words_within h.subject h.size (low_size h)
+-- the words, plain and locks, have numbers of 21 bits
+pub few_words : (h : Header) → plain_words h + lock_words h < 2 ^ 21
+few_words h = (limited h.subject h.version h.size h.callers h.within).short
 
 -- as many words as the header has are as many as its subject has
 pub word_count : (h : Header) (subject : Subject) (words : List ℕ) → h.subject ≡ subject → length words ≡ plain_words h

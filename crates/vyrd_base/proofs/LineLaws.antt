@@ -15,9 +15,10 @@ use Rattle.vyrd_base.specs.declared.log.Kind.{Kind}
 use Rattle.vyrd_base.specs.declared.log.Kind.TheVariants.{Call, Return, Write, Commit, BlockOpen, BlockClose, BlockCommit}
 use Rattle.vyrd_base.specs.declared.log.Entry.{Entry}
 use Rattle.vyrd_base.specs.declared.log.StartWord.{StartWord}
-use Rattle.vyrd_base.specs.Subjects.{arity_of, are_padded, subject_of, same_subject}
+use Rattle.vyrd_base.specs.Subjects.{arity_of, are_padded, is_named}
 use Rattle.vyrd_base.specs.Spelling.{spaced, method_name, arg_fields, kind_fields, start_line, entry_line, end_line, is_kind_of, is_entry_of}
 use Rattle.vyrd_base.specs.Lines.{fields_of, number_of, args_from, guessed_kind, guessed_entry, entry_in, guessed_start, start_in}
+use Rattle.vyrd_base.proofs.SubjectLaws.{named_built_in}
 use Rattle.vyrd_base.proofs.StructureLaws.{plain_method, some_arguments, few_arguments, method_found}
 use Rattle.vyrd_base.proofs.SplitLaws.{is_plain_field, lacks, all_lack, split-join, lacks-join, decimal_lacks, no_space, no_line_feed, number_of_decimal, bytes_same}
 use Rattle.vyrd_base.proofs.TestLaws.{both_true, first_true, second_true, same_of, is_same}
@@ -82,11 +83,12 @@ args_guess (suc (suc (suc (suc n)))) args some few e small = absurd (omega (arit
 pub call_guess : (subject : Subject) (method : Method) (args : Args) → is_kind_of subject (Call method args) ≡ true
     → guessed_kind subject (kind_fields (Call method args)) ≡ Some (Call method args)
 call_guess subject method args e =
-    let same : same_subject (subject_of method) subject ≡ true = first_true _ _ (first_true _ _ (first_true _ _ (first_true _ _ e))) in
-    let read : args_from (arg_fields method args) ≡ args = args_guess (arity_of method) args (some_arguments method) (few_arguments method)
-    (padded_of (same_subject (subject_of method) subject) _ args e)
-    (small_of (same_subject (subject_of method) subject) (are_padded (arity_of method) args) args e) in
-    ap (option_map (λ m. Call m (args_from (arg_fields method args)))) (method_found subject method same)
+    let named : is_named method subject ≡ true = first_true _ _ (first_true _ _ (first_true _ _ (first_true _ _ e))) in
+    let read : args_from (arg_fields method args) ≡ args = args_guess (arity_of method) args
+    (some_arguments method (named_built_in method subject named)) (few_arguments method (named_built_in method subject named))
+    (padded_of (is_named method subject) _ args e)
+    (small_of (is_named method subject) (are_padded (arity_of method) args) args e) in
+    ap (option_map (λ m. Call m (args_from (arg_fields method args)))) (method_found subject method named)
     ∙ ap (λ x. Some (Call method x)) read
 
 kind_guess : (subject : Subject) (kind : Kind) → is_kind_of subject kind ≡ true → guessed_kind subject (kind_fields kind) ≡ Some kind
@@ -126,7 +128,7 @@ plain_args method args small = plain_take (arity_of method) (args.a ∷ args.b �
 plain_kind : (subject : Subject) (kind : Kind) → is_kind_of subject kind ≡ true → list_all is_plain_field (kind_fields kind) ≡ true
 plain_kind subject (Call method args) e =
     both_true _ _ (plain_method method)
-    (plain_args method args (small_of (same_subject (subject_of method) subject) (are_padded (arity_of method) args) args e))
+    (plain_args method args (small_of (is_named method subject) (are_padded (arity_of method) args) args e))
 plain_kind subject (Return reply) e = both_true _ _ (plain_number reply (below_64 reply e)) refl
 plain_kind subject (Write word value) e =
     both_true _ _ (plain_number word (below_32 word (first_true _ _ e)))

@@ -16,7 +16,7 @@ use Rattle.vyrd_base.specs.declared.log.Entry.{Entry}
 use Rattle.vyrd_base.specs.declared.log.StartWord.{StartWord}
 use Rattle.vyrd_base.proofs.StructureLaws.{short_method}
 use Rattle.vyrd_base.specs.Limits.{is_sized}
-use Rattle.vyrd_base.specs.Subjects.{arity_of, are_padded, subject_of, same_subject}
+use Rattle.vyrd_base.specs.Subjects.{arity_of, are_padded, is_named}
 use Rattle.vyrd_base.specs.Spelling.{method_name, subject_name, header_line, kind_fields, start_line, entry_line, end_line, is_kind_of, is_entry_of}
 use Rattle.vyrd_base.specs.Lines.{fields_of, number_of, guessed_entry, entry_in, start_in, subject_called, header_of, header_spelled, header_from, header_in}
 use Rattle.vyrd_base.proofs.LineLaws.{is_start, start_numbers, start_in_sound}
@@ -59,11 +59,11 @@ fewer (suc n) (x ∷ numbers) =
 -- the fields after the caller have at most 52 bytes, with their spaces
 short_kind : (subject : Subject) (kind : Kind) → is_kind_of subject kind ≡ true → spaced_length (kind_fields kind) ≤ 52
 short_kind subject (Call method args) e =
-    let a = short_32 args.a (second_true (same_subject (subject_of method) subject && are_padded (arity_of method) args) _
+    let a = short_32 args.a (second_true (is_named method subject && are_padded (arity_of method) args) _
     (first_true _ _ (first_true _ _ e))) in
-    let b = short_32 args.b (second_true (same_subject (subject_of method) subject && are_padded (arity_of method) args
+    let b = short_32 args.b (second_true (is_named method subject && are_padded (arity_of method) args
     && nat_lt args.a (2 ^ 32)) _ (first_true _ _ e)) in
-    let c = short_32 args.c (second_true (same_subject (subject_of method) subject && are_padded (arity_of method) args
+    let c = short_32 args.c (second_true (is_named method subject && are_padded (arity_of method) args
     && nat_lt args.a (2 ^ 32) && nat_lt args.b (2 ^ 32)) _ e) in
     omega (arith, short_method method, fewer (arity_of method) (args.a ∷ args.b ∷ args.c ∷ []), a, b, c)
 short_kind subject (Return reply) e = omega (arith, short_64 reply e)

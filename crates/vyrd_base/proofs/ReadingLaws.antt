@@ -13,7 +13,7 @@ use Rattle.vyrd_base.specs.declared.log.Entry.{Entry}
 use Rattle.vyrd_base.specs.declared.log.StartWord.{StartWord}
 use Rattle.vyrd_base.specs.declared.verdict.Rule.TheVariants.{TooManyLines, StartRange, StartOrder, UnknownVersion, BadHeader}
 use Rattle.vyrd_base.specs.Layout.{plain_words}
-use Rattle.vyrd_base.specs.Limits.{is_within, is_known_version}
+use Rattle.vyrd_base.specs.Subjects.{is_built_in, limits_of}
 use Rattle.vyrd_base.specs.Starts.{is_out_of_range, is_out_of_order, start_rule, do_follow, may_start}
 use Rattle.vyrd_base.specs.Spelling.{ended_line, start_line, entry_line, end_line, header_line, subject_name, log_text, is_entry_of}
 use Rattle.vyrd_base.specs.Lines.{start_in, entry_in, header_in, fields_of, header_spelled, header_from, header_if, header_of}
@@ -23,7 +23,7 @@ use Rattle.vyrd_base.specs.TextVerdicts.{known_verdict, text_verdict}
 use Rattle.vyrd_base.proofs.SplitLaws.{lacks, split_at, split-join, lacks-join, number_of_decimal, bytes_same}
 use Rattle.vyrd_base.proofs.SplitLaws.{is_plain_field}
 use Rattle.vyrd_base.proofs.LineLaws.{plain_number, plain_spaces, plain_line_feeds, entry_line_whole, entry_in-entry_line, entry_line_isnt_end, is_start, start_line_whole, start_in-start_line, start_in-entry_line, start_in-end_line}
-use Rattle.vyrd_base.proofs.HeaderLaws.{sized, size_in_32_bits, callers_in_32_bits, few_words}
+use Rattle.vyrd_base.proofs.HeaderLaws.{low_version, sized, size_in_32_bits, callers_in_32_bits, few_words}
 use Rattle.vyrd_base.proofs.TestLaws.{both_true, first_true, second_true, neither_true, above_of, is_below}
 use Rattle.vyrd_base.proofs.StructureLaws.{plain_subject}
 use Rattle.vyrd_base.proofs.SubjectLaws.{subject_read}
@@ -220,43 +220,34 @@ pub split_body : (h : Header) (starting : List StartWord) (entries : List Entry)
 split_body h [] entries may all = split_tail h.subject entries all
 split_body h (s ∷ starting) entries may all = split_starts h None (s ∷ starting) entries (second_true (h.version == 2) _ may) all
 
-pub known_version : (n : ℕ) → is_known_version n ≡ true → n ≤ 2
-known_version zero e = omega arith
-known_version (suc zero) e = omega arith
-known_version (suc (suc zero)) e = omega arith
-known_version (suc (suc (suc n))) e = cc
-
-version_fits : (n : ℕ) → n ≤ 2 → nat_lt n (2 ^ 32) ≡ true
+version_fits : (n : ℕ) → n ≤ 3 → nat_lt n (2 ^ 32) ≡ true
 version_fits n h = is_below n (2 ^ 32) (omega arith)
 
 -- limits that were tested give the header
-header_if_within : (version : ℕ) (subject : Subject) (size callers : ℕ) (w : is_within version size callers
-    ≡ true) (b : Bool) (e : is_within version size callers ≡ b) → b ≡ true
+header_if_within : (version : ℕ) (subject : Subject) (size callers : ℕ) (w : limits_of subject version size callers
+    ≡ true) (b : Bool) (e : limits_of subject version size callers ≡ b) → b ≡ true
     → header_if version subject size callers b e ≡ Some (record { version = version; subject = subject; size = size; callers = callers; within = w })
 header_if_within version subject size callers w true e t =
     ap (λ p. Some (record { version = version; subject = subject; size = size; callers = callers; within = p })) (Bool-set _ _ e w)
 header_if_within version subject size callers w false e t = cc
 
--- a header is read back from its line
-pub header_in-header_line : (h : Header) → header_in (header_line h.version h.subject h.size h.callers) ≡ Ok h
+-- a header of a built-in subject is read back from its line
+pub header_in-header_line : (h : Header) → is_built_in h.subject ≡ true → header_in (header_line h.version h.subject h.size h.callers) ≡ Ok h
 unfolding header_in
-header_in-header_line h =
+header_in-header_line h built =
     ap (header_from line) fields
-    ∙ (λ i. header_spelled line (number_of_decimal h.version small_version i) (subject_read h.subject i)
+    ∙ (λ i. header_spelled line (number_of_decimal h.version small_version i) (subject_read h.subject built i)
     (number_of_decimal h.size small_size i) (number_of_decimal h.callers small_callers i))
     ∙ ap (λ b. cond b (ok_or (header_of h.version h.subject h.size h.callers) UnknownVersion) (Err BadHeader))
-    (both_true _ _ (both_true _ _ (version_fits h.version low) (sized h)) (bytes_same line))
+    (both_true _ _ (both_true _ _ (version_fits h.version (low_version h)) (sized h built)) (bytes_same line))
     ∙ ap (λ o. ok_or o UnknownVersion)
-    (header_if_within h.version h.subject h.size h.callers h.within (is_within h.version h.size h.callers) refl h.within)
+    (header_if_within h.version h.subject h.size h.callers h.within (limits_of h.subject h.version h.size h.callers) refl h.within)
   where
     line : List ℕ
     line = header_line h.version h.subject h.size h.callers
 
-    low : h.version ≤ 2
-    low = known_version h.version (first_true _ _ h.within)
-
     small_version : h.version < 2 ^ 64
-    small_version = omega (arith, low)
+    small_version = omega (arith, low_version h)
 
     small_size : h.size < 2 ^ 64
     small_size = omega (arith, size_in_32_bits h)
@@ -283,7 +274,7 @@ header_lacks h = lacks-join 10 32 (codes "vyrd") (decimal h.version ∷ subject_
     (both_true _ _ (plain_number h.size small_size) (both_true _ _ (plain_number h.callers small_callers) refl)))))
   where
     small_version : h.version < 2 ^ 64
-    small_version = omega (arith, known_version h.version (first_true _ _ h.within))
+    small_version = omega (arith, low_version h)
 
     small_size : h.size < 2 ^ 64
     small_size = omega (arith, size_in_32_bits h)
@@ -296,37 +287,37 @@ abbrev pub whole : Header → List StartWord → List Entry → Reading
 whole h starting entries = record { header = Some h; starting = starting; entries = entries; ended = true; fault = None }
 
 -- a header's line before the lines of starting words, of entries and of `end`
-lines_of_log : (input : Input) (h : Header) (starting : List StartWord) (entries : List Entry)
+lines_of_log : (input : Input) (h : Header) (starting : List StartWord) (entries : List Entry) → is_built_in h.subject ≡ true
     → length starting + length entries + 2 ≤ input.max_lines → may_start h starting ≡ true → AllOf h.subject entries
     → text_read input (header_line h.version h.subject h.size h.callers ∷ body_lines starting entries) ≡ whole h starting entries
-lines_of_log input h starting entries within may all =
+lines_of_log input h starting entries built within may all =
     let rest = two_lines starting entries in
     ap (λ ls. text_read input (header_line h.version h.subject h.size h.callers ∷ ls)) rest.3
     ∙ ap (λ r. elim r as (λ _. Reading) [
       | Ok g ↦ header_before g (body_read input g (rest.0 ∷ rest.1 ∷ rest.2))
       | Err rule ↦ stopped 1 (Some rule)
-    ]) (header_in-header_line h)
+    ]) (header_in-header_line h built)
     ∙ ap (λ ls. header_before h (body_read input h ls)) (sym rest.3)
     ∙ ap (header_before h) (body_tail input h starting entries within may all)
 
 -- the text of a log is read as that log
-pub reading-log_text : (input : Input) (h : Header) (starting : List StartWord) (entries : List Entry)
+pub reading-log_text : (input : Input) (h : Header) (starting : List StartWord) (entries : List Entry) → is_built_in h.subject ≡ true
     → length starting + length entries + 2 ≤ input.max_lines → may_start h starting ≡ true → AllOf h.subject entries
     → reading input (log_text h starting entries) ≡ whole h starting entries
 unfolding reading log_text
-reading-log_text input h starting entries within may all =
+reading-log_text input h starting entries built within may all =
     let line = header_line h.version h.subject h.size h.callers in
     ap (λ bytes. text_read input (slice_split (λ b. b == 10) bytes)) (log_text_parts line starting entries)
     ∙ ap (text_read input) (split_at 10 line (body_text starting entries) (header_lacks h)
     ∙ ap (λ rest. line ∷ rest) (split_body h starting entries may all))
-    ∙ lines_of_log input h starting entries within may all
+    ∙ lines_of_log input h starting entries built within may all
 
 -- the verdict about the text of a log is the verdict about the log
-pub text_verdict-log_text : (max : ℕ) (h : Header) (starting : List StartWord) (entries : List Entry)
+pub text_verdict-log_text : (max : ℕ) (h : Header) (starting : List StartWord) (entries : List Entry) → is_built_in h.subject ≡ true
     → length starting + length entries + 2 ≤ max → may_start h starting ≡ true → AllOf h.subject entries
     → text_verdict max (log_text h starting entries) ≡ verdict (rules_of h) starting entries
 unfolding text_verdict verdict
-text_verdict-log_text max h starting entries within may all =
+text_verdict-log_text max h starting entries built within may all =
     ap (λ read. unwrap_or (known_verdict read) (accepted read.entries))
-    (reading-log_text (record { max_lines = max; is_whole = true }) h starting entries within may all)
+    (reading-log_text (record { max_lines = max; is_whole = true }) h starting entries built within may all)
     ∙ ap (λ o. unwrap_or o (accepted entries)) (or_none (option_or (verdict_so_far (rules_of h) starting entries) (end_verdict (rules_of h) starting entries)))

@@ -12,7 +12,8 @@ use Rattle.vyrd_base.specs.declared.log.Entry.{Entry}
 use Rattle.vyrd_base.specs.declared.log.StartWord.{StartWord}
 use Rattle.vyrd_base.specs.declared.verdict.Rule.{Rule}
 use Rattle.vyrd_base.specs.declared.verdict.Rule.TheVariants.{TooManyLines, AfterEnd, StartRange, StartOrder, UnknownVersion, BadHeader}
-use Rattle.vyrd_base.specs.Limits.{is_sized, is_within}
+use Rattle.vyrd_base.specs.Limits.{is_sized}
+use Rattle.vyrd_base.specs.Subjects.{limits_of}
 use Rattle.vyrd_base.specs.Shape.{◌breaks◌, first_broken}
 use Rattle.vyrd_base.specs.Starts.{is_out_of_range, is_out_of_order, start_rule, do_follow, may_start}
 use Rattle.vyrd_base.specs.Spelling.{ended_line, start_line, entry_line, end_line, header_line, log_text, is_entry_of}
@@ -257,7 +258,7 @@ body_sound input h lines done none = by_version (h.version == 2) done none
     by_version false d f = lines_sound_from input h.subject 2 lines d f
 
 -- a header that is read is spelled by the line
-header_if_is : (version : ℕ) (subject : Subject) (size callers : ℕ) (b : Bool) (t : is_within version size callers
+header_if_is : (version : ℕ) (subject : Subject) (size callers : ℕ) (b : Bool) (t : limits_of subject version size callers
     ≡ b) (h : Header) → header_if version subject size callers b t ≡ Some h
     → header_line version subject size callers ≡ header_line h.version h.subject h.size h.callers
 header_if_is version subject size callers false t h e = cc
@@ -284,7 +285,7 @@ spelled_sound line version (Some subject) size callers h e =
     by_test true t f =
         sym ((bytes_eq-Decides (header_line version subject size callers) line).0
         (second_true (nat_lt version (2 ^ 32) && is_sized size callers) _ t))
-        ∙ header_if_is version subject size callers (is_within version size callers) refl h
+        ∙ header_if_is version subject size callers (limits_of subject version size callers) refl h
         (ok_is (header_of version subject size callers) UnknownVersion h f)
 
 from_sound : (line : List ℕ) (fields : List (List ℕ)) (h : Header) → header_from line fields ≡ Ok h

@@ -8,7 +8,7 @@ use Rattle.std.proofs.Math.Seq.{drop-append_seam}
 use Rattle.std.proofs.lemmas.List.{replicate-append-replicate, length-replicate}
 use Rattle.vyrd_base.specs.declared.header.Header.{Header}
 use Rattle.vyrd_base.specs.declared.subject.Subject.{Subject}
-use Rattle.vyrd_base.specs.declared.subject.Subject.TheVariants.{Multiset, Cache, Tree, Buffers}
+use Rattle.vyrd_base.specs.declared.subject.Subject.TheVariants.{Multiset, Cache, Tree, Buffers, Own}
 use Rattle.vyrd_base.specs.Places.{numbers_from, numbers_below}
 use Rattle.vyrd_base.specs.Layout.{plain_words, lock_words}
 use Rattle.vyrd_base.specs.Amounts.{plus_amount, collected}
@@ -24,6 +24,7 @@ use Rattle.vyrd_base.specs.Tree.{is_only_first, is_sound_node, is_tree}
 use Rattle.vyrd_base.specs.Multiset.{is_sound_slot}
 use Rattle.vyrd_base.specs.Cache.{is_sound_chunk}
 use Rattle.vyrd_base.specs.Represented.{is_sound, state_of_words}
+use Rattle.vyrd_base.specs.Subjects.{is_built_in}
 use Rattle.vyrd_base.proofs.ListLaws.{zeros}
 use Rattle.vyrd_base.proofs.HeaderLaws.{some_size}
 use Rattle.vyrd_base.proofs.TestLaws.{is_same, is_below}
@@ -111,6 +112,7 @@ sound_same v w same Multiset size = λ i.
     list_all (λ slot. not (same (2 * slot) i == 2) || same (2 * slot + 1) i % size == slot / 4) (numbers_below (4 * size))
 sound_same v w same Cache size = λ i. list_all (λ h. is_sound_chunk (chunk_same v w same h i)) (numbers_below size)
 sound_same v w same Tree size = tree_same v w same size
+sound_same v w same Own size = refl
 sound_same v w same Buffers size = λ i. list_all (λ b. is_buffer (buffer_same v w same b i)) (numbers_below size)
 
 -- They show the same too.
@@ -137,6 +139,7 @@ parts_same v w same Multiset size = λ i.
     flat_map (λ slot. cond (same (2 * slot) i == 2) ((same (2 * slot + 1) i, 1) ∷ []) []) (numbers_below (4 * size))
 parts_same v w same Cache size = λ i. flat_map (λ h. chunk_parts size h (chunk_same v w same h i)) (numbers_below size)
 parts_same v w same Tree size = chain_same v w same size size [] 0
+parts_same v w same Own size = refl
 parts_same v w same Buffers size = λ i. flat_map (λ b. buffer_parts size b (buffer_same v w same b i)) (numbers_below size)
 
 pub view_same : (h : Header) (v w : List ℕ) → SameWords v w → view_of_words h v ≡ view_of_words h w
@@ -187,11 +190,12 @@ free_buffers : (k n : ℕ) → list_all (λ b. is_buffer (buffer_at [] b)) (numb
 free_buffers k zero = refl
 free_buffers k (suc n) = free_buffers (k + 1) n
 
-no_words_sound : (subject : Subject) (size : ℕ) → 1 ≤ size → is_sound subject size [] ≡ true
+no_words_sound : (subject : Subject) (size : ℕ) → (is_built_in subject ≡ true → 1 ≤ size) → is_sound subject size [] ≡ true
 no_words_sound Multiset size some = free_slots size 0 (4 * size)
 no_words_sound Cache size some = free_chunks 0 size
 no_words_sound Buffers size some = free_buffers 0 size
-no_words_sound Tree zero some = absurd (omega (arith, some))
+no_words_sound Own size some = refl
+no_words_sound Tree zero some = absurd (omega (arith, some refl))
 no_words_sound Tree (suc size) some = ap (λ b. b && true && true && true && true) (is_below 0 (suc size) (omega arith))
 
 no_slots : (k n : ℕ) → flat_map (slot_parts []) (numbers_from k n) ≡ []
@@ -206,11 +210,12 @@ no_buffers : (size k n : ℕ) → collected (flat_map (λ b. buffer_parts size b
 no_buffers size k zero = refl
 no_buffers size k (suc n) = ap (λ s. plus_amount s k 0) (no_buffers size (k + 1) n)
 
-no_words_empty : (subject : Subject) (size : ℕ) → 1 ≤ size → collected (parts_of subject size []) ≡ []
+no_words_empty : (subject : Subject) (size : ℕ) → (is_built_in subject ≡ true → 1 ≤ size) → collected (parts_of subject size []) ≡ []
 no_words_empty Multiset size some = ap collected (no_slots 0 (4 * size))
 no_words_empty Cache size some = no_chunks size 0 size
 no_words_empty Buffers size some = no_buffers size 0 size
-no_words_empty Tree zero some = absurd (omega (arith, some))
+no_words_empty Own size some = refl
+no_words_empty Tree zero some = absurd (omega (arith, some refl))
 no_words_empty Tree (suc size) some = refl
 
 zeros_show_nothing : (h : Header) (k : ℕ) → view_of_words h (replicate k 0) ≡ []

@@ -1,16 +1,16 @@
 -- What every method and every subject meets: calls are written on lines and read again.
-use Rattle.std.proofs.Common.{◌≡◌, ℕ, ◌+◌, ◌<◌, ◌≤◌, ◌^◌, Bool, true, false, not, cond, List, [], ◌∷◌, length, map}
-use Rattle.std.proofs.Common.{Option, Some, None, refl, ap, ◌∙◌, sym}
+use Rattle.std.proofs.Common.{◌≡◌, ℕ, zero, suc, ◌+◌, ◌<◌, ◌≤◌, ◌^◌, Bool, true, false, not, cond, List, [], ◌∷◌, length, map}
+use Rattle.std.proofs.Common.{Option, Some, None, refl, ap, ◌∙◌, sym, arith}
 use Rattle.std.specs.Prelude.{find, option_map, slice_get}
 use Rattle.std.specs.Str.{bytes_eq}
 use Rattle.std.proofs.lemmas.Option.{slice_get-map}
 use Rattle.vyrd_base.specs.Limits.{longest_subject, longest_method}
 use Rattle.vyrd_base.specs.declared.subject.Subject.{Subject}
-use Rattle.vyrd_base.specs.declared.subject.Subject.TheVariants.{Multiset, Cache, Tree, Buffers}
+use Rattle.vyrd_base.specs.declared.subject.Subject.TheVariants.{Multiset, Cache, Tree, Buffers, Own}
 use Rattle.vyrd_base.specs.declared.subject.Method.{Method}
 use Rattle.vyrd_base.specs.declared.subject.Method.TheVariants.{Multiset as OfMultiset}
 use Rattle.vyrd_base.specs.declared.subject.Method.TheVariants.{Cache as OfCache, Tree as OfTree}
-use Rattle.vyrd_base.specs.declared.subject.Method.TheVariants.{Buffers as OfBuffers}
+use Rattle.vyrd_base.specs.declared.subject.Method.TheVariants.{Buffers as OfBuffers, Own as OfOwn}
 use Rattle.vyrd_base.specs.declared.multiset.MultisetMethod.{MultisetMethod}
 use Rattle.vyrd_base.specs.Multiset.{multiset}
 use Rattle.vyrd_base.specs.declared.cache.CacheMethod.{CacheMethod}
@@ -19,7 +19,7 @@ use Rattle.vyrd_base.specs.declared.tree.TreeMethod.{TreeMethod}
 use Rattle.vyrd_base.specs.Tree.{tree}
 use Rattle.vyrd_base.specs.declared.buffers.BuffersMethod.{BuffersMethod}
 use Rattle.vyrd_base.specs.Buffers.{buffers}
-use Rattle.vyrd_base.specs.Subjects.{arity_of, subject_of, same_subject, methods_of, is_observer, must_commit}
+use Rattle.vyrd_base.specs.Subjects.{arity_of, subject_of, methods_of, is_observer, must_commit, is_built_in, is_named}
 use Rattle.vyrd_base.specs.Layout.{plain_words_of, lock_words_of}
 use Rattle.vyrd_base.specs.Spelling.{subject_name, method_name}
 use Rattle.vyrd_base.specs.Lines.{method_called}
@@ -34,30 +34,35 @@ plain_method (OfMultiset m) = multiset_is.plain m
 plain_method (OfCache m) = cache_is.plain m
 plain_method (OfTree m) = tree_is.plain m
 plain_method (OfBuffers m) = buffers_is.plain m
+plain_method (OfOwn m) = refl
 
 pub short_method : (method : Method) → length (method_name method) ≤ longest_method
 short_method (OfMultiset m) = multiset_is.short m
 short_method (OfCache m) = cache_is.short m
 short_method (OfTree m) = tree_is.short m
 short_method (OfBuffers m) = buffers_is.short m
+short_method (OfOwn m) = omega arith
 
-pub some_arguments : (method : Method) → 1 ≤ arity_of method
-some_arguments (OfMultiset m) = multiset_is.some_arguments m
-some_arguments (OfCache m) = cache_is.some_arguments m
-some_arguments (OfTree m) = tree_is.some_arguments m
-some_arguments (OfBuffers m) = buffers_is.some_arguments m
+pub some_arguments : (method : Method) → is_built_in (subject_of method) ≡ true → 1 ≤ arity_of method
+some_arguments (OfMultiset m) built = multiset_is.some_arguments m
+some_arguments (OfCache m) built = cache_is.some_arguments m
+some_arguments (OfTree m) built = tree_is.some_arguments m
+some_arguments (OfBuffers m) built = buffers_is.some_arguments m
+some_arguments (OfOwn m) built = cc
 
-pub few_arguments : (method : Method) → arity_of method ≤ 3
-few_arguments (OfMultiset m) = multiset_is.few_arguments m
-few_arguments (OfCache m) = cache_is.few_arguments m
-few_arguments (OfTree m) = tree_is.few_arguments m
-few_arguments (OfBuffers m) = buffers_is.few_arguments m
+pub few_arguments : (method : Method) → is_built_in (subject_of method) ≡ true → arity_of method ≤ 3
+few_arguments (OfMultiset m) built = multiset_is.few_arguments m
+few_arguments (OfCache m) built = cache_is.few_arguments m
+few_arguments (OfTree m) built = tree_is.few_arguments m
+few_arguments (OfBuffers m) built = buffers_is.few_arguments m
+few_arguments (OfOwn m) built = cc
 
-pub once_or_never : (method : Method) → must_commit method ≡ not (is_observer method)
-once_or_never (OfMultiset m) = multiset_is.once_or_never m
-once_or_never (OfCache m) = cache_is.once_or_never m
-once_or_never (OfTree m) = tree_is.once_or_never m
-once_or_never (OfBuffers m) = buffers_is.once_or_never m
+pub once_or_never : (method : Method) → is_built_in (subject_of method) ≡ true → must_commit method ≡ not (is_observer method)
+once_or_never (OfMultiset m) built = multiset_is.once_or_never m
+once_or_never (OfCache m) built = cache_is.once_or_never m
+once_or_never (OfTree m) built = tree_is.once_or_never m
+once_or_never (OfBuffers m) built = buffers_is.once_or_never m
+once_or_never (OfOwn m) built = cc
 
 -- a search among other names of the same things
 find_mapped : {A B : Type 0} (f : A → B) (p : B → Bool) (xs : List A) → find p (map f xs) ≡ option_map f (find (λ x. p (f x)) xs)
@@ -70,7 +75,7 @@ find_mapped f p (x ∷ xs) = by_test (p (f x)) (find_mapped f p xs)
     by_test false rest = rest
 
 -- the method of that name is the only one of its subject
-pub method_found : (subject : Subject) (method : Method) → same_subject (subject_of method) subject ≡ true
+pub method_found : (subject : Subject) (method : Method) → is_named method subject ≡ true
     → method_called subject (method_name method) ≡ Some method
 method_found Multiset (OfMultiset m) e = find_mapped OfMultiset (λ x. bytes_eq (method_name x) (multiset.called m)) multiset.methods ∙ ap (option_map OfMultiset) (multiset_is.found m)
 method_found Cache (OfCache m) e = find_mapped OfCache (λ x. bytes_eq (method_name x) (cache.called m)) cache.methods ∙ ap (option_map OfCache) (cache_is.found m)
@@ -84,8 +89,9 @@ place_of (OfMultiset m) = multiset_is.place m
 place_of (OfCache m) = cache_is.place m
 place_of (OfTree m) = tree_is.place m
 place_of (OfBuffers m) = buffers_is.place m
+place_of (OfOwn m) = 0
 
-pub method_listed : (subject : Subject) (method : Method) → same_subject (subject_of method) subject ≡ true
+pub method_listed : (subject : Subject) (method : Method) → is_named method subject ≡ true
     → slice_get (methods_of subject) (place_of method) ≡ Some method
 method_listed Multiset (OfMultiset m) e = slice_get-map OfMultiset multiset.methods (multiset_is.place m) ∙ ap (option_map OfMultiset) (multiset_is.listed m)
 method_listed Cache (OfCache m) e = slice_get-map OfCache cache.methods (cache_is.place m) ∙ ap (option_map OfCache) (cache_is.listed m)
@@ -95,42 +101,47 @@ method_listed _ _ e = cc
 
 -- a method that stands among those of a subject is the subject's
 pub subject_listed : (subject : Subject) (i : ℕ) (method : Method) → slice_get (methods_of subject) i ≡ Some method
-    → same_subject (subject_of method) subject ≡ true
+    → is_named method subject ≡ true
 subject_listed Multiset i method e = by_place (slice_get multiset.methods i) (sym (slice_get-map OfMultiset multiset.methods i) ∙ e)
   where
-    by_place : (o : Option MultisetMethod) → option_map OfMultiset o ≡ Some method → same_subject (subject_of method) Multiset ≡ true
+    by_place : (o : Option MultisetMethod) → option_map OfMultiset o ≡ Some method → is_named method Multiset ≡ true
     by_place None f = cc
     by_place (Some m) f = cc
 subject_listed Cache i method e = by_place (slice_get cache.methods i) (sym (slice_get-map OfCache cache.methods i) ∙ e)
   where
-    by_place : (o : Option CacheMethod) → option_map OfCache o ≡ Some method → same_subject (subject_of method) Cache ≡ true
+    by_place : (o : Option CacheMethod) → option_map OfCache o ≡ Some method → is_named method Cache ≡ true
     by_place None f = cc
     by_place (Some m) f = cc
 subject_listed Tree i method e = by_place (slice_get tree.methods i) (sym (slice_get-map OfTree tree.methods i) ∙ e)
   where
-    by_place : (o : Option TreeMethod) → option_map OfTree o ≡ Some method → same_subject (subject_of method) Tree ≡ true
+    by_place : (o : Option TreeMethod) → option_map OfTree o ≡ Some method → is_named method Tree ≡ true
     by_place None f = cc
     by_place (Some m) f = cc
 subject_listed Buffers i method e = by_place (slice_get buffers.methods i) (sym (slice_get-map OfBuffers buffers.methods i) ∙ e)
   where
-    by_place : (o : Option BuffersMethod) → option_map OfBuffers o ≡ Some method → same_subject (subject_of method) Buffers ≡ true
+    by_place : (o : Option BuffersMethod) → option_map OfBuffers o ≡ Some method → is_named method Buffers ≡ true
     by_place None f = cc
     by_place (Some m) f = cc
+subject_listed Own zero method e = cc
+subject_listed Own (suc i) method e = cc
 
 pub plain_subject : (subject : Subject) → is_plain_field (subject_name subject) ≡ true
 plain_subject Multiset = multiset_is.plain_name
 plain_subject Cache = cache_is.plain_name
 plain_subject Tree = tree_is.plain_name
 plain_subject Buffers = buffers_is.plain_name
+plain_subject Own = refl
 
 pub short_subject : (subject : Subject) → length (subject_name subject) ≤ longest_subject
 short_subject Multiset = multiset_is.short_name
 short_subject Cache = cache_is.short_name
 short_subject Tree = tree_is.short_name
 short_subject Buffers = buffers_is.short_name
+short_subject Own = omega arith
 
 pub words_within : (subject : Subject) → (size : ℕ) → size ≤ 1024 → plain_words_of subject size + lock_words_of subject size < 2 ^ 16
-words_within Multiset = multiset_is.few_words
-words_within Cache = cache_is.few_words
-words_within Tree = tree_is.few_words
-words_within Buffers = buffers_is.few_words
+words_within Multiset size low = multiset_is.few_words size low
+words_within Cache size low = cache_is.few_words size low
+words_within Tree size low = tree_is.few_words size low
+words_within Buffers size low = buffers_is.few_words size low
+words_within Own size low = omega (arith, low)

@@ -1,16 +1,18 @@
 -- The subjects and their names: which are the same, how long a name is, and how it is read.
-use Rattle.std.proofs.Common.{◌≡◌, ℕ, ◌≤◌, true, List, ◌∷◌, ◌++◌, length, Some, refl, sym, ap, ◌∙◌, arith}
-use Rattle.std.specs.Prelude.{◌==◌}
-use Rattle.std.specs.List.{slice_split}
+use Rattle.std.proofs.Common.{◌≡◌, ℕ, ◌≤◌, Bool, true, false, cond, List, [], ◌∷◌, ◌++◌, length, Some, refl, sym, ap, ◌∙◌, arith}
+use Rattle.std.specs.Prelude.{◌==◌, find}
+use Rattle.std.specs.Str.{bytes_eq}
+use Rattle.std.specs.List.{slice_split, AllByRecursion}
 use Rattle.std.proofs.lemmas.List.{append_cancel_left}
 use Rattle.vyrd_base.specs.declared.subject.Subject.{Subject}
-use Rattle.vyrd_base.specs.declared.subject.Subject.TheVariants.{Multiset, Cache, Tree, Buffers}
-use Rattle.vyrd_base.specs.Subjects.{same_subject}
+use Rattle.vyrd_base.specs.declared.subject.Method.{Method}
+use Rattle.vyrd_base.specs.declared.subject.Subject.TheVariants.{Multiset, Cache, Tree, Buffers, Own}
+use Rattle.vyrd_base.specs.Subjects.{subjects, same_subject, is_built_in, is_named, subject_of}
 use Rattle.vyrd_base.specs.Spelling.{subject_name}
 use Rattle.vyrd_base.specs.Lines.{subject_called}
 use Rattle.vyrd_base.proofs.SplitLaws.{lacks, split_at}
 use Rattle.vyrd_base.proofs.StructureLaws.{plain_subject}
-use Rattle.vyrd_base.proofs.TestLaws.{first_true}
+use Rattle.vyrd_base.proofs.TestLaws.{first_true, second_true}
 
 -- subjects that are found to be the same are
 pub same_subjects : (a b : Subject) → same_subject a b ≡ true → a ≡ b
@@ -30,13 +32,46 @@ same_subjects Tree Buffers e = cc
 same_subjects Buffers Multiset e = cc
 same_subjects Buffers Cache e = cc
 same_subjects Buffers Tree e = cc
+same_subjects Own Own e = refl
+same_subjects Own Multiset e = cc
+same_subjects Multiset Own e = cc
+same_subjects Own Cache e = cc
+same_subjects Cache Own e = cc
+same_subjects Own Tree e = cc
+same_subjects Tree Own e = cc
+same_subjects Own Buffers e = cc
+same_subjects Buffers Own e = cc
 
--- a name is read as the subject that has it
-pub subject_read : (subject : Subject) → subject_called (subject_name subject) ≡ Some subject
-subject_read Multiset = refl
-subject_read Cache = refl
-subject_read Tree = refl
-subject_read Buffers = refl
+-- a method with a name is its subject's, and that is built in
+pub named_same : (method : Method) (subject : Subject) → is_named method subject ≡ true → same_subject (subject_of method) subject ≡ true
+named_same method subject named = second_true (is_built_in subject) _ named
+
+pub named_built_in : (method : Method) (subject : Subject) → is_named method subject ≡ true → is_built_in (subject_of method) ≡ true
+named_built_in method subject named =
+    ap is_built_in (same_subjects (subject_of method) subject (named_same method subject named)) ∙ first_true (is_built_in subject) _ named
+
+-- what is found among subjects that are built in is one
+found_in : (test : Subject → Bool) (among : List Subject) (subject : Subject) → AllByRecursion (λ s. is_built_in s ≡ true) among
+    → find test among ≡ Some subject → is_built_in subject ≡ true
+found_in test [] subject all found = cc
+found_in test (s ∷ among) subject all found = by_test (test s) (found_in test among subject all.1) found
+  where
+    by_test : (b : Bool) → (find test among ≡ Some subject → is_built_in subject ≡ true)
+        → cond b (Some s) (find test among) ≡ Some subject → is_built_in subject ≡ true
+    by_test true rest is = let same : s ≡ subject = cc in ap is_built_in (sym same) ∙ all.0
+    by_test false rest is = rest is
+
+pub called_built_in : (name : List ℕ) (subject : Subject) → subject_called name ≡ Some subject → is_built_in subject ≡ true
+called_built_in name subject found =
+    found_in (λ s. bytes_eq (subject_name s) name) subjects subject (refl, (refl, (refl, (refl, tt)))) found
+
+-- the name of a subject that is built in is read as the subject that has it
+pub subject_read : (subject : Subject) → is_built_in subject ≡ true → subject_called (subject_name subject) ≡ Some subject
+subject_read Multiset built = refl
+subject_read Cache built = refl
+subject_read Tree built = refl
+subject_read Buffers built = refl
+subject_read Own built = cc
 
 -- the name before a space is one
 pub one_name : (a b : Subject) (r s : List ℕ) → subject_name a ++ 32 ∷ r ≡ subject_name b ++ 32 ∷ s → r ≡ s

@@ -13,6 +13,7 @@ use Rattle.vyrd_base.specs.declared.buffers.BuffersMethod.TheVariants.{Length, R
 use Rattle.vyrd_base.specs.declared.subject.Args.{Args}
 use Rattle.vyrd_base.specs.declared.subject.Commits.{Commits}
 use Rattle.vyrd_base.specs.declared.subject.Commits.TheVariants.{Never, Once}
+use Rattle.vyrd_base.specs.Limits.{is_within}
 use Rattle.vyrd_base.specs.Amounts.{Amounts, amount_of, with_amount}
 use Rattle.vyrd_base.specs.Places.{numbers_below}
 use Rattle.vyrd_base.specs.Structures.{Structure, by_reply}
@@ -134,6 +135,7 @@ buffer_parts size b buffer =
 abbrev pub buffers : Structure BuffersMethod
 buffers = record {
   name = codes "buffers";
+  limits = is_within;
   methods = Append ∷ AppendFrom ∷ Cut ∷ Length ∷ Read ∷ [];
   called = called;
   arity = arity;

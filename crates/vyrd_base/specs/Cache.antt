@@ -10,6 +10,7 @@ use Rattle.vyrd_base.specs.declared.cache.CacheMethod.TheVariants.{Write, Flush,
 use Rattle.vyrd_base.specs.declared.subject.Args.{Args}
 use Rattle.vyrd_base.specs.declared.subject.Commits.{Commits}
 use Rattle.vyrd_base.specs.declared.subject.Commits.TheVariants.{Never, Once}
+use Rattle.vyrd_base.specs.Limits.{is_within}
 use Rattle.vyrd_base.specs.Amounts.{Amounts, amount_of, with_amount}
 use Rattle.vyrd_base.specs.Places.{numbers_below}
 use Rattle.vyrd_base.specs.Structures.{Structure, by_reply}
@@ -109,6 +110,7 @@ is_sound_chunk c = is_chunk c && (not (c.state == 1) || cached_pair c == stored_
 abbrev pub cache : Structure CacheMethod
 cache = record {
   name = codes "cache";
+  limits = is_within;
   methods = Write ∷ Flush ∷ Evict ∷ Read ∷ [];
   called = called;
   arity = arity;

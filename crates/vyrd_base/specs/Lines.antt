@@ -16,10 +16,10 @@ use Rattle.vyrd_base.specs.declared.log.Entry.{Entry}
 use Rattle.vyrd_base.specs.declared.log.StartWord.{StartWord}
 use Rattle.vyrd_base.specs.declared.verdict.Rule.{Rule}
 use Rattle.vyrd_base.specs.declared.verdict.Rule.TheVariants.{BadHeader, UnknownVersion}
-use Rattle.vyrd_base.specs.Limits.{is_sized, is_within}
+use Rattle.vyrd_base.specs.Limits.{is_sized}
 use Rattle.vyrd_base.specs.Spelling.{subject_name, method_name, header_line, start_line, entry_line}
 use Rattle.vyrd_base.specs.Spelling.{is_entry_of}
-use Rattle.vyrd_base.specs.Subjects.{subjects, methods_of}
+use Rattle.vyrd_base.specs.Subjects.{subjects, methods_of, limits_of}
 
 -- the parts between spaces
 abbrev pub fields_of : List ℕ → List (List ℕ)
@@ -86,7 +86,7 @@ subject_called name = find (λ subject. bytes_eq (subject_name subject) name) su
 
 -- the header with these numbers, whose limits were tested
 abbrev pub header_if : (version : ℕ) (subject : Subject) (size callers : ℕ) (b : Bool)
-    → is_within version size callers ≡ b → Option Header
+    → limits_of subject version size callers ≡ b → Option Header
 header_if version subject size callers true e = Some
     (record { version = version; subject = subject; size = size; callers = callers; within = e })
 header_if version subject size callers false e = None
@@ -94,7 +94,7 @@ header_if version subject size callers false e = None
 -- the header with these numbers, if they are within the limits
 abbrev pub header_of : ℕ → Subject → ℕ → ℕ → Option Header
 header_of version subject size callers =
-    header_if version subject size callers (is_within version size callers) refl
+    header_if version subject size callers (limits_of subject version size callers) refl
 
 -- the header with these numbers, if they are within the limits and the line is its spelling
 abbrev pub header_spelled : List ℕ → ℕ → Option Subject → ℕ → ℕ → Result Header Rule

@@ -11,6 +11,7 @@ use Rattle.vyrd_base.specs.declared.multiset.MultisetMethod.TheVariants.{Lookup}
 use Rattle.vyrd_base.specs.declared.subject.Args.{Args}
 use Rattle.vyrd_base.specs.declared.subject.Commits.{Commits}
 use Rattle.vyrd_base.specs.declared.subject.Commits.TheVariants.{Never, Once}
+use Rattle.vyrd_base.specs.Limits.{is_within}
 use Rattle.vyrd_base.specs.Amounts.{Amounts, amount_of, is_present, with_amount, plus_amount}
 use Rattle.vyrd_base.specs.Places.{numbers_below}
 use Rattle.vyrd_base.specs.Structures.{Structure, by_reply}
@@ -75,6 +76,7 @@ is_sound_slot size words i =
 abbrev pub multiset : Structure MultisetMethod
 multiset = record {
   name = codes "multiset";
+  limits = is_within;
   methods = Insert ∷ InsertPair ∷ Delete ∷ Lookup ∷ [];
   called = called;
   arity = arity;

@@ -6,7 +6,8 @@
 -- rules that it gives (OwnRules). Then its text: how an expression is spelled (Spelling) and read
 -- (Reading), what a line says and adds (Lines), names (Names), the pieces of a line (Pieces), lines
 -- outside methods (Outer), of a method (Methods) and of a case (Changes), and all lines of a text,
--- one after the other (Reader). A sample is in Samples.
+-- one after the other (Reader). A sample is in Samples. What is known of such a subject without its
+-- specification is in Subject.
 pub mod Expressions
 pub mod Programs
 pub mod Steps
@@ -21,3 +22,7 @@ pub mod Methods
 pub mod Changes
 pub mod Reader
 pub mod Samples
+pub mod Subject
+pub mod Entries
+pub mod Log
+pub mod LogVerdicts

@@ -13,8 +13,7 @@ use Rattle.vyrd_base.specs.declared.log.Kind.TheVariants.{Call, Return, Write, C
 use Rattle.vyrd_base.specs.declared.log.Kind.TheVariants.{BlockClose, BlockCommit}
 use Rattle.vyrd_base.specs.declared.log.Entry.{Entry}
 use Rattle.vyrd_base.specs.declared.log.StartWord.{StartWord}
-use Rattle.vyrd_base.specs.Subjects.{by_subject, by_method, arity_of, are_padded, subject_of}
-use Rattle.vyrd_base.specs.Subjects.{same_subject}
+use Rattle.vyrd_base.specs.Subjects.{by_subject, by_method, arity_of, are_padded, is_named}
 
 -- fields with a space between each two
 abbrev pub spaced : List (List ℕ) → List ℕ
@@ -70,11 +69,11 @@ log_text h starting entries = ended_line (header_line h.version h.subject h.size
     ++ flat_map (λ s. ended_line (start_line s)) starting
     ++ flat_map (λ e. ended_line (entry_line e)) entries ++ ended_line end_line
 
--- whether the numbers of a kind are in the text's ranges, the method is of the subject, and
--- arguments that it doesn't have are 0
+-- whether the numbers of a kind are in the text's ranges, the method is one of the subject, which is
+-- built in, and arguments that it doesn't have are 0
 abbrev pub is_kind_of : Subject → Kind → Bool
 is_kind_of subject (Call method args) =
-    same_subject (subject_of method) subject && are_padded (arity_of method) args
+    is_named method subject && are_padded (arity_of method) args
     && nat_lt args.a (2 ^ 32) && nat_lt args.b (2 ^ 32) && nat_lt args.c (2 ^ 32)
 is_kind_of subject (Return reply) = nat_lt reply (2 ^ 64)
 is_kind_of subject (Write word value) = nat_lt word (2 ^ 32) && nat_lt value (2 ^ 64)

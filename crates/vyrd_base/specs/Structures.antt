@@ -11,6 +11,8 @@ use Rattle.vyrd_base.specs.Amounts.{Amounts}
 pub record Structure (Method : Type 0) : Type 0 where
   -- the name that the first line of a log has
   pub name : List ℕ
+  -- whether a header of its logs may have this version, this size and this number of callers
+  pub limits : ℕ → ℕ → ℕ → Bool
   -- its methods, and the name of each in the line of a call
   pub methods : List Method
   pub called : Method → List ℕ

@@ -1,13 +1,15 @@
--- The structures that are built in, and their methods. Each subject and each method belongs to one
--- structure: whatever is said of it is said by that structure's value.
+-- The structures that are built in, that of the user's own, and their methods. Each subject and each
+-- method belongs to one structure: whatever is said of it is said by that structure's value.
 use Rattle.std.specs.Prelude.{ℕ, Bool, true, false, ◌&&◌, ◌||◌, ◌==◌, nat_lt, List, [], ◌∷◌}
 use Rattle.std.specs.Prelude.{map}
 use Rattle.vyrd_base.specs.declared.subject.Subject.{Subject}
 use Rattle.vyrd_base.specs.declared.subject.Subject.TheVariants.{Multiset, Cache, Tree, Buffers}
+use Rattle.vyrd_base.specs.declared.subject.Subject.TheVariants.{Own}
 use Rattle.vyrd_base.specs.declared.subject.Method.{Method}
 use Rattle.vyrd_base.specs.declared.subject.Method.TheVariants.{Multiset as OfMultiset}
 use Rattle.vyrd_base.specs.declared.subject.Method.TheVariants.{Cache as OfCache, Tree as OfTree}
 use Rattle.vyrd_base.specs.declared.subject.Method.TheVariants.{Buffers as OfBuffers}
+use Rattle.vyrd_base.specs.declared.subject.Method.TheVariants.{Own as OfOwn}
 use Rattle.vyrd_base.specs.declared.multiset.MultisetMethod.TheVariants.{Insert}
 use Rattle.vyrd_base.specs.declared.subject.Args.{Args}
 use Rattle.vyrd_base.specs.declared.subject.Commits.{Commits}
@@ -17,8 +19,9 @@ use Rattle.vyrd_base.specs.Multiset.{multiset}
 use Rattle.vyrd_base.specs.Cache.{cache}
 use Rattle.vyrd_base.specs.Tree.{tree}
 use Rattle.vyrd_base.specs.Buffers.{buffers}
+use Rattle.vyrd_base.specs.Own.Subject.{own}
 
--- the subjects, in the order in which their names are looked for
+-- the subjects that are built in, in the order in which their names are looked for
 abbrev pub subjects : List Subject
 subjects = Multiset ∷ Cache ∷ Tree ∷ Buffers ∷ []
 
@@ -28,6 +31,7 @@ by_subject say Multiset = say _ multiset
 by_subject say Cache = say _ cache
 by_subject say Tree = say _ tree
 by_subject say Buffers = say _ buffers
+by_subject say Own = say _ own
 
 -- what the method's structure says of it
 abbrev pub by_method : {A : Type 0} → ((M : Type 0) → Structure M → M → A) → Method → A
@@ -35,6 +39,7 @@ by_method say (OfMultiset method) = say _ multiset method
 by_method say (OfCache method) = say _ cache method
 by_method say (OfTree method) = say _ tree method
 by_method say (OfBuffers method) = say _ buffers method
+by_method say (OfOwn method) = say _ own method
 
 -- the subject whose method it is
 abbrev pub subject_of : Method → Subject
@@ -42,6 +47,7 @@ subject_of (OfMultiset method) = Multiset
 subject_of (OfCache method) = Cache
 subject_of (OfTree method) = Tree
 subject_of (OfBuffers method) = Buffers
+subject_of (OfOwn method) = Own
 
 -- the methods of a subject
 abbrev pub methods_of : Subject → List Method
@@ -49,6 +55,7 @@ methods_of Multiset = map OfMultiset multiset.methods
 methods_of Cache = map OfCache cache.methods
 methods_of Tree = map OfTree tree.methods
 methods_of Buffers = map OfBuffers buffers.methods
+methods_of Own = map OfOwn own.methods
 
 -- whether two subjects are the same
 abbrev pub same_subject : Subject → Subject → Bool
@@ -56,7 +63,24 @@ same_subject Multiset Multiset = true
 same_subject Cache Cache = true
 same_subject Tree Tree = true
 same_subject Buffers Buffers = true
+same_subject Own Own = true
 same_subject _ _ = false
+
+-- whether a subject is built in
+abbrev pub is_built_in : Subject → Bool
+is_built_in Multiset = true
+is_built_in Cache = true
+is_built_in Tree = true
+is_built_in Buffers = true
+is_built_in Own = false
+
+-- whether it is a method of this subject, which is built in, so that its name is known
+abbrev pub is_named : Method → Subject → Bool
+is_named method subject = is_built_in subject && same_subject (subject_of method) subject
+
+-- whether a header of the subject may have this version, this size and this number of callers
+abbrev pub limits_of : Subject → ℕ → ℕ → ℕ → Bool
+limits_of = by_subject (λ M s. s.limits)
 
 -- some method, to stand where none is called
 abbrev pub some_method : Method

@@ -12,6 +12,7 @@ use Rattle.vyrd_base.specs.declared.tree.TreeMethod.TheVariants.{Insert, Delete,
 use Rattle.vyrd_base.specs.declared.subject.Args.{Args}
 use Rattle.vyrd_base.specs.declared.subject.Commits.{Commits}
 use Rattle.vyrd_base.specs.declared.subject.Commits.TheVariants.{Never, Once}
+use Rattle.vyrd_base.specs.Limits.{is_within}
 use Rattle.vyrd_base.specs.Amounts.{Amounts, amount_of, is_present, with_amount}
 use Rattle.vyrd_base.specs.Places.{numbers_below}
 use Rattle.vyrd_base.specs.Structures.{Structure, by_reply}
@@ -226,6 +227,7 @@ is_tree size words =
 abbrev pub tree : Structure TreeMethod
 tree = record {
   name = codes "tree";
+  limits = is_within;
   methods = Insert ∷ Delete ∷ Lookup ∷ [];
   called = called;
   arity = arity;

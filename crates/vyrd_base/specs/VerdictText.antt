@@ -10,12 +10,31 @@ use Rattle.vyrd_base.specs.declared.verdict.Rule.TheVariants.{ReturnInBlock, NoC
 use Rattle.vyrd_base.specs.declared.verdict.Rule.TheVariants.{ValueRange, BlockRaced}
 use Rattle.vyrd_base.specs.declared.verdict.Rule.TheVariants.{ObserverCommit, SecondCommit}
 use Rattle.vyrd_base.specs.declared.verdict.Rule.TheVariants.{CommitInBlock, BlockInBlock, NoBlock}
-use Rattle.vyrd_base.specs.declared.verdict.Rule.TheVariants.{CallOpen}
+use Rattle.vyrd_base.specs.declared.verdict.Rule.TheVariants.{CallOpen, Specification}
+use Rattle.vyrd_base.specs.declared.own.rule.SpecificationRule.{SpecificationRule}
+use Rattle.vyrd_base.specs.declared.own.rule.SpecificationRule.TheVariants.{TooLong, BadLine}
+use Rattle.vyrd_base.specs.declared.own.rule.SpecificationRule.TheVariants.{OutOfPlace, NameTaken}
+use Rattle.vyrd_base.specs.declared.own.rule.SpecificationRule.TheVariants.{UnknownName, TooMany}
+use Rattle.vyrd_base.specs.declared.own.rule.SpecificationRule.TheVariants.{TooDeep, StateIsRead}
+use Rattle.vyrd_base.specs.declared.own.rule.SpecificationRule.TheVariants.{NoCase, NoMethod}
 use Rattle.vyrd_base.specs.declared.verdict.Why.{Why}
 use Rattle.vyrd_base.specs.declared.verdict.Why.TheVariants.{Reply, View, Observer}
 use Rattle.vyrd_base.specs.declared.verdict.Verdict.{Verdict}
 use Rattle.vyrd_base.specs.declared.verdict.Verdict.TheVariants.{Accepted, Violation, Malformed}
 use Rattle.vyrd_base.specs.Spelling.{ended_line}
+
+-- the name of a rule of a specification's text
+abbrev pub specification_text : SpecificationRule → List ℕ
+specification_text TooLong = codes "line too long"
+specification_text BadLine = codes "bad specification line"
+specification_text OutOfPlace = codes "line out of place"
+specification_text NameTaken = codes "name taken"
+specification_text UnknownName = codes "unknown name"
+specification_text TooMany = codes "too many"
+specification_text TooDeep = codes "too deep"
+specification_text StateIsRead = codes "state is read here"
+specification_text NoCase = codes "method without a case"
+specification_text NoMethod = codes "no method"
 
 -- the name of a rule
 abbrev pub rule_text : Rule → List ℕ
@@ -26,6 +45,7 @@ rule_text UnknownVersion = codes "unknown version"
 rule_text BadEntry = codes "bad entry"
 rule_text StartRange = codes "start out of range"
 rule_text StartOrder = codes "start word not rising"
+rule_text (Specification rule) = specification_text rule
 rule_text NoLineFeed = codes "no line feed"
 rule_text NoEnd = codes "no end"
 rule_text StartState = codes "start stands for no state"

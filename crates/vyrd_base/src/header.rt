@@ -1,8 +1,7 @@
 //! The header of a log: its limits, and what follows from its numbers.
 
 ghost use Rattle.std.specs.Prelude.{◌≡◌, ◌↔◌, ◌==◌, ◌&&◌, IsTrue, IfSome, IsSome};
-ghost use Rattle.vyrd_base.specs.Limits.{is_within};
-ghost use Rattle.vyrd_base.specs.Subjects.{subject_of, same_subject, are_args};
+ghost use Rattle.vyrd_base.specs.Subjects.{subject_of, same_subject, are_args, limits_of};
 
 use crate::subject::{Args, Method, Subject};
 
@@ -14,26 +13,22 @@ pub struct Header {
     subject: Subject,
     size: u32,
     callers: u32,
-    ghost within: { IsTrue (is_within version size callers) },
+    ghost within: { IsTrue (limits_of subject version size callers) },
 }
 
 impl Header {
-    /// The header with these numbers, if they are within the limits: the version is 1 or 2, the
-    /// size is from 1 to 1,024, and there are 1 to 64 callers.
-    #[tactic(auto, using(crate::proofs::VersionNumbers::known_versions))]
+    /// The header with these numbers, if they are within the limits. For a subject that is built in,
+    /// the version is 1 or 2, the size is from 1 to 1,024, and there are 1 to 64 callers. For one of
+    /// the user's own the version is 3, the size is at most 1,048,576, and there are 1 to 1,024
+    /// callers.
     pub fn new(version: u32, subject: Subject, size: u32, callers: u32) -> Option<Header>
-        ensures within { IsSome result ↔ IsTrue (is_within version size callers) }
+        ensures within { IsSome result ↔ IsTrue (limits_of subject version size callers) }
         ensures version { IfSome result (λ h. h.version ≡ version) }
         ensures subject { IfSome result (λ h. h.subject ≡ subject) }
         ensures size { IfSome result (λ h. h.size ≡ size) }
         ensures callers { IfSome result (λ h. h.callers ≡ callers) }
     {
-        if (version == 1 || version == 2)
-            && 1 <= size
-            && size <= 1024
-            && 1 <= callers
-            && callers <= 64
-        {
+        if subject.allows(version, size, callers) {
             Some(Header {
                 version,
                 subject,
@@ -45,8 +40,8 @@ impl Header {
         }
     }
 
-    /// The version of the log's rules: 1, or 2, in which a lone commit may stand inside a block and
-    /// starting words are given.
+    /// The version of the log's rules: 1, or from 2 on such that a lone commit may stand inside a
+    /// block and starting words are given. It is 3 if the subject is the user's own.
     #[inline(always)]
     pub fn version(&self) -> u32
         ensures { result ≡ self.now.version }
@@ -62,7 +57,8 @@ impl Header {
         self.subject
     }
 
-    /// The size of the subject: buckets of 4 slots, chunks, nodes or buffers, from 1 to 1,024.
+    /// The size of the subject: buckets of 4 slots, chunks, nodes or buffers, from 1 to 1,024, or of
+    /// the user's own words, up to 1,048,576.
     #[inline(always)]
     pub fn size(&self) -> u32
         ensures { result ≡ self.now.size }
@@ -70,7 +66,8 @@ impl Header {
         self.size
     }
 
-    /// How many callers there are, from 1 to 64. A caller is a number below this one.
+    /// How many callers there are, from 1 to 64, or up to 1,024 if the subject is the user's own. A
+    /// caller is a number below this one.
     #[inline(always)]
     pub fn callers(&self) -> u32
         ensures { result ≡ self.now.callers }

@@ -9,7 +9,7 @@ ghost use Rattle.vyrd_base.specs.declared.log.Entry.{Entry};
 ghost use Rattle.vyrd_base.specs.declared.log.StartWord.{StartWord};
 ghost use Rattle.vyrd_base.specs.declared.log.Kind.TheVariants.{Return, Write};
 ghost use Rattle.vyrd_base.specs.declared.subject.Method.{Method};
-ghost use Rattle.vyrd_base.specs.Subjects.{is_observer, must_commit};
+ghost use Rattle.vyrd_base.specs.Subjects.{is_observer, must_commit, is_built_in, subject_of};
 ghost use Rattle.vyrd_base.specs.declared.verdict.Why.TheVariants.{Observer};
 ghost use Rattle.vyrd_base.specs.declared.verdict.Verdict.{Verdict};
 ghost use Rattle.vyrd_base.specs.declared.verdict.Verdict.TheVariants.{Malformed};
@@ -68,16 +68,18 @@ pub fn first_version_keeps_its_verdicts()
 /// if its method is one.
 #[tactic(auto, using(crate::proofs::Answers::commit_laws))]
 pub fn methods_commit_once_or_never()
-    ensures methods { (method : Method) → must_commit method ≡ not (is_observer method) }
+    ensures methods { (method : Method) → is_built_in (subject_of method) ≡ true
+        → must_commit method ≡ not (is_observer method) }
     ensures no_commit { (c : ℕ) (earlier : List Entry) (called : Called)
-        → open_call c earlier ≡ Some called
+        → open_call c earlier ≡ Some called → is_built_in (subject_of called.method) ≡ true
         → (owes_commit c earlier && not (has_committed c earlier))
         ≡ not (is_observing c earlier || has_committed c earlier) }
     ensures counted { (h : Header) (es : List Entry) (c reply : ℕ)
+        → is_built_in h.subject ≡ true
         → first_break h (es ++ record { caller = c; kind = Return reply } ∷ []) ≡ None
         → not (has_committed c (newest_first es)) ≡ is_observing c (newest_first es) }
     ensures fault { (r : Rules) (window : List State) (es : List Entry) (c reply : ℕ)
-        (called : Called)
+        (called : Called) → is_built_in r.header.subject ≡ true
         → first_break r.header (es ++ record { caller = c; kind = Return reply } ∷ []) ≡ None
         → open_call c (newest_first es) ≡ Some called
         → observer_fault r window (has_committed c (newest_first es)) reply called
@@ -101,10 +103,11 @@ pub fn write_changes_its_word()
         ≡ slice_set (words_after h starting earlier) w v }
 {}
 
-/// The text of a log is read as that log, and has its verdict.
+/// The text of a log of a built-in subject is read as that log, and has its verdict.
 #[tactic(auto, using(crate::proofs::Answers::text_laws))]
 pub fn text_is_read()
     ensures read { (input : Input) (h : Header) (starting : List StartWord) (es : List Entry)
+        → is_built_in h.subject ≡ true
         → length starting + length es + 2 ≤ input.max_lines → may_start h starting ≡ true
         → AllByRecursion (λ e. is_entry_of h.subject e ≡ true) es
         → reading input (log_text h starting es)
@@ -116,6 +119,7 @@ pub fn text_is_read()
           fault = None;
         } }
     ensures judged { (max : ℕ) (h : Header) (starting : List StartWord) (es : List Entry) →
+        is_built_in h.subject ≡ true →
         length starting + length es + 2 ≤ max → may_start h starting ≡ true →
         AllByRecursion (λ e. is_entry_of h.subject e ≡ true) es →
         text_verdict max (log_text h starting es) ≡ verdict (rules_of h) starting es }

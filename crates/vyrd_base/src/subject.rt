@@ -2,14 +2,16 @@
 
 ghost use Rattle.std.specs.Prelude.{◌≡◌, ◌≤◌, length};
 ghost use Rattle.vyrd_base.specs.Layout.{plain_words_of, lock_words_of};
-ghost use Rattle.vyrd_base.specs.Limits.{longest_subject, longest_method};
+ghost use Rattle.vyrd_base.specs.Limits.{is_within, longest_subject, longest_method};
 ghost use Rattle.vyrd_base.specs.Spelling.{subject_name, method_name};
 ghost use Rattle.vyrd_base.specs.Subjects.{subject_of, is_observer, arity_of, are_padded};
-ghost use Rattle.vyrd_base.specs.Subjects.{are_ranged, commits_of, must_commit, methods_of, some_method};
+ghost use Rattle.vyrd_base.specs.Subjects.{are_ranged, commits_of, must_commit, methods_of};
+ghost use Rattle.vyrd_base.specs.Subjects.{some_method, limits_of};
 
 use crate::buffers::BuffersMethod;
 use crate::cache::CacheMethod;
 use crate::multiset::MultisetMethod;
+use crate::own::OwnMethod;
 use crate::tree::TreeMethod;
 
 /// The data structure that is watched.
@@ -25,6 +27,8 @@ pub enum Subject {
     Tree,
     /// String buffers of at most 7 characters each. A character is a number below 255.
     Buffers,
+    /// A structure of the user's own, which a specification in front of the log describes.
+    Own,
 }
 
 impl Subject {
@@ -38,10 +42,11 @@ impl Subject {
             Subject::Cache => b"cache",
             Subject::Tree => b"tree",
             Subject::Buffers => b"buffers",
+            Subject::Own => b"own",
         }
     }
 
-    /// Its methods.
+    /// Its methods, if it is built in. Those of the user's own stand in their specification.
     pub fn methods(self) -> &'static [Method]
         ensures { result.now ≡ methods_of self }
     {
@@ -70,13 +75,27 @@ impl Subject {
                 Method::Buffers(BuffersMethod::Length),
                 Method::Buffers(BuffersMethod::Read),
             ],
+            Subject::Own => &[],
         }
     }
 
-    /// How many plain words it has, for a size of at most 1,024.
+    /// Whether a header may have this version, this size and this number of callers.
+    pub(crate) fn allows(self, version: u32, size: u32, callers: u32) -> bool
+        ensures { result ≡ limits_of self version size callers }
+    {
+        match self {
+            Subject::Multiset => are_within(version, size, callers),
+            Subject::Cache => are_within(version, size, callers),
+            Subject::Tree => are_within(version, size, callers),
+            Subject::Buffers => are_within(version, size, callers),
+            Subject::Own => { version == 3 && size <= 1_048_576 && 1 <= callers && callers <= 1024 }
+        }
+    }
+
+    /// How many plain words it has, for a size of at most 1,048,576.
     #[inline(always)]
     pub(crate) fn plain_words(self, size: u32) -> u32
-        requires { size ≤ 1024 }
+        requires { size ≤ 1048576 }
         ensures { result ≡ plain_words_of self size }
     {
         match self {
@@ -84,12 +103,13 @@ impl Subject {
             Subject::Cache => 5 * size,
             Subject::Tree => 12 * size + 2,
             Subject::Buffers => 8 * size,
+            Subject::Own => size,
         }
     }
 
-    /// How many locks it has, for a size of at most 1,024.
+    /// How many locks it has, for a size of at most 1,048,576.
     pub(crate) fn lock_words(self, size: u32) -> u32
-        requires { size ≤ 1024 }
+        requires { size ≤ 1048576 }
         ensures { result ≡ lock_words_of self size }
     {
         match self {
@@ -97,8 +117,17 @@ impl Subject {
             Subject::Cache => size,
             Subject::Tree => size + 2,
             Subject::Buffers => size,
+            Subject::Own => 0,
         }
     }
+}
+
+/// The limits of the built-in subjects: version 1 or 2, a size from 1 to 1,024, and 1 to 64 callers.
+#[tactic(auto, using(crate::proofs::VersionNumbers::known_versions))]
+fn are_within(version: u32, size: u32, callers: u32) -> bool
+    ensures { result ≡ is_within version size callers }
+{
+    (version == 1 || version == 2) && 1 <= size && size <= 1024 && 1 <= callers && callers <= 64
 }
 
 /// A method of a subject. Observers only look, and never commit; all others are mutators.
@@ -112,6 +141,8 @@ pub enum Method {
     Tree(TreeMethod),
     /// One of the string buffers'.
     Buffers(BuffersMethod),
+    /// One of a specification of the user's own.
+    Own(OwnMethod),
 }
 
 /// How often an execution of a method commits.
@@ -134,7 +165,8 @@ impl Method {
         Method::Multiset(MultisetMethod::Insert)
     }
 
-    /// Its name in the line of a call. It identifies the method only together with its subject.
+    /// Its name in the line of a call. It identifies the method only together with its subject. A
+    /// method of the user's own has its name in its specification alone.
     pub fn name(self) -> &'static [u8]
         ensures text { result.now ≡ method_name self }
         ensures len { length result.now ≤ longest_method }
@@ -144,6 +176,7 @@ impl Method {
             Method::Cache(method) => method.name(),
             Method::Tree(method) => method.name(),
             Method::Buffers(method) => method.name(),
+            Method::Own(method) => method.name(),
         }
     }
 
@@ -157,10 +190,11 @@ impl Method {
             Method::Cache(_) => Subject::Cache,
             Method::Tree(_) => Subject::Tree,
             Method::Buffers(_) => Subject::Buffers,
+            Method::Own(_) => Subject::Own,
         }
     }
 
-    /// How many arguments the method has, from 1 to 3.
+    /// How many arguments the method has: from 1 to 3 if its subject is built in.
     #[inline(always)]
     pub fn arity(self) -> u32
         ensures { result ≡ arity_of self }
@@ -170,6 +204,7 @@ impl Method {
             Method::Cache(method) => method.arity(),
             Method::Tree(method) => method.arity(),
             Method::Buffers(method) => method.arity(),
+            Method::Own(method) => method.arity(),
         }
     }
 
@@ -183,6 +218,7 @@ impl Method {
             Method::Cache(method) => method.takes(size, args),
             Method::Tree(method) => method.takes(size, args),
             Method::Buffers(method) => method.takes(size, args),
+            Method::Own(method) => method.takes(size, args),
         }
     }
 
@@ -196,6 +232,7 @@ impl Method {
             Method::Cache(method) => method.commits(),
             Method::Tree(method) => method.commits(),
             Method::Buffers(method) => method.commits(),
+            Method::Own(method) => method.commits(),
         }
     }
 

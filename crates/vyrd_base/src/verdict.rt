@@ -1,6 +1,8 @@
 //! The rules of text and of shape, and the verdict. Lines are counted from 1, where the header
 //! stands.
 
+use crate::own::SpecificationRule;
+
 /// A rule that a log can break: the rules of text, which lines break, and then those of shape,
 /// which entries break. If a line or an entry breaks several, the rule that is named is the first
 /// in the order of its table.
@@ -22,6 +24,8 @@ pub enum Rule {
     StartRange,
     /// Text: a starting word isn't greater than the one before it.
     StartOrder,
+    /// Text, in version 3: the line is no line of the specification in front of the log.
+    Specification(SpecificationRule),
     /// Text: the input ends inside this line.
     NoLineFeed,
     /// Text: the input ends after a line feed, and no `end` was read. The line is the one after the

@@ -9,7 +9,8 @@ use Rattle.std.proofs.Math.Bool.{Bool-set}
 use Rattle.vyrd_base.specs.declared.header.Header.{Header}
 use Rattle.vyrd_base.specs.declared.subject.Subject.{Subject}
 use Rattle.vyrd_base.specs.declared.verdict.Rule.TheVariants.{BadHeader, UnknownVersion}
-use Rattle.vyrd_base.specs.Limits.{is_sized, is_within}
+use Rattle.vyrd_base.specs.Limits.{is_sized}
+use Rattle.vyrd_base.specs.Subjects.{is_built_in, limits_of}
 use Rattle.vyrd_base.specs.Spelling.{header_line, subject_name}
 use Rattle.vyrd_base.specs.Lines.{fields_of, number_of, subject_called, header_if, header_of, header_spelled, header_from, header_in}
 use Rattle.vyrd_base.proofs.HeaderLaws.{small_size, small_callers}
@@ -17,7 +18,7 @@ use Rattle.vyrd_base.proofs.SplitLaws.{split-join, number_of_decimal, bytes_same
 use Rattle.vyrd_base.proofs.SplitLaws.{is_plain_field}
 use Rattle.vyrd_base.proofs.LineLaws.{plain_number, plain_spaces}
 use Rattle.vyrd_base.proofs.TestLaws.{both_true, first_true, second_true, below_of, is_below}
-use Rattle.vyrd_base.proofs.SubjectLaws.{one_name, subject_read}
+use Rattle.vyrd_base.proofs.SubjectLaws.{one_name, subject_read, called_built_in}
 use Rattle.vyrd_base.proofs.StructureLaws.{plain_subject}
 use Rattle.vyrd_text.specs.Spelled.{AreLimitsRead, AreNumbersRead}
 use Rattle.vyrd_text.proofs.PartLaws.{one_before_space}
@@ -45,16 +46,16 @@ not_sized text m n r low small e f bad size callers sized g =
 
 -- a version that no subject follows
 pub no_subject : (line r : List ℕ) (m : ℕ) (s : List ℕ) → m < 2 ^ 64 → line ≡ codes "vyrd " ++ r → r ≡ decimal m ++ 32 ∷ s
-    → ((subject : Subject) (rest : List ℕ) → s ≡ subject_name subject ++ 32 ∷ rest → ⊥) → AreNumbersRead line None
-no_subject line r m s low e f none version subject size callers small sized g =
+    → ((subject : Subject) (rest : List ℕ) → is_built_in subject ≡ true → s ≡ subject_name subject ++ 32 ∷ rest → ⊥) → AreNumbersRead line None
+no_subject line r m s low e f none version subject size callers small built sized g =
     let after = append_cancel_left (codes "vyrd ") r (decimal version ++ 32 ∷ (subject_name subject ++ 32 ∷ (decimal size ++ 32 ∷ decimal callers))) (sym e ∙ g) in
     let is = one_before_space m version s (subject_name subject ++ 32 ∷ (decimal size ++ 32 ∷ decimal callers)) low (omega arith) (sym f ∙ after) in
-    none subject (decimal size ++ 32 ∷ decimal callers) is.1
+    none subject (decimal size ++ 32 ∷ decimal callers) built is.1
 
 -- a subject that no limits follow
 pub no_limits : (line r : List ℕ) (m : ℕ) (s : List ℕ) (found : Subject) (t : List ℕ) → m < 2 ^ 64 → line ≡ codes "vyrd " ++ r → r ≡ decimal m ++ 32 ∷ s
     → s ≡ subject_name found ++ 32 ∷ t → AreLimitsRead t None → AreNumbersRead line None
-no_limits line r m s found t low e f h none version subject size callers small sized g =
+no_limits line r m s found t low e f h none version subject size callers small built sized g =
     let after = append_cancel_left (codes "vyrd ") r (decimal version ++ 32 ∷ (subject_name subject ++ 32 ∷ (decimal size ++ 32 ∷ decimal callers))) (sym e ∙ g) in
     let is = one_before_space m version s (subject_name subject ++ 32 ∷ (decimal size ++ 32 ∷ decimal callers)) low (omega arith) (sym f ∙ after) in
     none size callers sized (one_name found subject t (decimal size ++ 32 ∷ decimal callers) (sym h ∙ is.1))
@@ -64,11 +65,11 @@ pub header_known : (line : List ℕ) (version : ℕ) (subject : Subject) (size c
     → header_in line ≡ ok_or (header_of version subject size callers) UnknownVersion
 unfolding header_in
 header_known line version subject size callers is =
-    ap (λ l. header_from l (fields_of l)) is.2
+    ap (λ l. header_from l (fields_of l)) is.1.1.1
     ∙ ap (header_from text) fields
-    ∙ (λ i. header_spelled text (number_of_decimal version v i) (subject_read subject i) (number_of_decimal size s i) (number_of_decimal callers c i))
+    ∙ (λ i. header_spelled text (number_of_decimal version v i) (subject_read subject is.1.0 i) (number_of_decimal size s i) (number_of_decimal callers c i))
     ∙ ap (λ b. cond b (ok_or (header_of version subject size callers) UnknownVersion) (Err BadHeader))
-    (both_true _ _ (both_true _ _ (is_below version (2 ^ 32) is.0) is.1) (bytes_same text))
+    (both_true _ _ (both_true _ _ (is_below version (2 ^ 32) is.0) is.1.1.0) (bytes_same text))
   where
     text : List ℕ
     text = header_line version subject size callers
@@ -77,10 +78,10 @@ header_known line version subject size callers is =
     v = let h = is.0 in omega (arith, h)
 
     s : size < 2 ^ 64
-    s = let h = small_size size callers is.1 in omega (arith, h)
+    s = let h = small_size size callers is.1.1.0 in omega (arith, h)
 
     c : callers < 2 ^ 64
-    c = let h = small_callers size callers is.1 in omega (arith, h)
+    c = let h = small_callers size callers is.1.1.0 in omega (arith, h)
 
     parts : List (List ℕ)
     parts = decimal version ∷ subject_name subject ∷ decimal size ∷ decimal callers ∷ []
@@ -93,10 +94,11 @@ header_known line version subject size callers is =
     fields = split-join 32 (codes "vyrd") parts (plain_spaces (codes "vyrd" ∷ parts) plain)
 
 -- a line without them is none
-spelled_none : (line : List ℕ) (version : ℕ) (subject : Option Subject) (size callers : ℕ) → AreNumbersRead line None
+spelled_none : (line : List ℕ) (version : ℕ) (subject : Option Subject) (size callers : ℕ)
+    → ((s : Subject) → subject ≡ Some s → is_built_in s ≡ true) → AreNumbersRead line None
     → header_spelled line version subject size callers ≡ Err BadHeader
-spelled_none line version None size callers none = refl
-spelled_none line version (Some subject) size callers none =
+spelled_none line version None size callers known none = refl
+spelled_none line version (Some subject) size callers known none =
     by_test (nat_lt version (2 ^ 32) && is_sized size callers && bytes_eq (header_line version subject size callers) line) refl
   where
     by_test : (b : Bool) → (nat_lt version (2 ^ 32) && is_sized size callers && bytes_eq (header_line version subject size callers) line) ≡ b
@@ -106,7 +108,7 @@ spelled_none line version (Some subject) size callers none =
         let same = (bytes_eq-Decides (header_line version subject size callers) line).0
         (second_true (nat_lt version (2 ^ 32) && is_sized size callers) _ e) in
         absurd (none version subject size callers (below_of version (2 ^ 32) (first_true _ _ (first_true _ _ e)))
-        (second_true (nat_lt version (2 ^ 32)) _ (first_true _ _ e)) (sym same))
+        (known subject refl) (second_true (nat_lt version (2 ^ 32)) _ (first_true _ _ e)) (sym same))
 
 from_none : (line : List ℕ) (fields : List (List ℕ)) → AreNumbersRead line None → header_from line fields ≡ Err BadHeader
 from_none line [] none = refl
@@ -114,14 +116,14 @@ from_none line (a ∷ []) none = refl
 from_none line (a ∷ b ∷ []) none = refl
 from_none line (a ∷ b ∷ c ∷ []) none = refl
 from_none line (a ∷ b ∷ c ∷ d ∷ []) none = refl
-from_none line (a ∷ b ∷ c ∷ d ∷ e ∷ more) none = spelled_none line (number_of b) (subject_called c) (number_of d) (number_of e) none
+from_none line (a ∷ b ∷ c ∷ d ∷ e ∷ more) none = spelled_none line (number_of b) (subject_called c) (number_of d) (number_of e) (called_built_in c) none
 
 pub header_unknown : (line : List ℕ) → AreNumbersRead line None → Err BadHeader ≡ header_in line
 unfolding header_in
 header_unknown line none = sym (from_none line (fields_of line) none)
 
 -- the header that was made is the one with the numbers
-made_if : (h : Header) (b : Bool) (e : is_within h.version h.size h.callers ≡ b) → b ≡ true
+made_if : (h : Header) (b : Bool) (e : limits_of h.subject h.version h.size h.callers ≡ b) → b ≡ true
     → Some h ≡ header_if h.version h.subject h.size h.callers b e
 made_if h true e t = ap (λ w. Some (record {
   version = h.version;
@@ -136,13 +138,13 @@ pub made : (version : ℕ) (subject : Subject) (size callers : ℕ) (h : Header)
     → h.size ≡ size → h.callers ≡ callers
     → header_of version subject size callers ≡ Some h
 made version subject size callers h v s n c =
-    (λ i. header_of (sym v i) (sym s i) (sym n i) (sym c i)) ∙ sym (made_if h (is_within h.version h.size h.callers) refl h.within)
+    (λ i. header_of (sym v i) (sym s i) (sym n i) (sym c i)) ∙ sym (made_if h (limits_of h.subject h.version h.size h.callers) refl h.within)
 
-not_made_if : (version : ℕ) (subject : Subject) (size callers : ℕ) (b : Bool) (e : is_within version size callers ≡ b)
-    → ¬ (is_within version size callers ≡ true) → header_if version subject size callers b e ≡ None
+not_made_if : (version : ℕ) (subject : Subject) (size callers : ℕ) (b : Bool) (e : limits_of subject version size callers ≡ b)
+    → ¬ (limits_of subject version size callers ≡ true) → header_if version subject size callers b e ≡ None
 not_made_if version subject size callers true e no_header = absurd (no_header e)
 not_made_if version subject size callers false e no_header = refl
 
-pub not_made : (version : ℕ) (subject : Subject) (size callers : ℕ) → ¬ (is_within version size callers ≡ true)
+pub not_made : (version : ℕ) (subject : Subject) (size callers : ℕ) → ¬ (limits_of subject version size callers ≡ true)
     → header_of version subject size callers ≡ None
-not_made version subject size callers no_header = not_made_if version subject size callers (is_within version size callers) refl no_header
+not_made version subject size callers no_header = not_made_if version subject size callers (limits_of subject version size callers) refl no_header

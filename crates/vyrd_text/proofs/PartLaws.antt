@@ -16,7 +16,7 @@ use Rattle.vyrd_base.specs.declared.buffers.BuffersMethod.TheVariants.{Length, R
 use Rattle.vyrd_base.specs.declared.log.Kind.{Kind}
 use Rattle.vyrd_base.specs.declared.log.Kind.TheVariants.{Call, Return, Write, Commit, BlockOpen, BlockClose, BlockCommit}
 use Rattle.vyrd_base.specs.declared.log.Entry.{Entry}
-use Rattle.vyrd_base.specs.Subjects.{arity_of, are_padded, subject_of, same_subject}
+use Rattle.vyrd_base.specs.Subjects.{arity_of, are_padded, is_named}
 use Rattle.vyrd_base.specs.Spelling.{method_name, entry_line, is_entry_of}
 use Rattle.vyrd_base.specs.Lines.{entry_in}
 use Rattle.vyrd_base.proofs.SplitLaws.{split_at, decimal_lacks, no_space}
@@ -53,16 +53,16 @@ no_value text w r low e none subject BlockCommit ok f = absurd (let h : 119 ≡ 
 -- nor is a word before what no call spells a call
 pub no_call : (subject : Subject) (text : List ℕ) → IsCallRead subject text None → IsKindRead subject (codes "call " ++ text) None
 no_call subject text none (Call method args) ok e =
-    let same_padded : (same_subject (subject_of method) subject && are_padded (arity_of method) args) ≡ true =
+    let same_padded : (is_named method subject && are_padded (arity_of method) args) ≡ true =
     first_true _ _ (first_true _ _ (first_true _ _ ok)) in
     none method args
     (first_true _ _ same_padded)
-    (second_true (same_subject (subject_of method) subject) _ same_padded)
-    (below_of args.a (2 ^ 32) (second_true (same_subject (subject_of method) subject && are_padded (arity_of method) args) _
+    (second_true (is_named method subject) _ same_padded)
+    (below_of args.a (2 ^ 32) (second_true (is_named method subject && are_padded (arity_of method) args) _
     (first_true _ _ (first_true _ _ ok))))
-    (below_of args.b (2 ^ 32) (second_true (same_subject (subject_of method) subject && are_padded (arity_of method) args
+    (below_of args.b (2 ^ 32) (second_true (is_named method subject && are_padded (arity_of method) args
     && nat_lt args.a (2 ^ 32)) _ (first_true _ _ ok)))
-    (below_of args.c (2 ^ 32) (second_true (same_subject (subject_of method) subject && are_padded (arity_of method) args
+    (below_of args.c (2 ^ 32) (second_true (is_named method subject && are_padded (arity_of method) args
     && nat_lt args.a (2 ^ 32) && nat_lt args.b (2 ^ 32)) _ ok))
     (append_cancel_left (codes "call ") text (call_text method args) e)
 no_call subject text none (Return reply) ok e = absurd (let h : 99 ≡ 114 = ap (λ t. get_or t 0 0) e in omega (arith, h))

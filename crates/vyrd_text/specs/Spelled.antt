@@ -7,7 +7,7 @@ use Rattle.vyrd_base.specs.declared.subject.Method.{Method}
 use Rattle.vyrd_base.specs.declared.subject.Args.{Args}
 use Rattle.vyrd_base.specs.declared.log.Kind.{Kind}
 use Rattle.vyrd_base.specs.Limits.{is_sized}
-use Rattle.vyrd_base.specs.Subjects.{arity_of, are_padded, subject_of, same_subject}
+use Rattle.vyrd_base.specs.Subjects.{arity_of, are_padded, is_named, is_built_in}
 use Rattle.vyrd_base.specs.Spelling.{spaced, header_line, method_name, arg_fields, kind_fields}
 use Rattle.vyrd_base.specs.Spelling.{is_kind_of}
 
@@ -32,10 +32,10 @@ AreArgsRead arity text (Some args) = (are_padded arity args ≡ true) × (text �
 -- the method of the subject and its arguments below 2^32 whose text it is
 abbrev pub IsCallRead : Subject → List ℕ → Option (Method × Args) → Type 0
 IsCallRead subject text None = (method : Method) (args : Args)
-    → same_subject (subject_of method) subject ≡ true → are_padded (arity_of method) args ≡ true
+    → is_named method subject ≡ true → are_padded (arity_of method) args ≡ true
     → args.a < 2 ^ 32 → args.b < 2 ^ 32 → args.c < 2 ^ 32 → text ≡ call_text method args → ⊥
 IsCallRead subject text (Some (method, args)) =
-    (same_subject (subject_of method) subject ≡ true) × (are_padded (arity_of method) args ≡ true)
+    (is_named method subject ≡ true) × (are_padded (arity_of method) args ≡ true)
     × (text ≡ call_text method args)
 
 -- the kind whose text it is, of the subject and in the text's ranges
@@ -51,11 +51,11 @@ AreLimitsRead text None = (size callers : ℕ) → is_sized size callers ≡ tru
 AreLimitsRead text (Some (size, callers)) =
     (is_sized size callers ≡ true) × (text ≡ decimal size ++ 32 ∷ decimal callers)
 
--- the version below 2^32, the subject, the size and the number of callers within the limits whose
--- text it is
+-- the version below 2^32, the built-in subject, the size and the number of callers within the limits
+-- whose text it is
 abbrev pub AreNumbersRead : List ℕ → Option (ℕ × Subject × ℕ × ℕ) → Type 0
 AreNumbersRead text None = (version : ℕ) (subject : Subject) (size callers : ℕ) → version < 2 ^ 32
-    → is_sized size callers ≡ true → text ≡ header_line version subject size callers → ⊥
+    → is_built_in subject ≡ true → is_sized size callers ≡ true → text ≡ header_line version subject size callers → ⊥
 AreNumbersRead text (Some (version, subject, size, callers)) =
-    (version < 2 ^ 32) × (is_sized size callers ≡ true)
+    (version < 2 ^ 32) × (is_built_in subject ≡ true) × (is_sized size callers ≡ true)
     × (text ≡ header_line version subject size callers)

@@ -1,10 +1,11 @@
 //! The first line: the header that it spells.
 
-ghost use Rattle.std.specs.Prelude.{◌≡◌, ℕ, List, ◌∷◌, ◌++◌, MatchOption};
+ghost use Rattle.std.specs.Prelude.{◌≡◌, ℕ, true, List, ◌∷◌, ◌++◌, MatchOption};
 ghost use Rattle.vyrd_base.specs.declared.subject.Subject.{Subject};
 ghost use Rattle.vyrd_base.specs.Limits.{is_sized};
 ghost use Rattle.vyrd_base.specs.Lines.{header_in};
 ghost use Rattle.vyrd_base.specs.Spelling.{subject_name};
+ghost use Rattle.vyrd_base.specs.Subjects.{is_built_in};
 ghost use Rattle.vyrd_text.specs.Spelled.{AreLimitsRead, AreNumbersRead};
 
 use crate::line::after;
@@ -36,11 +37,12 @@ fn read_numbers(line: &[u8]) -> Option<(u32, Subject, u32, u32)>
     Some((version, subject, size, callers))
 }
 
-/// The subject whose name stands before a space, and what stands after that space.
+/// The built-in subject whose name stands before a space, and what stands after that space.
 pub fn read_subject(text: &[u8]) -> Option<(Subject, &[u8])>
     ensures { MatchOption result
-        ((subject : Subject) (rest : List ℕ) → text.now ≡ subject_name subject ++ 32 ∷ rest → ⊥)
-        (λ r. text.now ≡ subject_name r.0 ++ 32 ∷ r.1.now) }
+        ((subject : Subject) (rest : List ℕ) → is_built_in subject ≡ true
+        → text.now ≡ subject_name subject ++ 32 ∷ rest → ⊥)
+        (λ r. (is_built_in r.0 ≡ true) × (text.now ≡ subject_name r.0 ++ 32 ∷ r.1.now)) }
 {
     if let Some(rest) = after(text, b"multiset ") {
         return Some((Subject::Multiset, rest));

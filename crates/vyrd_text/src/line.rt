@@ -6,7 +6,7 @@ ghost use Rattle.vyrd_base.specs.declared.subject.Method.{Method};
 ghost use Rattle.vyrd_base.specs.declared.subject.Subject.{Subject};
 ghost use Rattle.vyrd_base.specs.Lines.{entry_in};
 ghost use Rattle.vyrd_base.specs.Spelling.{method_name};
-ghost use Rattle.vyrd_base.specs.Subjects.{subject_of, same_subject};
+ghost use Rattle.vyrd_base.specs.Subjects.{is_named};
 ghost use Rattle.vyrd_text.specs.Spelled.{AreArgsRead, IsCallRead, IsKindRead};
 
 use crate::number::{read_u32, read_u32_and_space, read_u64};
@@ -90,9 +90,9 @@ pub fn read_call(subject: Subject, text: &[u8]) -> Option<(Method, Args)>
 /// The method of the subject whose name stands before a space, and what stands after that space.
 fn read_method(subject: Subject, text: &[u8]) -> Option<(Method, &[u8])>
     ensures { MatchOption result
-        ((method : Method) (rest : List ℕ) → same_subject (subject_of method) subject ≡ true
+        ((method : Method) (rest : List ℕ) → is_named method subject ≡ true
         → text.now ≡ method_name method ++ 32 ∷ rest → ⊥)
-        (λ r. (same_subject (subject_of r.0) subject ≡ true)
+        (λ r. (is_named r.0 subject ≡ true)
         × (text.now ≡ method_name r.0 ++ 32 ∷ r.1.now)) }
 {
     for method in subject.methods() {

@@ -7,7 +7,7 @@
 ghost use Rattle.std.specs.Prelude.{◌≡◌, ◌+◌, ◌<◌, ◌≤◌, ◌==◌, ◌∷◌, ◌++◌, true, decimal, count_by};
 ghost use Rattle.std.specs.Prelude.{vec_len, vec_capacity, IfSome};
 ghost use Rattle.vyrd_base.specs.declared.subject.Subject.{Subject};
-ghost use Rattle.vyrd_base.specs.Subjects.{subject_of, same_subject};
+ghost use Rattle.vyrd_base.specs.Subjects.{is_named};
 ghost use Rattle.vyrd_base.specs.Spelling.{method_name};
 ghost use Rattle.vyrd_text.specs.Quick.{IsFrontNumber, IsEntryAtFront, IsKindAtFront};
 ghost use Rattle.vyrd_text.specs.Quick.{AreArgsAtFront, AreEntriesAtFront};
@@ -253,7 +253,7 @@ fn read_close(text: &[u8]) -> Option<(Kind, &[u8])>
 /// The method of the subject whose name stands before a space, and what stands after that space.
 #[inline(always)]
 fn read_method(subject: Subject, text: &[u8]) -> Option<(Method, &[u8])>
-    ensures { IfSome result (λ r. (same_subject (subject_of r.0) subject ≡ true)
+    ensures { IfSome result (λ r. (is_named r.0 subject ≡ true)
         × (text.now ≡ method_name r.0 ++ 32 ∷ r.1.now)) }
 {
     match subject {
@@ -261,13 +261,14 @@ fn read_method(subject: Subject, text: &[u8]) -> Option<(Method, &[u8])>
         Subject::Cache => read_cache_method(text),
         Subject::Tree => read_tree_method(text),
         Subject::Buffers => read_buffers_method(text),
+        Subject::Own => None,
     }
 }
 
 /// The method of a multiset before a space, and what stands after that space.
 #[inline(always)]
 fn read_multiset_method(text: &[u8]) -> Option<(Method, &[u8])>
-    ensures { IfSome result (λ r. (same_subject (subject_of r.0) Subject.Multiset ≡ true)
+    ensures { IfSome result (λ r. (is_named r.0 Subject.Multiset ≡ true)
         × (text.now ≡ method_name r.0 ++ 32 ∷ r.1.now)) }
 {
     match text {
@@ -305,7 +306,7 @@ fn read_multiset_method(text: &[u8]) -> Option<(Method, &[u8])>
 /// The method of a cache before a space, and what stands after that space.
 #[inline(always)]
 fn read_cache_method(text: &[u8]) -> Option<(Method, &[u8])>
-    ensures { IfSome result (λ r. (same_subject (subject_of r.0) Subject.Cache ≡ true)
+    ensures { IfSome result (λ r. (is_named r.0 Subject.Cache ≡ true)
         × (text.now ≡ method_name r.0 ++ 32 ∷ r.1.now)) }
 {
     match text {
@@ -329,7 +330,7 @@ fn read_cache_method(text: &[u8]) -> Option<(Method, &[u8])>
 /// The method of a tree before a space, and what stands after that space.
 #[inline(always)]
 fn read_tree_method(text: &[u8]) -> Option<(Method, &[u8])>
-    ensures { IfSome result (λ r. (same_subject (subject_of r.0) Subject.Tree ≡ true)
+    ensures { IfSome result (λ r. (is_named r.0 Subject.Tree ≡ true)
         × (text.now ≡ method_name r.0 ++ 32 ∷ r.1.now)) }
 {
     match text {
@@ -352,7 +353,7 @@ fn read_tree_method(text: &[u8]) -> Option<(Method, &[u8])>
 /// The method of string buffers before a space, and what stands after that space.
 #[inline(always)]
 fn read_buffers_method(text: &[u8]) -> Option<(Method, &[u8])>
-    ensures { IfSome result (λ r. (same_subject (subject_of r.0) Subject.Buffers ≡ true)
+    ensures { IfSome result (λ r. (is_named r.0 Subject.Buffers ≡ true)
         × (text.now ≡ method_name r.0 ++ 32 ∷ r.1.now)) }
 {
     match text {

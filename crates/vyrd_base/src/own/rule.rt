@@ -1,7 +1,7 @@
 //! The rules of a specification's text.
 
 /// The rule that a line breaks.
-#[derive(Clone, Copy, Debug)]
+#[derive(Clone, Copy, Debug, PartialEq, Eq)]
 pub enum SpecificationRule {
     /// The line has more than 200 bytes.
     TooLong,

@@ -10,4 +10,4 @@ returns-in_err-subject c = rw c.from_residual-in_err-subject.ensures
 pub returns-in_err-size : goal.returns-in_err-size
 returns-in_err-size c = rw c.from_residual-in_err-size.ensures
     (no_limits c.args.line.now c.in_ok-rest.rest.now c.in_ok-version.version c.in_ok-version.rest.now c.in_ok-subject.subject c.in_ok-subject.rest.now (omega (arith, c.in_ok-version.ensures.0))
-    c.in_ok-rest.ensures c.in_ok-version.ensures.1 c.in_ok-subject.ensures c.in_err-size.ensures)
+    c.in_ok-rest.ensures c.in_ok-version.ensures.1 c.in_ok-subject.ensures.1 c.in_err-size.ensures)
