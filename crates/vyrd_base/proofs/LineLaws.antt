@@ -16,7 +16,7 @@ use Rattle.vyrd_base.specs.declared.log.Kind.TheVariants.{Call, Return, Write, C
 use Rattle.vyrd_base.specs.declared.log.Entry.{Entry}
 use Rattle.vyrd_base.specs.declared.log.StartWord.{StartWord}
 use Rattle.vyrd_base.specs.Subjects.{arity_of, are_padded, is_named}
-use Rattle.vyrd_base.specs.Spelling.{spaced, method_name, arg_fields, kind_fields, start_line, entry_line, end_line, is_kind_of, is_entry_of}
+use Rattle.vyrd_base.specs.Spelling.{spaced, arg_fields, kind_fields, start_line, entry_line, end_line, is_kind_of, is_entry_of}
 use Rattle.vyrd_base.specs.Lines.{fields_of, number_of, args_from, guessed_kind, guessed_entry, entry_in, guessed_start, start_in}
 use Rattle.vyrd_base.proofs.SubjectLaws.{named_built_in}
 use Rattle.vyrd_base.proofs.StructureLaws.{plain_method, some_arguments, few_arguments, method_found}

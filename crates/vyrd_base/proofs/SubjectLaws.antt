@@ -1,5 +1,5 @@
 -- The subjects and their names: which are the same, how long a name is, and how it is read.
-use Rattle.std.proofs.Common.{◌≡◌, ℕ, ◌≤◌, Bool, true, false, cond, List, [], ◌∷◌, ◌++◌, length, Some, refl, sym, ap, ◌∙◌, arith}
+use Rattle.std.proofs.Common.{◌≡◌, ℕ, Bool, true, false, cond, List, [], ◌∷◌, ◌++◌, Some, refl, sym, ap, ◌∙◌}
 use Rattle.std.specs.Prelude.{◌==◌, find}
 use Rattle.std.specs.Str.{bytes_eq}
 use Rattle.std.specs.List.{slice_split, AllByRecursion}
@@ -10,7 +10,7 @@ use Rattle.vyrd_base.specs.declared.subject.Subject.TheVariants.{Multiset, Cache
 use Rattle.vyrd_base.specs.Subjects.{subjects, same_subject, is_built_in, is_named, subject_of}
 use Rattle.vyrd_base.specs.Spelling.{subject_name}
 use Rattle.vyrd_base.specs.Lines.{subject_called}
-use Rattle.vyrd_base.proofs.SplitLaws.{lacks, split_at}
+use Rattle.vyrd_base.proofs.SplitLaws.{split_at}
 use Rattle.vyrd_base.proofs.StructureLaws.{plain_subject}
 use Rattle.vyrd_base.proofs.TestLaws.{first_true, second_true}
 

@@ -4,7 +4,7 @@ use Rattle.std.specs.Prelude.{if◌then◌else◌}
 use Rattle.std.specs.List.{list_any}
 use Rattle.vyrd_base.specs.declared.header.Header.{Header}
 use Rattle.vyrd_base.specs.declared.subject.Subject.{Subject}
-use Rattle.vyrd_base.specs.declared.subject.Subject.TheVariants.{Multiset, Cache, Tree, Buffers}
+use Rattle.vyrd_base.specs.declared.subject.Subject.TheVariants.{Multiset, Cache, Tree, Buffers, Own}
 use Rattle.vyrd_base.specs.Amounts.{Amounts}
 use Rattle.vyrd_base.specs.Layout.{plain_words}
 use Rattle.vyrd_base.specs.Rules.{built_in}
@@ -34,12 +34,14 @@ abbrev pub AgreeElsewhere : List ℕ → List ℕ → List ℕ → Type 0
 AgreeElsewhere before words changed =
     (w : ℕ) → list_any (λ x. x == w) changed ≡ false → slice_index words w ≡ slice_index before w
 
--- how many keys a part of the subject gives amounts to at most
+-- how many keys a part of the subject gives amounts to at most; the user's own has no part that is
+-- known without its specification
 abbrev pub keys_of_part : Subject → ℕ
 keys_of_part Multiset = 1
 keys_of_part Cache = 2
 keys_of_part Tree = 4
 keys_of_part Buffers = 1
+keys_of_part Own = 0
 
 -- how many parts are looked at at most: one for each changed word, and all nodes of a tree if a
 -- right link has changed

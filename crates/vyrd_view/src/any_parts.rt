@@ -1,10 +1,11 @@
 //! The words of a built-in subject against the specification, by the subject.
 
-ghost use Rattle.std.specs.Prelude.{◌≡◌, ◌+◌, ◌*◌, ◌/◌, ◌<◌, ◌≤◌, [], false, length, replicate};
+ghost use Rattle.std.specs.Prelude.{◌≡◌, ◌+◌, ◌*◌, ◌/◌, ◌<◌, ◌≤◌, [], true, false, length, replicate};
 ghost use Rattle.std.specs.Prelude.{All};
 ghost use Rattle.std.specs.Prelude.{IfOk, OnOk, is_err};
 ghost use Rattle.vyrd_base.specs.Amounts.{with_amount, first_difference};
 ghost use Rattle.vyrd_base.specs.Layout.{plain_words};
+ghost use Rattle.vyrd_base.specs.Subjects.{is_built_in};
 ghost use Rattle.vyrd_view.specs.Comparing.{AgreeElsewhere, keys_of_part, parts_looked_at};
 ghost use Rattle.vyrd_view.specs.Known.{of_subject, view_by};
 
@@ -32,6 +33,7 @@ impl AnyParts {
 
     /// Zeroed words of the header's subject against an empty specification.
     pub(crate) fn new(alloc: Global, header: Header) -> Result<AnyParts, AllocError>
+        requires built_in { is_built_in header.subject ≡ true }
         ensures serves { IfOk result (Serves header) }
         ensures new { IfOk result (λ c. known_of_any c ≡ record {
           shows = of_subject header.subject header.size;
@@ -47,6 +49,7 @@ impl AnyParts {
             Subject::Cache => Ok(AnyParts::Chunks(ByParts::new(alloc, Chunks::new(size))?)),
             Subject::Tree => Ok(AnyParts::Leaves(Leaves::new(alloc, size)?)),
             Subject::Buffers => Ok(AnyParts::Buffers(ByParts::new(alloc, Buffers::new(size))?)),
+            Subject::Own => unreachable!(),
         }
     }
 

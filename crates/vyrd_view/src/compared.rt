@@ -1,9 +1,10 @@
 //! The words against the specification, change by change.
 
-ghost use Rattle.std.specs.Prelude.{◌≡◌, ◌+◌, ◌*◌, ◌<◌, ◌≤◌, [], false, length, replicate, All};
+ghost use Rattle.std.specs.Prelude.{◌≡◌, ◌+◌, ◌*◌, ◌<◌, ◌≤◌, [], true, false, length, replicate, All};
 ghost use Rattle.std.specs.Prelude.{IfOk, OnOk, is_err};
 ghost use Rattle.vyrd_base.specs.Amounts.{with_amount, first_difference};
 ghost use Rattle.vyrd_base.specs.Layout.{plain_words};
+ghost use Rattle.vyrd_base.specs.Subjects.{is_built_in};
 ghost use Rattle.vyrd_base.specs.Views.{view_of_words};
 ghost use Rattle.vyrd_view.specs.Comparing.{AgreeElsewhere, keys_of_part, parts_looked_at};
 
@@ -42,9 +43,10 @@ impl Model for Compared {
 }
 
 impl Compared {
-    /// Zeroed words against an empty specification. It takes memory in proportion to the words: 8
+    /// Zeroed words of a built-in subject against an empty specification. It takes memory in proportion to the words: 8
     /// bytes for each, and 64 to 112 for each key that a part may give.
     pub fn new(alloc: Global, header: Header) -> Result<Compared, AllocError>
+        requires built_in { is_built_in header.subject ≡ true }
         ensures { IfOk result (λ c. c ≡ record {
           header = header;
           words = replicate (plain_words header) 0;

@@ -1,14 +1,12 @@
 -- The entries of a log of version 3: a method is called by the name that its specification gives it,
 -- with as many arguments as it has parameters there.
-use Rattle.std.specs.Prelude.{ℕ, ◌+◌, ◌^◌, ◌==◌, Bool, true, false, ◌&&◌, nat_lt, List, [], ◌∷◌, map, take}
+use Rattle.std.specs.Prelude.{ℕ, ◌+◌, ◌^◌, Bool, true, false, ◌&&◌, nat_lt, List, [], ◌∷◌, map, take}
 use Rattle.std.specs.Prelude.{codes, decimal, Option, Some, None, is_some, option_map, option_and_then}
 use Rattle.std.specs.Prelude.{slice_get, if◌then◌else◌}
 use Rattle.std.specs.Option.{option_map_or}
 use Rattle.std.specs.Str.{bytes_eq}
 use Rattle.vyrd_base.specs.declared.own.method.OwnMethod.{OwnMethod}
-use Rattle.vyrd_base.specs.declared.subject.Method as declared
 use Rattle.vyrd_base.specs.declared.subject.Method.TheVariants.{Own as OfOwn}
-use Rattle.vyrd_base.specs.declared.subject.Args.{Args}
 use Rattle.vyrd_base.specs.declared.subject.Commits.{Commits}
 use Rattle.vyrd_base.specs.declared.subject.Commits.TheVariants.{Never, AtMostOnce, Once}
 use Rattle.vyrd_base.specs.declared.log.Kind.{Kind}

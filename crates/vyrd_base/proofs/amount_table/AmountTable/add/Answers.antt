@@ -1,4 +1,4 @@
-use Rattle.std.proofs.Common.{◌≡◌, ◌+◌, Some, None, ap, subst, sym, ◌∙◌, arith}
+use Rattle.std.proofs.Common.{◌≡◌, ◌+◌, Some, ap, subst, ◌∙◌, arith}
 use Rattle.vyrd_base.specs.Amounts.{IsAmounts, amount_of, with_amount}
 use Rattle.vyrd_base.specs.Tables.{IsFoundAt}
 use Rattle.vyrd_base.proofs.TableLaws.{read_amount, amounts_formed, found_amounts}

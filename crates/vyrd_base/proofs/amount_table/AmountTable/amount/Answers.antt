@@ -1,4 +1,4 @@
-use Rattle.std.proofs.Common.{◌<◌, ℕ, length, Some, None, ap, subst, sym, ◌∙◌, arith}
+use Rattle.std.proofs.Common.{Some, None, ap, subst, sym, ◌∙◌}
 use Rattle.vyrd_base.specs.Amounts.{IsAmounts, amount_of}
 use Rattle.vyrd_base.specs.Tables.{IsFoundAt}
 use Rattle.vyrd_base.proofs.TableLaws.{read_amount, amount_missing, amounts_formed}
