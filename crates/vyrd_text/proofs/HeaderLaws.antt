@@ -65,11 +65,11 @@ pub header_known : (line : List ℕ) (version : ℕ) (subject : Subject) (size c
     → header_in line ≡ ok_or (header_of version subject size callers) UnknownVersion
 unfolding header_in
 header_known line version subject size callers is =
-    ap (λ l. header_from l (fields_of l)) is.1.1.1
+    ap (λ l. header_from l (fields_of l)) is.3
     ∙ ap (header_from text) fields
-    ∙ (λ i. header_spelled text (number_of_decimal version v i) (subject_read subject is.1.0 i) (number_of_decimal size s i) (number_of_decimal callers c i))
+    ∙ (λ i. header_spelled text (number_of_decimal version v i) (subject_read subject is.1 i) (number_of_decimal size s i) (number_of_decimal callers c i))
     ∙ ap (λ b. cond b (ok_or (header_of version subject size callers) UnknownVersion) (Err BadHeader))
-    (both_true _ _ (both_true _ _ (is_below version (2 ^ 32) is.0) is.1.1.0) (bytes_same text))
+    (both_true _ _ (both_true _ _ (is_below version (2 ^ 32) is.0) is.2) (bytes_same text))
   where
     text : List ℕ
     text = header_line version subject size callers
@@ -78,10 +78,10 @@ header_known line version subject size callers is =
     v = let h = is.0 in omega (arith, h)
 
     s : size < 2 ^ 64
-    s = let h = small_size size callers is.1.1.0 in omega (arith, h)
+    s = let h = small_size size callers is.2 in omega (arith, h)
 
     c : callers < 2 ^ 64
-    c = let h = small_callers size callers is.1.1.0 in omega (arith, h)
+    c = let h = small_callers size callers is.2 in omega (arith, h)
 
     parts : List (List ℕ)
     parts = decimal version ∷ subject_name subject ∷ decimal size ∷ decimal callers ∷ []

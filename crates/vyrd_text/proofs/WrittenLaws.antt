@@ -1,18 +1,22 @@
 -- What is appended in turn.
-use Rattle.std.proofs.Common.{◌≡◌, ℕ, ◌≤◌, ◌^◌, true, cond, ◌&&◌, List, [], ◌∷◌, ◌++◌, take, length, Result, Ok, Err, refl, ap, sym, ◌∙◌, arith, append_assoc, length-append}
-use Rattle.std.specs.Prelude.{codes, flat_map, nat_lt, OnOk}
+use Rattle.std.proofs.Common.{◌≡◌, ℕ, ◌≤◌, ◌^◌, true, cond, ◌&&◌, List, [], ◌∷◌, ◌++◌, take, length, Result, Ok, Err, refl, ap, sym, ◌∙◌, arith, append_assoc, append-nil, length-append}
+use Rattle.std.specs.Prelude.{codes, decimal, map, flat_map, nat_lt, OnOk}
 use Rattle.std.specs.List.{AllByRecursion}
 use Rattle.std.specs.Result.{is_ok}
 use Rattle.std.proofs.lemmas.List.{take_at, take-take}
 use Rattle.vyrd_base.specs.declared.header.Header.{Header}
 use Rattle.vyrd_base.specs.declared.subject.Subject.{Subject}
+use Rattle.vyrd_base.specs.declared.subject.Method.{Method}
+use Rattle.vyrd_base.specs.declared.subject.Args.{Args}
 use Rattle.vyrd_base.specs.declared.log.Kind.{Kind}
 use Rattle.vyrd_base.specs.declared.log.Kind.TheVariants.{Call, Return, Write, Commit, BlockOpen, BlockClose, BlockCommit}
 use Rattle.vyrd_base.specs.declared.log.Entry.{Entry}
 use Rattle.vyrd_base.specs.declared.log.StartWord.{StartWord}
-use Rattle.vyrd_base.specs.Spelling.{ended_line, start_line, entry_line, header_line, log_text, is_kind_of, is_entry_of}
+use Rattle.vyrd_base.specs.Subjects.{arity_of}
+use Rattle.vyrd_base.specs.Spelling.{ended_line, start_line, entry_line, header_line, log_text, is_kind_of, is_entry_of, spaced, method_name}
 use Rattle.vyrd_base.proofs.ReadingLaws.{AllOf}
 use Rattle.vyrd_base.proofs.TestLaws.{first_true, second_true}
+use Rattle.vyrd_text.specs.Spelled.{call_text}
 use Rattle.vyrd_text.specs.Written.{is_padded, is_of_subject, is_writable}
 
 -- the front of a list that goes on from a longer front
@@ -57,3 +61,15 @@ entry_writable subject e is = by_kind e.kind (second_true (nat_lt e.caller (2 ^ 
 pub all_writable : (subject : Subject) (es : List Entry) → AllOf subject es → AllByRecursion (λ e. is_writable subject e ≡ true) es
 all_writable subject [] all = tt
 all_writable subject (e ∷ es) all = (entry_writable subject e all.0, all_writable subject es all.1)
+
+-- fields joined by spaces, the first of them before each other one after a space
+pub spaced_fields : (field : List ℕ) (ns : List ℕ)
+    → spaced (field ∷ map decimal ns) ≡ field ++ flat_map (λ n. 32 ∷ decimal n) ns
+spaced_fields field [] = sym (append-nil field)
+spaced_fields field (n ∷ ns) = ap (λ rest. field ++ 32 ∷ rest) (spaced_fields (decimal n) ns)
+
+-- a method's name, and after it its arguments, each after a space
+pub call_text_after : (method : Method) (args : Args) → call_text method args
+    ≡ method_name method ++ flat_map (λ n. 32 ∷ decimal n) (take (arity_of method) (args.a ∷ args.b ∷ args.c ∷ []))
+call_text_after method args =
+    spaced_fields (method_name method) (take (arity_of method) (args.a ∷ args.b ∷ args.c ∷ []))

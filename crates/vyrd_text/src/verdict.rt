@@ -2,10 +2,11 @@
 
 ghost use Rattle.std.specs.Prelude.{◌≡◌, ◌+◌, ◌≤◌, ◌++◌, length, OnOk, OnErr};
 ghost use Rattle.vyrd_base.specs.VerdictText.{verdict_text, verdict_words, why_text, rule_text};
+ghost use Rattle.vyrd_base.specs.VerdictText.{specification_text};
 
 use crate::line_buffer::LineBuffer;
 use std::alloc::AllocError;
-use vyrd_base::{Rule, Verdict, Why};
+use vyrd_base::{Rule, SpecificationRule, Verdict, Why};
 
 /// Appends the verdict's line, with its line feed. A refusal leaves `out` unchanged.
 #[tactic(auto, unfolding(vyrd_base::specs::VerdictText::verdict_text))]
@@ -91,6 +92,7 @@ fn text_of_rule(rule: Rule) -> &'static [u8]
         Rule::BadEntry => b"bad entry",
         Rule::StartRange => b"start out of range",
         Rule::StartOrder => b"start word not rising",
+        Rule::Specification(rule) => text_of_specification_rule(rule),
         Rule::NoLineFeed => b"no line feed",
         Rule::NoEnd => b"no end",
         Rule::StartState => b"start stands for no state",
@@ -110,5 +112,24 @@ fn text_of_rule(rule: Rule) -> &'static [u8]
         Rule::BlockInBlock => b"block inside a block",
         Rule::NoBlock => b"no block open",
         Rule::CallOpen => b"call not returned",
+    }
+}
+
+/// The text of a rule of specifications.
+fn text_of_specification_rule(rule: SpecificationRule) -> &'static [u8]
+    ensures text { result.now ≡ specification_text rule }
+    ensures len { length result.now ≤ 25 }
+{
+    match rule {
+        SpecificationRule::TooLong => b"line too long",
+        SpecificationRule::BadLine => b"bad specification line",
+        SpecificationRule::OutOfPlace => b"line out of place",
+        SpecificationRule::NameTaken => b"name taken",
+        SpecificationRule::UnknownName => b"unknown name",
+        SpecificationRule::TooMany => b"too many",
+        SpecificationRule::TooDeep => b"too deep",
+        SpecificationRule::StateIsRead => b"state is read here",
+        SpecificationRule::NoCase => b"method without a case",
+        SpecificationRule::NoMethod => b"no method",
     }
 }

@@ -1,12 +1,12 @@
 //! The text of a log, written.
 
-ghost use Rattle.std.specs.Prelude.{◌≡◌, ◌+◌, ◌≤◌, [], ◌++◌, true, length, take, flat_map, OnOk};
-ghost use Rattle.std.specs.Prelude.{OnErr};
+ghost use Rattle.std.specs.Prelude.{◌≡◌, ◌+◌, ◌≤◌, [], ◌∷◌, ◌++◌, true, length, take, flat_map};
+ghost use Rattle.std.specs.Prelude.{decimal, OnOk, OnErr};
 ghost use Rattle.std.specs.List.{AllByRecursion};
 ghost use Rattle.vyrd_base.specs.Starts.{may_start};
 ghost use Rattle.vyrd_base.specs.Spelling.{log_text, start_line, entry_line, ended_line};
 ghost use Rattle.vyrd_base.specs.Spelling.{header_line, method_name, subject_name};
-ghost use Rattle.vyrd_text.specs.Spelled.{args_text, call_text, kind_text};
+ghost use Rattle.vyrd_text.specs.Spelled.{call_text, kind_text};
 ghost use Rattle.vyrd_text.specs.Written.{is_writable};
 
 use crate::line_buffer::LineBuffer;
@@ -204,17 +204,20 @@ pub fn push_call(method: Method, args: Args, line: &mut LineBuffer)
     ensures len { length line.new ≤ length line.old + 80 }
 {
     line.push(method.name());
-    line.push(b" ");
     push_args(method.arity(), args, line);
 }
 
-/// Puts the first `arity` arguments at the end of the line.
+/// Puts the first `arity` arguments at the end of the line, each after a space.
 fn push_args(arity: u32, args: Args, line: &mut LineBuffer)
-    requires count { (1 ≤ arity) × (arity ≤ 3) }
-    requires room { length line.old ≤ 42 }
-    ensures text { line.new ≡ line.old ++ args_text arity args }
-    ensures len { length line.new ≤ length line.old + 62 }
+    requires room { length line.old ≤ 41 }
+    ensures text { line.new ≡ line.old
+        ++ flat_map (λ n. 32 ∷ decimal n) (take arity (args.a ∷ args.b ∷ args.c ∷ [])) }
+    ensures len { length line.new ≤ length line.old + 63 }
 {
+    if arity == 0 {
+        return;
+    }
+    line.push(b" ");
     line.push_number(u64::from(args.a));
     if arity == 1 {
         return;
