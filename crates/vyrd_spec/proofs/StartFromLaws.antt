@@ -2,6 +2,7 @@
 use Rattle.std.proofs.Common.{◌≡◌, ℕ, ◌+◌, ◌≤◌, true, false, ◌++◌, List, length, Some, None, ap, ◌∙◌, sym, arith}
 use Rattle.std.specs.Prelude.{replicate, option_map}
 use Rattle.std.specs.Bool.{then_some}
+use Rattle.vyrd_base.specs.Subjects.{is_built_in}
 use Rattle.vyrd_base.specs.declared.header.Header.{Header}
 use Rattle.vyrd_base.specs.declared.subject.Subject.{Subject}
 use Rattle.vyrd_base.specs.Layout.{plain_words, lock_words}
@@ -39,6 +40,6 @@ a_state h subject words s of many sound is =
 pub zeros_start : (h : Header) → option_map showing (state_of_words h (replicate (plain_words h + lock_words h) 0)) ≡ Some start
 zeros_start h = ap (option_map showing) (zeroed_words h)
 
--- a header's size is at most 1,024
-pub few_parts : (h : Header) (size : ℕ) → size ≡ h.size → size ≤ 1024
-few_parts h size is = omega (arith, is, low_size h)
+-- a built-in subject's size is at most 1,024
+pub few_parts : (h : Header) (size : ℕ) → size ≡ h.size → is_built_in h.subject ≡ true → size ≤ 1024
+few_parts h size is built = omega (arith, is, low_size h built)

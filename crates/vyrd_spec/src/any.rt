@@ -110,10 +110,11 @@ impl Spec for AnySpec {
 }
 
 impl BuiltIn for AnySpec {
-    ghost use Rattle.std.specs.Prelude.{refl};
+    ghost use Rattle.std.specs.Prelude.{◌≡◌, true, refl};
+    ghost use Rattle.vyrd_base.specs.Subjects.{is_built_in};
     ghost use Rattle.vyrd_spec.specs.AnySpecs.{formed_in, small_in};
 
-    ghost serves = { λ subject. Unit {0} };
+    ghost serves = { λ subject. is_built_in subject ≡ true };
 
     ghost has_built_in_rules = { λ s. refl };
 
@@ -127,6 +128,7 @@ impl BuiltIn for AnySpec {
             Subject::Cache => AnySpec::Cache(CacheSpec::start(alloc, header)?),
             Subject::Tree => AnySpec::Tree(TreeSpec::start(alloc, header)?),
             Subject::Buffers => AnySpec::Buffers(BufferSpec::start(alloc, header)?),
+            Subject::Own => unreachable!(),
         })
     }
 
@@ -142,6 +144,7 @@ impl BuiltIn for AnySpec {
             Subject::Cache => CacheSpec::start_from(alloc, header, words)?.map(AnySpec::Cache),
             Subject::Tree => TreeSpec::start_from(alloc, header, words)?.map(AnySpec::Tree),
             Subject::Buffers => BufferSpec::start_from(alloc, header, words)?.map(AnySpec::Buffers),
+            Subject::Own => unreachable!(),
         })
     }
 }

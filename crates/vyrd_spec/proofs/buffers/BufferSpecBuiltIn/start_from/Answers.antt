@@ -1,4 +1,5 @@
 use Rattle.std.proofs.Common.{◌≡◌, Some, None, rules, ap, ◌∙◌, ◌^◌, sym}
+use Rattle.vyrd_base.specs.Subjects.{is_built_in}
 use Rattle.vyrd_base.specs.declared.subject.Subject.TheVariants.{Buffers}
 use Rattle.vyrd_base.specs.Amounts.{collected}
 use Rattle.vyrd_base.specs.Buffers.{buffer_at, buffer_parts}
@@ -22,7 +23,7 @@ invariant_of-result c =
       few = search rules;
       count = many_in (is_buffer_at words) (text_shown words) size texts some ∙ c.size.ensures;
       small = first_row (is_buffer_at words) (text_shown words) (256 ^ 7) (small_text words) size texts
-          (few_parts c.args.header size c.size.ensures) some;
+          (few_parts c.args.header size c.size.ensures (ap is_built_in c.requires.serves)) some;
     }
 
 pub returns-in-Some-clause-state : goal.returns-in-Some-clause-state

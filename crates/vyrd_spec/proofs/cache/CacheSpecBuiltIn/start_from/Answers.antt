@@ -1,4 +1,5 @@
 use Rattle.std.proofs.Common.{◌≡◌, Some, None, rules, ap, ◌∙◌, ◌^◌, sym}
+use Rattle.vyrd_base.specs.Subjects.{is_built_in}
 use Rattle.vyrd_base.specs.declared.subject.Subject.TheVariants.{Cache}
 use Rattle.vyrd_base.specs.Amounts.{collected}
 use Rattle.vyrd_base.specs.Represented.{is_sound}
@@ -22,7 +23,7 @@ invariant_of-result c =
       few = search rules;
       count = many_in (is_sound_at words) (pair_shown words) size pairs some ∙ c.size.ensures;
       small = first_row (is_sound_at words) (pair_shown words) (2 ^ 64) (small_pair words) size pairs
-          (few_parts c.args.header size c.size.ensures) some;
+          (few_parts c.args.header size c.size.ensures (ap is_built_in c.requires.serves)) some;
     }
 
 pub returns-in-Some-clause-state : goal.returns-in-Some-clause-state

@@ -1,4 +1,5 @@
 use Rattle.std.proofs.Common.{ap, ◌∙◌, sym, subst}
+use Rattle.vyrd_base.specs.Subjects.{is_built_in}
 use Rattle.vyrd_base.specs.declared.subject.Subject.TheVariants.{Multiset}
 use Rattle.vyrd_base.specs.Amounts.{IsAmounts, collected}
 use Rattle.vyrd_base.specs.Represented.{is_sound}
@@ -19,7 +20,7 @@ invariant_of-result-clause-formed c =
 
 pub invariant_of-result-clause-small : goal.invariant_of-result-clause-small
 invariant_of-result-clause-small c =
-    first_counts c.args.words.now c.size-size.result c.in_ok-counts.field-0 (few_parts c.args.header c.size-size.result c.size-size.ensures)
+    first_counts c.args.words.now c.size-size.result c.in_ok-counts.field-0 (few_parts c.args.header c.size-size.result c.size-size.ensures (ap is_built_in c.requires.serves))
     c.requires.small c.in_ok-counts.ensures
 
 pub returns-clause-state : goal.returns-clause-state
