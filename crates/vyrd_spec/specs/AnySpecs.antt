@@ -1,6 +1,8 @@
 -- What the specification of any subject is seen as: the one specification in it.
-use Rattle.std.specs.Prelude.{ℕ, ◌^◌, ◌<◌, List}
+use Rattle.std.specs.Prelude.{◌≡◌, ℕ, ◌^◌, ◌<◌, true, List}
+use Rattle.std.proofs.Common.{ap}
 use Rattle.vyrd_base.specs.declared.header.Header.{Header}
+use Rattle.vyrd_base.specs.Subjects.{is_built_in}
 use Rattle.vyrd_base.specs.Amounts.{IsAmounts}
 use Rattle.vyrd_base.specs.States.{State, showing}
 use Rattle.vyrd_spec.specs.declared.any.AnySpec.{AnySpec}
@@ -32,6 +34,13 @@ touched_in (Multiset s) = s.touched
 touched_in (Cache s) = s.touched
 touched_in (Tree s) = s.touched
 touched_in (Buffers s) = s.touched
+
+-- The subject is built in.
+pub built_in_subject : (s : AnySpec) → is_built_in (header_in s).subject ≡ true
+built_in_subject (Multiset s) = ap is_built_in s.subject
+built_in_subject (Cache s) = ap is_built_in s.subject
+built_in_subject (Tree s) = ap is_built_in s.subject
+built_in_subject (Buffers s) = ap is_built_in s.subject
 
 -- What is shown are amounts.
 pub formed_in : (s : AnySpec) → IsAmounts (state_in s).shown

@@ -112,11 +112,13 @@ impl Spec for AnySpec {
 impl BuiltIn for AnySpec {
     ghost use Rattle.std.specs.Prelude.{◌≡◌, true, refl};
     ghost use Rattle.vyrd_base.specs.Subjects.{is_built_in};
-    ghost use Rattle.vyrd_spec.specs.AnySpecs.{formed_in, small_in};
+    ghost use Rattle.vyrd_spec.specs.AnySpecs.{built_in_subject, formed_in, small_in};
 
     ghost serves = { λ subject. is_built_in subject ≡ true };
 
     ghost has_built_in_rules = { λ s. refl };
+
+    ghost has_built_in_subject = { built_in_subject };
 
     ghost is_formed = { formed_in };
 

@@ -1,6 +1,7 @@
 //! The specification of the string buffers: the text of each buffer.
 
 ghost use Rattle.std.specs.Prelude.{◌≡◌, ◌<◌, ◌≤◌, ◌^◌, true, false, length, Some, None, refl};
+ghost use Rattle.vyrd_base.specs.Subjects.{is_built_in};
 ghost use Rattle.vyrd_base.specs.Rules.{built_in};
 ghost use Rattle.vyrd_base.specs.States.{showing};
 ghost use Rattle.vyrd_base.specs.declared.subject.Subject.TheVariants.{Buffers};
@@ -98,9 +99,13 @@ impl Spec for BufferSpec {
 }
 
 impl BuiltIn for BufferSpec {
+    ghost use Rattle.std.proofs.Common.{ap};
+
     ghost serves = { λ subject. subject ≡ Buffers };
 
     ghost has_built_in_rules = { λ s. refl };
+
+    ghost has_built_in_subject = { λ s. ap is_built_in s.subject };
 
     ghost is_formed = { λ s. row_formed s.texts.items };
 

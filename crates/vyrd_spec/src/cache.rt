@@ -2,6 +2,7 @@
 
 ghost use Rattle.std.specs.Prelude.{◌≡◌, ◌+◌, ◌*◌, ◌<◌, ◌≤◌, ◌^◌, true, false, length, Some, None};
 ghost use Rattle.std.specs.Prelude.{refl};
+ghost use Rattle.vyrd_base.specs.Subjects.{is_built_in};
 ghost use Rattle.vyrd_base.specs.Rules.{built_in};
 ghost use Rattle.vyrd_base.specs.States.{showing};
 ghost use Rattle.vyrd_base.specs.declared.subject.Subject.TheVariants.{Cache};
@@ -94,9 +95,13 @@ impl Spec for CacheSpec {
 }
 
 impl BuiltIn for CacheSpec {
+    ghost use Rattle.std.proofs.Common.{ap};
+
     ghost serves = { λ subject. subject ≡ Cache };
 
     ghost has_built_in_rules = { λ s. refl };
+
+    ghost has_built_in_subject = { λ s. ap is_built_in s.subject };
 
     ghost is_formed = { λ s. row_formed s.pairs.items };
 

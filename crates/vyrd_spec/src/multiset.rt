@@ -3,6 +3,7 @@
 ghost use Rattle.std.specs.Prelude.{◌≡◌, ◌≢◌, ◌+◌, ◌*◌, ◌<◌, ◌≤◌, ◌^◌, ◌-◌, ℕ, true, false, not};
 ghost use Rattle.std.specs.Prelude.{refl, OnOk, OnErr, Some, None, Ok};
 ghost use Rattle.std.specs.Bool.{then_some};
+ghost use Rattle.vyrd_base.specs.Subjects.{is_built_in};
 ghost use Rattle.vyrd_base.specs.Rules.{built_in};
 ghost use Rattle.vyrd_base.specs.States.{showing};
 ghost use Rattle.vyrd_base.specs.declared.subject.Subject.TheVariants.{Multiset};
@@ -96,9 +97,13 @@ impl Spec for MultisetSpec {
 }
 
 impl BuiltIn for MultisetSpec {
+    ghost use Rattle.std.proofs.Common.{ap};
+
     ghost serves = { λ subject. subject ≡ Multiset };
 
     ghost has_built_in_rules = { λ s. refl };
+
+    ghost has_built_in_subject = { λ s. ap is_built_in s.subject };
 
     ghost is_formed = { λ s. s.formed };
 

@@ -12,6 +12,7 @@ ghost use Rattle.vyrd_base.specs.States.{State, showing};
 ghost use Rattle.vyrd_base.specs.Layout.{plain_words, lock_words};
 ghost use Rattle.vyrd_base.specs.Represented.{state_of_words};
 ghost use Rattle.vyrd_base.specs.Subjects.{subject_of, is_observer, must_commit, are_args};
+ghost use Rattle.vyrd_base.specs.Subjects.{is_built_in};
 ghost use Rattle.vyrd_spec.specs.Bounds.{AllAmounts};
 ghost use Rattle.vyrd_spec.specs.Touching.{with_touched};
 ghost use Rattle.vyrd_view.specs.Known.{IsNew, view_by};
@@ -140,9 +141,12 @@ pub trait BuiltIn: Spec {
             (λ found. IfSome found (λ s. Self.charter s ≡ built_in header)) }
         ensures made { IfOk result (λ found. IfSome found (λ s. Self.made s ≡ 0)) };
 
-    // Its rules are those of its header.
+    // Its rules are those of its header, whose subject is built in.
     ghost has_built_in_rules: { (s : Self)
         → Self.charter s ≡ built_in (rules_by (Self.charter s)).header };
+
+    ghost has_built_in_subject: { (s : Self)
+        → is_built_in (rules_by (Self.charter s)).header.subject ≡ true };
 
     // The keys that a state shows rise, and no amount is 0.
     ghost is_formed: { (s : Self) → IsAmounts (Self.state s).shown };

@@ -1,4 +1,5 @@
 use Rattle.std.proofs.Common.{◌≡◌, Ok, Some, sym, ap, subst, ◌∙◌, slice_get}
+use Rattle.vyrd_base.specs.Subjects.{is_built_in}
 use Rattle.vyrd_base.specs.Rules.{Rules, rules_by}
 use Rattle.std.specs.Prelude.{map, set}
 use Rattle.vyrd_plain.specs.Executions.{seeing, with_commit}
@@ -73,3 +74,8 @@ returns-clause-gives g c = λ x is.
       seen = c.mark_committed.ensures.executions
           ∙ ap (λ (q : Rules). map (seeing q after) (set old c.args.caller (Some (with_commit c.in-Some.execution)))) (ap rules_by c.step.ensures.charter);
     }))
+
+pub view_of-requires-clause-built_in : goal.view_of-requires-clause-built_in
+view_of-requires-clause-built_in g c =
+    ap (λ (r : Rules). is_built_in r.header.subject) (ap rules_by c.step.ensures.charter)
+    ∙ g.met.S.BuiltIn.has_built_in_subject c.args.self.now.spec
