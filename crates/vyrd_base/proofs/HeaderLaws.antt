@@ -53,10 +53,10 @@ low_size h built = at_most_of h.size 1024 (second_true (nat_le 1 h.size) _ (firs
 -- what holds of the numbers of every header
 record AreLimited (version size callers words : ℕ) : Type 0 where
   known : version ≤ 3
-  sized : size ≤ 1048576
+  sized : size ≤ 65536
   some : 1 ≤ callers
-  few : callers ≤ 1024
-  short : words < 2 ^ 21
+  few : callers ≤ 256
+  short : words ≤ 2 ^ 16
 
 built_in_limited : (version size callers words : ℕ) → (size ≤ 1024 → words < 2 ^ 16) → is_within version size callers ≡ true
     → AreLimited version size callers words
@@ -76,12 +76,12 @@ own_limited : (version size callers : ℕ) → is_own_within version size caller
 own_limited version size callers e =
     let sizes : is_own_sized size callers ≡ true = second_true (version == 3) _ e in
     let third : version ≡ 3 = same_of version 3 (first_true (version == 3) _ e) in
-    let low : size ≤ 1048576 = at_most_of size 1048576 (first_true _ _ (first_true _ _ sizes)) in
+    let low : size ≤ 65536 = at_most_of size 65536 (first_true _ _ (first_true _ _ sizes)) in
     record {
       known = omega (arith, third);
       sized = low;
-      some = at_most_of 1 callers (second_true (nat_le size 1048576) _ (first_true _ _ sizes));
-      few = at_most_of callers 1024 (second_true (nat_le size 1048576 && nat_le 1 callers) _ sizes);
+      some = at_most_of 1 callers (second_true (nat_le size 65536) _ (first_true _ _ sizes));
+      few = at_most_of callers 256 (second_true (nat_le size 65536 && nat_le 1 callers) _ sizes);
       short = omega (arith, low);
     }
 
@@ -96,24 +96,24 @@ limited Own version size callers e = own_limited version size callers e
 pub low_version : (h : Header) → h.version ≤ 3
 low_version h = (limited h.subject h.version h.size h.callers h.within).known
 
-pub most_size : (h : Header) → h.size ≤ 1048576
+pub most_size : (h : Header) → h.size ≤ 65536
 most_size h = (limited h.subject h.version h.size h.callers h.within).sized
 
 pub size_in_32_bits : (h : Header) → h.size < 2 ^ 32
 size_in_32_bits h = omega (arith, most_size h)
 
--- the callers are from 1 to 1,024
+-- the callers are from 1 to 256
 pub some_callers : (h : Header) → 1 ≤ h.callers
 some_callers h = (limited h.subject h.version h.size h.callers h.within).some
 
-pub few_callers : (h : Header) → h.callers ≤ 1024
+pub few_callers : (h : Header) → h.callers ≤ 256
 few_callers h = (limited h.subject h.version h.size h.callers h.within).few
 
 pub callers_in_32_bits : (h : Header) → h.callers < 2 ^ 32
 callers_in_32_bits h = omega (arith, few_callers h)
 
--- the words, plain and locks, have numbers of 21 bits
-pub few_words : (h : Header) → plain_words h + lock_words h < 2 ^ 21
+-- the words, plain and locks, have numbers of 16 bits
+pub few_words : (h : Header) → plain_words h + lock_words h ≤ 2 ^ 16
 few_words h = (limited h.subject h.version h.size h.callers h.within).short
 
 -- as many words as the header has are as many as its subject has

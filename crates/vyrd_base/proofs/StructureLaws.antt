@@ -10,7 +10,8 @@ use Rattle.vyrd_base.specs.declared.subject.Subject.TheVariants.{Multiset, Cache
 use Rattle.vyrd_base.specs.declared.subject.Method.{Method}
 use Rattle.vyrd_base.specs.declared.subject.Method.TheVariants.{Multiset as OfMultiset}
 use Rattle.vyrd_base.specs.declared.subject.Method.TheVariants.{Cache as OfCache, Tree as OfTree}
-use Rattle.vyrd_base.specs.declared.subject.Method.TheVariants.{Buffers as OfBuffers, Own as OfOwn}
+use Rattle.vyrd_base.specs.declared.subject.Method.TheVariants.{Buffers as OfBuffers}
+use Rattle.vyrd_base.specs.declared.subject.Method.TheVariants.{OwnNever, OwnAtMostOnce, OwnOnce}
 use Rattle.vyrd_base.specs.declared.multiset.MultisetMethod.{MultisetMethod}
 use Rattle.vyrd_base.specs.Multiset.{multiset}
 use Rattle.vyrd_base.specs.declared.cache.CacheMethod.{CacheMethod}
@@ -34,35 +35,45 @@ plain_method (OfMultiset m) = multiset_is.plain m
 plain_method (OfCache m) = cache_is.plain m
 plain_method (OfTree m) = tree_is.plain m
 plain_method (OfBuffers m) = buffers_is.plain m
-plain_method (OfOwn m) = refl
+plain_method (OwnNever i) = refl
+plain_method (OwnAtMostOnce i) = refl
+plain_method (OwnOnce i) = refl
 
 pub short_method : (method : Method) → length (method_name method) ≤ longest_method
 short_method (OfMultiset m) = multiset_is.short m
 short_method (OfCache m) = cache_is.short m
 short_method (OfTree m) = tree_is.short m
 short_method (OfBuffers m) = buffers_is.short m
-short_method (OfOwn m) = omega arith
+short_method (OwnNever i) = omega arith
+short_method (OwnAtMostOnce i) = omega arith
+short_method (OwnOnce i) = omega arith
 
 pub some_arguments : (method : Method) → is_built_in (subject_of method) ≡ true → 1 ≤ arity_of method
 some_arguments (OfMultiset m) built = multiset_is.some_arguments m
 some_arguments (OfCache m) built = cache_is.some_arguments m
 some_arguments (OfTree m) built = tree_is.some_arguments m
 some_arguments (OfBuffers m) built = buffers_is.some_arguments m
-some_arguments (OfOwn m) built = cc
+some_arguments (OwnNever i) built = cc
+some_arguments (OwnAtMostOnce i) built = cc
+some_arguments (OwnOnce i) built = cc
 
 pub few_arguments : (method : Method) → is_built_in (subject_of method) ≡ true → arity_of method ≤ 3
 few_arguments (OfMultiset m) built = multiset_is.few_arguments m
 few_arguments (OfCache m) built = cache_is.few_arguments m
 few_arguments (OfTree m) built = tree_is.few_arguments m
 few_arguments (OfBuffers m) built = buffers_is.few_arguments m
-few_arguments (OfOwn m) built = cc
+few_arguments (OwnNever i) built = cc
+few_arguments (OwnAtMostOnce i) built = cc
+few_arguments (OwnOnce i) built = cc
 
 pub once_or_never : (method : Method) → is_built_in (subject_of method) ≡ true → must_commit method ≡ not (is_observer method)
 once_or_never (OfMultiset m) built = multiset_is.once_or_never m
 once_or_never (OfCache m) built = cache_is.once_or_never m
 once_or_never (OfTree m) built = tree_is.once_or_never m
 once_or_never (OfBuffers m) built = buffers_is.once_or_never m
-once_or_never (OfOwn m) built = cc
+once_or_never (OwnNever i) built = cc
+once_or_never (OwnAtMostOnce i) built = cc
+once_or_never (OwnOnce i) built = cc
 
 -- a search among other names of the same things
 find_mapped : {A B : Type 0} (f : A → B) (p : B → Bool) (xs : List A) → find p (map f xs) ≡ option_map f (find (λ x. p (f x)) xs)
@@ -89,7 +100,9 @@ place_of (OfMultiset m) = multiset_is.place m
 place_of (OfCache m) = cache_is.place m
 place_of (OfTree m) = tree_is.place m
 place_of (OfBuffers m) = buffers_is.place m
-place_of (OfOwn m) = 0
+place_of (OwnNever i) = 0
+place_of (OwnAtMostOnce i) = 0
+place_of (OwnOnce i) = 0
 
 pub method_listed : (subject : Subject) (method : Method) → is_named method subject ≡ true
     → slice_get (methods_of subject) (place_of method) ≡ Some method

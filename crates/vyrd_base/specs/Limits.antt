@@ -1,6 +1,6 @@
 -- The limits of a header. That of a built-in subject has version 1 or 2, a size from 1 to 1,024, and
--- from 1 to 64 callers. That of a subject of the user's own has version 3, up to 1,048,576 words, and
--- from 1 to 1,024 callers. And how long the names of subjects and of methods are.
+-- from 1 to 64 callers. That of a subject of the user's own has version 3, up to 65,536 words, and
+-- from 1 to 256 callers. And how long the names of subjects and of methods are.
 use Rattle.std.specs.Prelude.{ℕ, zero, suc, Bool, true, false, ◌&&◌, ◌==◌, nat_le}
 
 -- the two versions of logs of built-in subjects
@@ -19,7 +19,7 @@ is_within version size callers = is_known_version version && is_sized size calle
 
 -- whether there may be so many words and callers in a log of version 3
 abbrev pub is_own_sized : ℕ → ℕ → Bool
-is_own_sized words callers = nat_le words 1048576 && nat_le 1 callers && nat_le callers 1024
+is_own_sized words callers = nat_le words 65536 && nat_le 1 callers && nat_le callers 256
 
 -- the same of the header of the user's own subject, whose size is how many words there are
 abbrev pub is_own_within : ℕ → ℕ → ℕ → Bool

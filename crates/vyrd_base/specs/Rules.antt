@@ -4,23 +4,23 @@
 --
 -- What a state shows is up to the rules: its shown amounts, or less of them, or nothing, where no
 -- views are to be compared.
-use Rattle.std.specs.Prelude.{ℕ, ◌==◌, List, [], ◌∷◌, ◌++◌, replicate, take, Option, Some, None}
-use Rattle.std.specs.Prelude.{option_map, if◌then◌else◌}
+use Rattle.std.specs.Prelude.{ℕ, ◌==◌, List, [], ◌∷◌, ◌++◌, replicate, take, Option, Some}
+use Rattle.std.specs.Prelude.{option_map, option_and_then, if◌then◌else◌}
+use Rattle.std.specs.Option.{option_map_or}
 use Rattle.vyrd_base.specs.declared.header.Header.{Header}
 use Rattle.vyrd_base.specs.declared.subject.Method.{Method}
-use Rattle.vyrd_base.specs.declared.subject.Method.TheVariants.{Multiset as OfMultiset}
-use Rattle.vyrd_base.specs.declared.subject.Method.TheVariants.{Cache as OfCache, Tree as OfTree}
-use Rattle.vyrd_base.specs.declared.subject.Method.TheVariants.{Buffers as OfBuffers, Own as OfOwn}
 use Rattle.vyrd_base.specs.declared.subject.Args.{Args}
 use Rattle.vyrd_base.specs.Amounts.{Amounts}
 use Rattle.vyrd_base.specs.States.{State, showing}
+use Rattle.vyrd_base.specs.Subjects.{own_number}
 use Rattle.vyrd_base.specs.Layout.{lock_words}
 use Rattle.vyrd_base.specs.Specification.{next_state, answer_in}
 use Rattle.vyrd_base.specs.Views.{view_of_words}
 use Rattle.vyrd_base.specs.Represented.{state_of_words}
 use Rattle.vyrd_base.specs.Own.Expressions.{most}
 use Rattle.vyrd_base.specs.Own.Programs.{Written}
-use Rattle.vyrd_base.specs.Own.OwnRules.{own_next, own_answer, own_shown, own_view, own_start}
+use Rattle.vyrd_base.specs.Own.OwnRules.{own_arity, own_next, own_answer, own_shown, own_view}
+use Rattle.vyrd_base.specs.Own.OwnRules.{own_start}
 use Rattle.vyrd_base.specs.Own.Reader.{written_in}
 
 pub record Rules : Type 0 where
@@ -50,14 +50,9 @@ rules_of h = record {
       option_map showing (state_of_words h (words ++ replicate (lock_words h) 0));
 }
 
--- what is said of a call of the user's own method, by its number and its arguments; or something
--- else, of any other method
-abbrev pub of_own : {A : Type 0} → (ℕ → List ℕ → A) → A → Method → Args → A
-of_own say otherwise (OfOwn m) args = say m.number (take m.arity (args.a ∷ args.b ∷ args.c ∷ []))
-of_own say otherwise (OfMultiset m) args = otherwise
-of_own say otherwise (OfCache m) args = otherwise
-of_own say otherwise (OfTree m) args = otherwise
-of_own say otherwise (OfBuffers m) args = otherwise
+-- the arguments that a call of the method of that number has
+abbrev pub given : Written → ℕ → Args → List ℕ
+given w i args = take (own_arity w i) (args.a ∷ args.b ∷ args.c ∷ [])
 
 -- The rules of a log of version 3: those that its specification gives. Without words no views are
 -- compared.
@@ -65,8 +60,9 @@ abbrev pub own_rules : Header → Written → Rules
 own_rules h w = record {
   header = h;
   next = λ method args reply state.
-      of_own (λ i given. own_next w i given reply state) None method args;
-  answer = λ state method args. of_own (own_answer w state) most method args;
+      option_and_then (λ i. own_next w i (given w i args) reply state) (own_number method);
+  answer = λ state method args.
+      option_map_or (λ i. own_answer w state i (given w i args)) (own_number method) most;
   shown = λ state. if h.size == 0 then [] else own_shown w state;
   view = own_view w;
   start = λ words. Some (own_start w words);

@@ -1,7 +1,7 @@
 -- The structures that are built in, that of the user's own, and their methods. Each subject and each
 -- method belongs to one structure: whatever is said of it is said by that structure's value.
 use Rattle.std.specs.Prelude.{ℕ, Bool, true, false, ◌&&◌, ◌||◌, ◌==◌, nat_lt, List, [], ◌∷◌}
-use Rattle.std.specs.Prelude.{map}
+use Rattle.std.specs.Prelude.{map, Option, Some, None}
 use Rattle.vyrd_base.specs.declared.subject.Subject.{Subject}
 use Rattle.vyrd_base.specs.declared.subject.Subject.TheVariants.{Multiset, Cache, Tree, Buffers}
 use Rattle.vyrd_base.specs.declared.subject.Subject.TheVariants.{Own}
@@ -9,7 +9,7 @@ use Rattle.vyrd_base.specs.declared.subject.Method.{Method}
 use Rattle.vyrd_base.specs.declared.subject.Method.TheVariants.{Multiset as OfMultiset}
 use Rattle.vyrd_base.specs.declared.subject.Method.TheVariants.{Cache as OfCache, Tree as OfTree}
 use Rattle.vyrd_base.specs.declared.subject.Method.TheVariants.{Buffers as OfBuffers}
-use Rattle.vyrd_base.specs.declared.subject.Method.TheVariants.{Own as OfOwn}
+use Rattle.vyrd_base.specs.declared.subject.Method.TheVariants.{OwnNever, OwnAtMostOnce, OwnOnce}
 use Rattle.vyrd_base.specs.declared.multiset.MultisetMethod.TheVariants.{Insert}
 use Rattle.vyrd_base.specs.declared.subject.Args.{Args}
 use Rattle.vyrd_base.specs.declared.subject.Commits.{Commits}
@@ -39,7 +39,9 @@ by_method say (OfMultiset method) = say _ multiset method
 by_method say (OfCache method) = say _ cache method
 by_method say (OfTree method) = say _ tree method
 by_method say (OfBuffers method) = say _ buffers method
-by_method say (OfOwn method) = say _ own method
+by_method say (OwnNever i) = say _ own (record { number = i; commits = Never })
+by_method say (OwnAtMostOnce i) = say _ own (record { number = i; commits = AtMostOnce })
+by_method say (OwnOnce i) = say _ own (record { number = i; commits = Once })
 
 -- the subject whose method it is
 abbrev pub subject_of : Method → Subject
@@ -47,15 +49,33 @@ subject_of (OfMultiset method) = Multiset
 subject_of (OfCache method) = Cache
 subject_of (OfTree method) = Tree
 subject_of (OfBuffers method) = Buffers
-subject_of (OfOwn method) = Own
+subject_of (OwnNever i) = Own
+subject_of (OwnAtMostOnce i) = Own
+subject_of (OwnOnce i) = Own
 
--- the methods of a subject
+-- the methods of a subject, if it is built in
 abbrev pub methods_of : Subject → List Method
 methods_of Multiset = map OfMultiset multiset.methods
 methods_of Cache = map OfCache cache.methods
 methods_of Tree = map OfTree tree.methods
 methods_of Buffers = map OfBuffers buffers.methods
-methods_of Own = map OfOwn own.methods
+methods_of Own = []
+
+-- the method of the user's own that has this number and commits so often
+abbrev pub own_numbered : ℕ → Commits → Method
+own_numbered i Never = OwnNever i
+own_numbered i AtMostOnce = OwnAtMostOnce i
+own_numbered i Once = OwnOnce i
+
+-- the number of a method, if it is one of the user's own
+abbrev pub own_number : Method → Option ℕ
+own_number (OfMultiset method) = None
+own_number (OfCache method) = None
+own_number (OfTree method) = None
+own_number (OfBuffers method) = None
+own_number (OwnNever i) = Some i
+own_number (OwnAtMostOnce i) = Some i
+own_number (OwnOnce i) = Some i
 
 -- whether two subjects are the same
 abbrev pub same_subject : Subject → Subject → Bool

@@ -19,7 +19,7 @@ pub struct Header {
 impl Header {
     /// The header with these numbers, if they are within the limits. For a subject that is built in,
     /// the version is 1 or 2, the size is from 1 to 1,024, and there are 1 to 64 callers. For one of
-    /// the user's own the version is 3, the size is at most 1,048,576, and there are 1 to 1,024
+    /// the user's own the version is 3, the size is at most 65,536, and there are 1 to 256
     /// callers.
     pub fn new(version: u32, subject: Subject, size: u32, callers: u32) -> Option<Header>
         ensures within { IsSome result ↔ IsTrue (limits_of subject version size callers) }
@@ -58,7 +58,7 @@ impl Header {
     }
 
     /// The size of the subject: buckets of 4 slots, chunks, nodes or buffers, from 1 to 1,024, or of
-    /// the user's own words, up to 1,048,576.
+    /// the user's own words, up to 65,536.
     #[inline(always)]
     pub fn size(&self) -> u32
         ensures { result ≡ self.now.size }
@@ -66,7 +66,7 @@ impl Header {
         self.size
     }
 
-    /// How many callers there are, from 1 to 64, or up to 1,024 if the subject is the user's own. A
+    /// How many callers there are, from 1 to 64, or up to 256 if the subject is the user's own. A
     /// caller is a number below this one.
     #[inline(always)]
     pub fn callers(&self) -> u32

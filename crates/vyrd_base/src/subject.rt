@@ -6,12 +6,11 @@ ghost use Rattle.vyrd_base.specs.Limits.{is_within, longest_subject, longest_met
 ghost use Rattle.vyrd_base.specs.Spelling.{subject_name, method_name};
 ghost use Rattle.vyrd_base.specs.Subjects.{subject_of, is_observer, arity_of, are_padded};
 ghost use Rattle.vyrd_base.specs.Subjects.{are_ranged, commits_of, must_commit, methods_of};
-ghost use Rattle.vyrd_base.specs.Subjects.{some_method, limits_of};
+ghost use Rattle.vyrd_base.specs.Subjects.{some_method, limits_of, own_numbered, own_number};
 
 use crate::buffers::BuffersMethod;
 use crate::cache::CacheMethod;
 use crate::multiset::MultisetMethod;
-use crate::own::OwnMethod;
 use crate::tree::TreeMethod;
 
 /// The data structure that is watched.
@@ -88,14 +87,14 @@ impl Subject {
             Subject::Cache => are_within(version, size, callers),
             Subject::Tree => are_within(version, size, callers),
             Subject::Buffers => are_within(version, size, callers),
-            Subject::Own => { version == 3 && size <= 1_048_576 && 1 <= callers && callers <= 1024 }
+            Subject::Own => { version == 3 && size <= 65_536 && 1 <= callers && callers <= 256 }
         }
     }
 
-    /// How many plain words it has, for a size of at most 1,048,576.
+    /// How many plain words it has, for a size of at most 65,536.
     #[inline(always)]
     pub(crate) fn plain_words(self, size: u32) -> u32
-        requires { size ≤ 1048576 }
+        requires { size ≤ 65536 }
         ensures { result ≡ plain_words_of self size }
     {
         match self {
@@ -107,9 +106,9 @@ impl Subject {
         }
     }
 
-    /// How many locks it has, for a size of at most 1,048,576.
+    /// How many locks it has, for a size of at most 65,536.
     pub(crate) fn lock_words(self, size: u32) -> u32
-        requires { size ≤ 1048576 }
+        requires { size ≤ 65536 }
         ensures { result ≡ lock_words_of self size }
     {
         match self {
@@ -130,7 +129,9 @@ fn are_within(version: u32, size: u32, callers: u32) -> bool
     (version == 1 || version == 2) && 1 <= size && size <= 1024 && 1 <= callers && callers <= 64
 }
 
-/// A method of a subject. Observers only look, and never commit; all others are mutators.
+/// A method of a subject. Observers only look, and never commit; all others are mutators. A method of
+/// the user's own has a number, its place among those of its specification from 0 on; how often it
+/// commits is all that is known of it without the specification.
 #[derive(Clone, Copy, Debug, PartialEq, Eq)]
 pub enum Method {
     /// One of the multiset's.
@@ -141,8 +142,12 @@ pub enum Method {
     Tree(TreeMethod),
     /// One of the string buffers'.
     Buffers(BuffersMethod),
-    /// One of a specification of the user's own.
-    Own(OwnMethod),
+    /// One of the user's own that never commits.
+    OwnNever(u8),
+    /// One of the user's own that commits at most once.
+    OwnAtMostOnce(u8),
+    /// One of the user's own that commits exactly once.
+    OwnOnce(u8),
 }
 
 /// How often an execution of a method commits.
@@ -165,6 +170,33 @@ impl Method {
         Method::Multiset(MultisetMethod::Insert)
     }
 
+    /// The method of the user's own that has this number and commits so often.
+    pub fn own(number: u8, commits: Commits) -> Method
+        ensures { result ≡ own_numbered number commits }
+    {
+        match commits {
+            Commits::Never => Method::OwnNever(number),
+            Commits::AtMostOnce => Method::OwnAtMostOnce(number),
+            Commits::Once => Method::OwnOnce(number),
+        }
+    }
+
+    /// Its number in the specification, if it is one of the user's own.
+    #[inline(always)]
+    pub fn own_number(self) -> Option<u8>
+        ensures { result ≡ own_number self }
+    {
+        match self {
+            Method::Multiset(_) => None,
+            Method::Cache(_) => None,
+            Method::Tree(_) => None,
+            Method::Buffers(_) => None,
+            Method::OwnNever(number) => Some(number),
+            Method::OwnAtMostOnce(number) => Some(number),
+            Method::OwnOnce(number) => Some(number),
+        }
+    }
+
     /// Its name in the line of a call. It identifies the method only together with its subject. A
     /// method of the user's own has its name in its specification alone.
     pub fn name(self) -> &'static [u8]
@@ -176,7 +208,9 @@ impl Method {
             Method::Cache(method) => method.name(),
             Method::Tree(method) => method.name(),
             Method::Buffers(method) => method.name(),
-            Method::Own(method) => method.name(),
+            Method::OwnNever(_) => b"own",
+            Method::OwnAtMostOnce(_) => b"own",
+            Method::OwnOnce(_) => b"own",
         }
     }
 
@@ -190,11 +224,13 @@ impl Method {
             Method::Cache(_) => Subject::Cache,
             Method::Tree(_) => Subject::Tree,
             Method::Buffers(_) => Subject::Buffers,
-            Method::Own(_) => Subject::Own,
+            Method::OwnNever(_) => Subject::Own,
+            Method::OwnAtMostOnce(_) => Subject::Own,
+            Method::OwnOnce(_) => Subject::Own,
         }
     }
 
-    /// How many arguments the method has: from 1 to 3 if its subject is built in.
+    /// How many arguments the method has: from 1 to 3, or 3 at most if it is one of the user's own.
     #[inline(always)]
     pub fn arity(self) -> u32
         ensures { result ≡ arity_of self }
@@ -204,7 +240,9 @@ impl Method {
             Method::Cache(method) => method.arity(),
             Method::Tree(method) => method.arity(),
             Method::Buffers(method) => method.arity(),
-            Method::Own(method) => method.arity(),
+            Method::OwnNever(_) => 3,
+            Method::OwnAtMostOnce(_) => 3,
+            Method::OwnOnce(_) => 3,
         }
     }
 
@@ -218,7 +256,9 @@ impl Method {
             Method::Cache(method) => method.takes(size, args),
             Method::Tree(method) => method.takes(size, args),
             Method::Buffers(method) => method.takes(size, args),
-            Method::Own(method) => method.takes(size, args),
+            Method::OwnNever(_) => true,
+            Method::OwnAtMostOnce(_) => true,
+            Method::OwnOnce(_) => true,
         }
     }
 
@@ -232,7 +272,9 @@ impl Method {
             Method::Cache(method) => method.commits(),
             Method::Tree(method) => method.commits(),
             Method::Buffers(method) => method.commits(),
-            Method::Own(method) => method.commits(),
+            Method::OwnNever(_) => Commits::Never,
+            Method::OwnAtMostOnce(_) => Commits::AtMostOnce,
+            Method::OwnOnce(_) => Commits::Once,
         }
     }
 

@@ -5,7 +5,8 @@ use Rattle.std.specs.Prelude.{◌==◌}
 use Rattle.vyrd_base.specs.declared.subject.Method.{Method}
 use Rattle.vyrd_base.specs.declared.subject.Method.TheVariants.{Multiset as OfMultiset}
 use Rattle.vyrd_base.specs.declared.subject.Method.TheVariants.{Cache as OfCache, Tree as OfTree}
-use Rattle.vyrd_base.specs.declared.subject.Method.TheVariants.{Buffers as OfBuffers, Own as OfOwn}
+use Rattle.vyrd_base.specs.declared.subject.Method.TheVariants.{Buffers as OfBuffers}
+use Rattle.vyrd_base.specs.declared.subject.Method.TheVariants.{OwnNever, OwnAtMostOnce, OwnOnce}
 use Rattle.vyrd_base.specs.declared.subject.Args.{Args}
 use Rattle.vyrd_base.specs.Amounts.{Amounts, IsAmounts, amount_of, with_amount}
 use Rattle.vyrd_base.specs.Specification.{next_state, answer_in}
@@ -23,7 +24,9 @@ next_state-formed (OfMultiset m) = multiset_steps.formed m
 next_state-formed (OfCache m) = cache_steps.formed m
 next_state-formed (OfTree m) = tree_steps.formed m
 next_state-formed (OfBuffers m) = buffers_steps.formed m
-next_state-formed (OfOwn m) = λ args reply s t formed e. cc
+next_state-formed (OwnNever i) = λ args reply s t formed e. cc
+next_state-formed (OwnAtMostOnce i) = λ args reply s t formed e. cc
+next_state-formed (OwnOnce i) = λ args reply s t formed e. cc
 
 pub untouched : (method : Method) (args : Args) (reply key : ℕ) (s t : Amounts)
     → next_state method args reply s ≡ Some t → is_touched (touched_by method args) key ≡ false
@@ -32,7 +35,9 @@ untouched (OfMultiset m) = multiset_steps.untouched m
 untouched (OfCache m) = cache_steps.untouched m
 untouched (OfTree m) = tree_steps.untouched m
 untouched (OfBuffers m) = buffers_steps.untouched m
-untouched (OfOwn m) = λ args reply key s t e outside. cc
+untouched (OwnNever i) = λ args reply key s t e outside. cc
+untouched (OwnAtMostOnce i) = λ args reply key s t e outside. cc
+untouched (OwnOnce i) = λ args reply key s t e outside. cc
 
 answer_by_amount : (s t : Amounts) (method : Method) (args : Args)
     → amount_of t args.a ≡ amount_of s args.a → answer_in t method args ≡ answer_in s method args
@@ -40,7 +45,9 @@ answer_by_amount s t (OfMultiset m) = multiset_steps.answers s t m
 answer_by_amount s t (OfCache m) = cache_steps.answers s t m
 answer_by_amount s t (OfTree m) = tree_steps.answers s t m
 answer_by_amount s t (OfBuffers m) = buffers_steps.answers s t m
-answer_by_amount s t (OfOwn m) = λ args e. refl
+answer_by_amount s t (OwnNever i) = λ args e. refl
+answer_by_amount s t (OwnAtMostOnce i) = λ args e. refl
+answer_by_amount s t (OwnOnce i) = λ args e. refl
 
 pub touched_changes : (method : Method) (args : Args) (key : ℕ)
     → is_touched (touched_by method args) key ≡ true → CanChange (next_state method args) key
@@ -48,7 +55,9 @@ touched_changes (OfMultiset m) = multiset_steps.changes m
 touched_changes (OfCache m) = cache_steps.changes m
 touched_changes (OfTree m) = tree_steps.changes m
 touched_changes (OfBuffers m) = buffers_steps.changes m
-touched_changes (OfOwn m) = λ args key e. cc
+touched_changes (OwnNever i) = λ args key e. cc
+touched_changes (OwnAtMostOnce i) = λ args key e. cc
+touched_changes (OwnOnce i) = λ args key e. cc
 
 -- the amounts with those of some keys in other amounts
 with_formed : (ks : List ℕ) (t s : Amounts) → IsAmounts s → IsAmounts (with_touched ks t s)

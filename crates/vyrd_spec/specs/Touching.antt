@@ -4,7 +4,8 @@ use Rattle.std.specs.List.{list_any}
 use Rattle.vyrd_base.specs.declared.subject.Method.{Method}
 use Rattle.vyrd_base.specs.declared.subject.Method.TheVariants.{Multiset as OfMultiset}
 use Rattle.vyrd_base.specs.declared.subject.Method.TheVariants.{Cache as OfCache, Tree as OfTree}
-use Rattle.vyrd_base.specs.declared.subject.Method.TheVariants.{Buffers as OfBuffers, Own as OfOwn}
+use Rattle.vyrd_base.specs.declared.subject.Method.TheVariants.{Buffers as OfBuffers}
+use Rattle.vyrd_base.specs.declared.subject.Method.TheVariants.{OwnNever, OwnAtMostOnce, OwnOnce}
 use Rattle.vyrd_base.specs.declared.subject.Args.{Args}
 use Rattle.vyrd_base.specs.Amounts.{Amounts, IsAmounts, amount_of, with_amount}
 use Rattle.vyrd_spec.specs.Touching.Multiset as multiset
@@ -22,7 +23,9 @@ touched_by (OfMultiset method) args = multiset.touches method args
 touched_by (OfCache method) args = cache.touches method args
 touched_by (OfTree method) args = tree.touches method args
 touched_by (OfBuffers method) args = buffers.touches method args
-touched_by (OfOwn method) args = []
+touched_by (OwnNever i) args = []
+touched_by (OwnAtMostOnce i) args = []
+touched_by (OwnOnce i) args = []
 
 -- whether a key is one of them
 abbrev pub is_touched : List ℕ → ℕ → Bool

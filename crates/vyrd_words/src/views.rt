@@ -427,7 +427,7 @@ fn put<L: Ledger>(
     requires place { place ≤ length writes.old.items }
     requires room { deque_len writes.old + length changed.now ≤ deque_capacity writes.old }
     requires changed { All (λ w. w < length words.now) changed.now }
-    requires few { length words.now < 2 ^ 24 }
+    requires few { length words.now ≤ 2 ^ 16 }
     ensures writes { writes.new.items ≡ take place writes.old.items ++ written words.now changed.now
         ++ drop place writes.old.items }
     ensures steps { steps.new + 2 * place
@@ -464,7 +464,7 @@ fn put_last<L: Ledger>(
 )
     requires room { deque_len writes.old + length changed.now ≤ deque_capacity writes.old }
     requires changed { All (λ w. w < length words.now) changed.now }
-    requires few { length words.now < 2 ^ 24 }
+    requires few { length words.now ≤ 2 ^ 16 }
     ensures writes { writes.new.items ≡ writes.old.items ++ written words.now changed.now }
     ensures len { deque_len writes.new ≡ deque_len writes.old + length changed.now }
     ensures steps { steps.new ≡ steps.old + length changed.now }

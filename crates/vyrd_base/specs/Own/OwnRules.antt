@@ -2,6 +2,7 @@
 -- the specification's methods from 0 on, and arguments are a list of numbers.
 use Rattle.std.specs.Prelude.{ℕ, ◌==◌, List, [], Option, option_and_then, unwrap_or, slice_get}
 use Rattle.std.specs.Prelude.{if◌then◌else◌}
+use Rattle.std.specs.Option.{option_map_or}
 use Rattle.vyrd_base.specs.Amounts.{Amounts}
 use Rattle.vyrd_base.specs.States.{State}
 use Rattle.vyrd_base.specs.Own.Expressions.{most}
@@ -11,6 +12,10 @@ use Rattle.vyrd_base.specs.Own.Steps.{next_of, answer_of, start_of, view_of}
 -- the method of that number, or none if there are not so many
 abbrev pub own_method : Written → ℕ → Option Method
 own_method w i = slice_get w.methods i
+
+-- how many arguments a call of it has
+abbrev pub own_arity : Written → ℕ → ℕ
+own_arity w i = option_map_or (λ m. m.arity) (own_method w i) 0
 
 -- the state after a call of the method with this reply; none if the reply is refused, or if there
 -- is no such method

@@ -1,5 +1,6 @@
 use Rattle.std.proofs.Common.{◌≡◌, Ok, Some, sym, ap, subst, ◌∙◌, slice_get}
 use Rattle.vyrd_base.specs.Subjects.{is_built_in}
+use Rattle.vyrd_base.specs.declared.header.Header.{Header}
 use Rattle.vyrd_base.specs.Rules.{Rules, rules_by}
 use Rattle.std.specs.Prelude.{map, set}
 use Rattle.vyrd_plain.specs.Executions.{seeing, with_commit}
@@ -77,5 +78,6 @@ returns-clause-gives g c = λ x is.
 
 pub view_of-requires-clause-built_in : goal.view_of-requires-clause-built_in
 view_of-requires-clause-built_in g c =
-    ap (λ (r : Rules). is_built_in r.header.subject) (ap rules_by c.step.ensures.charter)
+    ap (λ (h : Header). is_built_in h.subject) c.header.ensures
+    ∙ ap (λ (r : Rules). is_built_in r.header.subject) (ap rules_by c.step.ensures.charter)
     ∙ g.met.S.BuiltIn.has_built_in_subject c.args.self.now.spec
