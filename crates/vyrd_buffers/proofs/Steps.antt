@@ -7,7 +7,7 @@ use Rattle.std.proofs.Math.Nat.{pow-le-pow_right, mul-le-mul}
 use Rattle.vyrd_base.specs.declared.header.Header.{Header}
 use Rattle.vyrd_base.specs.declared.subject.Subject.TheVariants.{Buffers}
 use Rattle.vyrd_base.specs.Layout.{plain_words_of, lock_words_of}
-use Rattle.vyrd_base.proofs.HeaderLaws.{low_size}
+use Rattle.vyrd_base.proofs.HeaderLaws.{most_size}
 use Rattle.vyrd_base.proofs.TestLaws.{first_true, second_true, is_below, below_of}
 use Rattle.vyrd_memory.specs.declared.act.Act.{Act}
 use Rattle.vyrd_memory.specs.declared.act.Act.TheVariants.{Load, Store, Take, Give, Mark, Done}
@@ -39,7 +39,7 @@ cell_in _ = 0
 plain_low : (h : Header) (cell : ℕ) → h.subject ≡ Buffers → nat_lt cell (plain_words_of h.subject h.size) ≡ true → nat_lt cell (2 ^ 32) ≡ true
 plain_low h cell is plain =
     let low : cell < 8 * h.size = below_of cell (8 * h.size) (sym (ap (λ s. nat_lt cell (plain_words_of s h.size)) is) ∙ plain) in
-    is_below cell (2 ^ 32) (omega (arith, low, low_size h))
+    is_below cell (2 ^ 32) (omega (arith, low, most_size h))
 
 lock_low : (h : Header) (lock : ℕ) → h.subject ≡ Buffers
     → (nat_le (plain_words_of h.subject h.size) lock && nat_lt lock (plain_words_of h.subject h.size + lock_words_of h.subject h.size)) ≡ true
@@ -48,7 +48,7 @@ lock_low h lock is within =
     let test : nat_lt lock (8 * h.size + h.size) ≡ true =
     sym (ap (λ s. nat_lt lock (plain_words_of s h.size + lock_words_of s h.size)) is) ∙ second_true (nat_le (plain_words_of h.subject h.size) lock) _ within in
     let low : lock < 8 * h.size + h.size = below_of lock (8 * h.size + h.size) test in
-    is_below lock (2 ^ 32) (omega (arith, low, low_size h))
+    is_below lock (2 ^ 32) (omega (arith, low, most_size h))
 
 cell_there : (h : Header) (s : Situation) (act : Act) → h.subject ≡ Buffers → may_act h s act ≡ true → nat_lt (cell_in act) (2 ^ 32) ≡ true
 cell_there h s (Load cell) is may = plain_low h cell is may

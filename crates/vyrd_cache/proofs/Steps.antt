@@ -2,15 +2,12 @@
 use Rattle.std.proofs.Common.{◌≡◌, ℕ, refl, ap, ◌∙◌, sym}
 use Rattle.std.specs.Prelude.{◌≢◌}
 use Rattle.vyrd_base.specs.declared.header.Header.{Header}
-use Rattle.vyrd_base.specs.declared.subject.Subject.TheVariants.{Cache}
-use Rattle.vyrd_base.specs.declared.subject.Method.{Method}
 use Rattle.vyrd_base.specs.declared.subject.Method.TheVariants.{Cache as OfCache}
 use Rattle.vyrd_base.specs.declared.cache.CacheMethod.{CacheMethod}
 use Rattle.vyrd_base.specs.declared.cache.CacheMethod.TheVariants.{Write as CaWrite}
 use Rattle.vyrd_base.specs.declared.cache.CacheMethod.TheVariants.{Flush as CaFlush}
 use Rattle.vyrd_base.specs.declared.cache.CacheMethod.TheVariants.{Evict as CaEvict, Read as CaRead}
 use Rattle.vyrd_base.specs.declared.subject.Args.{Args}
-use Rattle.vyrd_base.specs.Subjects.{subject_of}
 use Rattle.vyrd_base.proofs.TestLaws.{isnt_same}
 use Rattle.vyrd_memory.specs.declared.op.Variant.{Variant}
 use Rattle.vyrd_memory.specs.declared.op.Variant.TheVariants.{Correct, Broken}

@@ -33,6 +33,7 @@ use Rattle.vyrd_memory.specs.Runs.{PlayToTheEnd}
 use Rattle.vyrd_memory.proofs.LegalEvents.{legal_events, caller_low, are_answers}
 use Rattle.vyrd_memory.proofs.LegalRuns.{IsRun}
 use Rattle.vyrd_memory.proofs.RaceLaws.{newest_log, none_open, all_keep, all_rest}
+use Rattle.vyrd_work.proofs.BuiltIn.{first_version_built_in}
 use Rattle.vyrd_every.specs.RightScripts.{WillReturn}
 use Rattle.vyrd_every.specs.Between.{log_in}
 use Rattle.vyrd_every.proofs.Answered.{passed_after, commits_now}
@@ -112,7 +113,8 @@ event_place h one c (Marked (Return reply)) passed state next log logs rest wf m
     place_adds h (states_with h passed state (commits_after log (entry c (Return reply) ∷ logs)))
     (record { earlier = log; here = entry c (Return reply); later = logs }) (places_after (entry c (Return reply) ∷ log) logs)
     (ap (λ states. return_fault (rules_of h) states c log reply) (states_begin h passed state (commits_after log (entry c (Return reply) ∷ logs)))
-    ∙ return_is_right h passed (later_states h state (commits_after log (entry c (Return reply) ∷ logs))) state c log reply count wf.0 returning)
+    ∙ return_is_right h (first_version_built_in h one) passed (later_states h state (commits_after log (entry c (Return reply) ∷ logs))) state c log reply count
+    wf.1 wf.0 returning)
     (subst (λ s. FaultFrom h passed s (entry c (Return reply) ∷ log) logs) leading later)
 event_place h one c (Marked (Write word value)) passed state next log logs rest wf m count coming leading returning later =
     plain_place h passed state next log logs (entry c (Write word value)) (λ states. refl) refl leading later

@@ -1,7 +1,7 @@
 -- No commit is a fault, and no observer's return is one.
 use Rattle.std.proofs.Common.{◌≡◌, ℕ, Bool, true, false, cond, not, ◌||◌, List, [], ◌∷◌, ◌++◌, map, Option, Some, None, option_map, length, refl, ap, ◌∙◌, sym}
 use Rattle.std.specs.Prelude.{◌==◌, filter, slice_get, drop, option_and_then}
-use Rattle.std.specs.Option.{option_and}
+use Rattle.std.specs.Option.{option_and, option_map_or}
 use Rattle.std.specs.List.{list_any}
 use Rattle.std.proofs.lemmas.Bool.{not-false}
 use Rattle.vyrd_base.specs.declared.header.Header.{Header}
@@ -10,8 +10,8 @@ use Rattle.vyrd_base.specs.declared.log.Kind.TheVariants.{Return}
 use Rattle.vyrd_base.specs.declared.verdict.Why.TheVariants.{View, Reply, Observer}
 use Rattle.vyrd_base.specs.Places.{Place}
 use Rattle.vyrd_base.specs.Callers.{Called, open_call, has_committed, entries_before_call}
-use Rattle.vyrd_base.specs.Shape.{broken_rule}
-use Rattle.vyrd_base.specs.Subjects.{is_observer}
+use Rattle.vyrd_base.specs.Shape.{broken_rule, is_observing}
+use Rattle.vyrd_base.specs.Subjects.{is_observer, is_built_in}
 use Rattle.vyrd_base.specs.Amounts.{Amounts, amount_of, keys_of, least, first_difference}
 use Rattle.vyrd_base.specs.States.{State, showing}
 use Rattle.vyrd_base.specs.Specification.{next_state, answer_in}
@@ -23,8 +23,7 @@ use Rattle.vyrd_base.specs.Views.{view_of_words}
 use Rattle.vyrd_base.specs.Commits.{next_reply, committed_at, commit_count}
 use Rattle.vyrd_base.specs.Faults.{commit_fault, states_since_call, observer_fault, return_fault, fault_of_commit}
 use Rattle.vyrd_base.proofs.BlockLaws.{entry}
-use Rattle.vyrd_base.proofs.StructureLaws.{once_or_never}
-use Rattle.vyrd_base.proofs.CommittedLaws.{return_free}
+use Rattle.vyrd_base.proofs.CommittedLaws.{returns_committed}
 use Rattle.vyrd_base.proofs.TestLaws.{same_number}
 use Rattle.vyrd_every.specs.Between.{has_answer}
 use Rattle.vyrd_every.proofs.VerdictStates.{state_here, states_seen, any_showing}
@@ -62,13 +61,13 @@ and_none : {A B : Type 0} (o : Option A) → option_and {T = A} {U = B} o None �
 and_none None = refl
 and_none (Some x) = refl
 
-pub return_is_right : (h : Header) (passed : List Amounts) (later : List State) (state : Amounts) (c : ℕ) (log : List Entry) (reply : ℕ)
+pub return_is_right : (h : Header) → is_built_in h.subject ≡ true → (passed : List Amounts) (later : List State) (state : Amounts) (c : ℕ) (log : List Entry) (reply : ℕ)
     → length passed ≡ commit_count log
-    → broken_rule h log (entry c (Return reply)) ≡ None
+    → WellFormed h log → broken_rule h log (entry c (Return reply)) ≡ None
     → ((called : Called) → open_call c log ≡ Some called → is_observer called.method ≡ true
     → has_answer (passed ++ state ∷ []) (commit_count (entries_before_call c log)) called reply ≡ true)
     → return_fault (rules_of h) (map showing passed ++ showing state ∷ later) c log reply ≡ None
-return_is_right h passed later state c log reply count kept seen =
+return_is_right h built passed later state c log reply count wf kept seen =
     ap (option_and (slice_get states (commit_count log))) (by_call (open_call c log) refl)
     ∙ and_none (slice_get states (commit_count log))
   where
@@ -85,8 +84,8 @@ return_is_right h passed later state c log reply count kept seen =
 
     -- an execution without a commit is an observer's
     observes : (called : Called) → open_call c log ≡ Some called → has_committed c log ≡ false → is_observer called.method ≡ true
-    observes called e none = not-false (is_observer called.method)
-        (sym (once_or_never called.method) ∙ return_free h c reply log called kept e none)
+    observes called e none = ap (λ o. option_map_or (λ k. is_observer k.method) o false) (sym e)
+        ∙ not-false (is_observing c log) (sym (returns_committed h c reply log built wf kept) ∙ none)
 
     by_commit : (called : Called) → open_call c log ≡ Some called → (b : Bool) → has_committed c log ≡ b
         → cond (b || list_any (λ s. answer_in s.shown called.method called.args == reply) (states_since_call states c log)) None (Some (Observer reply))

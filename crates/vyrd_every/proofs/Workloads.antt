@@ -4,13 +4,14 @@ use Rattle.std.specs.Option.{option_or}
 use Rattle.std.specs.List.{AllByRecursion}
 use Rattle.vyrd_base.specs.declared.header.Header.{Header}
 use Rattle.vyrd_base.specs.declared.subject.Subject.{Subject}
-use Rattle.vyrd_base.specs.declared.subject.Subject.TheVariants.{Multiset, Cache, Tree, Buffers}
+use Rattle.vyrd_base.specs.declared.subject.Subject.TheVariants.{Multiset, Cache, Tree, Buffers, Own}
 use Rattle.vyrd_base.specs.declared.log.Kind.{Kind}
 use Rattle.vyrd_base.specs.declared.log.Entry.{Entry}
 use Rattle.vyrd_base.specs.declared.history.Stamped.{Stamped}
 use Rattle.vyrd_base.specs.declared.verdict.Why.{Why}
 use Rattle.vyrd_base.specs.declared.verdict.Verdict.TheVariants.{Violation}
 use Rattle.vyrd_base.specs.Places.{Place, places, position_of, first_answer, newest_first}
+use Rattle.vyrd_base.specs.Subjects.{is_built_in}
 use Rattle.vyrd_base.specs.Front.{first_break}
 use Rattle.vyrd_base.specs.States.{State}
 use Rattle.vyrd_base.specs.Faults.{fault_at}
@@ -29,6 +30,7 @@ use Rattle.vyrd_memory.proofs.LegalRuns.{IsRun}
 use Rattle.vyrd_work.specs.Workloads.{Workload}
 use Rattle.vyrd_work.specs.WorkLimits.{KeepsLimits}
 use Rattle.vyrd_work.specs.WorkScripts.{procedure_in, ops_of, work_script, work_scripts}
+use Rattle.vyrd_work.proofs.BuiltIn.{work_built_in}
 use Rattle.vyrd_work.proofs.ScriptLaws.{ops_are_few, ops_are_callable}
 use Rattle.vyrd_work.proofs.SoundScripts.{script_at, scripts_sound}
 use Rattle.vyrd_every.specs.Schedules.{IsCorrect, has_few_events, most_few_events, most_cache_events, IsCorrectWithFewEvents, IsSchedule}
@@ -102,7 +104,7 @@ trees_right : (w : Workload) → KeepsLimits w → IsCorrectTree w → Keeping w
 trees_right w limits is = tree_keeping w.header (work_scripts w) (record {
   version = limits.version;
   subject = is.subject;
-  some = omega (arith, some_size w.header);
+  some = omega (arith, some_size w.header (work_built_in w limits));
   sound = scripts_sound w limits;
   right = λ c low g m tree. tree_script_right w c g m limits is low tree;
 })
@@ -116,6 +118,7 @@ keeping w limits is = by_subject w.header.subject refl
     by_subject Cache e = keeping_of (cache w.header) (work_scripts w) (caches_right w limits e is)
     by_subject Tree e = trees_right w limits (record { subject = e; variant = is })
     by_subject Buffers e = keeping_of (buffers w.header) (work_scripts w) (buffer_scripts_right w limits e is)
+    by_subject Own e = let no : true ≡ false = sym (work_built_in w limits) ∙ ap is_built_in e in cc
 
 -- there is no first fault
 none_first : (h : Header) → h.version ≡ 1 → (scripts : List Script) (k : Keeping h scripts) (history : List Stamped) → IsRun h scripts (newest_first history)
@@ -202,3 +205,4 @@ few_events w c limits is = by_subject w.header.subject refl is.few
     by_subject Cache e few = let fewer = few_cache_events w c limits e in omega (arith, fewer)
     by_subject Tree e few = cc
     by_subject Buffers e few = few_buffer_events w c limits e
+    by_subject Own e few = cc

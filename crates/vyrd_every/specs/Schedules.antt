@@ -3,6 +3,7 @@ use Rattle.std.specs.Prelude.{◌≡◌, ℕ, Bool, true, false, List, [], None}
 use Rattle.std.specs.List.{AllByRecursion}
 use Rattle.vyrd_base.specs.declared.subject.Subject.{Subject}
 use Rattle.vyrd_base.specs.declared.subject.Subject.TheVariants.{Multiset, Cache, Tree, Buffers}
+use Rattle.vyrd_base.specs.declared.subject.Subject.TheVariants.{Own}
 use Rattle.vyrd_base.specs.declared.history.Stamped.{Stamped}
 use Rattle.vyrd_base.specs.declared.header.Header.{Header}
 use Rattle.vyrd_base.specs.declared.log.Kind.{Kind}
@@ -28,12 +29,13 @@ abbrev pub IsCorrect : Workload → Type 0
 IsCorrect w = w.variant ≡ Correct
 
 -- Whether an operation of the subject has few events, however large the structure is. A tree's walk
--- is longer if the tree is larger.
+-- is longer if the tree is larger, and nothing is said of the user's own structure.
 abbrev pub has_few_events : Subject → Bool
 has_few_events Multiset = true
 has_few_events Cache = true
 has_few_events Tree = false
 has_few_events Buffers = true
+has_few_events Own = false
 
 -- The most events of a caller of such a structure: 200,000 operations with 32 events each, which
 -- are those of a multiset or of string buffers. An operation of a cache has half as many.

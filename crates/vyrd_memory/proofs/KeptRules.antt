@@ -6,6 +6,8 @@ use Rattle.std.specs.Option.{option_map_or}
 use Rattle.std.proofs.lemmas.Bool.{not-true}
 use Rattle.vyrd_base.specs.declared.header.Header.{Header}
 use Rattle.vyrd_base.specs.declared.subject.Method.{Method}
+use Rattle.vyrd_base.specs.declared.subject.Commits.{Commits}
+use Rattle.vyrd_base.specs.declared.subject.Commits.TheVariants.{Never, AtMostOnce, Once}
 use Rattle.vyrd_base.specs.declared.log.Kind.{Kind}
 use Rattle.vyrd_base.specs.declared.log.Kind.TheVariants.{Call, Return, Write, Commit, BlockOpen, BlockClose, BlockCommit}
 use Rattle.vyrd_base.specs.declared.log.Entry.{Entry}
@@ -13,12 +15,11 @@ use Rattle.vyrd_base.specs.declared.verdict.Rule.{Rule}
 use Rattle.vyrd_base.specs.declared.verdict.Rule.TheVariants.{CallerRange, MethodOther, ArgumentRange, CallInCall, NoCall, ReturnInBlock, NoCommit, WordRange}
 use Rattle.vyrd_base.specs.declared.verdict.Rule.TheVariants.{ValueRange, BlockRaced, ObserverCommit, SecondCommit, CommitInBlock, BlockInBlock, NoBlock}
 use Rattle.vyrd_base.specs.Layout.{plain_words}
-use Rattle.vyrd_base.specs.Subjects.{is_observer, same_subject, subject_of, are_args}
+use Rattle.vyrd_base.specs.Subjects.{is_observer, must_commit, commits_of, never_commits, always_commits, same_subject, subject_of, are_args}
 use Rattle.vyrd_base.specs.Callers.{Called, open_call, has_block, has_committed}
 use Rattle.vyrd_base.specs.Shape.{first_broken, checks_of, is_observing, owes_commit, is_raced, broken_rule}
 use Rattle.vyrd_base.specs.Histories.{cells_of, is_plain}
 use Rattle.vyrd_base.proofs.BlockLaws.{entry}
-use Rattle.vyrd_base.proofs.CommittedLaws.{lacks_commit}
 use Rattle.vyrd_base.proofs.TestLaws.{first_true, second_true, isnt_at_most, above_then}
 use Rattle.vyrd_memory.specs.declared.act.Act.TheVariants.{Store}
 use Rattle.vyrd_memory.specs.Soundness.{Situation, observes, may_act, may_mark}
@@ -82,6 +83,12 @@ write_kept h c word value s log low may a =
     (passed (nat_le (2 ^ 63) value) ValueRange _ (above_then (2 ^ 63) value parts.1)
     (race_last (is_raced h c word log)))))
 
+-- an execution that commits always, and not yet, isn't that of an observer
+paid : (commits : Commits) (committed : Bool) → not (never_commits commits || committed) ≡ false → (always_commits commits && not committed) ≡ false
+paid Never committed done = refl
+paid AtMostOnce committed done = refl
+paid Once committed done = done
+
 -- the rules of a mark, after that of its caller
 checks_kept : (h : Header) (c : ℕ) (kind : Kind) (s : Situation) (log : List Entry) → may_mark h s kind ≡ true → Agrees c s log
     → OnlyRaced (first_broken (checks_of h log c kind))
@@ -103,7 +110,10 @@ checks_kept h c (Return reply) s log may a =
         → not (is_observing c log || has_committed c log) ≡ false
         → (owes_commit c log && not (has_committed c log)) ≡ false
     nothing_owed None e some done = let no : true ≡ false = ap is_none (sym e) ∙ some in cc
-    nothing_owed (Some called) e some done = lacks_commit c log called e ∙ done
+    nothing_owed (Some called) e some done =
+        ap (λ o. option_map_or (λ k. must_commit k.method) o false && not (has_committed c log)) e
+        ∙ paid (commits_of called.method) (has_committed c log)
+        (ap (λ o. not (option_map_or (λ k. is_observer k.method) o false || has_committed c log)) (sym e) ∙ done)
 checks_kept h c (Write word value) s log may a = cc
 checks_kept h c Commit s log may a =
     let parts = four_true (is_some s.called) (not (observes s)) (not s.committed) (not s.in_block) may in

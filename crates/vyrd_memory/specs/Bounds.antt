@@ -3,6 +3,7 @@ use Rattle.std.specs.Prelude.{◌≡◌, ℕ, ◌+◌, ◌-◌, ◌*◌, ◌≤�
 use Rattle.vyrd_base.specs.declared.header.Header.{Header}
 use Rattle.vyrd_base.specs.declared.subject.Subject.{Subject}
 use Rattle.vyrd_base.specs.declared.subject.Subject.TheVariants.{Multiset, Cache, Tree, Buffers}
+use Rattle.vyrd_base.specs.declared.subject.Subject.TheVariants.{Own}
 use Rattle.vyrd_base.specs.declared.subject.Method.{Method}
 use Rattle.vyrd_base.specs.declared.subject.Method.TheVariants.{Tree as OfTree}
 use Rattle.vyrd_base.specs.declared.tree.TreeMethod.TheVariants.{Insert}
@@ -31,12 +32,14 @@ abbrev pub tree_bound : ℕ → Method → ℕ
 tree_bound n (OfTree Insert) = 17 * (16 * n + 40)
 tree_bound n _ = 16 * n + 40
 
--- the bound by the subject and the size
+-- The bound by the subject and the size. The user's own structure has no operation here: its bound
+-- leaves room for the marks of a call and its return.
 abbrev pub bound_in : Subject → ℕ → Method → ℕ
 bound_in Multiset n method = 32
 bound_in Cache n method = 16
 bound_in Tree n method = tree_bound n method
 bound_in Buffers n method = 32
+bound_in Own n method = 2
 
 -- the bound of an operation of the method
 abbrev pub bound_of : Header → Method → ℕ

@@ -14,6 +14,10 @@ const CACHE: u64 = 16;
 /// The most events of an operation on string buffers.
 const BUFFERS: u64 = 32;
 
+/// What stands for the bound of the user's own structure, which has no operation here: the marks of a
+/// call and its return.
+const OWN: u64 = 2;
+
 /// How many walks an insert into a tree makes at most: one down to the leaf, and one for each of 16
 /// rounds upwards.
 const INSERT_WALKS: u64 = 17;
@@ -29,6 +33,7 @@ pub(crate) fn bound(header: &Header, method: Method) -> u64
         Subject::Multiset => MULTISET,
         Subject::Cache => CACHE,
         Subject::Buffers => BUFFERS,
+        Subject::Own => OWN,
         Subject::Tree => {
             let walk = 16 * u64::from(header.size()) + 40;
             if method == Method::Tree(TreeMethod::Insert) {

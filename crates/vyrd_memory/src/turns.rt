@@ -192,7 +192,7 @@ fn is_done<M: Machine>(machine: &M) -> bool
 
 /// The callers whose machines aren't done.
 fn unfinished<M: Machine>(alloc: Global, machines: &[M]) -> Result<Vec<u32>, AllocError>
-    requires callers { length machines.now ≤ 64 }
+    requires callers { length machines.now ≤ 1024 }
     ensures { IfOk result (λ callers. LeavesOut M.script machines.now callers.items) }
 {
     let mut callers = Vec::new(alloc);
@@ -218,7 +218,7 @@ fn round<M: Machine, S: EventSink>(
     words: &mut Vec<u64>,
     sink: &mut S,
 ) -> Result<bool, AllocError>
-    requires callers { length machines.old ≤ 64 }
+    requires callers { length machines.old ≤ 1024 }
     requires left_out { LeavesOut M.script machines.old callers.old.items }
     requires ready { IsReady header.now M.header_of machines.old words.old.items }
     requires few { S.count sink.old + total M.ahead machines.old ≤ 2 ^ 62 }
@@ -299,7 +299,7 @@ fn play_rounds<M: Machine, S: EventSink>(
     words: &mut Vec<u64>,
     sink: &mut S,
 ) -> Result<(), AllocError>
-    requires callers { length machines.old ≤ 64 }
+    requires callers { length machines.old ≤ 1024 }
     requires ready { IsReady header.now M.header_of machines.old words.old.items }
     requires few { S.count sink.old + total M.ahead machines.old ≤ 2 ^ 62 }
     ensures rest { IfOk result (λ _. (history : List Stamped) → S.has_taken sink.old history

@@ -15,7 +15,7 @@ pub insert_gives_up : (h : Header) (memory : Memory) (state : Amounts) (c x : �
     → GivesUpWhere (free_slots_for h memory x ≡ 0) (alone c (insert h Correct x) memory)
 insert_gives_up h memory state c x is e =
     gives_up (free_slots_for h memory x ≡ 0) (InsertDone h memory state x) (alone c (insert h Correct x) memory)
-    (insert_done h c memory state x (is_multiset h memory state is e)) says
+    (insert_done h is c memory state x (is_multiset h memory state is e)) says
   where
     says : (reply : ℕ) (after : Memory) → InsertDone h memory state x reply after → (reply ≡ 0 → free_slots_for h memory x ≡ 0) ×
         (free_slots_for h memory x ≡ 0 → reply ≡ 0)
@@ -26,7 +26,7 @@ pub insert_pair_gives_up : (h : Header) (memory : Memory) (state : Amounts) (c x
     → GivesUpWhere (has_room_for_both h memory x y ≡ false) (alone c (insert_pair h Correct x y) memory)
 insert_pair_gives_up h memory state c x y is e =
     gives_up (has_room_for_both h memory x y ≡ false) (PairDone h memory state x y) (alone c (insert_pair h Correct x y) memory)
-    (pair_done h c memory state x y (is_multiset h memory state is e)) says
+    (pair_done h is c memory state x y (is_multiset h memory state is e)) says
   where
     says : (reply : ℕ) (after : Memory) → PairDone h memory state x y reply after → (reply ≡ 0 → has_room_for_both h memory x y ≡ false) ×
         (has_room_for_both h memory x y ≡ false → reply ≡ 0)

@@ -1,2 +1,3 @@
+pub mod Buckets
 pub mod Steps
 pub mod GiveUps

@@ -1,6 +1,7 @@
 //! The cells of slots and buckets.
 
 ghost use Rattle.std.specs.Prelude.{◌≡◌, ◌+◌, ◌*◌, ◌<◌, ◌^◌};
+ghost use Rattle.vyrd_base.specs.declared.subject.Subject.TheVariants.{Multiset};
 ghost use Rattle.vyrd_multiset.specs.Cells.{bucket_of, first_slot, state_cell, value_cell, lock_of};
 
 use vyrd_base::Header;
@@ -13,7 +14,9 @@ pub(crate) const RESERVED: u64 = 1;
 pub(crate) const VALID: u64 = 2;
 
 /// The bucket of a value.
+#[tactic(auto, using(crate::proofs::Buckets::some_buckets, crate::proofs::Buckets::few_buckets))]
 pub(crate) fn bucket_of(header: &Header, value: u32) -> u32
+    requires { header.now.subject ≡ Multiset }
     ensures bucket { result ≡ bucket_of header.now value }
     ensures small { result < 1024 }
 {
@@ -22,14 +25,17 @@ pub(crate) fn bucket_of(header: &Header, value: u32) -> u32
 
 /// The first slot of the bucket of a value.
 pub(crate) fn first_slot_for(header: &Header, value: u32) -> u32
+    requires { header.now.subject ≡ Multiset }
     ensures { result ≡ first_slot (bucket_of header.now value) }
 {
     4 * bucket_of(header, value)
 }
 
 /// The cell of a bucket's lock.
+#[tactic(auto, using(crate::proofs::Buckets::few_buckets))]
 pub(crate) fn lock_of(header: &Header, bucket: u32) -> u32
-    requires { bucket < 1024 }
+    requires subject { header.now.subject ≡ Multiset }
+    requires bucket { bucket < 1024 }
     ensures { result ≡ lock_of header.now bucket }
 {
     8 * header.size() + bucket
@@ -37,6 +43,7 @@ pub(crate) fn lock_of(header: &Header, bucket: u32) -> u32
 
 /// The cell of the lock of a value's bucket.
 pub(crate) fn lock_for(header: &Header, value: u32) -> u32
+    requires { header.now.subject ≡ Multiset }
     ensures { result ≡ lock_of header.now (bucket_of header.now value) }
 {
     lock_of(header, bucket_of(header, value))

@@ -87,6 +87,7 @@ impl Task {
     /// The place where finding a slot begins: the broken variant takes no lock.
     #[inline(always)]
     pub(crate) fn find(self, header: &Header, want: Want) -> Place
+        requires { header.now.subject ≡ Multiset }
         ensures { rest_at header.now self result
             ≡ find header.now self.variant (wanted self want) (found_for header.now self want) }
     {
@@ -151,6 +152,7 @@ impl Task {
     /// The place after a slot was found, or none. The broken variant holds no lock.
     #[inline(always)]
     fn unlock_found(self, header: &Header, want: Want, slot: Option<u32>) -> Place
+        requires { header.now.subject ≡ Multiset }
         ensures { rest_at header.now self result ≡ find_unlock header.now self.variant
             (bucket_of header.now (wanted self want)) (found_for header.now self want slot) }
     {
@@ -163,6 +165,7 @@ impl Task {
     /// What is done with the slot that was found, if any.
     #[inline(always)]
     fn found(self, header: &Header, want: Want, slot: Option<u32>) -> Place
+        requires { header.now.subject ≡ Multiset }
         ensures { rest_at header.now self result ≡ found_for header.now self want slot }
     {
         match (want, slot) {
@@ -280,6 +283,7 @@ impl Task {
     /// The bucket that is locked first for a pair: the lower one, and in the broken variant that of
     /// the first value.
     fn first_of(self, header: &Header) -> u32
+        requires { header.now.subject ≡ Multiset }
         ensures bucket { result ≡ first_of header.now self }
         ensures small { result < 1024 }
     {
@@ -292,6 +296,7 @@ impl Task {
 
     /// The bucket that is locked second for a pair, if it is another one.
     fn second_of(self, header: &Header) -> u32
+        requires { header.now.subject ≡ Multiset }
         ensures bucket { result ≡ second_of header.now self }
         ensures small { result < 1024 }
     {
@@ -324,6 +329,7 @@ impl Task {
 
     /// The place after what came next of making both slots of a pair valid.
     fn after_pairing(self, header: &Header, slot_x: u32, slot_y: u32, place: Pairing) -> Place
+        requires { header.now.subject ≡ Multiset }
         ensures { rest_at header.now self result ≡ after_answer (pairing_rest header.now
             (first_of header.now self) (second_of header.now self) slot_x slot_y place) 0 }
     {
@@ -371,6 +377,7 @@ impl Task {
 
 /// The first slot that is looked at for a value: that of its bucket.
 fn first_cursor(header: &Header, value: u32) -> Cursor
+    requires { header.now.subject ≡ Multiset }
     ensures slot { result.slot ≡ first_slot (bucket_of header.now value) }
     ensures after { result.after ≡ 3 }
 {

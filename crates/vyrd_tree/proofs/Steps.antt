@@ -3,3 +3,4 @@ pub mod Walk
 pub mod Loads
 pub mod Entry
 pub mod Split
+pub mod Stores

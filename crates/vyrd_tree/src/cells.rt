@@ -9,6 +9,7 @@ use vyrd_base::Header;
 pub(crate) const NODE_WORDS: u32 = 12;
 
 /// The cell of the root's number.
+#[tactic(auto, using(vyrd_base::proofs::HeaderLaws::most_size))]
 pub(crate) fn root_cell(header: &Header) -> u32
     ensures { result ≡ root_cell header.now }
 {
@@ -16,6 +17,7 @@ pub(crate) fn root_cell(header: &Header) -> u32
 }
 
 /// The cell that counts the nodes in use besides node 0.
+#[tactic(auto, using(vyrd_base::proofs::HeaderLaws::most_size))]
 pub(crate) fn used_cell(header: &Header) -> u32
     ensures { result ≡ used_cell header.now }
 {
@@ -23,6 +25,7 @@ pub(crate) fn used_cell(header: &Header) -> u32
 }
 
 /// The cell of the lock of the root's number.
+#[tactic(auto, using(vyrd_base::proofs::HeaderLaws::most_size))]
 pub(crate) fn root_lock(header: &Header) -> u32
     ensures { result ≡ root_lock header.now }
 {
@@ -30,6 +33,7 @@ pub(crate) fn root_lock(header: &Header) -> u32
 }
 
 /// The cell of the lock of the count of nodes in use.
+#[tactic(auto, using(vyrd_base::proofs::HeaderLaws::most_size))]
 pub(crate) fn used_lock(header: &Header) -> u32
     ensures { result ≡ used_lock header.now }
 {

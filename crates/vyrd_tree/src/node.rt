@@ -8,11 +8,11 @@ use crate::cells::NODE_WORDS;
 use crate::slot::Slot;
 use vyrd_base::Header;
 
-/// A node of the tree, by its number. A header has at most 1,024 nodes.
+/// A node of the tree, by its number, which is below the header's size.
 #[derive(Clone, Copy)]
 pub(crate) struct Node {
     pub(crate) number: u32,
-    ghost small: { number < 1024 },
+    ghost small: { number < 1048576 },
 }
 
 /// A word of a node.
@@ -34,6 +34,7 @@ pub(crate) enum Word {
 
 impl Node {
     /// The node that has this number, if there is one.
+    #[tactic(auto, using(vyrd_base::proofs::HeaderLaws::most_size))]
     pub(crate) fn numbered(header: &Header, number: u64) -> Option<Node>
         ensures { MatchOption result (header.now.size ≤ number)
             (λ node. (node.number ≡ number) × (number < header.now.size)) }
@@ -70,6 +71,7 @@ impl Node {
     }
 
     /// The cell of its lock.
+    #[tactic(auto, using(vyrd_base::proofs::HeaderLaws::most_size))]
     pub(crate) fn lock(self, header: &Header) -> u32
         ensures { result ≡ lock_of header.now self.number }
     {

@@ -8,7 +8,7 @@ use Rattle.std.proofs.lemmas.List.{append_cancel_left}
 use Rattle.std.proofs.lemmas.Slice.Eq.{bytes_eq-Decides}
 use Rattle.vyrd_base.specs.declared.header.Header.{Header}
 use Rattle.vyrd_base.specs.declared.subject.Subject.{Subject}
-use Rattle.vyrd_base.specs.Limits.{is_within}
+use Rattle.vyrd_base.specs.Subjects.{is_built_in, limits_of}
 use Rattle.vyrd_base.specs.Spelling.{subject_name}
 use Rattle.vyrd_base.specs.Lines.{fields_of, number_of, subject_called, header_if, header_of}
 use Rattle.vyrd_base.proofs.HeaderLaws.{size_in_32_bits, callers_in_32_bits}
@@ -24,6 +24,7 @@ use Rattle.vyrd_text.proofs.PartLaws.{one_before_space}
 use Rattle.vyrd_text.proofs.HeaderLaws.{made, not_made}
 use Rattle.vyrd_work.specs.Workloads.{Workload, variant_name, work_header_line}
 use Rattle.vyrd_work.specs.WorkLines.{variant_called, begun, begun_if_spelled, begun_from, begun_in}
+use Rattle.vyrd_work.proofs.BuiltIn.{first_version_built_in}
 use Rattle.vyrd_work.specs.Spelled.{IsVariantRead, AreBoundsRead, IsFirstRead}
 
 -- a size that no number of callers follows
@@ -46,7 +47,7 @@ no_variant text m n r t low small e g none size callers variant s c f =
 -- a line that no bounds end
 pub no_bounds : (line r : List ℕ) (found : Subject) (t : List ℕ) → line ≡ codes "work " ++ r → r ≡ subject_name found ++ 32 ∷ t → AreBoundsRead t None
     → IsFirstRead line None
-no_bounds line r found t e g none subject size callers variant s c f =
+no_bounds line r found t e g none subject size callers variant built s c f =
     let after = append_cancel_left (codes "work ") r (subject_name subject ++ 32 ∷ (decimal size ++ 32 ∷ (decimal callers ++ 32 ∷ variant_name variant))) (sym e ∙ f) in
     none size callers variant s c (one_name found subject t (decimal size ++ 32 ∷ (decimal callers ++ 32 ∷ variant_name variant)) (sym g ∙ after))
 
@@ -77,12 +78,12 @@ module _ (subject : Subject) (size callers : ℕ) (variant : Variant) (s : size 
       (plain_line_feeds (codes "work" ∷ subject_name subject ∷ decimal size ∷ decimal callers ∷ variant_name variant ∷ []) plain)
 
   -- it is read as the header with its numbers, if there is one
-  pub begun_known : begun_in (work_header_line subject size callers variant) ≡ option_map (begun variant) (header_of 1 subject size callers)
+  pub begun_known : is_built_in subject ≡ true → begun_in (work_header_line subject size callers variant) ≡ option_map (begun variant) (header_of 1 subject size callers)
   unfolding begun_in
-  begun_known =
+  begun_known built =
       let line = work_header_line subject size callers variant in
       ap (begun_from line) fields
-      ∙ (λ i. begun_if_spelled line (subject_read subject i) (number_of_decimal size s i) (number_of_decimal callers c i) (variant_read variant i))
+      ∙ (λ i. begun_if_spelled line (subject_read subject built i) (number_of_decimal size s i) (number_of_decimal callers c i) (variant_read variant i))
       ∙ ap (λ b. cond b (option_map (begun variant) (header_of 1 subject size callers)) None) (bytes_same line)
 
 -- a workload's header and variant are read back from its first line
@@ -90,7 +91,7 @@ pub begun_in-first_line : (h : Header) (variant : Variant) → h.version ≡ 1 �
 begun_in-first_line h variant one =
     let s : h.size < 2 ^ 64 = let l = size_in_32_bits h in omega (arith, l) in
     let c : h.callers < 2 ^ 64 = let l = callers_in_32_bits h in omega (arith, l) in
-    begun_known h.subject h.size h.callers variant s c
+    begun_known h.subject h.size h.callers variant s c (first_version_built_in h one)
     ∙ ap (option_map (begun variant)) (made 1 h.subject h.size h.callers h one refl refl refl)
 
 -- what a first line is read as: a workload of nothing, whose first line it is, and whose runs leave logs of version 1
@@ -103,7 +104,7 @@ pub begun_in_sound : (line : List ℕ) (w : Workload) → begun_in line ≡ Some
 unfolding begun_in
 begun_in_sound line w found = from (fields_of line) found
   where
-    of_header : (subject : Subject) (size callers : ℕ) (variant : Variant) (b : Bool) (e : is_within 1 size callers ≡ b)
+    of_header : (subject : Subject) (size callers : ℕ) (variant : Variant) (b : Bool) (e : limits_of subject 1 size callers ≡ b)
         → line ≡ work_header_line subject size callers variant
         → option_map (begun variant) (header_if 1 subject size callers b e) ≡ Some w → IsBegun line w
     of_header subject size callers variant false e same f = cc
@@ -119,7 +120,7 @@ begun_in_sound line w found = from (fields_of line) found
         → cond b (option_map (begun variant) (header_of 1 subject size callers)) None ≡ Some w → IsBegun line w
     spelled subject size callers variant false t f = cc
     spelled subject size callers variant true t f =
-        of_header subject size callers variant (is_within 1 size callers) refl
+        of_header subject size callers variant (limits_of subject 1 size callers) refl
         (sym ((bytes_eq-Decides (work_header_line subject size callers variant) line).0 t)) f
 
     if_spelled : (subject : Option Subject) (size callers : ℕ) (variant : Option Variant)
@@ -143,16 +144,18 @@ no_first line none = by_answer (begun_in line) refl
   where
     by_answer : (o : Option Workload) → begun_in line ≡ o → None ≡ o
     by_answer None e = refl
-    by_answer (Some w) e = absurd (none w.header.subject w.header.size w.header.callers w.variant (size_in_32_bits w.header) (callers_in_32_bits w.header)
-        (begun_in_sound line w e).line_is)
+    by_answer (Some w) e =
+        let is = begun_in_sound line w e in
+        absurd (none w.header.subject w.header.size w.header.callers w.variant (first_version_built_in w.header is.version)
+        (size_in_32_bits w.header) (callers_in_32_bits w.header) is.line_is)
 
 module _ (line : List ℕ) (subject : Subject) (size callers : ℕ) (variant : Variant) (s : size < 2 ^ 32) (c : callers < 2 ^ 32)
-    (is : line ≡ work_header_line subject size callers variant) where
+    (built : is_built_in subject ≡ true) (is : line ≡ work_header_line subject size callers variant) where
   on_line : begun_in line ≡ option_map (begun variant) (header_of 1 subject size callers)
-  on_line = ap begun_in is ∙ begun_known subject size callers variant (omega (arith, s)) (omega (arith, c))
+  on_line = ap begun_in is ∙ begun_known subject size callers variant (omega (arith, s)) (omega (arith, c)) built
 
   -- its numbers aren't within the limits
-  pub out_of_bounds : ¬ (is_within 1 size callers ≡ true) → None ≡ begun_in line
+  pub out_of_bounds : ¬ (limits_of subject 1 size callers ≡ true) → None ≡ begun_in line
   out_of_bounds no_header = sym (on_line ∙ ap (option_map (begun variant)) (not_made 1 subject size callers no_header))
 
   -- or they are

@@ -13,7 +13,7 @@ use Rattle.vyrd_base.specs.declared.subject.Method.{Method}
 use Rattle.vyrd_base.specs.declared.subject.Args.{Args}
 use Rattle.vyrd_base.specs.declared.log.Kind.TheVariants.{Call}
 use Rattle.vyrd_base.specs.declared.log.Entry.{Entry}
-use Rattle.vyrd_base.specs.Subjects.{arity_of, are_padded, subject_of, same_subject}
+use Rattle.vyrd_base.specs.Subjects.{arity_of, are_padded, is_named}
 use Rattle.vyrd_base.specs.Spelling.{method_name, arg_fields, end_line, is_kind_of}
 use Rattle.vyrd_base.specs.Lines.{fields_of, method_called, args_from}
 use Rattle.vyrd_base.proofs.SplitLaws.{lacks, split-join, lacks-join, number_of_decimal, bytes_same}
@@ -65,17 +65,17 @@ module _ (subject : Subject) (o : WorkOp) (is : is_item_of subject (item.Op o) �
   pub op_caller : nat_lt o.caller (2 ^ 32) ≡ true
   op_caller = first_true _ _ is
 
-  op_rest : (same_subject (subject_of o.op.method) subject && are_padded (arity_of o.op.method) o.op.args && are_small o.op.args) ≡ true
+  op_rest : (is_named o.op.method subject && are_padded (arity_of o.op.method) o.op.args && are_small o.op.args) ≡ true
   op_rest = second_true (nat_lt o.caller (2 ^ 32)) _ is
 
-  pub op_subject : same_subject (subject_of o.op.method) subject ≡ true
-  op_subject = first_true _ _ (first_true _ _ op_rest)
+  pub op_named : is_named o.op.method subject ≡ true
+  op_named = first_true _ _ (first_true _ _ op_rest)
 
   pub op_padded : are_padded (arity_of o.op.method) o.op.args ≡ true
-  op_padded = second_true (same_subject (subject_of o.op.method) subject) _ (first_true _ _ op_rest)
+  op_padded = second_true (is_named o.op.method subject) _ (first_true _ _ op_rest)
 
   pub op_small : are_small o.op.args ≡ true
-  op_small = second_true (same_subject (subject_of o.op.method) subject && are_padded (arity_of o.op.method) o.op.args) _ op_rest
+  op_small = second_true (is_named o.op.method subject && are_padded (arity_of o.op.method) o.op.args) _ op_rest
 
   pub op_a : nat_lt o.op.args.a (2 ^ 32) ≡ true
   op_a = first_true _ _ (first_true _ _ op_small)
@@ -88,7 +88,7 @@ module _ (subject : Subject) (o : WorkOp) (is : is_item_of subject (item.Op o) �
 
   -- it can be called in a log
   pub op_call : is_kind_of subject (Call o.op.method o.op.args) ≡ true
-  op_call = both_true _ _ (both_true _ _ (both_true _ _ (both_true _ _ op_subject op_padded) op_a) op_b) op_c
+  op_call = both_true _ _ (both_true _ _ (both_true _ _ (both_true _ _ op_named op_padded) op_a) op_b) op_c
 
   op_fields_plain : list_all is_plain_field (item_fields (item.Op o)) ≡ true
   op_fields_plain =
@@ -165,7 +165,7 @@ no_call subject text n r low e none (item.Op o) ok f =
     let caller : o.caller < 2 ^ 64 = below_32 o.caller (op_caller subject o ok) in
     let after = append_cancel_left (codes "op ") text (decimal o.caller ++ 32 ∷ call_text o.op.method o.op.args) f in
     let is = one_before_space n o.caller r (call_text o.op.method o.op.args) low caller (sym e ∙ after) in
-    none o.op.method o.op.args (op_subject subject o ok) (op_padded subject o ok)
+    none o.op.method o.op.args (op_named subject o ok) (op_padded subject o ok)
     (below_of _ _ (op_a subject o ok)) (below_of _ _ (op_b subject o ok)) (below_of _ _ (op_c subject o ok)) is.1
 no_call subject text n r low e none (item.Turns t) ok f = absurd (let h : 111 ≡ 116 = ap (λ t. get_or t 0 0) f in omega (arith, h))
 

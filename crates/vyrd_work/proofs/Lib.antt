@@ -1,3 +1,4 @@
+pub mod BuiltIn
 pub mod ItemLaws
 pub mod FirstLaws
 pub mod WalkLaws

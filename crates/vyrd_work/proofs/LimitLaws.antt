@@ -7,10 +7,11 @@ use Rattle.std.proofs.lemmas.List.{map-append}
 use Rattle.std.proofs.lemmas.Bool.Decides.{nat_tests}
 use Rattle.std.proofs.lemmas.Bool.{not-false}
 use Rattle.vyrd_base.specs.declared.header.Header.{Header}
-use Rattle.vyrd_base.specs.Subjects.{arity_of, are_padded, subject_of, same_subject, are_args}
+use Rattle.vyrd_base.specs.Subjects.{arity_of, are_padded, subject_of, same_subject, are_args, is_built_in}
 use Rattle.vyrd_base.proofs.HeaderLaws.{callers_in_32_bits}
 use Rattle.vyrd_base.proofs.TestLaws.{both_true, first_true, second_true, above_then, above_of, not_below_of, isnt_at_most, isnt_below, neither_true}
 use Rattle.vyrd_base.proofs.ListLaws.{all_push}
+use Rattle.vyrd_base.proofs.SubjectLaws.{named_same}
 use Rattle.vyrd_memory.specs.declared.op.Turn.{Turn}
 use Rattle.vyrd_work.specs.declared.work.WorkOp.{WorkOp}
 use Rattle.vyrd_work.specs.declared.line.Item.{Item}
@@ -23,7 +24,7 @@ use Rattle.vyrd_memory.specs.Bounds.{most_ops}
 use Rattle.vyrd_work.specs.WorkLines.{is_item_of}
 use Rattle.vyrd_work.specs.WorkReading.{turns_in, broken_by, with_item}
 use Rattle.vyrd_work.specs.WorkLimits.{is_op_of, is_turn_of, KeepsLimits}
-use Rattle.vyrd_work.proofs.ItemLaws.{op_subject, op_small}
+use Rattle.vyrd_work.proofs.ItemLaws.{op_named, op_small}
 
 not_broken : (b : Bool) (rule : WorkRule) (rest : Option WorkRule) → cond b (Some rule) rest ≡ None → (b ≡ false) × (rest ≡ None)
 not_broken true rule rest e = cc
@@ -92,7 +93,8 @@ pub limits_more : (w : Workload) (x : Item) → KeepsLimits w → is_item_of w.h
     → KeepsLimits (with_item w x)
 limits_more w (item.Op o) keeps is none = record {
   version = keeps.version;
-  ops = all_push (λ p. is_op_of w.header p ≡ true) w.ops o keeps.ops (op_fits w o none (op_subject w.header.subject o is));
+  ops = all_push (λ p. is_op_of w.header p ≡ true) w.ops o keeps.ops (op_fits w o none
+      (named_same o.op.method w.header.subject (op_named w.header.subject o is)));
   args = all_push (λ p. are_small p.op.args ≡ true) w.ops o keeps.args (op_small w.header.subject o is);
   turns = keeps.turns;
   op_count = let few = not_many_ops w o none in omega (arith, few, length-append w.ops (o ∷ []));
@@ -146,13 +148,13 @@ small_caller : (callers caller : ℕ) → callers < 2 ^ 32 → nat_lt caller cal
 small_caller callers caller h e = grind (arith, nat_tests)
 
 -- what fits the header can stand in the text
-pub op_is_item : (h : Header) (o : WorkOp) → is_op_of h o ≡ true → are_small o.op.args ≡ true → is_item_of h.subject (item.Op o) ≡ true
-op_is_item h o fits small =
+pub op_is_item : (h : Header) (o : WorkOp) → is_built_in h.subject ≡ true → is_op_of h o ≡ true → are_small o.op.args ≡ true → is_item_of h.subject (item.Op o) ≡ true
+op_is_item h o built fits small =
     let rest = second_true (nat_lt o.caller h.callers) _ fits in
     let args : are_args h.size o.op.method o.op.args ≡ true = second_true (same_subject (subject_of o.op.method) h.subject) _ rest in
     let padded : are_padded (arity_of o.op.method) o.op.args ≡ true = first_true (are_padded (arity_of o.op.method) o.op.args) _ args in
     let same : same_subject (subject_of o.op.method) h.subject ≡ true = first_true _ _ rest in
-    both_true _ _ (small_caller h.callers o.caller (callers_in_32_bits h) (first_true _ _ fits)) (both_true _ _ (both_true _ _ same padded) small)
+    both_true _ _ (small_caller h.callers o.caller (callers_in_32_bits h) (first_true _ _ fits)) (both_true _ _ (both_true _ _ (both_true _ _ built same) padded) small)
 
 pub turns_are_item : (h : Header) (t : Turn) → is_turn_of h t ≡ true → is_item_of h.subject (item.Turns t) ≡ true
 turns_are_item h t fits =

@@ -5,6 +5,7 @@ use Rattle.std.specs.List.{AllByRecursion}
 use Rattle.vyrd_base.specs.declared.header.Header.{Header}
 use Rattle.vyrd_base.specs.declared.subject.Subject.{Subject}
 use Rattle.vyrd_base.specs.Spelling.{subject_name, end_line}
+use Rattle.vyrd_base.specs.Subjects.{is_built_in}
 use Rattle.vyrd_base.proofs.HeaderLaws.{size_in_32_bits, callers_in_32_bits}
 use Rattle.vyrd_base.proofs.LongLines.{short_entry, short_number}
 use Rattle.vyrd_base.proofs.TestLaws.{both_true, first_true, second_true, below_of}
@@ -20,6 +21,7 @@ use Rattle.vyrd_memory.specs.Arguments.{are_small}
 use Rattle.vyrd_work.specs.WorkLines.{is_item_of}
 use Rattle.vyrd_work.specs.WorkLimits.{is_op_of, is_turn_of, KeepsLimits}
 use Rattle.vyrd_work.proofs.ItemLaws.{call_of, op_caller, op_call, turn_count_fits}
+use Rattle.vyrd_work.proofs.BuiltIn.{work_built_in}
 use Rattle.vyrd_work.proofs.LimitLaws.{op_is_item, turns_are_item}
 
 -- an operation's line is shorter than that of the call in a log
@@ -59,13 +61,13 @@ short_first h variant =
       length-append (decimal h.callers) (32 ∷ variant_name variant),
     )
 
-short_later : (h : Header) (ops : List WorkOp) (turns : List Turn) → AllByRecursion (λ o. is_op_of h o ≡ true) ops
+short_later : (h : Header) → is_built_in h.subject ≡ true → (ops : List WorkOp) (turns : List Turn) → AllByRecursion (λ o. is_op_of h o ≡ true) ops
     → AllByRecursion (λ o. are_small o.op.args ≡ true) ops
     → AllByRecursion (λ t. is_turn_of h t ≡ true) turns
     → AllByRecursion (λ line. length line ≤ 64) (map item_line (map item.Op ops ++ map item.Turns turns) ++ end_line ∷ [])
-short_later h [] [] all small rest = (omega arith, tt)
-short_later h [] (t ∷ turns) all small rest = (short_turns h.subject t (turns_are_item h t rest.0), short_later h [] turns all small rest.1)
-short_later h (o ∷ ops) turns all small rest = (short_op h.subject o (op_is_item h o all.0 small.0), short_later h ops turns all.1 small.1 rest)
+short_later h built [] [] all small rest = (omega arith, tt)
+short_later h built [] (t ∷ turns) all small rest = (short_turns h.subject t (turns_are_item h t rest.0), short_later h built [] turns all small rest.1)
+short_later h built (o ∷ ops) turns all small rest = (short_op h.subject o (op_is_item h o built all.0 small.0), short_later h built ops turns all.1 small.1 rest)
 
 pub short_lines : (w : Workload) → KeepsLimits w → AllByRecursion (λ line. length line ≤ 64) (lines_of w)
-short_lines w keeps = (short_first w.header w.variant, short_later w.header w.ops w.turns keeps.ops keeps.args keeps.turns)
+short_lines w keeps = (short_first w.header w.variant, short_later w.header (work_built_in w keeps) w.ops w.turns keeps.ops keeps.args keeps.turns)

@@ -8,6 +8,7 @@ use Rattle.std.proofs.lemmas.Slice.Eq.{bytes_eq-Decides}
 use Rattle.std.proofs.lemmas.List.Splits.{join_with_byte-slice_split}
 use Rattle.vyrd_base.specs.declared.header.Header.{Header}
 use Rattle.vyrd_base.specs.Spelling.{end_line}
+use Rattle.vyrd_base.specs.Subjects.{is_built_in}
 use Rattle.vyrd_base.specs.Reading.{has_any}
 use Rattle.vyrd_base.proofs.HeaderLaws.{size_in_32_bits, callers_in_32_bits}
 use Rattle.vyrd_base.proofs.SplitLaws.{cut, join_lines, cut_lines, all_lack}
@@ -27,6 +28,7 @@ use Rattle.vyrd_work.specs.WorkReading.{line_read, begun_or_bad, ended, lines_re
 use Rattle.vyrd_work.specs.WorkLimits.{is_op_of, is_turn_of, KeepsLimits}
 use Rattle.vyrd_work.proofs.ItemLaws.{item_in_sound, item_in-item_line, item_line_isnt_end, item_line_whole}
 use Rattle.vyrd_work.proofs.FirstLaws.{IsBegun, begun_in_sound, begun_in-first_line, first_line_whole}
+use Rattle.vyrd_work.proofs.BuiltIn.{work_built_in}
 use Rattle.vyrd_work.proofs.WalkLaws.{then_lines}
 use Rattle.vyrd_work.proofs.LimitLaws.{limits_more, items_more, op_unbroken, turns_unbroken, op_is_item, turns_are_item, turns_more, turns_cons}
 
@@ -181,18 +183,18 @@ turns_read h variant ops past (t ∷ todo) n all count total =
     ∙ ap (λ ts. Ok (of_parts h variant ops ts)) (append_assoc past (t ∷ []) todo)
 
 -- the lines of operations, and what follows them
-ops_read : (h : Header) (variant : Variant) (past todo : List WorkOp) (next : List ℕ) (lines : List (List ℕ)) (r : Result Workload Refusal) (n : ℕ)
+ops_read : (h : Header) (variant : Variant) → is_built_in h.subject ≡ true → (past todo : List WorkOp) (next : List ℕ) (lines : List (List ℕ)) (r : Result Workload Refusal) (n : ℕ)
     → AllByRecursion (λ o. is_op_of h o ≡ true) todo → AllByRecursion (λ o. are_small o.op.args ≡ true) todo → length past + length todo ≤ most_ops
     → ((m : ℕ) → lines_read (of_parts h variant (past ++ todo) []) m (next ∷ lines) ≡ r)
     → lines_read (of_parts h variant past []) n (map item_line (map item.Op todo) ++ next ∷ lines) ≡ r
-ops_read h variant past [] next lines r n all small count on =
+ops_read h variant built past [] next lines r n all small count on =
     ap (λ os. lines_read (of_parts h variant os []) n (next ∷ lines)) (sym (append-nil past)) ∙ on n
-ops_read h variant past (o ∷ todo) next lines r n all small count on =
+ops_read h variant built past (o ∷ todo) next lines r n all small count on =
     let w = of_parts h variant past [] in
     item_step w n (item.Op o) (map item_line (map item.Op todo) ++ next ∷ lines) (some_lines (map item.Op todo) next lines)
-    (op_is_item h o all.0 small.0)
+    (op_is_item h o built all.0 small.0)
     (op_unbroken w o all.0 refl (omega arith))
-    ∙ ops_read h variant (past ++ o ∷ []) todo next lines r (n + 1) all.1 small.1 (omega (arith, length-append past (o ∷ [])))
+    ∙ ops_read h variant built (past ++ o ∷ []) todo next lines r (n + 1) all.1 small.1 (omega (arith, length-append past (o ∷ [])))
     (λ m. ap (λ os. lines_read (of_parts h variant os []) m (next ∷ lines)) (append_assoc past (o ∷ []) todo) ∙ on m)
 
 -- the lines after a workload's first
@@ -213,11 +215,11 @@ items_read w n keeps = by_turns w.turns keeps.turns keeps.turn_count keeps.turn_
         → lines_read (begun w.variant w.header) n (map item_line (map item.Op w.ops ++ map item.Turns turns) ++ end_line ∷ [] ∷ [])
         ≡ Ok (of_parts w.header w.variant w.ops turns)
     by_turns [] all count total = ap (lines_read (begun w.variant w.header) n) (lines [])
-        ∙ ops_read w.header w.variant [] w.ops end_line ([] ∷ []) (Ok (of_parts w.header w.variant w.ops [])) n keeps.ops keeps.args
+        ∙ ops_read w.header w.variant (work_built_in w keeps) [] w.ops end_line ([] ∷ []) (Ok (of_parts w.header w.variant w.ops [])) n keeps.ops keeps.args
         (let l = keeps.op_count in omega (arith, l))
         (λ m. turns_read w.header w.variant w.ops [] [] m all (omega arith) (omega arith))
     by_turns (t ∷ turns) all count total = ap (lines_read (begun w.variant w.header) n) (lines (t ∷ turns))
-        ∙ ops_read w.header w.variant [] w.ops (item_line (item.Turns t)) (map item_line (map item.Turns turns) ++ end_line ∷ [] ∷ [])
+        ∙ ops_read w.header w.variant (work_built_in w keeps) [] w.ops (item_line (item.Turns t)) (map item_line (map item.Turns turns) ++ end_line ∷ [] ∷ [])
         (Ok (of_parts w.header w.variant w.ops (t ∷ turns))) n keeps.ops keeps.args (let l = keeps.op_count in omega (arith, l))
         (λ m. turns_read w.header w.variant w.ops [] (t ∷ turns) m all (omega arith) (omega arith))
 
@@ -226,19 +228,19 @@ turns_lack : (h : Header) (turns : List Turn) → AllByRecursion (λ t. is_turn_
 turns_lack h [] all = refl
 turns_lack h (t ∷ turns) all = both_true _ _ (item_line_whole h.subject (item.Turns t) (turns_are_item h t all.0)) (turns_lack h turns all.1)
 
-items_lack : (h : Header) (ops : List WorkOp) (turns : List Turn) → AllByRecursion (λ o. is_op_of h o ≡ true) ops
+items_lack : (h : Header) → is_built_in h.subject ≡ true → (ops : List WorkOp) (turns : List Turn) → AllByRecursion (λ o. is_op_of h o ≡ true) ops
     → AllByRecursion (λ o. are_small o.op.args ≡ true) ops
     → AllByRecursion (λ t. is_turn_of h t ≡ true) turns
     → all_lack 10 (map item_line (map item.Op ops ++ map item.Turns turns) ++ end_line ∷ []) ≡ true
-items_lack h [] turns all small rest = turns_lack h turns rest
-items_lack h (o ∷ ops) turns all small rest =
-    both_true _ _ (item_line_whole h.subject (item.Op o) (op_is_item h o all.0 small.0)) (items_lack h ops turns all.1 small.1 rest)
+items_lack h built [] turns all small rest = turns_lack h turns rest
+items_lack h built (o ∷ ops) turns all small rest =
+    both_true _ _ (item_line_whole h.subject (item.Op o) (op_is_item h o built all.0 small.0)) (items_lack h built ops turns all.1 small.1 rest)
 
 all_lack_feeds : (w : Workload) → KeepsLimits w → all_lack 10 (lines_of w) ≡ true
 all_lack_feeds w keeps =
     both_true _ _ (first_line_whole w.header.subject w.header.size w.header.callers w.variant (let l = size_in_32_bits w.header in omega (arith, l))
     (let l = callers_in_32_bits w.header in omega (arith, l)))
-    (items_lack w.header w.ops w.turns keeps.ops keeps.args keeps.turns)
+    (items_lack w.header (work_built_in w keeps) w.ops w.turns keeps.ops keeps.args keeps.turns)
 
 -- all lines are read as the workload
 all_read : (w : Workload) → KeepsLimits w → text_read (all_lines w) ≡ Ok w

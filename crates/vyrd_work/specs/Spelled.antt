@@ -2,6 +2,7 @@
 -- as its spelling.
 use Rattle.std.specs.Prelude.{◌≡◌, ℕ, ◌<◌, ◌^◌, true, List, ◌∷◌, ◌++◌, Option, Some, None, decimal}
 use Rattle.vyrd_base.specs.declared.subject.Subject.{Subject}
+use Rattle.vyrd_base.specs.Subjects.{is_built_in}
 use Rattle.vyrd_memory.specs.declared.op.Variant.{Variant}
 use Rattle.vyrd_work.specs.declared.line.Item.{Item}
 use Rattle.vyrd_work.specs.Workloads.{variant_name, work_header_line, item_line}
@@ -19,12 +20,13 @@ AreBoundsRead text None = (size callers : ℕ) (variant : Variant) → size < 2 
 AreBoundsRead text (Some (size, callers, variant)) =
     text ≡ decimal size ++ 32 ∷ (decimal callers ++ 32 ∷ variant_name variant)
 
--- the subject, the size, the number of callers and the variant whose text it is
+-- the built-in subject, the size, the number of callers and the variant whose text it is
 abbrev pub IsFirstRead : List ℕ → Option (Subject × ℕ × ℕ × Variant) → Type 0
-IsFirstRead line None = (subject : Subject) (size callers : ℕ) (variant : Variant) → size < 2 ^ 32
-    → callers < 2 ^ 32 → line ≡ work_header_line subject size callers variant → ⊥
+IsFirstRead line None = (subject : Subject) (size callers : ℕ) (variant : Variant)
+    → is_built_in subject ≡ true → size < 2 ^ 32 → callers < 2 ^ 32
+    → line ≡ work_header_line subject size callers variant → ⊥
 IsFirstRead line (Some (subject, size, callers, variant)) =
-    line ≡ work_header_line subject size callers variant
+    (is_built_in subject ≡ true) × (line ≡ work_header_line subject size callers variant)
 
 -- the operation of the subject, or the turns, whose line it is
 abbrev pub IsItemRead : Subject → List ℕ → Option Item → Type 0

@@ -21,7 +21,7 @@ is_op_of h o = nat_lt o.caller h.callers
 abbrev pub is_turn_of : Header → Turn → Bool
 is_turn_of h t = nat_lt t.caller h.callers && (nat_le 1 t.count && nat_le t.count most_turns)
 
--- the workload keeps the limits: its runs leave logs of version 1
+-- the workload keeps the limits: its runs leave logs of version 1, and so its structure is built in
 pub record KeepsLimits (w : Workload) : Type 0 where
   pub version : w.header.version ≡ 1
   pub ops : AllByRecursion (λ o. is_op_of w.header o ≡ true) w.ops

@@ -5,7 +5,7 @@ use Rattle.std.specs.Prelude.{None, option_map, option_and_then, codes, if◌the
 use Rattle.std.specs.Str.{bytes_eq}
 use Rattle.vyrd_base.specs.declared.header.Header.{Header}
 use Rattle.vyrd_base.specs.declared.subject.Subject.{Subject}
-use Rattle.vyrd_base.specs.Subjects.{arity_of, are_padded, subject_of, same_subject}
+use Rattle.vyrd_base.specs.Subjects.{arity_of, are_padded, is_named}
 use Rattle.vyrd_base.specs.Lines.{fields_of, number_of, method_called, args_from, subject_called}
 use Rattle.vyrd_base.specs.Lines.{header_of}
 use Rattle.vyrd_memory.specs.Arguments.{are_small}
@@ -46,10 +46,11 @@ unfoldable pub begun_in : List ℕ → Option Workload
 begun_in line = begun_from line (fields_of line)
 
 -- whether a later line can say this: numbers are in the text's ranges, the method is of the
--- subject, arguments that it doesn't have are 0, and turns are from 1 to 4,000,000
+-- subject, which is built in, arguments that it doesn't have are 0, and turns are from 1 to
+-- 4,000,000
 abbrev pub is_item_of : Subject → Item → Bool
 is_item_of subject (item.Op o) = nat_lt o.caller (2 ^ 32)
-    && (same_subject (subject_of o.op.method) subject && are_padded (arity_of o.op.method) o.op.args
+    && (is_named o.op.method subject && are_padded (arity_of o.op.method) o.op.args
     && are_small o.op.args)
 is_item_of subject (item.Turns t) =
     nat_lt t.caller (2 ^ 32) && (nat_le 1 t.count && nat_le t.count most_turns)

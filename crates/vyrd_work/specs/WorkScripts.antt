@@ -4,10 +4,11 @@ use Rattle.std.specs.Prelude.{ℕ, ◌==◌, List, map, filter_map, Option, Some
 use Rattle.vyrd_base.specs.declared.header.Header.{Header}
 use Rattle.vyrd_base.specs.declared.subject.Subject.{Subject}
 use Rattle.vyrd_base.specs.declared.subject.Subject.TheVariants.{Multiset, Cache, Tree, Buffers}
+use Rattle.vyrd_base.specs.declared.subject.Subject.TheVariants.{Own}
 use Rattle.vyrd_base.specs.Places.{numbers_below}
 use Rattle.vyrd_memory.specs.declared.op.Op.{Op}
 use Rattle.vyrd_memory.specs.declared.op.Variant.{Variant}
-use Rattle.vyrd_memory.specs.Scripts.{Script, operations}
+use Rattle.vyrd_memory.specs.Scripts.{Script, stop, operations}
 use Rattle.vyrd_multiset.specs.Procedures.{multiset_procedure}
 use Rattle.vyrd_cache.specs.Procedures.{cache_procedure}
 use Rattle.vyrd_tree.specs.Procedures.{tree_procedure}
@@ -23,12 +24,13 @@ op_by c o = if o.caller == c then Some o.op else None
 abbrev pub ops_of : ℕ → List WorkOp → List Op
 ops_of c ops = filter_map (op_by c) ops
 
--- the procedure of an operation, by the structure
+-- the procedure of an operation, by the structure; the user's own has none here
 abbrev pub procedure_in : Subject → Header → Variant → Op → Script
 procedure_in Multiset h variant op = multiset_procedure h variant op
 procedure_in Cache h variant op = cache_procedure h variant op
 procedure_in Tree h variant op = tree_procedure h variant op
 procedure_in Buffers h variant op = buffers_procedure h variant op
+procedure_in Own h variant op = stop
 
 -- the script of a caller
 abbrev pub work_script : Workload → ℕ → Script

@@ -228,6 +228,7 @@ impl MachineOf<MultisetMachine, CacheMachine, TreeMachine, BufferMachine> {
                 let machine = BufferMachine::new(alloc, work.header, caller, work.variant, &ops)?;
                 Ok(MachineOf::Buffers(machine))
             }
+            Subject::Own => unreachable!(),
         }
     }
 }

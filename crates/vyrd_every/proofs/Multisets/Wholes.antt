@@ -8,7 +8,7 @@ use Rattle.vyrd_base.specs.declared.subject.Subject.TheVariants.{Multiset}
 use Rattle.vyrd_base.specs.declared.subject.Method.{Method}
 use Rattle.vyrd_base.specs.declared.subject.Method.TheVariants.{Multiset as OfMultiset}
 use Rattle.vyrd_base.specs.declared.subject.Method.TheVariants.{Cache as OfCache, Tree as OfTree}
-use Rattle.vyrd_base.specs.declared.subject.Method.TheVariants.{Buffers as OfBuffers}
+use Rattle.vyrd_base.specs.declared.subject.Method.TheVariants.{Buffers as OfBuffers, Own as OfOwn}
 use Rattle.vyrd_base.specs.declared.multiset.MultisetMethod.TheVariants.{Insert, InsertPair, Delete}
 use Rattle.vyrd_base.specs.declared.multiset.MultisetMethod.TheVariants.{Lookup}
 use Rattle.vyrd_base.specs.declared.subject.Args.{Args}
@@ -133,11 +133,11 @@ commit_both_right h k shown args first second slot_x slot_y r is order of_x of_y
         (isnt_same (lock_of h first) (lock_of h second) (λ same. apart_of first second e (omega (arith, same)))) (λ i. refl) is refl)))
 
 -- an insert makes the slot that it found valid
-insert_right : (h : Header) (k : Locals) (shown : Memory) (args : Args) → ((i : ℕ) → k.owned i ≡ false)
+insert_right : (h : Header) → h.subject ≡ Multiset → (k : Locals) (shown : Memory) (args : Args) → ((i : ℕ) → k.owned i ≡ false)
     → k.called ≡ Some (record { method = OfMultiset Insert; args = args })
     → DoesRight (multiset h) (at [] false false (record { method = OfMultiset Insert; args = args })) k shown (find h Correct args.a (inserted h args.a))
-insert_right h k shown args none is =
-    find_right h k shown args.a called (inserted h args.a) (bucket_low h args.a)
+insert_right h ours k shown args none is =
+    find_right h k shown args.a called (inserted h args.a) (bucket_low h ours args.a)
     (λ j low of now one has keeps apart pending.
     take_right h (at [] false false called) (with_slot k j pending) now (bucket_of h args.a) _ (λ held e. cc)
     (λ then_ rely.
@@ -201,12 +201,12 @@ pair_found_right h k shown args slot_x slot_y r is =
         by_order true f = inr (greater_too n p q e (at_most_of p q f))
         by_order false f = let low : q < p = above_of p q f in inl (lesser_too n p q e (omega (arith, low)))
 
-insert_pair_right : (h : Header) (k : Locals) (shown : Memory) (args : Args) → ((i : ℕ) → k.owned i ≡ false) → k.called ≡ Some (pair_of args)
+insert_pair_right : (h : Header) → h.subject ≡ Multiset → (k : Locals) (shown : Memory) (args : Args) → ((i : ℕ) → k.owned i ≡ false) → k.called ≡ Some (pair_of args)
     → DoesRight (multiset h) (at [] false false (pair_of args)) k shown (find h Correct args.a (first_found h Correct args.a args.b))
-insert_pair_right h k shown args none is =
-    find_right h k shown args.a (pair_of args) (first_found h Correct args.a args.b) (bucket_low h args.a)
+insert_pair_right h ours k shown args none is =
+    find_right h k shown args.a (pair_of args) (first_found h Correct args.a args.b) (bucket_low h ours args.a)
     (λ x low_x of_x now one_x has_x keeps_x apart_x pending_x.
-    find_right h (with_slot k x pending_x) now args.b (pair_of args) (second_found h Correct args.a args.b x) (bucket_low h args.b)
+    find_right h (with_slot k x pending_x) now args.b (pair_of args) (second_found h Correct args.a args.b x) (bucket_low h ours args.b)
     (λ y low_y of_y then_ one_y has_y keeps_y apart_y pending_y.
     let there = keeps_y.slots x (has_slot k x pending_x) one_x in
     pair_found_right h (with_slot (with_slot k x pending_x) y pending_y) then_ args x y
@@ -237,26 +237,26 @@ isnt_there_test : (n : ℕ) → n ≡ 0 → not (n == 0) ≡ false
 isnt_there_test n none = grind (arith, nat_tests)
 
 -- a search under the lock of the bucket
-search_right : (h : Header) (k : Locals) (shown : Memory) (called : Called) (x : ℕ) (ended : Option ℕ → Script)
+search_right : (h : Header) → h.subject ≡ Multiset → (k : Locals) (shown : Memory) (called : Called) (x : ℕ) (ended : Option ℕ → Script)
     → ((j : ℕ) → j < 4 * h.size → j / 4 ≡ bucket_of h x → (now : Memory) → now (2 * j) ≡ 2 → now (2 * j + 1) ≡ x
     → DoesRight (multiset h) (at (lock_of h (bucket_of h x) ∷ []) false false called) k now (ended (Some j)))
     → ((now : Memory) → ((j : ℕ) → 4 * bucket_of h x ≤ j → j < 4 * bucket_of h x + 4 → now (2 * j) ≡ 2 → now (2 * j + 1) ≡ x → ⊥)
     → DoesRight (multiset h) (at (lock_of h (bucket_of h x) ∷ []) false false called) k now (ended None))
     → DoesRight (multiset h) (at [] false false called) k shown (search_in h x ended)
-search_right h k shown called x ended some none =
+search_right h ours k shown called x ended some none =
     let b : ℕ = bucket_of h x in
     take_right h (at [] false false called) k shown b (search_from 4 (4 * b) x ended) (λ held e. cc)
     (λ now rely.
     search_from_right h (at (lock_of h b ∷ []) false false called) k now 4 (4 * b) x ended refl
-    (bucket_slots h b false false called [] (bucket_low h x))
-    (λ j from to last rely' valid has. some j (omega (arith, from, to, bucket_low h x)) (omega (arith, from, to)) last valid has)
+    (bucket_slots h b false false called [] (bucket_low h ours x))
+    (λ j from to last rely' valid has. some j (omega (arith, from, to, bucket_low h ours x)) (omega (arith, from, to)) last valid has)
     (λ last rely' nowhere. none last nowhere))
 
-delete_right : (h : Header) (k : Locals) (shown : Memory) (args : Args) → ((i : ℕ) → k.owned i ≡ false)
+delete_right : (h : Header) → h.subject ≡ Multiset → (k : Locals) (shown : Memory) (args : Args) → ((i : ℕ) → k.owned i ≡ false)
     → k.called ≡ Some (record { method = OfMultiset Delete; args = args })
     → DoesRight (multiset h) (at [] false false (record { method = OfMultiset Delete; args = args })) k shown (search_in h args.a (deleted h args.a))
-delete_right h k shown args none is =
-    search_right h k shown called args.a (deleted h args.a)
+delete_right h ours k shown args none is =
+    search_right h ours k shown called args.a (deleted h args.a)
     (λ j low of now valid has.
     commit_state_right h k now called (bucket_of h args.a) j 0 low of is refl (λ one. absurd (one_two (now (2 * j)) one valid))
     (λ last same_state same_value before m.
@@ -295,11 +295,11 @@ delete_right h k shown args none is =
         (λ last keeps. returns_right (multiset h) k last true called 0 none (mutates k called 0 is refl)))
 
 -- a lookup has its answer when it gives the lock back
-lookup_right : (h : Header) (k : Locals) (shown : Memory) (args : Args) → ((i : ℕ) → k.owned i ≡ false)
+lookup_right : (h : Header) → h.subject ≡ Multiset → (k : Locals) (shown : Memory) (args : Args) → ((i : ℕ) → k.owned i ≡ false)
     → k.called ≡ Some (record { method = OfMultiset Lookup; args = args })
     → DoesRight (multiset h) (at [] false false (record { method = OfMultiset Lookup; args = args })) k shown (search_in h args.a (looked_up h args.a))
-lookup_right h k shown args none is =
-    search_right h k shown called args.a (looked_up h args.a)
+lookup_right h ours k shown args none is =
+    search_right h ours k shown called args.a (looked_up h args.a)
     (λ j low of now valid has. sees now 1 (λ state m.
     ap (λ b. if b then 1 else 0) (is_there_test (amount_of state args.a) (is_there h now state j args.a m low valid has))))
     (λ now nowhere. sees now 0 (λ state m.
@@ -313,18 +313,19 @@ lookup_right h k shown args none is =
     sees now reply seen = answer_right (multiset h) k now (lock_of h (bucket_of h args.a)) called reply none is seen
 
 -- the procedure of each operation
-procedure_right : (h : Header) (k : Locals) (shown : Memory) (method : Method) (args : Args) → subject_of method ≡ Multiset → ((i : ℕ) → k.owned i ≡ false)
+procedure_right : (h : Header) → h.subject ≡ Multiset → (k : Locals) (shown : Memory) (method : Method) (args : Args) → subject_of method ≡ Multiset → ((i : ℕ) → k.owned i ≡ false)
     → k.called ≡ Some (record { method = method; args = args })
     → DoesRight (multiset h) (just_called method) k shown (procedure_of h Correct method args)
-procedure_right h k shown (OfMultiset Insert) args of none is = insert_right h k shown args none is
-procedure_right h k shown (OfMultiset InsertPair) args of none is = insert_pair_right h k shown args none is
-procedure_right h k shown (OfMultiset Delete) args of none is = delete_right h k shown args none is
-procedure_right h k shown (OfMultiset Lookup) args of none is = lookup_right h k shown args none is
-procedure_right h k shown (OfCache other) args of none is = cc
-procedure_right h k shown (OfTree other) args of none is = cc
-procedure_right h k shown (OfBuffers other) args of none is = cc
+procedure_right h ours k shown (OfMultiset Insert) args of none is = insert_right h ours k shown args none is
+procedure_right h ours k shown (OfMultiset InsertPair) args of none is = insert_pair_right h ours k shown args none is
+procedure_right h ours k shown (OfMultiset Delete) args of none is = delete_right h ours k shown args none is
+procedure_right h ours k shown (OfMultiset Lookup) args of none is = lookup_right h ours k shown args none is
+procedure_right h ours k shown (OfCache other) args of none is = cc
+procedure_right h ours k shown (OfTree other) args of none is = cc
+procedure_right h ours k shown (OfBuffers other) args of none is = cc
+procedure_right h ours k shown (OfOwn other) args of none is = cc
 
 -- so each operation that may be called does right
 pub multiset_right : (h : Header) (op : Op) → h.subject ≡ Multiset → is_callable h op ≡ true → IsRight (multiset h) (multiset_procedure h Correct) op
 multiset_right h op is callable k shown none called =
-    procedure_right h k shown op.method op.args (callable_method h op callable ∙ is) none called
+    procedure_right h is k shown op.method op.args (callable_method h op callable ∙ is) none called

@@ -9,10 +9,11 @@ use Rattle.std.proofs.Math.Logic.{∥∥₁_map}
 use Rattle.vyrd_base.specs.declared.header.Header.{Header}
 use Rattle.vyrd_base.specs.declared.subject.Subject.{Subject}
 use Rattle.vyrd_base.specs.declared.subject.Subject.TheVariants.{Multiset, Cache, Tree, Buffers}
+use Rattle.vyrd_base.specs.declared.subject.Subject.TheVariants.{Own}
 use Rattle.vyrd_base.specs.declared.subject.Method.{Method}
 use Rattle.vyrd_base.specs.declared.subject.Method.TheVariants.{Multiset as OfMultiset}
 use Rattle.vyrd_base.specs.declared.subject.Method.TheVariants.{Cache as OfCache, Tree as OfTree}
-use Rattle.vyrd_base.specs.declared.subject.Method.TheVariants.{Buffers as OfBuffers}
+use Rattle.vyrd_base.specs.declared.subject.Method.TheVariants.{Buffers as OfBuffers, Own as OfOwn}
 use Rattle.vyrd_base.specs.declared.tree.TreeMethod.TheVariants.{Insert, Delete, Lookup}
 use Rattle.vyrd_base.specs.declared.subject.Args.{Args}
 use Rattle.vyrd_base.specs.declared.log.Kind.TheVariants.{Call, Return, Write, Commit, BlockOpen}
@@ -111,12 +112,14 @@ pub bound_is_some : (subject : Subject) (n : ℕ) (method : Method) → 1 ≤ bo
 bound_is_some Multiset n method = omega arith
 bound_is_some Cache n method = omega arith
 bound_is_some Buffers n method = omega arith
+bound_is_some Own n method = omega arith
 bound_is_some Tree n (OfMultiset other) = omega arith
 bound_is_some Tree n (OfCache other) = omega arith
 bound_is_some Tree n (OfTree Insert) = omega arith
 bound_is_some Tree n (OfTree Delete) = omega arith
 bound_is_some Tree n (OfTree Lookup) = omega arith
 bound_is_some Tree n (OfBuffers other) = omega arith
+bound_is_some Tree n (OfOwn other) = omega arith
 
 pub operations-in_time : (h : Header) (body : Op → Script) (ops : List Op) → AreBounded h body
     → are_callable h ops ≡ true

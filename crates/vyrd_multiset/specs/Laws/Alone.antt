@@ -13,7 +13,7 @@ use Rattle.vyrd_base.specs.declared.subject.Subject.TheVariants.{Multiset}
 use Rattle.vyrd_base.specs.declared.subject.Method.{Method}
 use Rattle.vyrd_base.specs.declared.subject.Method.TheVariants.{Multiset as OfMultiset}
 use Rattle.vyrd_base.specs.declared.subject.Method.TheVariants.{Cache as OfCache, Tree as OfTree}
-use Rattle.vyrd_base.specs.declared.subject.Method.TheVariants.{Buffers as OfBuffers}
+use Rattle.vyrd_base.specs.declared.subject.Method.TheVariants.{Buffers as OfBuffers, Own as OfOwn}
 use Rattle.vyrd_base.specs.declared.multiset.MultisetMethod.TheVariants.{Insert as MsInsert}
 use Rattle.vyrd_base.specs.declared.multiset.MultisetMethod.TheVariants.{InsertPair}
 use Rattle.vyrd_base.specs.declared.multiset.MultisetMethod.TheVariants.{Delete as MsDelete}
@@ -71,7 +71,7 @@ by_method_right : (h : Header) (method : Method) (args : Args) → h.subject ≡
 by_method_right h (OfMultiset MsInsert) args is of c memory s m =
     meets h (record { method = OfMultiset MsInsert; args = args }) (insert h Correct args.a) c memory s is
     (InsertDone h memory s args.a)
-    (insert_done h c memory s args.a m) says
+    (insert_done h is c memory s args.a m) says
   where
     says : (reply : ℕ) (after : Memory) → InsertDone h memory s args.a reply after
         → Meets h (record { method = OfMultiset MsInsert; args = args }) s reply after
@@ -88,7 +88,7 @@ by_method_right h (OfMultiset MsInsert) args is of c memory s m =
 by_method_right h (OfMultiset InsertPair) args is of c memory s m =
     meets h (record { method = OfMultiset InsertPair; args = args }) (insert_pair h Correct args.a args.b) c
     memory s is (PairDone h memory s args.a args.b)
-    (pair_done h c memory s args.a args.b m) says
+    (pair_done h is c memory s args.a args.b m) says
   where
     says : (reply : ℕ) (after : Memory) → PairDone h memory s args.a args.b reply after
         → Meets h (record { method = OfMultiset InsertPair; args = args }) s reply after
@@ -109,7 +109,7 @@ by_method_right h (OfMultiset InsertPair) args is of c memory s m =
 by_method_right h (OfMultiset MsDelete) args is of c memory s m =
     meets h (record { method = OfMultiset MsDelete; args = args }) (delete h args.a) c memory s is
     (DeleteDone h s args.a)
-    (delete_done h c memory s args.a m) says
+    (delete_done h is c memory s args.a m) says
   where
     fewer : Amounts
     fewer = with_amount s args.a (amount_of s args.a - 1)
@@ -132,7 +132,7 @@ by_method_right h (OfMultiset MsDelete) args is of c memory s m =
 by_method_right h (OfMultiset MsLookup) args is of c memory s m =
     meets h (record { method = OfMultiset MsLookup; args = args }) (lookup h args.a) c memory s is
     (LookupDone h s args.a)
-    (lookup_done h c memory s args.a m) says
+    (lookup_done h is c memory s args.a m) says
   where
     says : (reply : ℕ) (after : Memory) → LookupDone h s args.a reply after
         → Meets h (record { method = OfMultiset MsLookup; args = args }) s reply after
@@ -161,6 +161,7 @@ by_method_right h (OfBuffers AppendFrom) args is of c memory s m = absurd (cc)
 by_method_right h (OfBuffers Cut) args is of c memory s m = absurd (cc)
 by_method_right h (OfBuffers Length) args is of c memory s m = absurd (cc)
 by_method_right h (OfBuffers BuRead) args is of c memory s m = absurd (cc)
+by_method_right h (OfOwn other) args is of c memory s m = cc
 
 pub procedure_right_alone : (h : Header) (method : Method) (args : Args)
     → h.subject ≡ Multiset → subject_of method ≡ Multiset

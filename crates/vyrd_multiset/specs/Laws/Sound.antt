@@ -10,12 +10,12 @@ use Rattle.vyrd_base.specs.declared.subject.Subject.TheVariants.{Multiset}
 use Rattle.vyrd_base.specs.declared.subject.Method.{Method}
 use Rattle.vyrd_base.specs.declared.subject.Method.TheVariants.{Multiset as OfMultiset}
 use Rattle.vyrd_base.specs.declared.subject.Method.TheVariants.{Cache as OfCache, Tree as OfTree}
-use Rattle.vyrd_base.specs.declared.subject.Method.TheVariants.{Buffers as OfBuffers}
+use Rattle.vyrd_base.specs.declared.subject.Method.TheVariants.{Buffers as OfBuffers, Own as OfOwn}
 use Rattle.vyrd_base.specs.declared.multiset.MultisetMethod.TheVariants.{Insert, InsertPair, Delete}
 use Rattle.vyrd_base.specs.declared.multiset.MultisetMethod.TheVariants.{Lookup}
 use Rattle.vyrd_base.specs.declared.subject.Args.{Args}
 use Rattle.vyrd_base.specs.declared.log.Kind.TheVariants.{BlockCommit}
-use Rattle.vyrd_base.specs.Subjects.{subject_of, is_observer}
+use Rattle.vyrd_base.specs.Subjects.{subject_of, is_observer, is_built_in}
 use Rattle.vyrd_base.specs.Layout.{plain_words_of, lock_words_of}
 use Rattle.vyrd_base.specs.Histories.{cells_of, is_plain, is_lock}
 use Rattle.vyrd_base.proofs.HeaderLaws.{some_size}
@@ -37,8 +37,8 @@ use Rattle.vyrd_multiset.specs.Procedures.{undo, second_found, first_found, comp
 use Rattle.vyrd_multiset.specs.Procedures.{search_in, deleted, looked_up, procedure_of}
 
 -- a bucket is below the size, and its slots are below 4 times the size
-pub bucket_low : (h : Header) (value : ℕ) → bucket_of h value < h.size
-bucket_low h value = omega (arith, some_size h)
+pub bucket_low : (h : Header) → h.subject ≡ Multiset → (value : ℕ) → bucket_of h value < h.size
+bucket_low h is value = omega (arith, some_size h (ap is_built_in is))
 
 between : (a n b : ℕ) → a ≤ b → b < a + n → (nat_le a b && nat_lt b (a + n)) ≡ true
 between a n b l m = grind (arith, nat_tests)
@@ -151,8 +151,8 @@ search_from_sound h s (suc left) slot value ended is fits some none =
       | false ↦ on
     ])
 
-slots_fit : (h : Header) (value : ℕ) → first_slot (bucket_of h value) + 4 ≤ 4 * h.size
-slots_fit h value = omega (arith, bucket_low h value)
+slots_fit : (h : Header) → h.subject ≡ Multiset → (value : ℕ) → first_slot (bucket_of h value) + 4 ≤ 4 * h.size
+slots_fit h is value = omega (arith, bucket_low h is value)
 
 find_sound : (h : Header) (variant : Variant) (method : Method) (value : ℕ)
     (found : Option ℕ → Script)
@@ -163,14 +163,14 @@ find_sound : (h : Header) (variant : Variant) (method : Method) (value : ℕ)
 find_sound h Correct method value found is low some none =
     let b : ℕ = bucket_of h value in
     take_first h b method false (find_from 4 (first_slot b) value (λ slot. unlock h b (found slot)))
-    is (bucket_low h value)
+    is (bucket_low h is value)
     (find_from_sound h (holding (lock_of h b ∷ []) method false) 4 (first_slot b) value
-    (λ slot. unlock h b (found slot)) is refl (slots_fit h value) low
-    (λ i fits. give_last h b method false (found (Some i)) is (bucket_low h value) (some i fits))
-    (give_last h b method false (found None) is (bucket_low h value) none))
+    (λ slot. unlock h b (found slot)) is refl (slots_fit h is value) low
+    (λ i fits. give_last h b method false (found (Some i)) is (bucket_low h is value) (some i fits))
+    (give_last h b method false (found None) is (bucket_low h is value) none))
 find_sound h Broken method value found is low some none =
     find_from_sound h (holding [] method false) 4 (first_slot (bucket_of h value)) value found is
-    refl (slots_fit h value) low some none
+    refl (slots_fit h is value) low some none
 
 search_in_sound : (h : Header) (method : Method) (x : ℕ) (ended : Option ℕ → Script)
     → h.subject ≡ Multiset
@@ -180,9 +180,9 @@ search_in_sound : (h : Header) (method : Method) (x : ℕ) (ended : Option ℕ �
     → IsSound h (holding [] method false) (search_in h x ended)
 search_in_sound h method x ended is some none =
     let b : ℕ = bucket_of h x in
-    take_first h b method false (search_from 4 (first_slot b) x ended) is (bucket_low h x)
+    take_first h b method false (search_from 4 (first_slot b) x ended) is (bucket_low h is x)
     (search_from_sound h (holding (lock_of h b ∷ []) method false) 4 (first_slot b) x ended is
-    (slots_fit h x) some none)
+    (slots_fit h is x) some none)
 
 commit_state_sound : (h : Header) (method : Method) (x slot state : ℕ) → h.subject ≡ Multiset
     → is_observer method ≡ false → slot < 4 * h.size → state < 2 ^ 63
@@ -196,7 +196,7 @@ commit_state_sound h method x slot state is mutates low small =
           (perform (Mark BlockCommit) (unlock h b (returns 1)))
           (state_is_plain h is slot low) small refl (
             simp mutates,
-            λ answer' is''. give_last h b method true (returns 1) is (bucket_low h x)
+            λ answer' is''. give_last h b method true (returns 1) is (bucket_low h is x)
                 (returns_sound h method 1),
           ),
     )
@@ -206,7 +206,7 @@ inserted_sound : (h : Header) (method : Method) (x : ℕ) → h.subject ≡ Mult
     → IsSound h (holding [] method false) (inserted h x (Some slot))
 inserted_sound h method x is mutates slot low =
     take_first h (bucket_of h x) method false (commit_state h (bucket_of h x) slot 2) is
-    (bucket_low h x)
+    (bucket_low h is x)
     (commit_state_sound h method x slot 2 is mutates low (omega arith))
 
 undo_sound : (h : Header) (method : Method) (x : ℕ) → h.subject ≡ Multiset
@@ -215,11 +215,11 @@ undo_sound : (h : Header) (method : Method) (x : ℕ) → h.subject ≡ Multiset
 undo_sound h method x is mutates slot low =
     let b : ℕ = bucket_of h x in
     take_first h b method false (perform (Store (state_cell slot) 0) (unlock h b gives_up)) is
-    (bucket_low h x)
+    (bucket_low h is x)
     (store_sound h (holding (lock_of h b ∷ []) method false) (state_cell slot) 0
     (unlock h b gives_up)
     (state_is_plain h is slot low) (omega arith) refl
-    (give_last h b method false gives_up is (bucket_low h x) (gives_up_sound h method mutates)))
+    (give_last h b method false gives_up is (bucket_low h is x) (gives_up_sound h method mutates)))
 
 -- the block of a pair is sound under locks with which what follows is
 validate_both_sound : (h : Header) (method : Method) (locks : List ℕ)
@@ -289,11 +289,11 @@ second_found_sound h Correct method x y slot_x is mutates low_x slot low =
     let p : ℕ = bucket_of h x in
     let q : ℕ = bucket_of h y in
     commit_both_sound h method (min p q) (max p q) slot_x slot is mutates
-    (omega (arith, bucket_low h x, bucket_low h y))
-    (omega (arith, bucket_low h x, bucket_low h y)) low_x low
+    (omega (arith, bucket_low h is x, bucket_low h is y))
+    (omega (arith, bucket_low h is x, bucket_low h is y)) low_x low
 second_found_sound h Broken method x y slot_x is mutates low_x slot low =
     commit_both_sound h method (bucket_of h x) (bucket_of h y) slot_x slot is mutates
-    (bucket_low h x) (bucket_low h y) low_x low
+    (bucket_low h is x) (bucket_low h is y) low_x low
 
 first_found_sound : (h : Header) (variant : Variant) (method : Method) (x y : ℕ)
     → h.subject ≡ Multiset → is_observer method ≡ false → y < 2 ^ 63 → (slot : ℕ)
@@ -309,7 +309,7 @@ absent_sound : (h : Header) (method : Method) (x : ℕ) → h.subject ≡ Multis
     → IsSound h (holding (lock_of h (bucket_of h x) ∷ []) method false) (deleted h x None)
 absent_sound h method x is mutates = (
   simp mutates,
-  λ answer is'. give_last h (bucket_of h x) method true (returns 0) is (bucket_low h x)
+  λ answer is'. give_last h (bucket_of h x) method true (returns 0) is (bucket_low h is x)
       (returns_sound h method 0),
 )
 
@@ -318,7 +318,7 @@ looked_up_sound : (h : Header) (method : Method) (x : ℕ) → h.subject ≡ Mul
     → IsSound h (holding (lock_of h (bucket_of h x) ∷ []) method false) (looked_up h x slot)
 looked_up_sound h method x is observes slot =
     let reply : ℕ = cond (is_some slot) 1 0 in
-    give_last h (bucket_of h x) method false (returns reply) is (bucket_low h x)
+    give_last h (bucket_of h x) method false (returns reply) is (bucket_low h is x)
     (observed_sound h method reply observes)
 
 by_method_sound : (h : Header) (variant : Variant) (method : Method) (args : Args)
@@ -342,6 +342,7 @@ by_method_sound h variant (OfMultiset Lookup) args is of small_x small_y =
 by_method_sound h variant (OfCache other) args is of small_x small_y = cc
 by_method_sound h variant (OfTree other) args is of small_x small_y = cc
 by_method_sound h variant (OfBuffers other) args is of small_x small_y = cc
+by_method_sound h variant (OfOwn other) args is of small_x small_y = cc
 
 pub procedure_sound : (h : Header) (variant : Variant) (method : Method) (args : Args)
     → h.subject ≡ Multiset → subject_of method ≡ Multiset → are_small args ≡ true

@@ -1,11 +1,12 @@
 -- The loads of a node's keys and values, one after the other.
 use Rattle.std.proofs.Common.{◌≡◌, ℕ, suc, ◌+◌, ◌-◌, ◌<◌, ◌≤◌, List, [], ◌∷◌, ◌++◌, length, take, drop, ap, ◌∙◌, sym, arith}
-use Rattle.std.proofs.lemmas.List.{append-nil, get_or-take, length-take-le}
-use Rattle.std.proofs.Math.Seq.{drop-cons}
-use Rattle.std.proofs.Math.ListN.{drop_of_length-le}
+use Rattle.std.proofs.lemmas.List.{append-nil, append_assoc, get_or-take, length-take-le, take_more_set, drop-set-lt}
+use Rattle.std.proofs.Math.Seq.{drop-cons, take-set-lt}
+use Rattle.std.proofs.Math.ListN.{set, drop_of_length-le}
+use Rattle.std.specs.Prelude.{slice_set}
 use Rattle.vyrd_base.specs.declared.header.Header.{Header}
 use Rattle.vyrd_memory.specs.declared.act.Act.TheVariants.{Load}
-use Rattle.vyrd_memory.specs.Scripts.{Script, step}
+use Rattle.vyrd_memory.specs.Scripts.{Script, step, after_answer}
 use Rattle.vyrd_tree.specs.declared.node.Word.TheVariants.{Value}
 use Rattle.vyrd_tree.specs.declared.slot.Slot.{Slot}
 use Rattle.vyrd_tree.specs.declared.task.Task.{Task}
@@ -60,3 +61,30 @@ values_came h task v place count le ge fits =
     ∙ ap (λ es. load_values (keys_of es) v.node.number place
     (λ entries. arrived_for h task v.errand (arrived_at v (take place v.entries.slots ++ entries))))
     (sym (drop_of_length-le (take count v.entries.slots) (omega (arith, len))))
+
+-- a value was loaded: it stands beside its key, and those after it are left
+pub value_kept : (h : Header) (task : Task) (v : Visit) (slot : Slot) (value : ℕ) (slots : List (ℕ × ℕ))
+    → slots ≡ slice_set v.entries.slots slot.place (key_at v.entries.slots slot.place, value) → slot.place < length v.entries.slots
+    → load_values (keys_of (drop (slot.place + 1) (take slot.of slots))) v.node.number (slot.place + 1) (λ entries.
+    arrived_for h task v.errand (arrived_at v (take (slot.place + 1) slots ++ entries)))
+    ≡ after_answer (loading h task v (Value slot)) value
+value_kept h task v slot value slots is low =
+    ap (λ s. load_values (keys_of (drop (p + 1) (take slot.of s))) v.node.number (p + 1) (λ entries. next (take (p + 1) s ++ entries))) is
+    ∙ ap (λ front. load_values (keys_of (drop (p + 1) (take slot.of (set before p e)))) v.node.number (p + 1) (λ entries. next (front ++ entries)))
+    (take_more_set before p e low)
+    ∙ ap (λ left. load_values (keys_of left) v.node.number (p + 1) (λ entries. next ((take p before ++ e ∷ []) ++ entries)))
+    (ap (drop (p + 1)) (take-set-lt slot.of before p e slot.within) ∙ drop-set-lt (p + 1) (take slot.of before) p e (omega arith))
+    ∙ (λ i. load_values (keys_of (drop (p + 1) (take slot.of before))) v.node.number (p + 1) (λ entries. next
+    (append_assoc (take p before) (e ∷ []) entries i)))
+  where
+    p : ℕ
+    p = slot.place
+
+    before : List (ℕ × ℕ)
+    before = v.entries.slots
+
+    e : ℕ × ℕ
+    e = (key_at before p, value)
+
+    next : List (ℕ × ℕ) → Script
+    next entries = arrived_for h task v.errand (arrived_at v entries)

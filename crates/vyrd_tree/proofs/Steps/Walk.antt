@@ -1,8 +1,8 @@
 -- A walk comes to a node.
-use Rattle.std.proofs.Common.{◌≡◌, ◌≢◌, ℕ, zero, suc, ◌-◌, ◌<◌, refl, ap, ◌∙◌, sym, arith}
+use Rattle.std.proofs.Common.{◌≡◌, ◌≢◌, ℕ, zero, suc, ◌-◌, ◌<◌, ◌≤◌, refl, ap, ◌∙◌, sym, arith}
 use Rattle.std.specs.Prelude.{cond}
 use Rattle.vyrd_base.specs.declared.header.Header.{Header}
-use Rattle.vyrd_base.proofs.TestLaws.{is_below}
+use Rattle.vyrd_base.proofs.TestLaws.{is_below, isnt_below}
 use Rattle.vyrd_memory.specs.Scripts.{Script}
 use Rattle.vyrd_tree.specs.declared.task.Task.{Task}
 use Rattle.vyrd_tree.specs.declared.visit.Visit.{Visit}
@@ -25,3 +25,9 @@ comes_in h task e (suc l) number v is_errand is_left is_number low some =
     ap (λ x. visit_of h task x v.left v.node.number) is_errand ∙ ap (λ n. visit_of h task e n v.node.number) fewer
     ∙ ap (visit_of h task e l) is_number
     ∙ ap (λ b. cond b (visit_of h task e l number) (lost_for task e)) (sym (is_below number h.size low))
+
+-- there is no such node, or no visit is left
+pub is_lost : (h : Header) (task : Task) (e : Errand) (left number : ℕ) → h.size ≤ number → walk_on h task e left number ≡ lost_for task e
+is_lost h task e zero number high = refl
+is_lost h task e (suc l) number high =
+    ap (λ b. cond b (visit_of h task e l number) (lost_for task e)) (isnt_below number h.size high)

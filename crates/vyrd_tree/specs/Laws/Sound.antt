@@ -12,13 +12,13 @@ use Rattle.vyrd_base.specs.declared.subject.Subject.TheVariants.{Tree}
 use Rattle.vyrd_base.specs.declared.subject.Method.{Method}
 use Rattle.vyrd_base.specs.declared.subject.Method.TheVariants.{Multiset as OfMultiset}
 use Rattle.vyrd_base.specs.declared.subject.Method.TheVariants.{Cache as OfCache, Tree as OfTree}
-use Rattle.vyrd_base.specs.declared.subject.Method.TheVariants.{Buffers as OfBuffers}
+use Rattle.vyrd_base.specs.declared.subject.Method.TheVariants.{Buffers as OfBuffers, Own as OfOwn}
 use Rattle.vyrd_base.specs.declared.tree.TreeMethod.TheVariants.{Insert, Delete, Lookup}
 use Rattle.vyrd_base.specs.declared.subject.Args.{Args}
 use Rattle.vyrd_base.specs.declared.log.Kind.{Kind}
 use Rattle.vyrd_base.specs.declared.log.Kind.TheVariants.{BlockOpen, BlockClose, BlockCommit}
 use Rattle.vyrd_base.specs.Subjects.{subject_of, is_observer}
-use Rattle.vyrd_base.proofs.HeaderLaws.{low_size}
+use Rattle.vyrd_base.proofs.HeaderLaws.{most_size}
 use Rattle.vyrd_base.proofs.TestLaws.{below_of, above_of}
 use Rattle.vyrd_memory.specs.declared.act.Act.TheVariants.{Load, Store, Mark}
 use Rattle.vyrd_memory.specs.declared.op.Variant.{Variant}
@@ -71,7 +71,7 @@ unused_sound h method committed lock none found is low none_sound found_sound =
     none_sound)
     (λ room. stores h (used_lock h ∷ lock ∷ []) method committed false (used_cell h) (used + 1)
     (unlock_used h (found (used + 1))) is (omega arith)
-    (omega (arith, above_of h.size (used + 1) room, low_size h))
+    (omega (arith, above_of h.size (used + 1) room, most_size h))
     (gives_second h method committed false lock (used_lock h) (found (used + 1)) is
     (the_used_lock h) low (found_sound (used + 1) (above_of h.size (used + 1) room))))))
   where
@@ -208,7 +208,7 @@ split_sound h method before after at key value new close later is loaded k v low
     (perform (Store (right_cell at.node) new) ending) is (omega (arith, loaded.node))
     (small_first (upper_half five) (small_drop 3 five small))
     (stores h (lock ∷ []) method before true (right_cell at.node) new ending is
-    (omega (arith, loaded.node)) (omega (arith, low, low_size h))
+    (omega (arith, loaded.node)) (omega (arith, low, most_size h))
     (closes (unlock_node h at.node later)
     (gives_last h method after false lock later is (node_lock h at.node loaded.node) sound)))))))
 
@@ -240,7 +240,7 @@ grow_sound h method level key node root stops is l k n r sound =
     let unlocked : IsSound h (holding (root_lock h ∷ []) method true false) (unlock_root h stops) =
     gives_last h method true false (root_lock h) stops is (the_root_lock h) sound in
     let small : AreSmallEntries pair =
-    (omega arith, omega (arith, r, low_size h), (k, omega (arith, n, low_size h), tt)) in
+    (omega arith, omega (arith, r, most_size h), (k, omega (arith, n, most_size h), tt)) in
     unused_sound h method true (root_lock h) (unlock_root h stops)
     (λ new. perform (Mark BlockOpen)
     (write_node new (level + 1) 0 0 pair (perform (Store (root_cell h) new) ending))) is
@@ -253,7 +253,7 @@ grow_sound h method level key node root stops is l k n r sound =
     (stores h (root_lock h ∷ []) method true true (root_cell h) new ending is (omega arith) (omega (
       arith,
       low,
-      low_size h,
+      most_size h,
     )) (closes_only h (root_lock h) method true (unlock_root h stops) unlocked))))
 
 -- what is said of the rounds that follow
@@ -269,7 +269,7 @@ child_sound : (h : Header) (method : Method) (level key node : ℕ) (at : Arrive
     → IsSound h (holding (lock_of h at.node ∷ []) method true false)
     (add_child h level key node at stops next)
 child_sound h method level key node at stops next is k n stops_sound next_sound loaded =
-    let value : node < 2 ^ 63 = omega (arith, n, low_size h) in
+    let value : node < 2 ^ 63 = omega (arith, n, most_size h) in
     let unlocked : IsSound h (holding (lock_of h at.node ∷ []) method true false)
     (unlock_node h at.node stops) =
     gives_last h method true false (lock_of h at.node) stops is (node_lock h at.node loaded.node)
@@ -440,6 +440,7 @@ by_method_sound h variant (OfTree Lookup) args is of k v =
 by_method_sound h variant (OfMultiset other) args is of k v = cc
 by_method_sound h variant (OfCache other) args is of k v = cc
 by_method_sound h variant (OfBuffers other) args is of k v = cc
+by_method_sound h variant (OfOwn other) args is of k v = cc
 
 pub procedure_sound : (h : Header) (variant : Variant) (method : Method) (args : Args)
     → h.subject ≡ Tree → subject_of method ≡ Tree → are_small args ≡ true

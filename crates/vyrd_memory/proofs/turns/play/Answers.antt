@@ -1,5 +1,7 @@
 use Rattle.std.proofs.Common.{◌≡◌, ℕ, ◌+◌, ◌≤◌, ◌^◌, List, ◌∙◌, [], refl, sym, arith, rules}
 use Rattle.std.specs.Prelude.{length}
+use Rattle.vyrd_base.specs.declared.header.Header.{Header}
+use Rattle.vyrd_base.proofs.HeaderLaws.{few_callers}
 use Rattle.vyrd_memory.specs.Bounds.{most_ahead}
 use Rattle.vyrd_memory.specs.Playing.{total}
 use Rattle.vyrd_memory.specs.Showing.{stage}
@@ -12,22 +14,32 @@ repeat_all-requires-clause-ready g c =
     ready_start c.args.header.now g.M.Machine.header_of c.args.machines.now c.in_ok-words.words.items c.requires.header c.in_ok-words.ensures
 
 -- what all machines have ahead
-few : {M : Type 0} (ahead : M → ℕ) (machines : List M) (count : ℕ) → ((m : M) → ahead m ≤ most_ahead) → length machines ≤ 64
+few : {M : Type 0} (ahead : M → ℕ) (machines : List M) (count : ℕ) → ((m : M) → ahead m ≤ most_ahead) → length machines ≤ 1024
     → count ≡ 0 → count + total ahead machines ≤ 2 ^ 62
 few ahead machines count each low none = omega (arith, total_few ahead each machines, low, none)
 
+-- there is one machine for each caller
+few_machines : {M : Type 0} (h : Header) (machines : List M) → length machines ≡ h.callers → length machines ≤ 1024
+few_machines h machines count = omega (arith, count, few_callers h)
+
 pub repeat_all-requires-clause-few : goal.repeat_all-requires-clause-few
 repeat_all-requires-clause-few g c =
-    let low : length c.args.machines.now ≤ 64 = search rules in
+    let low : length c.args.machines.now ≤ 1024 = few_machines c.args.header.now c.args.machines.now c.requires.count in
     few g.M.Machine.ahead c.args.machines.now (g.S.EventSink.count c.args.sink.now) g.met.M.Machine.few low
     (g.met.S.EventSink.counted c.args.sink.now [] c.requires.none)
 
 pub play_rounds-requires-clause-few : goal.play_rounds-requires-clause-few
 play_rounds-requires-clause-few g c =
-    let low : length c.args.machines.now ≤ 64 = search rules in
+    let low : length c.args.machines.now ≤ 1024 = few_machines c.args.header.now c.args.machines.now c.requires.count in
     let before = few g.M.Machine.ahead c.args.machines.now (g.S.EventSink.count c.args.sink.now) g.met.M.Machine.few low
     (g.met.S.EventSink.counted c.args.sink.now [] c.requires.none) in
     omega (arith, before, c.in_ok-repeat_all.ensures.few)
+
+pub play_rounds-requires-clause-callers : goal.play_rounds-requires-clause-callers
+play_rounds-requires-clause-callers g c =
+    let low = few_machines c.args.header.now c.args.machines.now c.requires.count in
+    let same : length c.repeat_all.new.machines ≡ length c.args.machines.now = search rules in
+    omega (arith, low, same)
 
 pub returns-then-are_done : goal.returns-then-are_done
 returns-then-are_done g c = record {

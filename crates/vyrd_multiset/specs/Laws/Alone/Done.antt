@@ -6,6 +6,8 @@ use Rattle.std.proofs.Common.{◌∙◌, sym, subst, arith}
 use Rattle.std.specs.Prelude.{◌==◌, ◌&&◌, nat_le}
 use Rattle.std.proofs.lemmas.Bool.Decides.{nat_tests}
 use Rattle.vyrd_base.specs.declared.header.Header.{Header}
+use Rattle.vyrd_base.specs.declared.subject.Subject.TheVariants.{Multiset}
+use Rattle.vyrd_base.specs.Subjects.{is_built_in}
 use Rattle.vyrd_base.specs.Amounts.{Amounts, amount_of, with_amount, plus_amount, given}
 use Rattle.vyrd_base.specs.declared.log.Kind.TheVariants.{BlockOpen, BlockCommit}
 use Rattle.vyrd_base.proofs.HeaderLaws.{some_size}
@@ -33,12 +35,12 @@ use Rattle.vyrd_multiset.specs.Laws.Alone.FreeSlots.{free_none, free_some, free_
 use Rattle.vyrd_multiset.specs.Laws.Alone.FreeSlots.{free_one_at_most}
 
 -- the same memory
-kept : (h : Header) (before after : Memory) (s : Amounts) → IsMultiset h before s
+kept : (h : Header) → h.subject ≡ Multiset → (before after : Memory) (s : Amounts) → IsMultiset h before s
     → ((cell : ℕ) → after cell ≡ before cell) → IsMultiset h after s
-kept h before after s m same =
-    changed h before after s s 0 m (omega (arith, some_size h)) (λ cell a b. same cell)
+kept h is before after s m same =
+    changed h before after s s 0 m (omega (arith, some_size h (ap is_built_in is))) (λ cell a b. same cell)
     (λ valid. ap (λ v. v % h.size) (same 1)
-    ∙ m.sound 0 (omega (arith, some_size h)) (sym (same 0) ∙ valid)) m.formed
+    ∙ m.sound 0 (omega (arith, some_size h (ap is_built_in is))) (sym (same 0) ∙ valid)) m.formed
     (λ q. ap (λ n. amount_of s q + n) (ap (λ a. given q (cond (a == 2) ((before 1, 1) ∷ []) []))
     (sym (same 0))
     ∙ ap (λ v. given q (cond (after 0 == 2) ((v, 1) ∷ []) [])) (sym (same 1))))
@@ -53,10 +55,10 @@ pub record Reserved (before after : Memory) (j value : ℕ) : Type 0 where
 lock_is_high : (h : Header) (b j : ℕ) → j < 4 * h.size → 2 * j + 1 < lock_of h b
 lock_is_high h b j low = omega arith
 
-in_range : (h : Header) (value j : ℕ) → 4 * bucket_of h value ≤ j → j < 4 * bucket_of h value + 4
+in_range : (h : Header) → h.subject ≡ Multiset → (value j : ℕ) → 4 * bucket_of h value ≤ j → j < 4 * bucket_of h value + 4
     → (j < 4 * h.size) × (j / 4 ≡ bucket_of h value)
-in_range h value j from to =
-    let low = bucket_low h value in (omega (arith, low), quarter (bucket_of h value) from to)
+in_range h is value j from to =
+    let low = bucket_low h is value in (omega (arith, low), quarter (bucket_of h value) from to)
   where
     quarter : (b : ℕ) → 4 * b ≤ j → j < 4 * b + 4 → j / 4 ≡ b
     quarter b from to = omega arith
@@ -85,7 +87,7 @@ reserved_under before lock c j value free high = record {
 }
 
 -- A slot is found and reserved, or the memory is as it was and no slot of the bucket is free.
-find_played : (h : Header) (c : ℕ) (memory : Memory) (Q : ℕ → Memory → Type 0) (value : ℕ)
+find_played : (h : Header) → h.subject ≡ Multiset → (c : ℕ) (memory : Memory) (Q : ℕ → Memory → Type 0) (value : ℕ)
     (found : Option ℕ → Script)
     → memory (lock_of h (bucket_of h value)) ≡ 0
     → ((j : ℕ) (after : Memory) → 4 * bucket_of h value ≤ j → j < 4 * bucket_of h value + 4
@@ -95,7 +97,7 @@ find_played : (h : Header) (c : ℕ) (memory : Memory) (Q : ℕ → Memory → T
     → ((j : ℕ) → 4 * bucket_of h value ≤ j → j < 4 * bucket_of h value + 4 → memory (2 * j) ≢ 0)
     → EndsSo (alone c (found None) after) Q)
     → EndsSo (alone c (find h Correct value found) memory) Q
-find_played h c memory Q value found free some none =
+find_played h is c memory Q value found free some none =
     let b : ℕ = bucket_of h value in
     let held : ℕ = lock_of h (bucket_of h value) in
     let locked : Memory = with_cell memory (lock_of h (bucket_of h value)) (c + 1) in
@@ -104,7 +106,7 @@ find_played h c memory Q value found free some none =
     (find_from_played c locked Q 4 (first_slot b) value (λ slot. unlock h b (found slot))
     (λ j from to is_free. some j (with_cell (with_reserved locked j value) held 0) from to
     (sym (untouched j from to) ∙ is_free)
-    (reserved_under memory held c j value free (lock_is_high h b j (in_range h value j from to).0)))
+    (reserved_under memory held c j value free (lock_is_high h b j (in_range h is value j from to).0)))
     (λ taken. none (with_cell locked held 0) (λ cell.
     given_back memory locked held cell free (λ apart. other_cell memory held (c + 1) cell
     apart)) (λ j from to is_free. taken j from to (untouched j from to ∙ is_free))))
@@ -112,7 +114,7 @@ find_played h c memory Q value found free some none =
     untouched : (j : ℕ) → 4 * bucket_of h value ≤ j → j < 4 * bucket_of h value + 4
         → with_cell memory (lock_of h (bucket_of h value)) (c + 1) (2 * j) ≡ memory (2 * j)
     untouched j from to = other_cell memory (lock_of h (bucket_of h value)) (c + 1) (2 * j)
-        (omega (arith, lock_is_high h (bucket_of h value) j (in_range h value j from to).0))
+        (omega (arith, lock_is_high h (bucket_of h value) j (in_range h is value j from to).0))
 
 -- the slot of an insert was made valid, or there is no free slot
 abbrev pub InsertDone : Header → Memory → Amounts → ℕ → ℕ → Memory → Type 0
@@ -140,14 +142,14 @@ stored_others memory lock c j state free cell a =
     (λ apart. other_cell (with_cell memory lock (c + 1)) (2 * j) state cell a
     ∙ other_cell memory lock (c + 1) cell apart)
 
-pub insert_done : (h : Header) (c : ℕ) (memory : Memory) (s : Amounts) (x : ℕ)
+pub insert_done : (h : Header) → h.subject ≡ Multiset → (c : ℕ) (memory : Memory) (s : Amounts) (x : ℕ)
     → IsMultiset h memory s
     → EndsSo (alone c (insert h Correct x) memory) (InsertDone h memory s x)
-insert_done h c memory s x m =
-    find_played h c memory (InsertDone h memory s x) x (inserted h x)
-    (m.free (bucket_of h x) (bucket_low h x)) found
+insert_done h is c memory s x m =
+    find_played h is c memory (InsertDone h memory s x) x (inserted h x)
+    (m.free (bucket_of h x) (bucket_low h is x)) found
     (λ after same taken.
-    inr (refl, kept h memory after s m same, free_none memory 4 (4 * bucket_of h x) taken))
+    inr (refl, kept h is memory after s m same, free_none memory 4 (4 * bucket_of h x) taken))
   where
     found : (j : ℕ) (after : Memory) → 4 * bucket_of h x ≤ j → j < 4 * bucket_of h x + 4
         → memory (2 * j) ≡ 0
@@ -155,12 +157,12 @@ insert_done h c memory s x m =
         → EndsSo (alone c (inserted h x (Some j)) after) (InsertDone h memory s x)
     found j after from to is_free r =
         let held : ℕ = lock_of h (bucket_of h x) in
-        let range = in_range h x j from to in
+        let range = in_range h is x j from to in
         let high : 2 * j + 1 < lock_of h (bucket_of h x) =
         lock_is_high h (bucket_of h x) j range.0 in
         let free : after (lock_of h (bucket_of h x)) ≡ 0 =
         r.others held (omega (arith, high)) (omega (arith, high))
-        ∙ m.free (bucket_of h x) (bucket_low h x) in
+        ∙ m.free (bucket_of h x) (bucket_low h is x) in
         take_played c held (commit_state h (bucket_of h x) j 2) after
         (λ o. EndsSo o (InsertDone h memory s x)) free
         (inl (
@@ -184,7 +186,7 @@ LookupDone h s x reply after = IsMultiset h after s
     × (((reply ≡ 1) × (1 ≤ amount_of s x)) ⊎ ((reply ≡ 0) × (amount_of s x ≡ 0)))
 
 -- a search ends at a slot with the value, or the value isn't there
-search_played : (h : Header) (c : ℕ) (memory : Memory) (s : Amounts) (Q : ℕ → Memory → Type 0)
+search_played : (h : Header) → h.subject ≡ Multiset → (c : ℕ) (memory : Memory) (s : Amounts) (Q : ℕ → Memory → Type 0)
     (x : ℕ) (ended : Option ℕ → Script)
     → IsMultiset h memory s
     → ((j : ℕ) → j < 4 * h.size → memory (2 * j) ≡ 2 → memory (2 * j + 1) ≡ x
@@ -192,13 +194,13 @@ search_played : (h : Header) (c : ℕ) (memory : Memory) (s : Amounts) (Q : ℕ 
     → (amount_of s x ≡ 0
     → EndsSo (alone c (ended None) (with_cell memory (lock_of h (bucket_of h x)) (c + 1))) Q)
     → EndsSo (alone c (search_in h x ended) memory) Q
-search_played h c memory s Q x ended m some none =
+search_played h is c memory s Q x ended m some none =
     let b : ℕ = bucket_of h x in
     let held : ℕ = lock_of h (bucket_of h x) in
     take_played c held (search_from 4 (first_slot b) x ended) memory (λ o. EndsSo o Q)
-    (m.free b (bucket_low h x))
+    (m.free b (bucket_low h is x))
     (search_from_played c (with_cell memory held (c + 1)) Q 4 (first_slot b) x ended
-    (λ j from to valid has. some j (in_range h x j from to).0 (sym (untouched j from to).0 ∙ valid)
+    (λ j from to valid has. some j (in_range h is x j from to).0 (sym (untouched j from to).0 ∙ valid)
     (sym (untouched j from to).1 ∙ has))
     (λ no_slot. none (isnt_there h memory s x m (λ j from to valid has. no_slot j from to
     ((untouched j from to).0 ∙ valid) ((untouched j from to).1 ∙ has)))))
@@ -207,7 +209,7 @@ search_played h c memory s Q x ended m some none =
         → (with_cell memory (lock_of h (bucket_of h x)) (c + 1) (2 * j) ≡ memory (2 * j)) ×
         (with_cell memory (lock_of h (bucket_of h x)) (c + 1) (2 * j + 1) ≡ memory (2 * j + 1))
     untouched j from to =
-        let high = lock_is_high h (bucket_of h x) j (in_range h x j from to).0 in (
+        let high = lock_is_high h (bucket_of h x) j (in_range h is x j from to).0 in (
           other_cell memory (lock_of h (bucket_of h x)) (c + 1) (2 * j) (omega (arith, high)),
           other_cell memory (lock_of h (bucket_of h x)) (c + 1) (2 * j + 1)
               (omega (arith, high)),
@@ -219,13 +221,13 @@ unlocked memory lock c free cell =
     given_back memory (with_cell memory lock (c + 1)) lock cell free
     (λ apart. other_cell memory lock (c + 1) cell apart)
 
-pub delete_done : (h : Header) (c : ℕ) (memory : Memory) (s : Amounts) (x : ℕ)
+pub delete_done : (h : Header) → h.subject ≡ Multiset → (c : ℕ) (memory : Memory) (s : Amounts) (x : ℕ)
     → IsMultiset h memory s
     → EndsSo (alone c (delete h x) memory) (DeleteDone h s x)
-delete_done h c memory s x m =
+delete_done h is c memory s x m =
     let held : ℕ = lock_of h (bucket_of h x) in
-    let free : memory (lock_of h (bucket_of h x)) ≡ 0 = m.free (bucket_of h x) (bucket_low h x) in
-    search_played h c memory s (DeleteDone h s x) x (deleted h x) m
+    let free : memory (lock_of h (bucket_of h x)) ≡ 0 = m.free (bucket_of h x) (bucket_low h is x) in
+    search_played h is c memory s (DeleteDone h s x) x (deleted h x) m
     (λ j low valid has. inl (
       refl,
       made_free h memory (stored_under memory held c j 0) s j x m low
@@ -235,21 +237,21 @@ delete_done h c memory s x m =
       is_there h memory s j x m low valid has,
     )) (λ none. inr (
       refl,
-      kept h memory (with_cell (with_cell memory held (c + 1)) held 0) s m
+      kept h is memory (with_cell (with_cell memory held (c + 1)) held 0) s m
           (unlocked memory held c free),
       none,
     ))
 
-pub lookup_done : (h : Header) (c : ℕ) (memory : Memory) (s : Amounts) (x : ℕ)
+pub lookup_done : (h : Header) → h.subject ≡ Multiset → (c : ℕ) (memory : Memory) (s : Amounts) (x : ℕ)
     → IsMultiset h memory s
     → EndsSo (alone c (lookup h x) memory) (LookupDone h s x)
-lookup_done h c memory s x m =
+lookup_done h is c memory s x m =
     let held : ℕ = lock_of h (bucket_of h x) in
-    let free : memory (lock_of h (bucket_of h x)) ≡ 0 = m.free (bucket_of h x) (bucket_low h x) in
+    let free : memory (lock_of h (bucket_of h x)) ≡ 0 = m.free (bucket_of h x) (bucket_low h is x) in
     let same : IsMultiset h (with_cell (with_cell memory held (c + 1)) held 0) s =
-    kept h memory (with_cell (with_cell memory held (c + 1)) held 0) s m
+    kept h is memory (with_cell (with_cell memory held (c + 1)) held 0) s m
     (unlocked memory held c free) in
-    search_played h c memory s (LookupDone h s x) x (looked_up h x) m
+    search_played h is c memory s (LookupDone h s x) x (looked_up h x) m
     (λ j low valid has. (same, inl (refl, is_there h memory s j x m low valid has)))
     (λ none. (same, inr (refl, none)))
 
@@ -422,15 +424,15 @@ commit_both_played h c before Q first second j k free_first free_second low_j lo
         other_cell (with_cell both (2 * j) 2) (2 * k) 2 cell b ∙ other_cell both (2 * j) 2 cell a
         ∙ other_cell held g (c + 1) cell off_g ∙ other_cell before f (c + 1) cell off_f))))
 
-pub pair_done : (h : Header) (c : ℕ) (memory : Memory) (s : Amounts) (x y : ℕ)
+pub pair_done : (h : Header) → h.subject ≡ Multiset → (c : ℕ) (memory : Memory) (s : Amounts) (x y : ℕ)
     → IsMultiset h memory s
     → EndsSo (alone c (insert_pair h Correct x y) memory) (PairDone h memory s x y)
-pair_done h c memory s x y m =
-    find_played h c memory (PairDone h memory s x y) x (first_found h Correct x y)
-    (m.free (bucket_of h x) (bucket_low h x)) first
+pair_done h is c memory s x y m =
+    find_played h is c memory (PairDone h memory s x y) x (first_found h Correct x y)
+    (m.free (bucket_of h x) (bucket_low h is x)) first
     (λ after same taken. inr (
       refl,
-      kept h memory after s m same,
+      kept h is memory after s m same,
       no_room h memory x y (free_none memory 4 (4 * bucket_of h x) taken),
     ))
   where
@@ -440,11 +442,11 @@ pair_done h c memory s x y m =
         → Reserved memory after j x
         → EndsSo (alone c (first_found h Correct x y (Some j)) after) (PairDone h memory s x y)
     first j after from to is_free r =
-        find_played h c after (PairDone h memory s x y) y (second_found h Correct x y j)
-        (m'.free (bucket_of h y) (bucket_low h y)) second no_second
+        find_played h is c after (PairDone h memory s x y) y (second_found h Correct x y j)
+        (m'.free (bucket_of h y) (bucket_low h is y)) second no_second
       where
         range : (j < 4 * h.size) × (j / 4 ≡ bucket_of h x)
-        range = in_range h x j from to
+        range = in_range h is x j from to
 
         m' : IsMultiset h after s
         m' = left_invalid h memory after s j m range.0 r.others (omega (arith, is_free))
@@ -478,13 +480,13 @@ pair_done h c memory s x y m =
             q = bucket_of h y
 
             low_p : p < h.size
-            low_p = bucket_low h x
+            low_p = bucket_low h is x
 
             low_q : q < h.size
-            low_q = bucket_low h y
+            low_q = bucket_low h is y
 
             range_k : (k < 4 * h.size) × (k / 4 ≡ bucket_of h y)
-            range_k = in_range h y k from_k to_k
+            range_k = in_range h is y k from_k to_k
 
             apart : j ≢ k
             apart same = let state = r.state in
@@ -521,4 +523,4 @@ pair_done h c memory s x y m =
             held = lock_of h (bucket_of h x)
 
             free : last (lock_of h (bucket_of h x)) ≡ 0
-            free = same (lock_of h (bucket_of h x)) ∙ m'.free (bucket_of h x) (bucket_low h x)
+            free = same (lock_of h (bucket_of h x)) ∙ m'.free (bucket_of h x) (bucket_low h is x)
