@@ -9,6 +9,7 @@ use Rattle.vyrd_base.specs.declared.log.Entry.{Entry}
 use Rattle.vyrd_base.specs.declared.verdict.Verdict.{Verdict}
 use Rattle.vyrd_base.specs.declared.verdict.Verdict.TheVariants.{Malformed}
 use Rattle.vyrd_base.specs.Starts.{may_start}
+use Rattle.vyrd_base.specs.Subjects.{is_built_in}
 use Rattle.vyrd_base.specs.Reading.{has_any}
 use Rattle.vyrd_base.specs.TextVerdicts.{text_verdict_so_far}
 use Rattle.vyrd_base.proofs.ReadingGrows.{reading_grows, input_of}
@@ -21,6 +22,7 @@ use Rattle.vyrd_check.specs.LogReadings.{read_so_far}
 use Rattle.vyrd_check.specs.Checking.{IsLimit, IsJudging, IsReady, IsBegun, HasRoom, Kept, IsUndecided, IsSomewhere, wrong_in}
 use Rattle.vyrd_check.proofs.ReadingFacts.{entries_few, headless_empty, text_right, known_so_far}
 use Rattle.vyrd_check.proofs.PieceLaws.{judge_before, has_room}
+use Rattle.vyrd_check.proofs.BuiltInLaws.{reading_built_in}
 
 -- a piece was read, and the judge is there if it may be
 pub record Fed (old : Kept) (reader : ReaderState) (begun : Option JudgeView) (piece : List ℕ) (entries : List Entry) (fault : Option Verdict) : Type 0 where
@@ -42,6 +44,14 @@ fed_start old reader piece reads somewhere h has = ∥∥₁_elim somewhere (Boo
     ap (may_start h) read.start
     ∙ (reading_writable (input_of reader.max_lines false) (s.0 ++ piece) h
     (sym read.header ∙ has)).may)
+
+-- the header that the reader keeps is that of a built-in subject
+pub fed_built_in : (old : Kept) (reader : ReaderState) (piece : List ℕ)
+    → ((bytes : List ℕ) → HasRead old.reader bytes → HasRead reader (bytes ++ piece))
+    → IsSomewhere old
+    → (h : Header) → reader.header ≡ Some h → is_built_in h.subject ≡ true
+fed_built_in old reader piece reads somewhere h has = ∥∥₁_elim somewhere (Bool-set _ _) (λ s.
+    reading_built_in (input_of reader.max_lines false) (s.0 ++ piece) h (sym (reads s.0 s.1.read).header ∙ has))
 
 -- what the reader keeps is what the bytes with the piece say, up to the old limit
 record IsReadTo (reader : ReaderState) (bytes : List ℕ) (max : ℕ) : Type 0 where

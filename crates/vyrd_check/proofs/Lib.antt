@@ -3,4 +3,5 @@ pub mod ReadingFacts
 pub mod EndFacts
 pub mod PieceLaws
 pub mod FedLaws
+pub mod BuiltInLaws
 pub mod CheckedLaws

@@ -10,6 +10,7 @@ ghost use Rattle.vyrd_base.specs.declared.log.StartWord.{StartWord};
 ghost use Rattle.vyrd_base.specs.declared.verdict.Rule.TheVariants.{StartState};
 ghost use Rattle.vyrd_base.specs.declared.verdict.Verdict.TheVariants.{Malformed};
 ghost use Rattle.vyrd_base.specs.Starts.{may_start};
+ghost use Rattle.vyrd_base.specs.Subjects.{is_built_in};
 ghost use Rattle.vyrd_base.specs.Reading.{Reading, has_any};
 ghost use Rattle.vyrd_base.specs.Verdicts.{verdict_so_far, end_verdict};
 ghost use Rattle.vyrd_base.specs.TextVerdicts.{text_verdict_so_far, text_verdict};
@@ -143,6 +144,8 @@ fn begin(
 ) -> Result<(), AllocError>
     requires may_start { (h : Header) → reader.now.header ≡ Some h →
         may_start h reader.now.start ≡ true }
+    requires built_in { (h : Header) → reader.now.header ≡ Some h →
+        is_built_in h.subject ≡ true }
     ensures { OnOk result (IsBegun (has_any entries.now || reader.now.ended)
         reader.now.header reader.now.start judge.old judge.new) }
 {

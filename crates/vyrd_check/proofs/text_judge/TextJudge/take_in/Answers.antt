@@ -3,14 +3,16 @@ use Rattle.vyrd_base.specs.TextVerdicts.{text_verdict_so_far}
 use Rattle.vyrd_check.specs.LogReadings.{read_so_far}
 use Rattle.vyrd_check.specs.Checking.{Kept, IsLimit, IsUndecided, IsSomewhere}
 use Rattle.vyrd_check.proofs.ReadingFacts.{first_none}
-use Rattle.vyrd_check.proofs.FedLaws.{Fed, fed_start, fed_ready, fed_room, fed_answer, fed_undecided}
+use Rattle.vyrd_check.proofs.FedLaws.{Fed, fed_start, fed_built_in, fed_ready, fed_room, fed_answer, fed_undecided}
 use Rattle.vyrd_check.proofs.text_judge.TextJudge.take_in.Goals as goal
 
 pub begin-requires : goal.begin-requires
 begin-requires c =
     let old : Kept = record { reader = c.self.inside.reader; judge = c.self.inside.judge } in
+    let somewhere = subst IsSomewhere (sym c.self.view_is) c.requires.somewhere in
     record {
-      may_start = fed_start old c.read.new.reader c.args.piece.now c.in_ok-fault.ensures.read (subst IsSomewhere (sym c.self.view_is) c.requires.somewhere);
+      may_start = fed_start old c.read.new.reader c.args.piece.now c.in_ok-fault.ensures.read somewhere;
+      built_in = fed_built_in old c.read.new.reader c.args.piece.now c.in_ok-fault.ensures.read somewhere;
     }
 
 pub judge_entries-requires : goal.judge_entries-requires
