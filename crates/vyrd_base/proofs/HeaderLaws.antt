@@ -50,6 +50,18 @@ some_size h built = at_most_of 1 h.size (first_true (nat_le 1 h.size) _ (first_t
 pub low_size : (h : Header) → is_built_in h.subject ≡ true → h.size ≤ 1024
 low_size h built = at_most_of h.size 1024 (second_true (nat_le 1 h.size) _ (first_true _ _ (first_true _ _ (sized h built))))
 
+-- a header of version 1 is that of a built-in subject, since the user's own has version 3
+of_version_one : (subject : Subject) (version size callers : ℕ) → limits_of subject version size callers ≡ true → version ≡ 1 → is_built_in subject ≡ true
+of_version_one Multiset version size callers within one = refl
+of_version_one Cache version size callers within one = refl
+of_version_one Tree version size callers within one = refl
+of_version_one Buffers version size callers within one = refl
+of_version_one Own version size callers within one =
+    let three : version ≡ 3 = same_of version 3 (first_true (version == 3) _ within) in absurd (omega (arith, three, one))
+
+pub first_version_built_in : (h : Header) → h.version ≡ 1 → is_built_in h.subject ≡ true
+first_version_built_in h one = of_version_one h.subject h.version h.size h.callers h.within one
+
 -- what holds of the numbers of every header
 record AreLimited (version size callers words : ℕ) : Type 0 where
   known : version ≤ 3

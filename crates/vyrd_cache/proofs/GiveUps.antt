@@ -5,7 +5,8 @@ use Rattle.vyrd_base.specs.declared.subject.Subject.TheVariants.{Cache}
 use Rattle.vyrd_base.specs.declared.subject.Method.{Method}
 use Rattle.vyrd_base.specs.declared.subject.Method.TheVariants.{Multiset as OfMultiset}
 use Rattle.vyrd_base.specs.declared.subject.Method.TheVariants.{Cache as OfCache, Tree as OfTree}
-use Rattle.vyrd_base.specs.declared.subject.Method.TheVariants.{Buffers as OfBuffers, Own as OfOwn}
+use Rattle.vyrd_base.specs.declared.subject.Method.TheVariants.{Buffers as OfBuffers}
+use Rattle.vyrd_base.specs.declared.subject.Method.TheVariants.{OwnNever, OwnAtMostOnce, OwnOnce}
 use Rattle.vyrd_base.specs.declared.cache.CacheMethod.TheVariants.{Write, Flush, Evict, Read}
 use Rattle.vyrd_base.specs.declared.subject.Args.{Args}
 use Rattle.vyrd_base.specs.Amounts.{Amounts}
@@ -29,7 +30,9 @@ refused (OfCache Read) args state of changes = cc
 refused (OfMultiset other) args state of changes = cc
 refused (OfTree other) args state of changes = cc
 refused (OfBuffers other) args state of changes = cc
-refused (OfOwn other) args state of changes = cc
+refused (OwnNever i) args state of changes = cc
+refused (OwnAtMostOnce i) args state of changes = cc
+refused (OwnOnce i) args state of changes = cc
 
 pub never_gives_up : (h : Header) (memory : Memory) (state : Amounts) (c : ℕ) (op : Op)
     → h.subject ≡ Cache → subject_of op.method ≡ Cache → is_observer op.method ≡ false

@@ -33,7 +33,7 @@ use Rattle.vyrd_memory.specs.Runs.{PlayToTheEnd}
 use Rattle.vyrd_memory.proofs.LegalEvents.{legal_events, caller_low, are_answers}
 use Rattle.vyrd_memory.proofs.LegalRuns.{IsRun}
 use Rattle.vyrd_memory.proofs.RaceLaws.{newest_log, none_open, all_keep, all_rest}
-use Rattle.vyrd_work.proofs.BuiltIn.{first_version_built_in}
+use Rattle.vyrd_base.proofs.HeaderLaws.{first_version_built_in}
 use Rattle.vyrd_every.specs.RightScripts.{WillReturn}
 use Rattle.vyrd_every.specs.Between.{log_in}
 use Rattle.vyrd_every.proofs.Answered.{passed_after, commits_now}

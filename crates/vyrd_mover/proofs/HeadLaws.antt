@@ -7,10 +7,10 @@ use Rattle.std.proofs.lemmas.List.{append_cancel_left}
 use Rattle.std.proofs.lemmas.Slice.Eq.{bytes_eq-Decides}
 use Rattle.vyrd_base.specs.declared.header.Header.{Header}
 use Rattle.vyrd_base.specs.declared.subject.Subject.{Subject}
-use Rattle.vyrd_base.specs.Limits.{is_within}
+use Rattle.vyrd_base.specs.Subjects.{is_built_in, limits_of}
 use Rattle.vyrd_base.specs.Spelling.{subject_name}
 use Rattle.vyrd_base.specs.Lines.{fields_of, number_of, subject_called, header_if, header_of}
-use Rattle.vyrd_base.proofs.HeaderLaws.{size_in_32_bits, callers_in_32_bits}
+use Rattle.vyrd_base.proofs.HeaderLaws.{size_in_32_bits, callers_in_32_bits, first_version_built_in}
 use Rattle.vyrd_base.proofs.SplitLaws.{lacks, split-join, lacks-join, number_of_decimal, bytes_same}
 use Rattle.vyrd_base.proofs.SplitLaws.{is_plain_field}
 use Rattle.vyrd_base.proofs.LineLaws.{plain_number, plain_spaces, plain_line_feeds}
@@ -33,7 +33,7 @@ no_callers text m r low e none size callers s c f =
 -- a line that no bounds end
 pub no_bounds : (line r : List ℕ) (found : Subject) (t : List ℕ) → line ≡ codes "history " ++ r → r ≡ subject_name found ++ 32 ∷ t
     → AreBoundsRead t None → IsFirstRead line None
-no_bounds line r found t e g none subject size callers s c f =
+no_bounds line r found t e g none subject size callers built s c f =
     let after = append_cancel_left (codes "history ") r (subject_name subject ++ 32 ∷ (decimal size ++ 32 ∷ decimal callers)) (sym e ∙ f) in
     none size callers s c (one_name found subject t (decimal size ++ 32 ∷ decimal callers) (sym g ∙ after))
 
@@ -52,12 +52,12 @@ module _ (subject : Subject) (size callers : ℕ) (s : size < 2 ^ 64) (c : calle
       (plain_line_feeds (codes "history" ∷ subject_name subject ∷ decimal size ∷ decimal callers ∷ []) plain)
 
   -- it is read as the header with its numbers, if there is one
-  pub header_known : history_header_in (history_header_line subject size callers) ≡ header_of 1 subject size callers
+  pub header_known : is_built_in subject ≡ true → history_header_in (history_header_line subject size callers) ≡ header_of 1 subject size callers
   unfolding history_header_in
-  header_known =
+  header_known built =
       let line = history_header_line subject size callers in
       ap (history_header_from line) fields
-      ∙ (λ i. history_header_if line (subject_read subject i) (number_of_decimal size s i) (number_of_decimal callers c i))
+      ∙ (λ i. history_header_if line (subject_read subject built i) (number_of_decimal size s i) (number_of_decimal callers c i))
       ∙ ap (λ b. cond b (header_of 1 subject size callers) None) (bytes_same line)
 
 -- a header is read back from its first line
@@ -65,7 +65,7 @@ pub header_in-first_line : (h : Header) → h.version ≡ 1 → history_header_i
 header_in-first_line h one =
     let s : h.size < 2 ^ 64 = let l = size_in_32_bits h in omega (arith, l) in
     let c : h.callers < 2 ^ 64 = let l = callers_in_32_bits h in omega (arith, l) in
-    header_known h.subject h.size h.callers s c
+    header_known h.subject h.size h.callers s c (first_version_built_in h one)
     ∙ made 1 h.subject h.size h.callers h one refl refl refl
 
 -- what a first line is read as has version 1 and this line
@@ -76,7 +76,7 @@ pub header_in_sound : (line : List ℕ) (h : Header) → history_header_in line 
 unfolding history_header_in
 header_in_sound line h found = from (fields_of line) found
   where
-    of_header : (subject : Subject) (size callers : ℕ) (b : Bool) (e : is_within 1 size callers ≡ b)
+    of_header : (subject : Subject) (size callers : ℕ) (b : Bool) (e : limits_of subject 1 size callers ≡ b)
         → line ≡ history_header_line subject size callers → header_if 1 subject size callers b e ≡ Some h
         → IsFirst line h
     of_header subject size callers false e same f = cc
@@ -88,7 +88,7 @@ header_in_sound line h found = from (fields_of line) found
         → cond b (header_of 1 subject size callers) None ≡ Some h → IsFirst line h
     spelled subject size callers false t f = cc
     spelled subject size callers true t f =
-        of_header subject size callers (is_within 1 size callers) refl
+        of_header subject size callers (limits_of subject 1 size callers) refl
         (sym ((bytes_eq-Decides (history_header_line subject size callers) line).0 t)) f
 
     if_spelled : (subject : Option Subject) (size callers : ℕ) → history_header_if line subject size callers ≡ Some h
@@ -109,15 +109,17 @@ no_first line none = by_answer (history_header_in line) refl
   where
     by_answer : (o : Option Header) → history_header_in line ≡ o → None ≡ o
     by_answer None e = refl
-    by_answer (Some h) e = absurd (none h.subject h.size h.callers (size_in_32_bits h) (callers_in_32_bits h) (header_in_sound line h e).1)
+    by_answer (Some h) e =
+        let is = header_in_sound line h e in
+        absurd (none h.subject h.size h.callers (first_version_built_in h is.0) (size_in_32_bits h) (callers_in_32_bits h) is.1)
 
 module _ (line : List ℕ) (subject : Subject) (size callers : ℕ) (s : size < 2 ^ 32) (c : callers < 2 ^ 32)
-    (is : line ≡ history_header_line subject size callers) where
+    (is : (is_built_in subject ≡ true) × (line ≡ history_header_line subject size callers)) where
   on_line : history_header_in line ≡ header_of 1 subject size callers
-  on_line = ap history_header_in is ∙ header_known subject size callers (omega (arith, s)) (omega (arith, c))
+  on_line = ap history_header_in is.1 ∙ header_known subject size callers (omega (arith, s)) (omega (arith, c)) is.0
 
   -- its numbers aren't within the limits
-  pub out_of_bounds : ¬ (is_within 1 size callers ≡ true) → None ≡ history_header_in line
+  pub out_of_bounds : ¬ (limits_of subject 1 size callers ≡ true) → None ≡ history_header_in line
   out_of_bounds no_header = sym (on_line ∙ not_made 1 subject size callers no_header)
 
   -- or they are

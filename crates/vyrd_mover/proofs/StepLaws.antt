@@ -19,14 +19,14 @@ role_back Takes = refl
 role_back Gives = refl
 role_back (Accesses cell) = let n : cell + 5 ≡ suc (suc (suc (suc (suc cell)))) = omega arith in ap numbered_role n
 
-pub step_back : (step : Step) → step.caller < 64 → step_coded (code_of step) ≡ step
+pub step_back : (step : Step) → step.caller < 256 → step_coded (code_of step) ≡ step
 step_back step low =
-    let caller : (step.caller + 64 * role_number step.role) % 64 ≡ step.caller = omega arith in
-    let number : (step.caller + 64 * role_number step.role) / 64 ≡ role_number step.role = omega arith in
+    let caller : (step.caller + 256 * role_number step.role) % 256 ≡ step.caller = omega arith in
+    let number : (step.caller + 256 * role_number step.role) / 256 ≡ role_number step.role = omega arith in
     λ i. record { caller = caller i; role = (ap numbered_role number ∙ role_back step.role) i }
 
 -- an event whose cell is in range has a short step
-pub short_role : (plain all : ℕ) (did : Did) → IsInRange plain all did → plain < 2 ^ 24 → IsShort (role_of did)
+pub short_role : (plain all : ℕ) (did : Did) → IsInRange plain all did → plain < 2 ^ 22 → IsShort (role_of did)
 short_role plain all (Read cell value) is low = omega arith
 short_role plain all (Wrote cell value) is low = omega arith
 short_role plain all (Took lock) is low = tt
@@ -54,7 +54,7 @@ role_within plain all (Marked (Return r)) is = tt
 role_within plain all (Marked (Write w v)) is = tt
 
 -- the steps of codes, one more
-pub steps_more : (codes : List ℕ) (history : List Stamped) (e : Stamped) → map step_coded codes ≡ map step_of history → e.caller < 64
+pub steps_more : (codes : List ℕ) (history : List Stamped) (e : Stamped) → map step_coded codes ≡ map step_of history → e.caller < 256
     → map step_coded (codes ++ code_of (step_of e) ∷ []) ≡ map step_of (history ++ e ∷ [])
 steps_more codes history e same low =
     map-append step_coded codes (code_of (step_of e) ∷ [])

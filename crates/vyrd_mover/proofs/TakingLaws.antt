@@ -40,7 +40,7 @@ may_come h history e legal =
 
 -- what is asked of a header's next event where it is taken in
 pub record Fits (t : Taken) (e : Stamped) : Type 0 where
-  pub caller : e.caller < 64
+  pub caller : e.caller < 256
   pub below : e.caller < t.header.callers
   pub known : e.caller < length t.uses.held
   pub in_range : IsInRange (length t.uses.cells) (2 ^ 31) e.did
@@ -56,7 +56,7 @@ fits t history e taken next =
     let range = in_range (cells_of t.header) (newest_first history) e.caller e.did come.may in
     let callers = few_callers t.header in
     let cells = few_words t.header in
-    let low : plain_words t.header < 2 ^ 24 = omega (arith, cells) in
+    let low : plain_words t.header < 2 ^ 22 = omega (arith, cells) in
     let plain = taken.seen.all_cells in
     let known = taken.seen.all_held in
     let room = (taken.seen.held e.caller come.caller []).room in

@@ -3,6 +3,7 @@
 use Rattle.std.specs.Prelude.{◌≡◌, ℕ, ◌<◌, ◌^◌, Bool, true, false, ◌&&◌, nat_lt, List, [], ◌∷◌}
 use Rattle.std.specs.Prelude.{◌++◌, Option, Some, None, codes, decimal}
 use Rattle.vyrd_base.specs.declared.subject.Subject.{Subject}
+use Rattle.vyrd_base.specs.Subjects.{is_built_in}
 use Rattle.vyrd_base.specs.declared.history.Did.{Did}
 use Rattle.vyrd_base.specs.declared.history.Did.TheVariants.{Read, Wrote, Took, Gave, Marked}
 use Rattle.vyrd_base.specs.declared.history.Stamped.{Stamped}
@@ -14,11 +15,12 @@ AreBoundsRead text None = (size callers : ℕ) → size < 2 ^ 32 → callers < 2
     → text ≡ decimal size ++ 32 ∷ decimal callers → ⊥
 AreBoundsRead text (Some (size, callers)) = text ≡ decimal size ++ 32 ∷ decimal callers
 
--- the subject, the size and the number of callers whose line it is
+-- the built-in subject, the size and the number of callers whose line it is
 abbrev pub IsFirstRead : List ℕ → Option (Subject × ℕ × ℕ) → Type 0
-IsFirstRead line None = (subject : Subject) (size callers : ℕ) → size < 2 ^ 32 → callers < 2 ^ 32
-    → line ≡ history_header_line subject size callers → ⊥
-IsFirstRead line (Some (subject, size, callers)) = line ≡ history_header_line subject size callers
+IsFirstRead line None = (subject : Subject) (size callers : ℕ) → is_built_in subject ≡ true
+    → size < 2 ^ 32 → callers < 2 ^ 32 → line ≡ history_header_line subject size callers → ⊥
+IsFirstRead line (Some (subject, size, callers)) =
+    (is_built_in subject ≡ true) × (line ≡ history_header_line subject size callers)
 
 -- whether it is a read, a write, a take or a give whose numbers are in the text's ranges
 abbrev pub is_act : Did → Bool

@@ -43,17 +43,17 @@ numbered_role (suc (suc (suc zero))) = Takes
 numbered_role (suc (suc (suc (suc zero)))) = Gives
 numbered_role (suc (suc (suc (suc (suc cell))))) = Accesses cell
 
--- a step in one number: the caller is below 64
+-- a step in one number: the caller is below 256
 abbrev pub code_of : Step → ℕ
-code_of step = step.caller + 64 * role_number step.role
+code_of step = step.caller + 256 * role_number step.role
 
 -- the step with a code
 abbrev pub step_coded : ℕ → Step
-step_coded code = record { caller = code % 64; role = numbered_role (code / 64) }
+step_coded code = record { caller = code % 256; role = numbered_role (code / 256) }
 
 -- whether the cell that is accessed is small enough for a code
 abbrev pub IsShort : Role → Type 0
-IsShort (Accesses cell) = cell < 2 ^ 24
+IsShort (Accesses cell) = cell < 2 ^ 22
 IsShort Opens = Unit {0}
 IsShort Ends = Unit {0}
 IsShort Marks = Unit {0}

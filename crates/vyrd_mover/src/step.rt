@@ -7,7 +7,7 @@ ghost use Rattle.vyrd_mover.specs.Steps.{numbered_role, IsShort};
 use vyrd_base::{Did, Kind, Stamped};
 
 /// How many callers the code of a step tells apart. A header has no more.
-const CALLERS: u32 = 64;
+const CALLERS: u32 = 256;
 
 /// What an event is to its caller's block.
 #[derive(Clone, Copy)]
@@ -45,7 +45,7 @@ impl Role {
     fn number(self) -> u32
         requires { IsShort self }
         ensures number { result ≡ role_number self }
-        ensures short { result < 2 ^ 25 }
+        ensures short { result < 2 ^ 23 }
     {
         match self {
             Role::Opens => 0,
@@ -92,9 +92,9 @@ impl Step {
         }
     }
 
-    /// The step in one number. Its caller is below 64, and its cell below 2^24.
+    /// The step in one number. Its caller is below 256, and its cell below 2^22.
     pub fn code(self) -> u32
-        requires caller { self.caller < 64 }
+        requires caller { self.caller < 256 }
         requires cell { IsShort self.role }
         ensures { result ≡ code_of self }
     {

@@ -11,7 +11,7 @@ use Rattle.vyrd_base.specs.declared.subject.Subject.{Subject}
 use Rattle.vyrd_base.specs.Subjects.{is_built_in, limits_of}
 use Rattle.vyrd_base.specs.Spelling.{subject_name}
 use Rattle.vyrd_base.specs.Lines.{fields_of, number_of, subject_called, header_if, header_of}
-use Rattle.vyrd_base.proofs.HeaderLaws.{size_in_32_bits, callers_in_32_bits}
+use Rattle.vyrd_base.proofs.HeaderLaws.{size_in_32_bits, callers_in_32_bits, first_version_built_in}
 use Rattle.vyrd_base.proofs.SplitLaws.{lacks, split-join, lacks-join, number_of_decimal, bytes_same}
 use Rattle.vyrd_base.proofs.SplitLaws.{is_plain_field}
 use Rattle.vyrd_base.proofs.LineLaws.{plain_number, plain_spaces, plain_line_feeds}
@@ -24,7 +24,6 @@ use Rattle.vyrd_text.proofs.PartLaws.{one_before_space}
 use Rattle.vyrd_text.proofs.HeaderLaws.{made, not_made}
 use Rattle.vyrd_work.specs.Workloads.{Workload, variant_name, work_header_line}
 use Rattle.vyrd_work.specs.WorkLines.{variant_called, begun, begun_if_spelled, begun_from, begun_in}
-use Rattle.vyrd_work.proofs.BuiltIn.{first_version_built_in}
 use Rattle.vyrd_work.specs.Spelled.{IsVariantRead, AreBoundsRead, IsFirstRead}
 
 -- a size that no number of callers follows

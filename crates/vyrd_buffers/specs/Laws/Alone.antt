@@ -13,7 +13,8 @@ use Rattle.vyrd_base.specs.declared.subject.Subject.TheVariants.{Buffers}
 use Rattle.vyrd_base.specs.declared.subject.Method.{Method}
 use Rattle.vyrd_base.specs.declared.subject.Method.TheVariants.{Multiset as OfMultiset}
 use Rattle.vyrd_base.specs.declared.subject.Method.TheVariants.{Cache as OfCache, Tree as OfTree}
-use Rattle.vyrd_base.specs.declared.subject.Method.TheVariants.{Buffers as OfBuffers, Own as OfOwn}
+use Rattle.vyrd_base.specs.declared.subject.Method.TheVariants.{Buffers as OfBuffers}
+use Rattle.vyrd_base.specs.declared.subject.Method.TheVariants.{OwnNever, OwnAtMostOnce, OwnOnce}
 use Rattle.vyrd_base.specs.declared.multiset.MultisetMethod.TheVariants.{Insert as MsInsert}
 use Rattle.vyrd_base.specs.declared.multiset.MultisetMethod.TheVariants.{InsertPair}
 use Rattle.vyrd_base.specs.declared.multiset.MultisetMethod.TheVariants.{Delete as MsDelete}
@@ -386,7 +387,9 @@ by_method_right h (OfCache CaRead) args is of fit c memory state s = absurd (cc)
 by_method_right h (OfTree TrInsert) args is of fit c memory state s = absurd (cc)
 by_method_right h (OfTree TrDelete) args is of fit c memory state s = absurd (cc)
 by_method_right h (OfTree TrLookup) args is of fit c memory state s = absurd (cc)
-by_method_right h (OfOwn other) args is of fit c memory state s = cc
+by_method_right h (OwnNever i) args is of fit c memory state s = cc
+by_method_right h (OwnAtMostOnce i) args is of fit c memory state s = cc
+by_method_right h (OwnOnce i) args is of fit c memory state s = cc
 
 pub procedure_right_alone : (h : Header) (method : Method) (args : Args) → h.subject ≡ Buffers
     → subject_of method ≡ Buffers → are_args h.size method args ≡ true → are_small args ≡ true

@@ -9,7 +9,8 @@ use Rattle.vyrd_base.specs.declared.subject.Subject.TheVariants.{Buffers}
 use Rattle.vyrd_base.specs.declared.subject.Method.{Method}
 use Rattle.vyrd_base.specs.declared.subject.Method.TheVariants.{Multiset as OfMultiset}
 use Rattle.vyrd_base.specs.declared.subject.Method.TheVariants.{Cache as OfCache, Tree as OfTree}
-use Rattle.vyrd_base.specs.declared.subject.Method.TheVariants.{Buffers as OfBuffers, Own as OfOwn}
+use Rattle.vyrd_base.specs.declared.subject.Method.TheVariants.{Buffers as OfBuffers}
+use Rattle.vyrd_base.specs.declared.subject.Method.TheVariants.{OwnNever, OwnAtMostOnce, OwnOnce}
 use Rattle.vyrd_base.specs.declared.buffers.BuffersMethod.TheVariants.{Append, AppendFrom, Cut}
 use Rattle.vyrd_base.specs.declared.buffers.BuffersMethod.TheVariants.{Length, Read}
 use Rattle.vyrd_base.specs.declared.subject.Args.{Args}
@@ -198,4 +199,6 @@ procedure_ends h variant method args is of_buffers =
     by_method (OfMultiset other) of_buffers = cc
     by_method (OfCache other) of_buffers = cc
     by_method (OfTree other) of_buffers = cc
-    by_method (OfOwn other) of_buffers = cc
+    by_method (OwnNever i) of_buffers = cc
+    by_method (OwnAtMostOnce i) of_buffers = cc
+    by_method (OwnOnce i) of_buffers = cc

@@ -10,7 +10,8 @@ use Rattle.vyrd_base.specs.declared.subject.Subject.TheVariants.{Buffers}
 use Rattle.vyrd_base.specs.declared.subject.Method.{Method}
 use Rattle.vyrd_base.specs.declared.subject.Method.TheVariants.{Multiset as OfMultiset}
 use Rattle.vyrd_base.specs.declared.subject.Method.TheVariants.{Cache as OfCache, Tree as OfTree}
-use Rattle.vyrd_base.specs.declared.subject.Method.TheVariants.{Buffers as OfBuffers, Own as OfOwn}
+use Rattle.vyrd_base.specs.declared.subject.Method.TheVariants.{Buffers as OfBuffers}
+use Rattle.vyrd_base.specs.declared.subject.Method.TheVariants.{OwnNever, OwnAtMostOnce, OwnOnce}
 use Rattle.vyrd_base.specs.declared.buffers.BuffersMethod.TheVariants.{Append, AppendFrom, Cut}
 use Rattle.vyrd_base.specs.declared.buffers.BuffersMethod.TheVariants.{Length, Read}
 use Rattle.vyrd_base.specs.declared.subject.Args.{Args}
@@ -352,7 +353,9 @@ first_below size method args of_buffers fit = by_method method of_buffers fit
     by_method (OfMultiset other) of_buffers fit = cc
     by_method (OfCache other) of_buffers fit = cc
     by_method (OfTree other) of_buffers fit = cc
-    by_method (OfOwn other) of_buffers fit = cc
+    by_method (OwnNever i) of_buffers fit = cc
+    by_method (OwnAtMostOnce i) of_buffers fit = cc
+    by_method (OwnOnce i) of_buffers fit = cc
 
 second_below : (size : ℕ) (args : Args) → are_args size (OfBuffers AppendFrom) args ≡ true → args.b < size
 second_below size args fit = with_more _ fit
@@ -382,4 +385,6 @@ procedure_sound h variant method args is of_buffers fit small =
     by_method (OfMultiset other) of_buffers fit low = cc
     by_method (OfCache other) of_buffers fit low = cc
     by_method (OfTree other) of_buffers fit low = cc
-    by_method (OfOwn other) of_buffers fit low = cc
+    by_method (OwnNever i) of_buffers fit low = cc
+    by_method (OwnAtMostOnce i) of_buffers fit low = cc
+    by_method (OwnOnce i) of_buffers fit low = cc

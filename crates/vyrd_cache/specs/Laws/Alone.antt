@@ -11,7 +11,8 @@ use Rattle.vyrd_base.specs.declared.subject.Subject.TheVariants.{Cache}
 use Rattle.vyrd_base.specs.declared.subject.Method.{Method}
 use Rattle.vyrd_base.specs.declared.subject.Method.TheVariants.{Multiset as OfMultiset}
 use Rattle.vyrd_base.specs.declared.subject.Method.TheVariants.{Cache as OfCache, Tree as OfTree}
-use Rattle.vyrd_base.specs.declared.subject.Method.TheVariants.{Buffers as OfBuffers, Own as OfOwn}
+use Rattle.vyrd_base.specs.declared.subject.Method.TheVariants.{Buffers as OfBuffers}
+use Rattle.vyrd_base.specs.declared.subject.Method.TheVariants.{OwnNever, OwnAtMostOnce, OwnOnce}
 use Rattle.vyrd_base.specs.declared.cache.CacheMethod.TheVariants.{Write, Flush, Evict, Read}
 use Rattle.vyrd_base.specs.declared.subject.Args.{Args}
 use Rattle.vyrd_base.specs.Subjects.{subject_of, is_observer, are_args}
@@ -375,4 +376,6 @@ procedure_right_alone h method args is of_cache fit few =
     by_method (OfMultiset other) of_cache low = cc
     by_method (OfTree other) of_cache low = cc
     by_method (OfBuffers other) of_cache low = cc
-    by_method (OfOwn other) of_cache low = cc
+    by_method (OwnNever i) of_cache low = cc
+    by_method (OwnAtMostOnce i) of_cache low = cc
+    by_method (OwnOnce i) of_cache low = cc

@@ -9,7 +9,8 @@ use Rattle.vyrd_base.specs.declared.subject.Subject.TheVariants.{Cache}
 use Rattle.vyrd_base.specs.declared.subject.Method.{Method}
 use Rattle.vyrd_base.specs.declared.subject.Method.TheVariants.{Multiset as OfMultiset}
 use Rattle.vyrd_base.specs.declared.subject.Method.TheVariants.{Cache as OfCache, Tree as OfTree}
-use Rattle.vyrd_base.specs.declared.subject.Method.TheVariants.{Buffers as OfBuffers, Own as OfOwn}
+use Rattle.vyrd_base.specs.declared.subject.Method.TheVariants.{Buffers as OfBuffers}
+use Rattle.vyrd_base.specs.declared.subject.Method.TheVariants.{OwnNever, OwnAtMostOnce, OwnOnce}
 use Rattle.vyrd_base.specs.declared.cache.CacheMethod.TheVariants.{Write, Flush, Evict, Read}
 use Rattle.vyrd_base.specs.declared.subject.Args.{Args}
 use Rattle.vyrd_base.specs.declared.log.Kind.TheVariants.{Return, Commit, BlockOpen, BlockCommit}
@@ -292,7 +293,9 @@ chunk_below size method args of_cache fit = by_method method of_cache fit
     by_method (OfMultiset other) of_cache fit = cc
     by_method (OfTree other) of_cache fit = cc
     by_method (OfBuffers other) of_cache fit = cc
-    by_method (OfOwn other) of_cache fit = cc
+    by_method (OwnNever i) of_cache fit = cc
+    by_method (OwnAtMostOnce i) of_cache fit = cc
+    by_method (OwnOnce i) of_cache fit = cc
 
 pub procedure_sound : (h : Header) (variant : Variant) (method : Method) (args : Args)
     → h.subject ≡ Cache → subject_of method ≡ Cache → are_args h.size method args ≡ true
@@ -311,4 +314,6 @@ procedure_sound h variant method args is of_cache fit small =
     by_method (OfMultiset other) of_cache low = cc
     by_method (OfTree other) of_cache low = cc
     by_method (OfBuffers other) of_cache low = cc
-    by_method (OfOwn other) of_cache low = cc
+    by_method (OwnNever i) of_cache low = cc
+    by_method (OwnAtMostOnce i) of_cache low = cc
+    by_method (OwnOnce i) of_cache low = cc

@@ -6,7 +6,8 @@ use Rattle.vyrd_base.specs.declared.subject.Subject.TheVariants.{Buffers}
 use Rattle.vyrd_base.specs.declared.subject.Method.{Method}
 use Rattle.vyrd_base.specs.declared.subject.Method.TheVariants.{Multiset as OfMultiset}
 use Rattle.vyrd_base.specs.declared.subject.Method.TheVariants.{Cache as OfCache, Tree as OfTree}
-use Rattle.vyrd_base.specs.declared.subject.Method.TheVariants.{Buffers as OfBuffers, Own as OfOwn}
+use Rattle.vyrd_base.specs.declared.subject.Method.TheVariants.{Buffers as OfBuffers}
+use Rattle.vyrd_base.specs.declared.subject.Method.TheVariants.{OwnNever, OwnAtMostOnce, OwnOnce}
 use Rattle.vyrd_base.specs.declared.buffers.BuffersMethod.TheVariants.{Append, AppendFrom, Cut}
 use Rattle.vyrd_base.specs.declared.buffers.BuffersMethod.TheVariants.{Length, Read}
 use Rattle.vyrd_base.specs.declared.subject.Args.{Args}
@@ -313,7 +314,9 @@ procedure_right h k before method args is of fit none called_is = by_method meth
     by_method (OfMultiset other) of fit called_is = cc
     by_method (OfCache other) of fit called_is = cc
     by_method (OfTree other) of fit called_is = cc
-    by_method (OfOwn other) of fit called_is = cc
+    by_method (OwnNever i) of fit called_is = cc
+    by_method (OwnAtMostOnce i) of fit called_is = cc
+    by_method (OwnOnce i) of fit called_is = cc
 
 -- so each operation that may be called does right
 pub buffers_right : (h : Header) (op : Op) → h.subject ≡ Buffers → is_callable h op ≡ true → IsRight (buffers h) (buffers_procedure h Correct) op

@@ -6,7 +6,8 @@ use Rattle.vyrd_base.specs.declared.subject.Subject.TheVariants.{Cache}
 use Rattle.vyrd_base.specs.declared.subject.Method.{Method}
 use Rattle.vyrd_base.specs.declared.subject.Method.TheVariants.{Multiset as OfMultiset}
 use Rattle.vyrd_base.specs.declared.subject.Method.TheVariants.{Cache as OfCache, Tree as OfTree}
-use Rattle.vyrd_base.specs.declared.subject.Method.TheVariants.{Buffers as OfBuffers, Own as OfOwn}
+use Rattle.vyrd_base.specs.declared.subject.Method.TheVariants.{Buffers as OfBuffers}
+use Rattle.vyrd_base.specs.declared.subject.Method.TheVariants.{OwnNever, OwnAtMostOnce, OwnOnce}
 use Rattle.vyrd_base.specs.declared.cache.CacheMethod.TheVariants.{Write, Flush, Evict, Read}
 use Rattle.vyrd_base.specs.declared.subject.Args.{Args}
 use Rattle.vyrd_base.specs.declared.log.Kind.TheVariants.{Return, BlockOpen, BlockClose, BlockCommit}
@@ -427,7 +428,9 @@ procedure_right h k before (OfCache Read) args is of low few none called_is = re
 procedure_right h k before (OfMultiset other) args is of low few none called_is = cc
 procedure_right h k before (OfTree other) args is of low few none called_is = cc
 procedure_right h k before (OfBuffers other) args is of low few none called_is = cc
-procedure_right h k before (OfOwn other) args is of low few none called_is = cc
+procedure_right h k before (OwnNever i) args is of low few none called_is = cc
+procedure_right h k before (OwnAtMostOnce i) args is of low few none called_is = cc
+procedure_right h k before (OwnOnce i) args is of low few none called_is = cc
 
 -- so each operation that may be called does right
 pub cache_right : (h : Header) (op : Op) → h.subject ≡ Cache → is_callable h op ≡ true → IsRight (cache h) (cache_procedure h Correct) op

@@ -8,7 +8,8 @@ use Rattle.vyrd_base.specs.declared.subject.Subject.TheVariants.{Multiset}
 use Rattle.vyrd_base.specs.declared.subject.Method.{Method}
 use Rattle.vyrd_base.specs.declared.subject.Method.TheVariants.{Multiset as OfMultiset}
 use Rattle.vyrd_base.specs.declared.subject.Method.TheVariants.{Cache as OfCache, Tree as OfTree}
-use Rattle.vyrd_base.specs.declared.subject.Method.TheVariants.{Buffers as OfBuffers, Own as OfOwn}
+use Rattle.vyrd_base.specs.declared.subject.Method.TheVariants.{Buffers as OfBuffers}
+use Rattle.vyrd_base.specs.declared.subject.Method.TheVariants.{OwnNever, OwnAtMostOnce, OwnOnce}
 use Rattle.vyrd_base.specs.declared.multiset.MultisetMethod.TheVariants.{Insert, InsertPair, Delete}
 use Rattle.vyrd_base.specs.declared.multiset.MultisetMethod.TheVariants.{Lookup}
 use Rattle.vyrd_base.specs.declared.subject.Args.{Args}
@@ -323,7 +324,9 @@ procedure_right h ours k shown (OfMultiset Lookup) args of none is = lookup_righ
 procedure_right h ours k shown (OfCache other) args of none is = cc
 procedure_right h ours k shown (OfTree other) args of none is = cc
 procedure_right h ours k shown (OfBuffers other) args of none is = cc
-procedure_right h ours k shown (OfOwn other) args of none is = cc
+procedure_right h ours k shown (OwnNever i) args of none is = cc
+procedure_right h ours k shown (OwnAtMostOnce i) args of none is = cc
+procedure_right h ours k shown (OwnOnce i) args of none is = cc
 
 -- so each operation that may be called does right
 pub multiset_right : (h : Header) (op : Op) → h.subject ≡ Multiset → is_callable h op ≡ true → IsRight (multiset h) (multiset_procedure h Correct) op

@@ -6,7 +6,8 @@ use Rattle.vyrd_base.specs.declared.subject.Subject.TheVariants.{Tree}
 use Rattle.vyrd_base.specs.declared.subject.Method.{Method}
 use Rattle.vyrd_base.specs.declared.subject.Method.TheVariants.{Multiset as OfMultiset}
 use Rattle.vyrd_base.specs.declared.subject.Method.TheVariants.{Cache as OfCache, Tree as OfTree}
-use Rattle.vyrd_base.specs.declared.subject.Method.TheVariants.{Buffers as OfBuffers, Own as OfOwn}
+use Rattle.vyrd_base.specs.declared.subject.Method.TheVariants.{Buffers as OfBuffers}
+use Rattle.vyrd_base.specs.declared.subject.Method.TheVariants.{OwnNever, OwnAtMostOnce, OwnOnce}
 use Rattle.vyrd_base.specs.declared.tree.TreeMethod.TheVariants.{Insert, Delete, Lookup}
 use Rattle.vyrd_base.specs.declared.subject.Args.{Args}
 use Rattle.vyrd_base.specs.declared.log.Kind.TheVariants.{Call, Return, Write, Commit, BlockOpen, BlockClose, BlockCommit}
@@ -50,7 +51,9 @@ procedure_right h k g m (OfTree Lookup) args of small_key small tree unseen bare
 procedure_right h k g m (OfMultiset other) args of small_key small tree unseen bare = cc
 procedure_right h k g m (OfCache other) args of small_key small tree unseen bare = cc
 procedure_right h k g m (OfBuffers other) args of small_key small tree unseen bare = cc
-procedure_right h k g m (OfOwn other) args of small_key small tree unseen bare = cc
+procedure_right h k g m (OwnNever i) args of small_key small tree unseen bare = cc
+procedure_right h k g m (OwnAtMostOnce i) args of small_key small tree unseen bare = cc
+procedure_right h k g m (OwnOnce i) args of small_key small tree unseen bare = cc
 
 follows_commit : (k : TreeLocals) (rest later : Script) (g : Shape) (m : Memory) (state : Amounts) → TreeCommits k rest g m state
     → TreeCommits k (followed_by rest later) g m state

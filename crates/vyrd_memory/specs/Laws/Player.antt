@@ -13,7 +13,8 @@ use Rattle.vyrd_base.specs.declared.subject.Subject.TheVariants.{Own}
 use Rattle.vyrd_base.specs.declared.subject.Method.{Method}
 use Rattle.vyrd_base.specs.declared.subject.Method.TheVariants.{Multiset as OfMultiset}
 use Rattle.vyrd_base.specs.declared.subject.Method.TheVariants.{Cache as OfCache, Tree as OfTree}
-use Rattle.vyrd_base.specs.declared.subject.Method.TheVariants.{Buffers as OfBuffers, Own as OfOwn}
+use Rattle.vyrd_base.specs.declared.subject.Method.TheVariants.{Buffers as OfBuffers}
+use Rattle.vyrd_base.specs.declared.subject.Method.TheVariants.{OwnNever, OwnAtMostOnce, OwnOnce}
 use Rattle.vyrd_base.specs.declared.tree.TreeMethod.TheVariants.{Insert, Delete, Lookup}
 use Rattle.vyrd_base.specs.declared.subject.Args.{Args}
 use Rattle.vyrd_base.specs.declared.log.Kind.TheVariants.{Call, Return, Write, Commit, BlockOpen}
@@ -119,7 +120,9 @@ bound_is_some Tree n (OfTree Insert) = omega arith
 bound_is_some Tree n (OfTree Delete) = omega arith
 bound_is_some Tree n (OfTree Lookup) = omega arith
 bound_is_some Tree n (OfBuffers other) = omega arith
-bound_is_some Tree n (OfOwn other) = omega arith
+bound_is_some Tree n (OwnNever i) = omega arith
+bound_is_some Tree n (OwnAtMostOnce i) = omega arith
+bound_is_some Tree n (OwnOnce i) = omega arith
 
 pub operations-in_time : (h : Header) (body : Op → Script) (ops : List Op) → AreBounded h body
     → are_callable h ops ≡ true

@@ -13,7 +13,8 @@ use Rattle.vyrd_base.specs.declared.subject.Subject.TheVariants.{Multiset}
 use Rattle.vyrd_base.specs.declared.subject.Method.{Method}
 use Rattle.vyrd_base.specs.declared.subject.Method.TheVariants.{Multiset as OfMultiset}
 use Rattle.vyrd_base.specs.declared.subject.Method.TheVariants.{Cache as OfCache, Tree as OfTree}
-use Rattle.vyrd_base.specs.declared.subject.Method.TheVariants.{Buffers as OfBuffers, Own as OfOwn}
+use Rattle.vyrd_base.specs.declared.subject.Method.TheVariants.{Buffers as OfBuffers}
+use Rattle.vyrd_base.specs.declared.subject.Method.TheVariants.{OwnNever, OwnAtMostOnce, OwnOnce}
 use Rattle.vyrd_base.specs.declared.multiset.MultisetMethod.TheVariants.{Insert as MsInsert}
 use Rattle.vyrd_base.specs.declared.multiset.MultisetMethod.TheVariants.{InsertPair}
 use Rattle.vyrd_base.specs.declared.multiset.MultisetMethod.TheVariants.{Delete as MsDelete}
@@ -161,7 +162,9 @@ by_method_right h (OfBuffers AppendFrom) args is of c memory s m = absurd (cc)
 by_method_right h (OfBuffers Cut) args is of c memory s m = absurd (cc)
 by_method_right h (OfBuffers Length) args is of c memory s m = absurd (cc)
 by_method_right h (OfBuffers BuRead) args is of c memory s m = absurd (cc)
-by_method_right h (OfOwn other) args is of c memory s m = cc
+by_method_right h (OwnNever i) args is of c memory s m = cc
+by_method_right h (OwnAtMostOnce i) args is of c memory s m = cc
+by_method_right h (OwnOnce i) args is of c memory s m = cc
 
 pub procedure_right_alone : (h : Header) (method : Method) (args : Args)
     → h.subject ≡ Multiset → subject_of method ≡ Multiset

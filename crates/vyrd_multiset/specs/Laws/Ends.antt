@@ -8,7 +8,8 @@ use Rattle.vyrd_base.specs.declared.subject.Subject.TheVariants.{Multiset}
 use Rattle.vyrd_base.specs.declared.subject.Method.{Method}
 use Rattle.vyrd_base.specs.declared.subject.Method.TheVariants.{Multiset as OfMultiset}
 use Rattle.vyrd_base.specs.declared.subject.Method.TheVariants.{Cache as OfCache, Tree as OfTree}
-use Rattle.vyrd_base.specs.declared.subject.Method.TheVariants.{Buffers as OfBuffers, Own as OfOwn}
+use Rattle.vyrd_base.specs.declared.subject.Method.TheVariants.{Buffers as OfBuffers}
+use Rattle.vyrd_base.specs.declared.subject.Method.TheVariants.{OwnNever, OwnAtMostOnce, OwnOnce}
 use Rattle.vyrd_base.specs.declared.multiset.MultisetMethod.TheVariants.{Insert, InsertPair, Delete}
 use Rattle.vyrd_base.specs.declared.multiset.MultisetMethod.TheVariants.{Lookup}
 use Rattle.vyrd_base.specs.declared.subject.Args.{Args}
@@ -217,7 +218,9 @@ by_method_ends h variant (OfMultiset Lookup) args of =
 by_method_ends h variant (OfCache other) args of = cc
 by_method_ends h variant (OfTree other) args of = cc
 by_method_ends h variant (OfBuffers other) args of = cc
-by_method_ends h variant (OfOwn other) args of = cc
+by_method_ends h variant (OwnNever i) args of = cc
+by_method_ends h variant (OwnAtMostOnce i) args of = cc
+by_method_ends h variant (OwnOnce i) args of = cc
 
 pub procedure_ends : (h : Header) (variant : Variant) (method : Method) (args : Args)
     → h.subject ≡ Multiset → subject_of method ≡ Multiset

@@ -10,7 +10,8 @@ use Rattle.vyrd_base.specs.declared.subject.Subject.TheVariants.{Multiset}
 use Rattle.vyrd_base.specs.declared.subject.Method.{Method}
 use Rattle.vyrd_base.specs.declared.subject.Method.TheVariants.{Multiset as OfMultiset}
 use Rattle.vyrd_base.specs.declared.subject.Method.TheVariants.{Cache as OfCache, Tree as OfTree}
-use Rattle.vyrd_base.specs.declared.subject.Method.TheVariants.{Buffers as OfBuffers, Own as OfOwn}
+use Rattle.vyrd_base.specs.declared.subject.Method.TheVariants.{Buffers as OfBuffers}
+use Rattle.vyrd_base.specs.declared.subject.Method.TheVariants.{OwnNever, OwnAtMostOnce, OwnOnce}
 use Rattle.vyrd_base.specs.declared.multiset.MultisetMethod.TheVariants.{Insert, InsertPair, Delete}
 use Rattle.vyrd_base.specs.declared.multiset.MultisetMethod.TheVariants.{Lookup}
 use Rattle.vyrd_base.specs.declared.subject.Args.{Args}
@@ -342,7 +343,9 @@ by_method_sound h variant (OfMultiset Lookup) args is of small_x small_y =
 by_method_sound h variant (OfCache other) args is of small_x small_y = cc
 by_method_sound h variant (OfTree other) args is of small_x small_y = cc
 by_method_sound h variant (OfBuffers other) args is of small_x small_y = cc
-by_method_sound h variant (OfOwn other) args is of small_x small_y = cc
+by_method_sound h variant (OwnNever i) args is of small_x small_y = cc
+by_method_sound h variant (OwnAtMostOnce i) args is of small_x small_y = cc
+by_method_sound h variant (OwnOnce i) args is of small_x small_y = cc
 
 pub procedure_sound : (h : Header) (variant : Variant) (method : Method) (args : Args)
     → h.subject ≡ Multiset → subject_of method ≡ Multiset → are_small args ≡ true

@@ -35,7 +35,8 @@ use Rattle.vyrd_base.specs.declared.subject.Subject.TheVariants.{Tree}
 use Rattle.vyrd_base.specs.declared.subject.Method.{Method}
 use Rattle.vyrd_base.specs.declared.subject.Method.TheVariants.{Multiset as OfMultiset}
 use Rattle.vyrd_base.specs.declared.subject.Method.TheVariants.{Cache as OfCache, Tree as OfTree}
-use Rattle.vyrd_base.specs.declared.subject.Method.TheVariants.{Buffers as OfBuffers, Own as OfOwn}
+use Rattle.vyrd_base.specs.declared.subject.Method.TheVariants.{Buffers as OfBuffers}
+use Rattle.vyrd_base.specs.declared.subject.Method.TheVariants.{OwnNever, OwnAtMostOnce, OwnOnce}
 use Rattle.vyrd_base.specs.declared.multiset.MultisetMethod.TheVariants.{Insert as MsInsert}
 use Rattle.vyrd_base.specs.declared.multiset.MultisetMethod.TheVariants.{InsertPair}
 use Rattle.vyrd_base.specs.declared.multiset.MultisetMethod.TheVariants.{Delete as MsDelete}
@@ -168,7 +169,9 @@ by_method_right h (OfBuffers AppendFrom) args is of small_key small c memory s s
 by_method_right h (OfBuffers Cut) args is of small_key small c memory s st = absurd (cc)
 by_method_right h (OfBuffers Length) args is of small_key small c memory s st = absurd (cc)
 by_method_right h (OfBuffers BuRead) args is of small_key small c memory s st = absurd (cc)
-by_method_right h (OfOwn other) args is of small_key small c memory s st = cc
+by_method_right h (OwnNever i) args is of small_key small c memory s st = cc
+by_method_right h (OwnAtMostOnce i) args is of small_key small c memory s st = cc
+by_method_right h (OwnOnce i) args is of small_key small c memory s st = cc
 
 pub procedure_right_alone : (h : Header) (method : Method) (args : Args)
     → h.subject ≡ Tree → subject_of method ≡ Tree → are_small args ≡ true

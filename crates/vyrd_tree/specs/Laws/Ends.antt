@@ -11,7 +11,8 @@ use Rattle.vyrd_base.specs.declared.subject.Subject.TheVariants.{Tree}
 use Rattle.vyrd_base.specs.declared.subject.Method.{Method}
 use Rattle.vyrd_base.specs.declared.subject.Method.TheVariants.{Multiset as OfMultiset}
 use Rattle.vyrd_base.specs.declared.subject.Method.TheVariants.{Cache as OfCache, Tree as OfTree}
-use Rattle.vyrd_base.specs.declared.subject.Method.TheVariants.{Buffers as OfBuffers, Own as OfOwn}
+use Rattle.vyrd_base.specs.declared.subject.Method.TheVariants.{Buffers as OfBuffers}
+use Rattle.vyrd_base.specs.declared.subject.Method.TheVariants.{OwnNever, OwnAtMostOnce, OwnOnce}
 use Rattle.vyrd_base.specs.declared.tree.TreeMethod.TheVariants.{Insert, Delete, Lookup}
 use Rattle.vyrd_base.specs.declared.log.Kind.{Kind}
 use Rattle.vyrd_base.specs.declared.log.Kind.TheVariants.{Commit, BlockOpen, BlockClose}
@@ -335,7 +336,9 @@ by_method_ends h variant (OfTree Lookup) args of =
 by_method_ends h variant (OfMultiset other) args of = cc
 by_method_ends h variant (OfCache other) args of = cc
 by_method_ends h variant (OfBuffers other) args of = cc
-by_method_ends h variant (OfOwn other) args of = cc
+by_method_ends h variant (OwnNever i) args of = cc
+by_method_ends h variant (OwnAtMostOnce i) args of = cc
+by_method_ends h variant (OwnOnce i) args of = cc
 
 pub procedure_ends : (h : Header) (variant : Variant) (method : Method) (args : Args)
     → h.subject ≡ Tree → subject_of method ≡ Tree

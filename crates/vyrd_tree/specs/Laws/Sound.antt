@@ -12,7 +12,8 @@ use Rattle.vyrd_base.specs.declared.subject.Subject.TheVariants.{Tree}
 use Rattle.vyrd_base.specs.declared.subject.Method.{Method}
 use Rattle.vyrd_base.specs.declared.subject.Method.TheVariants.{Multiset as OfMultiset}
 use Rattle.vyrd_base.specs.declared.subject.Method.TheVariants.{Cache as OfCache, Tree as OfTree}
-use Rattle.vyrd_base.specs.declared.subject.Method.TheVariants.{Buffers as OfBuffers, Own as OfOwn}
+use Rattle.vyrd_base.specs.declared.subject.Method.TheVariants.{Buffers as OfBuffers}
+use Rattle.vyrd_base.specs.declared.subject.Method.TheVariants.{OwnNever, OwnAtMostOnce, OwnOnce}
 use Rattle.vyrd_base.specs.declared.tree.TreeMethod.TheVariants.{Insert, Delete, Lookup}
 use Rattle.vyrd_base.specs.declared.subject.Args.{Args}
 use Rattle.vyrd_base.specs.declared.log.Kind.{Kind}
@@ -440,7 +441,9 @@ by_method_sound h variant (OfTree Lookup) args is of k v =
 by_method_sound h variant (OfMultiset other) args is of k v = cc
 by_method_sound h variant (OfCache other) args is of k v = cc
 by_method_sound h variant (OfBuffers other) args is of k v = cc
-by_method_sound h variant (OfOwn other) args is of k v = cc
+by_method_sound h variant (OwnNever i) args is of k v = cc
+by_method_sound h variant (OwnAtMostOnce i) args is of k v = cc
+by_method_sound h variant (OwnOnce i) args is of k v = cc
 
 pub procedure_sound : (h : Header) (variant : Variant) (method : Method) (args : Args)
     → h.subject ≡ Tree → subject_of method ≡ Tree → are_small args ≡ true
