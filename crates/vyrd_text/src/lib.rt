@@ -26,7 +26,7 @@ mod writer;
 
 pub use fault::TextFault;
 pub use header::read_subject;
-pub use line::{after, is_word, read_call, read_line};
+pub use line::{after, is_word, read_args, read_call, read_line};
 pub use line_buffer::LineBuffer;
 pub use lines::split_line;
 pub use number::{read_u32, read_u32_and_space, read_u64};
