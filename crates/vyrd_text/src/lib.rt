@@ -31,6 +31,6 @@ pub use line_buffer::LineBuffer;
 pub use lines::split_line;
 pub use number::{read_u32, read_u32_and_space, read_u64};
 pub use reader::LogReader;
-pub use start::read_start;
+pub use start::{read_start, rule_of_start};
 pub use verdict::write_verdict;
 pub use writer::{push_call, write_entry, write_header, write_line, write_log, write_started};
