@@ -1,2 +1,4 @@
 pub mod NameLaws
 pub mod EntryLaws
+pub mod HeaderLaws
+pub mod StepLaws

@@ -1,2 +1,5 @@
 pub mod Callable
 pub mod Spelled
+pub mod States
+pub mod Steps
+pub mod StateView

@@ -2,5 +2,10 @@
 #![tactic(auto)]
 
 mod entry;
+mod fault;
+mod header;
+mod line_reader;
+mod stage;
 
 pub use entry::read_entry;
+pub use header::read_own_header;
