@@ -2,3 +2,4 @@ pub mod NameLaws
 pub mod EntryLaws
 pub mod HeaderLaws
 pub mod StepLaws
+pub mod CallableLaws
