@@ -1,5 +1,5 @@
 -- Entries can call the methods of each specification that is read.
-use Rattle.std.proofs.Common.{◌≡◌, ℕ, suc, zero, ◌+◌, ◌<◌, ◌≤◌, Bool, true, false, cond, ◌&&◌, List, [], ◌∷◌, ◌++◌, length, Option, Some, None, refl, ap, sym, ◌∙◌, subst, arith, length-append}
+use Rattle.std.proofs.Common.{◌≡◌, ℕ, suc, zero, ◌+◌, ◌<◌, ◌≤◌, Bool, true, false, cond, ◌&&◌, List, [], ◌∷◌, ◌++◌, length, Option, Some, None, refl, ap, ◌∙◌, subst, arith, length-append}
 use Rattle.std.specs.Prelude.{◌==◌, ◌||◌, not, nat_le, nat_lt, codes, Ok, Err}
 use Rattle.std.specs.List.{list_all}
 use Rattle.std.specs.Str.{bytes_eq}
@@ -8,12 +8,12 @@ use Rattle.std.proofs.lemmas.Bool.Decides.{nat_tests}
 use Rattle.vyrd_base.specs.declared.own.last.Last.{Last}
 use Rattle.vyrd_base.specs.declared.own.rule.SpecificationRule.{SpecificationRule}
 use Rattle.vyrd_base.specs.Own.Expressions.{Expr}
-use Rattle.vyrd_base.specs.Own.Reading.{Taken, Found, and_then, is_word_byte, word_of, after_word, number_in}
+use Rattle.vyrd_base.specs.Own.Reading.{Taken, Found, is_word_byte, word_of, after_word, number_in}
 use Rattle.vyrd_base.specs.Own.Programs.{Method, Written}
 use Rattle.vyrd_base.specs.Own.Lines as lines
 use Rattle.vyrd_base.specs.Own.Lines.{Inner, Line, has_any, with_inner, change_last, with_line, naming, answering, allowing, changing}
 use Rattle.vyrd_base.specs.Own.Names.{is_name, is_known, is_among, new_name}
-use Rattle.vyrd_base.specs.Own.Pieces.{taken_with, last_number, named_number, two_numbers, two_read, ended}
+use Rattle.vyrd_base.specs.Own.Pieces.{taken_with, last_number, named_number, two_numbers, two_read}
 use Rattle.vyrd_base.specs.Own.Outer.{is_list, is_part, is_past_constants, part_of, part_scope, outer_read}
 use Rattle.vyrd_base.specs.Own.Methods.{last_in, is_unfinished, is_method, parameters_read, named_method, method_read}
 use Rattle.vyrd_base.specs.Own.Changes.{within_read}
@@ -23,7 +23,7 @@ use Rattle.vyrd_base.specs.declared.own.rule.SpecificationRule.TheVariants as re
 use Rattle.vyrd_base.specs.declared.own.line.SpecificationLine.{SpecificationLine}
 use Rattle.vyrd_base.specs.declared.own.line.SpecificationLine.TheVariants as told
 use Rattle.vyrd_base.proofs.SplitLaws.{lacks}
-use Rattle.vyrd_base.proofs.TestLaws.{both_true, first_true, second_true, at_most_of, is_at_most, above_of}
+use Rattle.vyrd_base.proofs.TestLaws.{both_true, first_true, second_true, is_at_most, above_of}
 use Rattle.vyrd_own_text.proofs.PieceLaws.{after_or, after_inv, taken_inv, then_inv, past, kept, ended_is}
 use Rattle.vyrd_own_log.specs.Callable.{is_callable, are_callable}
 

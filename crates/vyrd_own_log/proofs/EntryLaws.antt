@@ -162,7 +162,7 @@ args_guess (suc (suc (suc zero))) args few other e small = λ i. record {
 }
 args_guess (suc (suc (suc (suc n)))) args few other e small = absurd (omega (arith, few))
 
-below_most : (n : ℕ) → nat_lt n most ≡ true → n < 2 ^ 64
+pub below_most : (n : ℕ) → nat_lt n most ≡ true → n < 2 ^ 64
 below_most n e = let h = below_of n most e in omega (arith, h)
 
 -- a kind is guessed right

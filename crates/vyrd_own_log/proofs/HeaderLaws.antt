@@ -25,12 +25,12 @@ line_is : (words callers : ℕ) → header_line 3 Own words callers ≡ own_text
 line_is words callers =
     ap (λ d. codes "vyrd" ++ 32 ∷ (d ++ 32 ∷ (codes "own" ++ 32 ∷ (decimal words ++ 32 ∷ decimal callers)))) (decimal_digit 3 (omega arith))
 
-few_words : (words callers : ℕ) → is_own_sized words callers ≡ true → words < 2 ^ 32
+pub few_words : (words callers : ℕ) → is_own_sized words callers ≡ true → words < 2 ^ 32
 few_words words callers sized =
     let h = at_most_of words 1048576 (first_true _ _ (first_true _ _ sized)) in
     omega (arith, h)
 
-few_callers : (words callers : ℕ) → is_own_sized words callers ≡ true → callers < 2 ^ 32
+pub few_callers : (words callers : ℕ) → is_own_sized words callers ≡ true → callers < 2 ^ 32
 few_callers words callers sized =
     let h = at_most_of callers 1024 (second_true (nat_le words 1048576 && nat_le 1 callers) _ sized) in
     omega (arith, h)

@@ -3,3 +3,5 @@ pub mod EntryLaws
 pub mod HeaderLaws
 pub mod StepLaws
 pub mod CallableLaws
+pub mod LongLaws
+pub mod RestLaws

@@ -3,3 +3,4 @@ pub mod Spelled
 pub mod States
 pub mod Steps
 pub mod StateView
+pub mod Rests
