@@ -5,3 +5,4 @@ pub mod StepLaws
 pub mod CallableLaws
 pub mod LongLaws
 pub mod RestLaws
+pub mod SteadyLaws
