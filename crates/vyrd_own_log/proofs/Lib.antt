@@ -6,3 +6,4 @@ pub mod CallableLaws
 pub mod LongLaws
 pub mod RestLaws
 pub mod SteadyLaws
+pub mod ReaderLaws

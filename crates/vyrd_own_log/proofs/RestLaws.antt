@@ -9,7 +9,7 @@ use Rattle.vyrd_base.specs.Lines.{start_in}
 use Rattle.vyrd_base.specs.Reading.{has_any, fault_on}
 use Rattle.vyrd_base.specs.Own.Log.{own_stopped, long_rule}
 use Rattle.vyrd_base.proofs.LongLines.{long_start, long_isnt_end}
-use Rattle.vyrd_base.proofs.TestLaws.{below_of}
+use Rattle.vyrd_base.proofs.TestLaws.{is_below, below_of}
 use Rattle.vyrd_own_log.specs.declared.stage.Stage.{Stage}
 use Rattle.vyrd_own_log.specs.declared.stage.Stage.TheVariants.{Header, Specification, Starts, Entries, End}
 use Rattle.vyrd_own_log.specs.declared.stage.Found.TheVariants.{Nothing}
@@ -167,3 +167,49 @@ module _ (r : LineState) (rest : List ℕ) (first : IsFirst r.stage r) where
 
   pub rest_whole : rest_rule r rest ≡ None → lines_on (input_to r true) r.said r.line r.stage (rest ∷ []) ≡ known r (end_fault r rest)
   rest_whole none = whole_at r.stage first none
+
+-- a rule that unfinished bytes break already is broken at the end too
+rules_bad : (past long some : Bool) (bad : Rule) (w : Bool) (rule : Rule)
+    → cond (some && past) (Some TooManyLines) (cond long (Some bad) None) ≡ Some rule → rules_at past long some bad w ≡ Some rule
+rules_bad past long some bad w rule e = by_first (some && past) long e
+  where
+    by_first : (b l : Bool) → cond b (Some TooManyLines) (cond l (Some bad) None) ≡ Some rule
+        → cond b (Some TooManyLines) (cond l (Some bad) (cond (some && w) (Some NoLineFeed) (cond w (Some NoEnd) None))) ≡ Some rule
+    by_first true l f = f
+    by_first false true f = f
+    by_first false false f = cc
+
+module _ (r : LineState) (rest : List ℕ) (first : IsFirst r.stage r) (w : Bool) (rule : Rule) where
+  bad_rest : (st : Stage) → IsFirst st r → rest_if (record r { stage = st }) (has_any rest) (nat_lt 200 (length rest)) ≡ Some rule
+      → lines_on (input_to r w) r.said r.line st (rest ∷ []) ≡ known (record r { stage = st }) (Some (record { line = r.line; rule = rule }))
+  bad_rest Header f e =
+      ap (own_stopped 1) (ap (λ k. rules_at (nat_lt r.max_lines k) (nat_lt 200 (length rest)) (has_any rest) BadHeader w) (sym f.0)
+      ∙ rules_bad (nat_lt r.max_lines r.line) (nat_lt 200 (length rest)) (has_any rest) BadHeader w rule e)
+      ∙ ap (λ k. known (record r { stage = Header }) (Some (record { line = k; rule = rule }))) (sym f.0)
+  bad_rest (Specification h) f e =
+      ap (λ o. headed h (own_stopped r.line o)) (rules_bad (nat_lt r.max_lines r.line) (nat_lt 200 (length rest)) (has_any rest) (long_rule r.said) w rule e)
+  bad_rest (Starts h last) f e =
+      ap (λ o. headed h (own_stopped r.line o)) (rules_bad (nat_lt r.max_lines r.line) (nat_lt 200 (length rest)) (has_any rest) BadEntry w rule e)
+  bad_rest (Entries h) f e =
+      ap (λ o. headed h (own_stopped r.line o)) (rules_bad (nat_lt r.max_lines r.line) (nat_lt 200 (length rest)) (has_any rest) BadEntry w rule e)
+  bad_rest (End h) f e =
+      ap (λ o. headed h (record (own_stopped r.line o) { ended = true })) (after_rules r rest first rest ∙ e)
+
+  pub rest_bad : rest_rule r rest ≡ Some rule → lines_on (input_to r w) r.said r.line r.stage (rest ∷ []) ≡ known r (Some (record { line = r.line; rule = rule }))
+  rest_bad e = bad_rest r.stage first e
+
+-- and so as the line goes on
+pub rest_stays : (r : LineState) (rest more : List ℕ) (rule : Rule) → rest_rule r rest ≡ Some rule → rest_rule r (rest ++ more) ≡ Some rule
+rest_stays r [] more rule e = let none : ◌≡◌ {A = Option Rule} None (Some rule) = sym (no_rest r) ∙ e in cc
+rest_stays r (b ∷ rest) more rule e = by_tests (nat_lt r.max_lines r.line) (has_ended r.stage) (nat_lt 200 (length (b ∷ rest))) refl e
+  where
+    by_tests : (past done long : Bool) → nat_lt 200 (length (b ∷ rest)) ≡ long
+        → cond past (Some TooManyLines) (cond (done && true) (Some AfterEnd) (cond long (Some (bad_at r.said r.stage)) None)) ≡ Some rule
+        → cond past (Some TooManyLines) (cond (done && true) (Some AfterEnd)
+        (cond (nat_lt 200 (length (b ∷ (rest ++ more)))) (Some (bad_at r.said r.stage)) None)) ≡ Some rule
+    by_tests true done long l f = f
+    by_tests false true long l f = f
+    by_tests false false true l f =
+        ap (λ t. cond t (Some (bad_at r.said r.stage)) None)
+        (let h = below_of 200 (length (b ∷ rest)) l in is_below 200 (length (b ∷ (rest ++ more))) (omega (arith, h, length-append rest more))) ∙ f
+    by_tests false false false l f = cc

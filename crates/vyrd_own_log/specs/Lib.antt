@@ -4,3 +4,4 @@ pub mod States
 pub mod Steps
 pub mod StateView
 pub mod Rests
+pub mod Readers
