@@ -7,3 +7,4 @@ pub mod LongLaws
 pub mod RestLaws
 pub mod SteadyLaws
 pub mod ReaderLaws
+pub mod ReadLaws

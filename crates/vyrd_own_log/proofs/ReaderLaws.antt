@@ -1,5 +1,5 @@
 -- How a reader goes on.
-use Rattle.std.proofs.Common.{◌≡◌, ℕ, Bool, true, false, cond, not, List, [], ◌∷◌, ◌++◌, Option, Some, None, refl, ap, sym, ◌∙◌, subst, arith, append_assoc}
+use Rattle.std.proofs.Common.{◌≡◌, ℕ, Bool, true, false, cond, not, List, [], ◌∷◌, ◌++◌, Option, Some, None, refl, ap, sym, ◌∙◌, subst, append_assoc}
 use Rattle.std.specs.Prelude.{◌==◌}
 use Rattle.std.specs.List.{onto_first}
 use Rattle.std.proofs.lemmas.Bool.{not-true}
@@ -129,9 +129,9 @@ module _ (k : Kept) (xs : List ℕ) (sound : IsSound k) (one_line : lacks 10 xs 
     on_parts : (w : Bool) (first : List ℕ) (rest : List (List ℕ)) → reads_on r (input_to r w) ((front ++ first) ∷ rest) ≡ after
     on_parts w first [] =
         ap (unless_faulty r (input_to r w) ((front ++ first) ∷ [])) fine
-        ∙ rest_bad r (front ++ first) sound.steady.first w rule (rest_stays r front first rule bad)
+        ∙ rest_bad r (front ++ first) sound.first w rule (rest_stays r front first rule bad)
     on_parts w first (next ∷ rest) =
-        step_goes (front ++ first) next rest w r sound.steady
+        step_goes (front ++ first) next rest w r sound.steady.low sound.first
         ∙ ap (λ s. with_read (brought_by r.line (front ++ first) s.1) (reads_on s.0 (input_to r w) (next ∷ rest)))
         (rest_step r front first rule all fine bad)
 
@@ -171,7 +171,7 @@ module _ (k : Kept) (xs : List ℕ) (sound : IsSound k) (one_line : lacks 10 xs 
           let p = parts_of more in
           ap (λ t. reads_on k.lines (input_to k.lines w) (cut t)) (sym (append_assoc k.unfinished xs (10 ∷ more)))
           ∙ ap (reads_on k.lines (input_to k.lines w)) (split_at 10 front more lack ∙ ap (λ ps. front ∷ ps) p.2)
-          ∙ step_goes front p.0 p.1 w k.lines sound.steady
+          ∙ step_goes front p.0 p.1 w k.lines sound.steady.low sound.first
           ∙ (λ i. with_read (brought_by k.lines.line front step.1)
           (reads_on step.0 (record { max_lines = sym is.limit i; is_whole = w }) (sym p.2 i)))
 
@@ -179,7 +179,7 @@ module _ (k : Kept) (xs : List ℕ) (sound : IsSound k) (one_line : lacks 10 xs 
   pub line_sound : (start : List StartWord) → IsSound (record { lines = step.0; unfinished = []; start = start })
   line_sound start = record {
     steady = (step_is k.lines front sound.steady).steady;
-    short = omega arith;
+    first = (step_is k.lines front sound.steady).first sound.first;
     one_line = refl;
     noticed = λ fine. no_rest step.0;
   }
@@ -196,5 +196,5 @@ read_now k b bytes sound has =
     by_fault : (f : Option TextFault) → k.lines.fault ≡ f
         → unless_faulty k.lines (input_to k.lines false) (k.unfinished ∷ []) f ≡ known k.lines f
     by_fault (Some f) is = refl
-    by_fault None is = rest_so_far k.lines k.unfinished sound.steady.first
+    by_fault None is = rest_so_far k.lines k.unfinished sound.first
         ∙ ap (λ o. known k.lines (fault_on k.lines.line o)) (sound.noticed is)

@@ -30,16 +30,18 @@ use Rattle.vyrd_own_log.proofs.CallableLaws.{next_callable}
 pub record IsStep (r : LineState) (line : List ℕ) (s : LineState × Found) : Type 0 where
   pub limit : s.0.max_lines ≡ r.max_lines
   pub steady : IsSteady s.0
+  pub first : IsFirst r.stage r → IsFirst s.0.stage s.0
   pub said : s.0.said ≡ read_lines r.said (lines_of line s.1)
 
 module _ (r : LineState) (line : List ℕ) (steady : IsSteady r) where
   unchanged : IsStep r line (r, found.Nothing)
-  unchanged = record { limit = refl; steady = steady; said = refl }
+  unchanged = record { limit = refl; steady = steady; first = λ f. f; said = refl }
 
   broken_is : (rule : Rule) → IsStep r line (broken r rule)
   broken_is rule = record {
     limit = refl;
-    steady = record { low = steady.low; high = steady.high; counted = steady.counted; first = first_of r.stage steady.first; callable = steady.callable };
+    steady = record { low = steady.low; high = steady.high; counted = steady.counted; callable = steady.callable };
+    first = first_of r.stage;
     said = refl;
   }
     where
@@ -58,7 +60,8 @@ module _ (r : LineState) (line : List ℕ) (steady : IsSteady r) where
     header_is None = broken_is rules.BadHeader
     header_is (Some h) = record {
       limit = refl;
-      steady = record { low = steady.low; high = steady.high; counted = counted; first = tt; callable = steady.callable };
+      steady = record { low = steady.low; high = steady.high; counted = counted; callable = steady.callable };
+      first = λ f. tt;
       said = refl;
     }
 
@@ -77,17 +80,20 @@ module _ (r : LineState) (line : List ℕ) (steady : IsSteady r) where
             → are_callable t.specification.methods ≡ true → IsStep r line (specification_step r h (x, t))
         by_told told.More t is keeps all = record {
           limit = refl;
-          steady = record { low = steady.low; high = steady.high; counted = counted; first = tt; callable = all };
+          steady = record { low = steady.low; high = steady.high; counted = counted; callable = all };
+          first = λ f. tt;
           said = is;
         }
         by_told told.Log t is keeps all = record {
           limit = refl;
-          steady = record { low = steady.low; high = steady.high; counted = counted; first = tt; callable = all };
+          steady = record { low = steady.low; high = steady.high; counted = counted; callable = all };
+          first = λ f. tt;
           said = keeps;
         }
         by_told (told.Refused rule column) t is keeps all = record {
           limit = refl;
-          steady = record { low = steady.low; high = steady.high; counted = steady.counted; first = first_fault r.stage (first_of t keeps r.stage steady.first); callable = all };
+          steady = record { low = steady.low; high = steady.high; counted = steady.counted; callable = all };
+          first = λ f. first_fault r.stage (first_of t keeps r.stage f);
           said = keeps;
         }
           where
@@ -103,11 +109,12 @@ module _ (r : LineState) (line : List ℕ) (steady : IsSteady r) where
     later_is : (st : Stage) (x : Found) → IsFirst st (next r st) → lines_of line x ≡ [] → IsStep r line (next r st, x)
     later_is st x first none = record {
       limit = refl;
-      steady = record { low = steady.low; high = steady.high; counted = counted; first = first; callable = steady.callable };
+      steady = record { low = steady.low; high = steady.high; counted = counted; callable = steady.callable };
+      first = λ f. first;
       said = ap (read_lines r.said) (sym none);
     }
 
-    entry_is : (h : headers.Header) → IsStep r line (entry_step r h line)
+    pub entry_is : (h : headers.Header) → IsStep r line (entry_step r h line)
     entry_is h = by_tests (is_note line) (bytes_eq line end_line) (own_entry_in r.said.specification line)
       where
         by_tests : (note is_end : Bool) (o : Option Entry)
@@ -117,7 +124,7 @@ module _ (r : LineState) (line : List ℕ) (steady : IsSteady r) where
         by_tests false false None = broken_is rules.BadEntry
         by_tests false false (Some e) = later_is (stages.Entries h) (found.Entry e) tt refl
 
-    starts_is : (h : headers.Header) (last : Option StartWord) → IsStep r line (starts_step r h last line)
+    pub starts_is : (h : headers.Header) (last : Option StartWord) → IsStep r line (starts_step r h last line)
     starts_is h last = by_tests (is_note line) (start_in line)
       where
         by_rule : (s : StartWord) (o : Option Rule) → IsStep r line (word_step r h s o)

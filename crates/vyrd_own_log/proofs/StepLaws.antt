@@ -27,7 +27,7 @@ use Rattle.vyrd_own_log.specs.declared.stage.Stage.{Stage}
 use Rattle.vyrd_own_log.specs.declared.stage.Stage.TheVariants as stages
 use Rattle.vyrd_own_log.specs.declared.stage.Found.{Found}
 use Rattle.vyrd_own_log.specs.declared.stage.Found.TheVariants as found
-use Rattle.vyrd_own_log.specs.States.{LineState, input_to, headed, reads_on, IsSteady}
+use Rattle.vyrd_own_log.specs.States.{LineState, input_to, headed, reads_on, IsFirst}
 use Rattle.vyrd_own_log.specs.Steps.{next, broken, header_step, specification_step, spelled_step, word_step, own_step, brought_by, with_read}
 
 -- What a line is leaves what was read, unless the line was taken in.
@@ -205,17 +205,16 @@ module _ (line nxt : List ℕ) (lines : List (List ℕ)) (w : Bool) where
     pub header_goes : 1 ≤ m → Goes r_header (own_step r_header line)
     header_goes low = header_tests (nat_lt m 1) (isnt_below m 1 low) (own_header_in line)
 
-  state_goes : (m n : ℕ) (st : Stage) (s : SoFar) (f : Option TextFault) → IsSteady (state m n st s f)
+  state_goes : (m n : ℕ) (st : Stage) (s : SoFar) (f : Option TextFault) → 1 ≤ m → IsFirst st (state m n st s f)
       → Goes (state m n st s f) (own_step (state m n st s f) line)
-  state_goes m n st s (Some f) steady = refl
-  state_goes m n stages.Header s None steady =
-      subst (λ k. Goes (state m k stages.Header s None) (own_step (state m k stages.Header s None) line)) (sym steady.first.0)
-      (subst (λ t. Goes (state m 1 stages.Header t None) (own_step (state m 1 stages.Header t None) line)) (sym steady.first.1)
-      (header_goes m steady.low))
-  state_goes m n (stages.Specification h) s None steady = specification_goes m n s h
-  state_goes m n (stages.Starts h last) s None steady = starts_goes m n s h last
-  state_goes m n (stages.Entries h) s None steady = entries_goes m n s h
-  state_goes m n (stages.End h) s None steady = end_goes m n s h
+  state_goes m n st s (Some f) low first = refl
+  state_goes m n stages.Header s None low first =
+      subst (λ k. Goes (state m k stages.Header s None) (own_step (state m k stages.Header s None) line)) (sym first.0)
+      (subst (λ t. Goes (state m 1 stages.Header t None) (own_step (state m 1 stages.Header t None) line)) (sym first.1) (header_goes m low))
+  state_goes m n (stages.Specification h) s None low first = specification_goes m n s h
+  state_goes m n (stages.Starts h last) s None low first = starts_goes m n s h last
+  state_goes m n (stages.Entries h) s None low first = entries_goes m n s h
+  state_goes m n (stages.End h) s None low first = end_goes m n s h
 
-  pub step_goes : (r : LineState) → IsSteady r → Goes r (own_step r line)
-  step_goes r steady = state_goes r.max_lines r.line r.stage r.said r.fault steady
+  pub step_goes : (r : LineState) → 1 ≤ r.max_lines → IsFirst r.stage r → Goes r (own_step r line)
+  step_goes r low first = state_goes r.max_lines r.line r.stage r.said r.fault low first

@@ -5,3 +5,5 @@ pub mod Steps
 pub mod StateView
 pub mod Rests
 pub mod Readers
+pub mod KeptView
+pub mod ReaderView

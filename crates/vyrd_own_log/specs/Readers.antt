@@ -8,7 +8,7 @@ use Rattle.vyrd_base.specs.Reading.{Input}
 use Rattle.vyrd_base.specs.Own.Reader.{nothing_read, read_lines, written_in}
 use Rattle.vyrd_base.specs.Own.Log.{OwnReading, own_reading}
 use Rattle.vyrd_own_log.specs.States.{LineState, fresh, header_at, has_ended, input_to, reads_on}
-use Rattle.vyrd_own_log.specs.States.{IsSteady}
+use Rattle.vyrd_own_log.specs.States.{IsFirst, IsSteady}
 use Rattle.vyrd_own_log.specs.Steps.{Brought, brought_then, with_read}
 use Rattle.vyrd_own_log.specs.Rests.{rest_rule}
 
@@ -55,10 +55,29 @@ brought_in read = record {
   numbers = read.numbers;
 }
 
+-- whether no byte is a line feed
+abbrev pub is_one_line : List ℕ → Bool
+is_one_line bytes = list_all (λ b. not (b == 10)) bytes
+
+-- What is true of all that a reader keeps, also after it found no memory. The unfinished line has at
+-- most 200 bytes.
+pub record IsSafe (k : Kept) : Type 0 where
+  pub steady : IsSteady k.lines
+  pub short : length k.unfinished ≤ 200
+
+-- and before that: the unfinished line has no line feed, and if it breaks a rule already, that is
+-- known
+pub record IsSound (k : Kept) : Type 0 where
+  pub steady : IsSteady k.lines
+  pub first : IsFirst k.lines.stage k.lines
+  pub one_line : is_one_line k.unfinished ≡ true
+  pub noticed : k.lines.fault ≡ None → rest_rule k.lines k.unfinished ≡ None
+
 -- The reader has been fed these bytes, and found memory: what it keeps is what they say as bytes that
 -- may go on, and whatever comes next is read as what follows them.
 pub record HasRead (reader : ReaderState) (bytes : List ℕ) : Type 0 where
   pub works : reader.has_failed ≡ false
+  pub sound : IsSound reader.kept
   pub header : header_at reader.kept.lines.stage ≡ (own_reading (so_far reader) bytes).header
   pub specification : reader.kept.lines.said.specification
       ≡ written_in (own_reading (so_far reader) bytes).lines
@@ -67,18 +86,6 @@ pub record HasRead (reader : ReaderState) (bytes : List ℕ) : Type 0 where
   pub fault : reader.kept.lines.fault ≡ (own_reading (so_far reader) bytes).fault
   pub reached : HasReached reader.kept.lines reader.kept.unfinished
       (brought_in (own_reading (so_far reader) bytes)) bytes
-
--- whether no byte is a line feed
-abbrev pub is_one_line : List ℕ → Bool
-is_one_line bytes = list_all (λ b. not (b == 10)) bytes
-
--- what is true of all that a reader keeps, while it finds memory: the unfinished line has at most 200
--- bytes and no line feed, and if it breaks a rule already, that is known
-pub record IsSound (k : Kept) : Type 0 where
-  pub steady : IsSteady k.lines
-  pub short : length k.unfinished ≤ 200
-  pub one_line : is_one_line k.unfinished ≡ true
-  pub noticed : k.lines.fault ≡ None → rest_rule k.lines k.unfinished ≡ None
 
 -- the bytes brought this, as what was kept became other
 pub record IsTaken (old : Kept) (bytes : List ℕ) (b : Brought) (new : Kept) : Type 0 where
@@ -101,3 +108,11 @@ pub record IsGrownBy {A : Type 0} (first second first_new second_new : List A) :
   pub more : List A
   pub one : first_new ≡ first ++ more
   pub other : second_new ≡ second ++ more
+
+-- What the front of a piece brought was added, and the rest of it is still to be taken in.
+pub record IsFedFront (old : Kept) (piece rest : List ℕ) (entries entries_new : List Entry)
+    (numbers numbers_new : List ℕ) (new : Kept) : Type 0 where
+  pub read : List ℕ
+  pub parted : piece ≡ read ++ rest
+  pub fed : IsFed old read entries entries_new numbers numbers_new new
+  pub sound : IsSound new

@@ -1,6 +1,7 @@
 -- What the bytes after the last line feed are to a reader.
 use Rattle.std.specs.Prelude.{ℕ, Bool, ◌&&◌, nat_lt, List, length, Option, Some, None}
 use Rattle.std.specs.Prelude.{if◌then◌else◌}
+use Rattle.std.specs.Option.{option_or}
 use Rattle.vyrd_base.specs.declared.verdict.Rule.{Rule}
 use Rattle.vyrd_base.specs.declared.verdict.Rule.TheVariants.{TooManyLines, AfterEnd, BadHeader}
 use Rattle.vyrd_base.specs.declared.verdict.Rule.TheVariants.{BadEntry, NoLineFeed, NoEnd}
@@ -35,3 +36,7 @@ abbrev pub end_fault : LineState → List ℕ → Option TextFault
 end_fault r rest =
     if has_ended r.stage then None
     else Some (record { line = r.line; rule = if has_any rest then NoLineFeed else NoEnd })
+
+-- the fault of a text that ends here
+abbrev pub fault_at_end : LineState → List ℕ → Option TextFault
+fault_at_end r rest = option_or r.fault (end_fault r rest)

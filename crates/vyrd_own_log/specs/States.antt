@@ -98,5 +98,4 @@ pub record IsSteady (r : LineState) : Type 0 where
   pub low : 1 ≤ r.max_lines
   pub high : r.max_lines ≤ 268435456
   pub counted : r.line ≤ r.max_lines + 1
-  pub first : IsFirst r.stage r
   pub callable : are_callable r.said.specification.methods ≡ true

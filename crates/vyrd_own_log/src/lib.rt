@@ -5,7 +5,10 @@ mod entry;
 mod fault;
 mod header;
 mod line_reader;
+mod piece_reader;
+mod reader;
 mod stage;
 
 pub use entry::read_entry;
 pub use header::read_own_header;
+pub use reader::OwnLogReader;
