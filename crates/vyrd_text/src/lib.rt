@@ -26,11 +26,11 @@ mod writer;
 
 pub use fault::TextFault;
 pub use header::read_subject;
-pub use line::{after, is_word, read_call, read_line};
+pub use line::{after, is_word, read_args, read_call, read_line};
 pub use line_buffer::LineBuffer;
 pub use lines::split_line;
 pub use number::{read_u32, read_u32_and_space, read_u64};
 pub use reader::LogReader;
-pub use start::read_start;
+pub use start::{read_start, rule_of_start};
 pub use verdict::write_verdict;
 pub use writer::{push_call, write_entry, write_header, write_line, write_log, write_started};

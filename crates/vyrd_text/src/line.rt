@@ -113,8 +113,9 @@ fn after_name<'a>(text: &'a [u8], name: &[u8]) -> Option<&'a [u8]>
     Some(rest)
 }
 
-/// The arguments of a method that has `arity` of them.
-fn read_args(arity: u32, text: &[u8]) -> Option<Args>
+/// The arguments below 2^32 that the whole text spells, of a method that has `arity` of them, with a
+/// space between each two. `None` exactly when it spells none.
+pub fn read_args(arity: u32, text: &[u8]) -> Option<Args>
     requires { (1 ≤ arity) × (arity ≤ 3) }
     ensures { AreArgsRead arity text.now result }
 {

@@ -26,11 +26,7 @@ pub fn read_start(line: &[u8]) -> Option<StartWord>
 }
 
 /// The first rule that a starting word breaks after the last one, if it breaks one.
-pub(crate) fn rule_of_start(
-    header: Header,
-    last: Option<StartWord>,
-    word: StartWord,
-) -> Option<Rule>
+pub fn rule_of_start(header: Header, last: Option<StartWord>, word: StartWord) -> Option<Rule>
     ensures { result ≡ start_rule header last word }
 {
     if is_out_of_range(header, word) {

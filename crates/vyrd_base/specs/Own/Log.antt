@@ -2,15 +2,15 @@
 -- header of version 3. The lines after it are the specification, up to a line `log`. Then come
 -- starting words and entries, up to a line `end`, after which nothing follows. From line 2 on a line
 -- that begins with `#` says nothing. Reading stops at the first line that breaks a rule of text.
-use Rattle.std.specs.Prelude.{ℕ, ◌+◌, ◌==◌, Bool, true, false, not, ◌&&◌, nat_lt, List, [], ◌∷◌}
-use Rattle.std.specs.Prelude.{length}
+use Rattle.std.specs.Prelude.{ℕ, ◌+◌, ◌==◌, Bool, true, false, not, ◌&&◌, nat_lt, nat_le, List, []}
+use Rattle.std.specs.Prelude.{◌∷◌, length}
 use Rattle.std.specs.Prelude.{Option, Some, None, if◌then◌else◌}
 use Rattle.std.specs.Str.{bytes_eq}
 use Rattle.std.specs.List.{slice_split}
 use Rattle.vyrd_base.specs.declared.header.Header.{Header}
 use Rattle.vyrd_base.specs.declared.subject.Subject.TheVariants.{Own}
 use Rattle.vyrd_base.specs.declared.own.line.SpecificationLine.TheVariants as said
-use Rattle.vyrd_base.specs.declared.own.rule.SpecificationRule.TheVariants.{TooLong}
+use Rattle.vyrd_base.specs.declared.own.rule.SpecificationRule.TheVariants.{TooLong, TooMany}
 use Rattle.vyrd_base.specs.declared.log.Entry.{Entry}
 use Rattle.vyrd_base.specs.declared.log.StartWord.{StartWord}
 use Rattle.vyrd_base.specs.declared.verdict.Rule.{Rule}
@@ -109,11 +109,15 @@ own_starts_read input h w last n (line ∷ next ∷ lines) =
 abbrev pub line_before : List ℕ → OwnReading → OwnReading
 line_before line reading = record reading { lines = line ∷ reading.lines }
 
+-- the rule that a line of the specification with more than 200 bytes breaks, after the lines before
+abbrev pub long_rule : SoFar → Rule
+long_rule s = Specification (if nat_le 1000 s.lines then TooMany else TooLong)
+
 -- what the lines from line n on say, where the specification stands, after the lines before
 abbrev pub specification_read : Input → Header → SoFar → ℕ → List (List ℕ) → OwnReading
 specification_read input h s n [] = own_stopped n None
 specification_read input h s n (rest ∷ []) =
-    own_stopped n (unfinished_own input n (Specification TooLong) rest)
+    own_stopped n (unfinished_own input n (long_rule s) rest)
 specification_read input h s n (line ∷ next ∷ lines) =
     if nat_lt input.max_lines n then own_stopped n (Some TooManyLines)
     else (elim (read_next s line).0 [

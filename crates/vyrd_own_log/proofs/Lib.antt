@@ -1,0 +1,10 @@
+pub mod NameLaws
+pub mod EntryLaws
+pub mod HeaderLaws
+pub mod StepLaws
+pub mod CallableLaws
+pub mod LongLaws
+pub mod RestLaws
+pub mod SteadyLaws
+pub mod ReaderLaws
+pub mod ReadLaws

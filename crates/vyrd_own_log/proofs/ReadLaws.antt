@@ -1,0 +1,261 @@
+-- What a reader that has been fed bytes says of them.
+use Rattle.std.proofs.Common.{◌≡◌, ℕ, ◌+◌, ◌-◌, ◌≤◌, Bool, true, false, cond, List, [], ◌∷◌, ◌++◌, length, Option, Some, None, Result, Ok, Err, refl, ap, sym, ◌∙◌, subst, arith, append_assoc}
+use Rattle.std.specs.Prelude.{◌==◌, nat_lt, OnOk, is_some, option_map}
+use Rattle.std.specs.Result.{is_err}
+use Rattle.vyrd_own_log.specs.declared.fault.LineFault.{LineFault}
+use Rattle.vyrd_own_log.specs.StateView.{fault_of}
+use Rattle.vyrd_base.proofs.TestLaws.{below_of, is_below, not_below_of, isnt_below}
+use Rattle.vyrd_base.specs.declared.verdict.Rule.TheVariants.{NoLineFeed, NoEnd}
+use Rattle.std.specs.Option.{option_or}
+use Rattle.std.proofs.lemmas.List.{append-nil}
+use Rattle.vyrd_base.specs.declared.log.Entry.{Entry}
+use Rattle.vyrd_base.specs.declared.verdict.Rule.{Rule}
+use Rattle.vyrd_base.specs.Reading.{TextFault, has_any}
+use Rattle.vyrd_base.specs.Own.Reader.{nothing_read, read_lines}
+use Rattle.vyrd_base.specs.Own.Log.{own_reading}
+use Rattle.vyrd_base.proofs.SplitLaws.{cut, split_whole}
+use Rattle.vyrd_text.specs.declared.fault.TextFault as fault
+use Rattle.vyrd_text.specs.declared.fault.TextFault.TheVariants.{Malformed, Memory}
+use Rattle.vyrd_text.specs.Answered.{IsAnswer, UnlessMemory}
+use Rattle.vyrd_own_log.specs.declared.stage.Found.{Found}
+use Rattle.vyrd_own_log.specs.States.{LineState, input_to, known, unless_faulty, reads_on, has_ended}
+use Rattle.vyrd_own_log.specs.Steps.{broken, own_step, Brought, nothing_brought, brought_then, brought_by, starts_of, entries_of, numbers_of, with_read}
+use Rattle.vyrd_own_log.specs.Rests.{rest_if, rest_rule, end_fault, fault_at_end}
+use Rattle.vyrd_own_log.specs.Readers.{Kept, ReaderState, fresh_kept, so_far, whole, HasReached, brought_in, HasRead, is_one_line, IsSound, IsTaken, IsFed, IsGrownBy}
+use Rattle.vyrd_own_log.proofs.RestLaws.{rest_whole}
+use Rattle.vyrd_own_log.proofs.ReaderLaws.{and_nothing, taken_then, empty_taken, faulty_taken, broken_taken, line_taken, line_sound, read_now}
+
+-- no bytes were fed
+pub nothing_fed : (k : Kept) (es : List Entry) (ns : List ℕ) → IsFed k [] es es ns ns k
+nothing_fed k es ns = record {
+  brought = nothing_brought;
+  taken = empty_taken k k.start;
+  start = sym (append-nil k.start);
+  grown = sym (append-nil es);
+  counted = sym (append-nil ns);
+}
+
+-- what was fed in turn was fed together
+pub fed_then : (k m n : Kept) (xs ys : List ℕ) (es fs gs : List Entry) (ms ns os : List ℕ) → IsFed k xs es fs ms ns m → IsFed m ys fs gs ns os n
+    → IsFed k (xs ++ ys) es gs ms os n
+fed_then k m n xs ys es fs gs ms ns os first second = record {
+  brought = brought_then first.brought second.brought;
+  taken = taken_then k m n xs ys first.brought second.brought first.taken second.taken;
+  start = second.start ∙ ap (λ t. t ++ second.brought.starting) first.start ∙ append_assoc k.start first.brought.starting second.brought.starting;
+  grown = second.grown ∙ ap (λ t. t ++ second.brought.entries) first.grown ∙ append_assoc es first.brought.entries second.brought.entries;
+  counted = second.counted ∙ ap (λ t. t ++ second.brought.numbers) first.counted ∙ append_assoc ms first.brought.numbers second.brought.numbers;
+}
+
+-- bytes that bring nothing were fed
+pub taken_fed : (k m : Kept) (xs : List ℕ) (es : List Entry) (ns : List ℕ) → IsTaken k xs nothing_brought m → m.start ≡ k.start
+    → IsFed k xs es es ns ns m
+taken_fed k m xs es ns taken same = record {
+  brought = nothing_brought;
+  taken = taken;
+  start = same ∙ sym (append-nil k.start);
+  grown = sym (append-nil es);
+  counted = sym (append-nil ns);
+}
+
+-- a whole line was fed
+pub line_fed : (k n : Kept) (xs : List ℕ) (found : Found) (es fs : List Entry) (ms ns : List ℕ) → IsSound k → is_one_line xs ≡ true
+    → (n.lines, found) ≡ own_step k.lines (k.unfinished ++ xs) → n.unfinished ≡ [] → n.start ≡ k.start ++ starts_of found
+    → fs ≡ es ++ entries_of found → ns ≡ ms ++ numbers_of k.lines.line found → IsFed k (xs ++ 10 ∷ []) es fs ms ns n
+line_fed k n xs found es fs ms ns sound one step empty start grown counted =
+    let found_is : found ≡ (own_step k.lines (k.unfinished ++ xs)).1 = ap (λ (s : LineState × Found). s.1) step in record {
+      brought = brought_by k.lines.line (k.unfinished ++ xs) (own_step k.lines (k.unfinished ++ xs)).1;
+      taken = subst (λ m. IsTaken k (xs ++ 10 ∷ []) (brought_by k.lines.line (k.unfinished ++ xs) (own_step k.lines (k.unfinished ++ xs)).1) m)
+          (λ i. record { lines = (sym step i).0; unfinished = sym empty i; start = n.start })
+          (line_taken k xs sound one n.start);
+      start = start ∙ ap (λ f. k.start ++ starts_of f) found_is;
+      grown = grown ∙ ap (λ f. es ++ entries_of f) found_is;
+      counted = counted ∙ ap (λ f. ms ++ numbers_of k.lines.line f) found_is;
+    }
+
+pub line_kept : (k n : Kept) (xs : List ℕ) (found : Found) → IsSound k → is_one_line xs ≡ true
+    → (n.lines, found) ≡ own_step k.lines (k.unfinished ++ xs) → n.unfinished ≡ [] → IsSound n
+line_kept k n xs found sound one step empty =
+    subst IsSound (λ i. record { lines = (sym step i).0; unfinished = sym empty i; start = n.start }) (line_sound k xs sound one n.start)
+
+-- what holds of an `Ok`
+pub one_ok : {E P Q : Type 0} (r : Result (Unit {0}) E) → (P → Q) → OnOk r P → OnOk r Q
+one_ok (Ok x) f p = f p
+one_ok (Err e) f p = tt
+
+pub three_ok : {E P Q R S : Type 0} (r : Result (Unit {0}) E) → (P → Q → R → S) → OnOk r P → OnOk r Q → OnOk r R → OnOk r S
+three_ok (Ok x) f p q t = f p q t
+three_ok (Err e) f p q t = tt
+
+pub any_ok : {E P : Type 0} (r : Result (Unit {0}) E) → P → OnOk r P
+any_ok (Ok x) p = p
+any_ok (Err e) p = tt
+
+-- the rule of unfinished bytes, by a test for their length
+pub rest_is : (r : LineState) (rest bytes : List ℕ) (is_long : Bool) → has_any bytes ≡ true → is_long ≡ nat_lt 200 (length (rest ++ bytes))
+    → rest_rule r (rest ++ bytes) ≡ rest_if r true is_long
+rest_is r rest bytes is_long some long = λ i. rest_if r (any rest bytes some i) (sym long i)
+  where
+    any : (xs ys : List ℕ) → has_any ys ≡ true → has_any (xs ++ ys) ≡ true
+    any [] ys e = e
+    any (x ∷ xs) ys e = refl
+
+pub long_is : (a b n : ℕ) → a ≤ 200 → n ≡ a + b → nat_lt (200 - a) b ≡ nat_lt 200 n
+long_is a b n small is = by_test (nat_lt (200 - a) b) refl
+  where
+    by_test : (t : Bool) → nat_lt (200 - a) b ≡ t → t ≡ nat_lt 200 n
+    by_test true e = let h = below_of (200 - a) b e in sym (is_below 200 n (omega (arith, h, is, small)))
+    by_test false e = let h = not_below_of (200 - a) b e in sym (isnt_below 200 n (omega (arith, h, is, small)))
+
+pub some_of : (xs : List ℕ) → false ≡ (length xs == 0) → has_any xs ≡ true
+some_of [] e = cc
+some_of (x ∷ xs) e = refl
+
+pub ok_of : {E P : Type 0} (r : Result (Unit {0}) E) → false ≡ is_err r → OnOk r P → P
+ok_of (Ok x) e p = p
+ok_of (Err x) e p = cc
+
+-- a fault that is found before the line is whole
+module _ (k n : Kept) (bytes : List ℕ) (sound : IsSound k) (one_line : is_one_line bytes ≡ true) (fine : k.lines.fault ≡ None) (rule : Rule) (found : Found)
+    (bad : rest_rule k.lines (k.unfinished ++ bytes) ≡ Some rule) (is : (n.lines, found) ≡ broken k.lines rule) (rest : n.unfinished ≡ k.unfinished) where
+  same : n ≡ record { lines = (broken k.lines rule).0; unfinished = k.unfinished; start = n.start }
+  same = λ i. record { lines = (is i).0; unfinished = rest i; start = n.start }
+
+  pub fault_taken : IsTaken k bytes nothing_brought n
+  fault_taken = restart k bytes (record k { lines = (broken k.lines rule).0 }) n (ap (λ m. m.lines) same) rest
+      (broken_taken k bytes sound one_line fine rule bad)
+    where
+      restart : (a : Kept) (xs : List ℕ) (b c : Kept) → c.lines ≡ b.lines → c.unfinished ≡ b.unfinished → IsTaken a xs nothing_brought b
+          → IsTaken a xs nothing_brought c
+      restart a xs b c lines rest taken = record {
+        limit = ap (λ r. r.max_lines) lines ∙ taken.limit;
+        reached = λ x before has.
+            subst (λ r. HasReached r c.unfinished (brought_then x nothing_brought) (before ++ xs)) (sym lines)
+            (subst (λ t. HasReached b.lines t (brought_then x nothing_brought) (before ++ xs)) (sym rest) (taken.reached x before has));
+      }
+
+-- the answers about the text
+pub whole_now : (k : Kept) (b : Brought) (bytes : List ℕ) → IsSound k → HasReached k.lines k.unfinished b bytes
+    → own_reading (input_to k.lines true) bytes ≡ with_read b (known k.lines (fault_at_end k.lines k.unfinished))
+whole_now k b bytes sound has =
+    ap (own_reading (input_to k.lines true)) (sym (append-nil bytes)) ∙ has.follows true []
+    ∙ ap (λ t. with_read b (reads_on k.lines (input_to k.lines true) (cut t))) (append-nil k.unfinished)
+    ∙ ap (λ ps. with_read b (reads_on k.lines (input_to k.lines true) ps)) (split_whole 10 k.unfinished sound.one_line)
+    ∙ ap (with_read b) (by_fault k.lines.fault refl)
+  where
+    by_fault : (f : Option TextFault) → k.lines.fault ≡ f
+        → unless_faulty k.lines (input_to k.lines true) (k.unfinished ∷ []) f ≡ known k.lines (option_or f (end_fault k.lines k.unfinished))
+    by_fault (Some f) is = refl
+    by_fault None is = rest_whole k.lines k.unfinished sound.first (sound.noticed is)
+
+-- what was brought is what the bytes say
+brought_is : (k : Kept) (b : Brought) (bytes : List ℕ) → IsSound k → HasReached k.lines k.unfinished b bytes
+    → b ≡ brought_in (own_reading (input_to k.lines false) bytes)
+brought_is k b bytes sound has =
+    sym (ap brought_in (read_now k b bytes sound has) ∙ and_nothing b)
+
+pub has_read : (r : ReaderState) (b : Brought) (bytes : List ℕ) → r.has_failed ≡ false → IsSound r.kept
+    → HasReached r.kept.lines r.kept.unfinished b bytes → r.kept.start ≡ b.starting → HasRead r bytes
+has_read r b bytes works sound has start =
+    let now = read_now r.kept b bytes sound has in
+    let is = brought_is r.kept b bytes sound has in
+    record {
+      works = works;
+      sound = sound;
+      header = sym (ap (λ read. read.header) now);
+      specification = ap (λ s. s.specification) (has.said ∙ ap (λ x. read_lines nothing_read x.lines) is);
+      start = start ∙ ap (λ x. x.starting) is;
+      ended = sym (ap (λ read. read.ended) now);
+      fault = sym (ap (λ read. read.fault) now);
+      reached = subst (λ x. HasReached r.kept.lines r.kept.unfinished x bytes) is has;
+    }
+
+pub fresh_read : (max : ℕ) (r : ReaderState) → 1 ≤ max → max ≤ 268435456 → r.has_failed ≡ false → r.kept ≡ fresh_kept max → HasRead r []
+unfolding own_reading
+fresh_read max r low high works is =
+    subst (λ k. HasRead (record { kept = k; has_failed = r.has_failed }) []) (sym is)
+    (has_read (record { kept = fresh_kept max; has_failed = r.has_failed }) nothing_brought [] works
+    (record {
+      steady = record { low = low; high = high; counted = omega arith; callable = refl };
+      first = (refl, refl);
+      one_line = refl;
+      noticed = λ fine. refl;
+    }) (record { follows = λ w more. refl; said = refl }) refl)
+
+-- bytes were fed to a reader that had read some
+module _ (old new : ReaderState) (bytes piece : List ℕ) (es fs : List Entry) (ms ns : List ℕ) (has : HasRead old bytes)
+    (fed : IsSound old.kept → IsFed old.kept piece es fs ms ns new.kept) (kept : IsSound old.kept → IsSound new.kept) (works : new.has_failed ≡ false) where
+  abbrev one : IsFed old.kept piece es fs ms ns new.kept
+  one = fed has.sound
+
+  abbrev all : Brought
+  all = brought_then (brought_in (own_reading (so_far old) bytes)) one.brought
+
+  now : HasReached new.kept.lines new.kept.unfinished all (bytes ++ piece)
+  now = one.taken.reached (brought_in (own_reading (so_far old) bytes)) bytes has.reached
+
+  pub fed_read : HasRead new (bytes ++ piece)
+  fed_read = has_read new all (bytes ++ piece) works (kept has.sound) now (one.start ∙ ap (λ t. t ++ one.brought.starting) has.start)
+
+  same_input : so_far new ≡ so_far old
+  same_input = ap (λ n. record { max_lines = n; is_whole = false }) one.taken.limit
+
+  said : all ≡ brought_in (own_reading (so_far old) (bytes ++ piece))
+  said = brought_is new.kept all (bytes ++ piece) (kept has.sound) now ∙ ap (λ input. brought_in (own_reading input (bytes ++ piece))) same_input
+
+  pub fed_entries : IsGrownBy es (own_reading (so_far old) bytes).entries fs (own_reading (so_far old) (bytes ++ piece)).entries
+  fed_entries = record { more = one.brought.entries; one = one.grown; other = sym (ap (λ x. x.entries) said) }
+
+  pub fed_numbers : IsGrownBy ms (own_reading (so_far old) bytes).numbers ns (own_reading (so_far old) (bytes ++ piece)).numbers
+  fed_numbers = record { more = one.brought.numbers; one = one.counted; other = sym (ap (λ x. x.numbers) said) }
+
+  pub fed_fault : new.kept.lines.fault ≡ (own_reading (so_far old) (bytes ++ piece)).fault
+  fed_fault = fed_read.fault ∙ ap (λ input. (own_reading input (bytes ++ piece)).fault) same_input
+
+-- a reader with a fault is fed nothing
+pub faulty_fed : (k : Kept) (f : TextFault) (piece : List ℕ) (es : List Entry) (ns : List ℕ) → k.lines.fault ≡ Some f → IsFed k piece es es ns ns k
+faulty_fed k f piece es ns is = taken_fed k k piece es ns (faulty_taken k f piece is) refl
+
+pub unless : {P : Type 0} (r : Result (Unit {0}) fault.TextFault) → P → UnlessMemory r P
+unless (Ok x) p = p
+unless (Err (Malformed line rule)) p = p
+unless (Err Memory) p = tt
+
+-- what the whole input says
+module _ (r : ReaderState) (bytes : List ℕ) (has : HasRead r bytes) where
+  at_end : own_reading (whole r) bytes
+      ≡ with_read (brought_in (own_reading (so_far r) bytes)) (known r.kept.lines (fault_at_end r.kept.lines r.kept.unfinished))
+  at_end = whole_now r.kept (brought_in (own_reading (so_far r) bytes)) bytes has.sound has.reached
+
+  pub end_fault_is : fault_at_end r.kept.lines r.kept.unfinished ≡ (own_reading (whole r) bytes).fault
+  end_fault_is = sym (ap (λ read. read.fault) at_end)
+
+  pub end_alike : own_reading (whole r) bytes ≡ record (own_reading (so_far r) bytes) { fault = (own_reading (whole r) bytes).fault }
+  end_alike = λ i. record {
+    header = (ap (λ read. read.header) at_end ∙ has.header) i;
+    lines = (ap (λ read. read.lines) at_end ∙ append-nil (own_reading (so_far r) bytes).lines) i;
+    starting = (ap (λ read. read.starting) at_end ∙ append-nil (own_reading (so_far r) bytes).starting) i;
+    entries = (ap (λ read. read.entries) at_end ∙ append-nil (own_reading (so_far r) bytes).entries) i;
+    numbers = (ap (λ read. read.numbers) at_end ∙ append-nil (own_reading (so_far r) bytes).numbers) i;
+    ended = (ap (λ read. read.ended) at_end ∙ has.ended) i;
+    fault = (own_reading (whole r) bytes).fault;
+  }
+
+  no_fault_ends : fault_at_end r.kept.lines r.kept.unfinished ≡ None → has_ended r.kept.lines.stage ≡ true
+  no_fault_ends none = by_end r.kept.lines.fault (has_ended r.kept.lines.stage) none
+    where
+      by_end : (f : Option TextFault) (b : Bool) → option_or f (cond b None (Some (record {
+        line = r.kept.lines.line;
+        rule = cond (has_any r.kept.unfinished) NoLineFeed NoEnd;
+      }))) ≡ None → b ≡ true
+      by_end None true e = refl
+      by_end None false e = cc
+      by_end (Some f) b e = cc
+
+  pub end_ended : (x : Result (Unit {0}) fault.TextFault) → IsAnswer x (fault_at_end r.kept.lines r.kept.unfinished)
+      → OnOk x ((own_reading (whole r) bytes).ended ≡ true)
+  end_ended (Ok x) is = ap (λ read. read.ended) at_end ∙ no_fault_ends is
+  end_ended (Err e) is = tt
+
+pub no_fault : (o : Option LineFault) → is_some o ≡ false → option_map fault_of o ≡ None
+no_fault None e = refl
+no_fault (Some f) e = cc

@@ -1,0 +1,15 @@
+use Rattle.std.proofs.Common.{◌≡◌, length}
+use Rattle.vyrd_own_log.specs.KeptView.{kept_of}
+use Rattle.vyrd_own_log.specs.Readers.{IsFedFront, IsSafe, IsSound}
+use Rattle.vyrd_own_log.proofs.piece_reader.PieceReader.take_piece.Given as goal
+
+abbrev pub invariant-loop-line : goal.invariant-loop-line
+invariant-loop-line l = record {
+  safe : IsSafe (kept_of l.self);
+  limit : l.self.lines.max_lines ≡ l.initial.self.lines.max_lines;
+  fed : IsSound (kept_of l.initial.self) → IsFedFront (kept_of l.initial.self) l.piece l.rest l.initial.out.items l.out.items
+      l.initial.numbers.items l.numbers.items (kept_of l.self);
+}
+
+abbrev pub decreases-loop-line : goal.decreases-loop-line
+decreases-loop-line l = length l.rest

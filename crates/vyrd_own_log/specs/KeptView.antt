@@ -1,0 +1,11 @@
+-- What the fields of a reader of pieces stand for.
+use Rattle.vyrd_own_log.specs.declared.piece_reader.PieceReader.{PieceReader}
+use Rattle.vyrd_own_log.specs.StateView.{state_of}
+use Rattle.vyrd_own_log.specs.Readers.{Kept}
+
+abbrev pub kept_of : PieceReader → Kept
+kept_of r = record {
+  lines = state_of r.lines;
+  unfinished = r.unfinished.items;
+  start = r.start.items;
+}

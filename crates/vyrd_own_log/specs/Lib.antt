@@ -1,0 +1,9 @@
+pub mod Callable
+pub mod Spelled
+pub mod States
+pub mod Steps
+pub mod StateView
+pub mod Rests
+pub mod Readers
+pub mod KeptView
+pub mod ReaderView

@@ -1,0 +1,197 @@
+//! What takes in the pieces of a log's text, and keeps the unfinished line.
+
+ghost use Rattle.std.specs.Prelude.{◌≡◌, ◌∷◌, ◌++◌, [], true, IfOk, OnOk};
+ghost use Rattle.vyrd_text.specs.Answered.{IsAnswer};
+ghost use Rattle.vyrd_own_log.specs.KeptView.{kept_of};
+ghost use Rattle.vyrd_own_log.specs.Readers.{fresh_kept, is_one_line, IsSafe, IsSound, IsTaken, IsFed};
+ghost use Rattle.vyrd_own_log.specs.Rests.{fault_at_end};
+ghost use Rattle.vyrd_own_log.specs.Steps.{nothing_brought, starts_of, entries_of, numbers_of};
+
+use crate::line_reader::{LONGEST, LineReader};
+use crate::stage::Found;
+use std::alloc::{AllocError, Global};
+use vyrd_base::{Entry, Rule, StartWord};
+use vyrd_text::{TextFault, split_line};
+
+/// A reader of a log's text, while it finds memory. It keeps the specification, the starting words
+/// and at most one unfinished line.
+#[derive(Drop)]
+pub(crate) struct PieceReader {
+    pub(crate) lines: LineReader,
+    pub(crate) unfinished: Vec<u8>,
+    pub(crate) start: Vec<StartWord>,
+}
+
+impl PieceReader {
+    /// A reader that has taken in nothing. It takes no memory.
+    pub(crate) fn new(alloc: Global, max_lines: u64) -> PieceReader
+        ensures { kept_of result ≡ fresh_kept max_lines }
+    {
+        PieceReader {
+            lines: LineReader::new(alloc, max_lines),
+            unfinished: Vec::new(alloc),
+            start: Vec::new(alloc),
+        }
+    }
+
+    /// The answer about the text, if it ends here.
+    pub(crate) fn finish(&self) -> Result<(), TextFault>
+        ensures { IsAnswer result
+            (fault_at_end (kept_of self.now).lines (kept_of self.now).unfinished) }
+    {
+        if self.lines.fault.is_some() {
+            return self.lines.answer();
+        }
+        if self.lines.ended() {
+            return Ok(());
+        }
+        let rule = if self.unfinished.is_empty() {
+            Rule::NoEnd
+        } else {
+            Rule::NoLineFeed
+        };
+        Err(TextFault::Malformed {
+            line: self.lines.line,
+            rule,
+        })
+    }
+
+    /// Takes in a piece, and appends the entries that it brings, and the numbers of lines.
+    pub(crate) fn take_piece(
+        &mut self,
+        piece: &[u8],
+        out: &mut Vec<Entry>,
+        numbers: &mut Vec<u64>,
+    ) -> Result<(), AllocError>
+        requires { IsSafe (kept_of self.old) }
+        ensures fed { OnOk result (IsSound (kept_of self.old) → IsFed (kept_of self.old) piece.now
+            out.old.items out.new.items numbers.old.items numbers.new.items (kept_of self.new)) }
+        ensures sound { OnOk result (IsSound (kept_of self.old) → IsSound (kept_of self.new)) }
+        ensures safe { IsSafe (kept_of self.new) }
+        ensures limit { self.new.lines.max_lines ≡ self.old.lines.max_lines }
+    {
+        let mut rest = piece;
+        while let Some((line, after)) = split_line(rest) {
+            self.take_line(line, out, numbers)?;
+            rest = after;
+        }
+        self.take_unfinished(rest)
+    }
+
+    /// Takes in the bytes before a line feed and that line feed, and appends what the line brings.
+    fn take_line(
+        &mut self,
+        line: &[u8],
+        out: &mut Vec<Entry>,
+        numbers: &mut Vec<u64>,
+    ) -> Result<(), AllocError>
+        requires safe { IsSafe (kept_of self.old) }
+        requires one_line { is_one_line line.now ≡ true }
+        ensures fed { OnOk result (IsSound (kept_of self.old) → IsFed (kept_of self.old)
+            (line.now ++ 10 ∷ []) out.old.items out.new.items numbers.old.items numbers.new.items
+            (kept_of self.new)) }
+        ensures sound { OnOk result (IsSound (kept_of self.old) → IsSound (kept_of self.new)) }
+        ensures safe { IsSafe (kept_of self.new) }
+        ensures limit { self.new.lines.max_lines ≡ self.old.lines.max_lines }
+    {
+        if self.unfinished.is_empty() {
+            return self.end_line(line, out, numbers);
+        }
+        self.take_unfinished(line)?;
+        self.end_unfinished(out, numbers)
+    }
+
+    /// Takes in a line that lies whole in a piece, and its line feed.
+    fn end_line(
+        &mut self,
+        line: &[u8],
+        out: &mut Vec<Entry>,
+        numbers: &mut Vec<u64>,
+    ) -> Result<(), AllocError>
+        requires safe { IsSafe (kept_of self.old) }
+        requires one_line { is_one_line line.now ≡ true }
+        requires begun { self.old.unfinished.items ≡ [] }
+        ensures fed { OnOk result (IsSound (kept_of self.old) → IsFed (kept_of self.old)
+            (line.now ++ 10 ∷ []) out.old.items out.new.items numbers.old.items numbers.new.items
+            (kept_of self.new)) }
+        ensures sound { OnOk result (IsSound (kept_of self.old) → IsSound (kept_of self.new)) }
+        ensures safe { IsSafe (kept_of self.new) }
+        ensures limit { self.new.lines.max_lines ≡ self.old.lines.max_lines }
+    {
+        let number = self.lines.line;
+        let found = self.lines.take_line(line)?;
+        put(number, found, &mut self.start, out, numbers)
+    }
+
+    /// Takes in the line feed after the unfinished line.
+    fn end_unfinished(
+        &mut self,
+        out: &mut Vec<Entry>,
+        numbers: &mut Vec<u64>,
+    ) -> Result<(), AllocError>
+        requires { IsSafe (kept_of self.old) }
+        ensures fed { OnOk result (IsSound (kept_of self.old) → IsFed (kept_of self.old) (10 ∷ [])
+            out.old.items out.new.items numbers.old.items numbers.new.items (kept_of self.new)) }
+        ensures sound { OnOk result (IsSound (kept_of self.old) → IsSound (kept_of self.new)) }
+        ensures safe { IsSafe (kept_of self.new) }
+        ensures limit { self.new.lines.max_lines ≡ self.old.lines.max_lines }
+    {
+        let number = self.lines.line;
+        let found = self.lines.take_line(&self.unfinished)?;
+        self.unfinished.clear();
+        put(number, found, &mut self.start, out, numbers)
+    }
+
+    /// Takes in bytes without a line feed.
+    fn take_unfinished(&mut self, bytes: &[u8]) -> Result<(), AllocError>
+        requires safe { IsSafe (kept_of self.old) }
+        requires one_line { is_one_line bytes.now ≡ true }
+        ensures taken { OnOk result (IsSound (kept_of self.old)
+            → IsTaken (kept_of self.old) bytes.now nothing_brought (kept_of self.new)) }
+        ensures sound { OnOk result (IsSound (kept_of self.old) → IsSound (kept_of self.new)) }
+        ensures safe { IsSafe (kept_of self.new) }
+        ensures start { self.new.start ≡ self.old.start }
+        ensures limit { self.new.lines.max_lines ≡ self.old.lines.max_lines }
+    {
+        if bytes.is_empty() || self.lines.fault.is_some() {
+            return Ok(());
+        }
+        let is_long = bytes.len() > LONGEST - self.unfinished.len();
+        match self.lines.unfinished_rule(is_long) {
+            Some(rule) => {
+                self.lines.break_rule(rule);
+                Ok(())
+            }
+            None => self.unfinished.extend_from_slice(bytes),
+        }
+    }
+}
+
+/// Appends what a line brings that has this number.
+fn put(
+    number: u64,
+    found: Found,
+    start: &mut Vec<StartWord>,
+    out: &mut Vec<Entry>,
+    numbers: &mut Vec<u64>,
+) -> Result<(), AllocError>
+    ensures start { OnOk result (start.new.items ≡ start.old.items ++ starts_of found) }
+    ensures entries { OnOk result (out.new.items ≡ out.old.items ++ entries_of found) }
+    ensures numbers { OnOk result
+        (numbers.new.items ≡ numbers.old.items ++ numbers_of number found) }
+{
+    match found {
+        Found::Nothing => {}
+        Found::Specified => {}
+        Found::Start(word) => {
+            start.push(word)?;
+            numbers.push(number)?;
+        }
+        Found::Entry(entry) => {
+            out.push(entry)?;
+            numbers.push(number)?;
+        }
+        Found::End => numbers.push(number)?,
+    }
+    Ok(())
+}
