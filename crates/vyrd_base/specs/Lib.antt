@@ -29,6 +29,7 @@ pub mod Lines
 pub mod Reading
 pub mod VerdictText
 pub mod TextVerdicts
+pub mod LogVerdicts
 pub mod Histories
 pub mod Parts
 pub mod Represented
