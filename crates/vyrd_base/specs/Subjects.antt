@@ -11,6 +11,7 @@ use Rattle.vyrd_base.specs.declared.subject.Method.TheVariants.{Cache as OfCache
 use Rattle.vyrd_base.specs.declared.subject.Method.TheVariants.{Buffers as OfBuffers}
 use Rattle.vyrd_base.specs.declared.subject.Method.TheVariants.{OwnNever, OwnAtMostOnce, OwnOnce}
 use Rattle.vyrd_base.specs.declared.multiset.MultisetMethod.TheVariants.{Insert}
+use Rattle.vyrd_base.specs.declared.own.method.OwnMethod.{OwnMethod}
 use Rattle.vyrd_base.specs.declared.subject.Args.{Args}
 use Rattle.vyrd_base.specs.declared.subject.Commits.{Commits}
 use Rattle.vyrd_base.specs.declared.subject.Commits.TheVariants.{Never, AtMostOnce, Once}
@@ -33,15 +34,16 @@ by_subject say Tree = say _ tree
 by_subject say Buffers = say _ buffers
 by_subject say Own = say _ own
 
--- what the method's structure says of it
+-- What the method's structure says of it. How many of three arguments a method of the user's own
+-- has is said by its specification alone.
 abbrev pub by_method : {A : Type 0} → ((M : Type 0) → Structure M → M → A) → Method → A
 by_method say (OfMultiset method) = say _ multiset method
 by_method say (OfCache method) = say _ cache method
 by_method say (OfTree method) = say _ tree method
 by_method say (OfBuffers method) = say _ buffers method
-by_method say (OwnNever i) = say _ own (record { number = i; commits = Never })
-by_method say (OwnAtMostOnce i) = say _ own (record { number = i; commits = AtMostOnce })
-by_method say (OwnOnce i) = say _ own (record { number = i; commits = Once })
+by_method say (OwnNever i) = say _ own (record { number = i; arity = 3; commits = Never })
+by_method say (OwnAtMostOnce i) = say _ own (record { number = i; arity = 3; commits = AtMostOnce })
+by_method say (OwnOnce i) = say _ own (record { number = i; arity = 3; commits = Once })
 
 -- the subject whose method it is
 abbrev pub subject_of : Method → Subject
@@ -61,11 +63,14 @@ methods_of Tree = map OfTree tree.methods
 methods_of Buffers = map OfBuffers buffers.methods
 methods_of Own = []
 
--- the method of the user's own that has this number and commits so often
+-- what is known without the specification of a method of the user's own
 abbrev pub own_numbered : ℕ → Commits → Method
 own_numbered i Never = OwnNever i
 own_numbered i AtMostOnce = OwnAtMostOnce i
 own_numbered i Once = OwnOnce i
+
+abbrev pub own_call : OwnMethod → Method
+own_call m = own_numbered m.number m.commits
 
 -- the number of a method, if it is one of the user's own
 abbrev pub own_number : Method → Option ℕ

@@ -85,7 +85,7 @@ pub use log::{Entry, Kind, StartWord};
 pub use memory_sink::MemorySink;
 pub use memory_source::MemorySource;
 pub use multiset::MultisetMethod;
-pub use own::{Effect, Last, Op, SpecificationLine, SpecificationRule};
+pub use own::{Effect, Last, Op, OwnMethod, SpecificationLine, SpecificationRule};
 pub use streams::{StdSink, StdSource};
 pub use subject::{Args, Commits, Method, Subject};
 pub use tree::TreeMethod;

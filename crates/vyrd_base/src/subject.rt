@@ -6,11 +6,12 @@ ghost use Rattle.vyrd_base.specs.Limits.{is_within, longest_subject, longest_met
 ghost use Rattle.vyrd_base.specs.Spelling.{subject_name, method_name};
 ghost use Rattle.vyrd_base.specs.Subjects.{subject_of, is_observer, arity_of, are_padded};
 ghost use Rattle.vyrd_base.specs.Subjects.{are_ranged, commits_of, must_commit, methods_of};
-ghost use Rattle.vyrd_base.specs.Subjects.{some_method, limits_of, own_numbered, own_number};
+ghost use Rattle.vyrd_base.specs.Subjects.{some_method, limits_of, own_call, own_number};
 
 use crate::buffers::BuffersMethod;
 use crate::cache::CacheMethod;
 use crate::multiset::MultisetMethod;
+use crate::own::OwnMethod;
 use crate::tree::TreeMethod;
 
 /// The data structure that is watched.
@@ -170,14 +171,14 @@ impl Method {
         Method::Multiset(MultisetMethod::Insert)
     }
 
-    /// The method of the user's own that has this number and commits so often.
-    pub fn own(number: u8, commits: Commits) -> Method
-        ensures { result ≡ own_numbered number commits }
+    /// What is known without the specification of a method of the user's own.
+    pub fn own(method: OwnMethod) -> Method
+        ensures { result ≡ own_call method }
     {
-        match commits {
-            Commits::Never => Method::OwnNever(number),
-            Commits::AtMostOnce => Method::OwnAtMostOnce(number),
-            Commits::Once => Method::OwnOnce(number),
+        match method.commits {
+            Commits::Never => Method::OwnNever(method.number),
+            Commits::AtMostOnce => Method::OwnAtMostOnce(method.number),
+            Commits::Once => Method::OwnOnce(method.number),
         }
     }
 

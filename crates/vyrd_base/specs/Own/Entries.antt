@@ -5,7 +5,7 @@ use Rattle.std.specs.Prelude.{codes, decimal, Option, Some, None, is_some, optio
 use Rattle.std.specs.Prelude.{slice_get, if◌then◌else◌}
 use Rattle.std.specs.Option.{option_map_or}
 use Rattle.std.specs.Str.{bytes_eq}
-use Rattle.vyrd_base.specs.declared.subject.Method as declared
+use Rattle.vyrd_base.specs.declared.own.method.OwnMethod.{OwnMethod}
 use Rattle.vyrd_base.specs.declared.subject.Args.{Args}
 use Rattle.vyrd_base.specs.declared.subject.Commits.{Commits}
 use Rattle.vyrd_base.specs.declared.subject.Commits.TheVariants.{Never, AtMostOnce, Once}
@@ -13,7 +13,7 @@ use Rattle.vyrd_base.specs.declared.log.Kind.{Kind}
 use Rattle.vyrd_base.specs.declared.log.Kind.TheVariants.{Call, Return, Write, Commit, BlockOpen}
 use Rattle.vyrd_base.specs.declared.log.Kind.TheVariants.{BlockClose, BlockCommit}
 use Rattle.vyrd_base.specs.declared.log.Entry.{Entry}
-use Rattle.vyrd_base.specs.Subjects.{own_numbered, own_number, are_padded}
+use Rattle.vyrd_base.specs.Subjects.{own_call, own_number, are_padded}
 use Rattle.vyrd_base.specs.Spelling.{spaced, kind_fields}
 use Rattle.vyrd_base.specs.Lines.{fields_of, number_of, args_from}
 use Rattle.vyrd_base.specs.Own.Expressions.{most}
@@ -27,11 +27,15 @@ use Rattle.vyrd_base.specs.Rules.{given}
 abbrev pub own_commits : Method → Commits
 own_commits m = if has_any m.cases then (if is_some m.answer then AtMostOnce else Once) else Never
 
--- the method of that name as a call has it, among those from a number on
-abbrev pub named_from : ℕ → List Method → List ℕ → Option declared.Method
+-- the method that has that number
+abbrev pub own_method : ℕ → Method → OwnMethod
+own_method i m = record { number = i; arity = m.arity; commits = own_commits m }
+
+-- the method of that name, among those from a number on
+abbrev pub named_from : ℕ → List Method → List ℕ → Option OwnMethod
 named_from i [] name = None
-named_from i (m ∷ methods) name = if bytes_eq m.name name then Some (own_numbered i (own_commits m))
-    else named_from (i + 1) methods name
+named_from i (m ∷ methods) name =
+    if bytes_eq m.name name then Some (own_method i m) else named_from (i + 1) methods name
 
 -- the name of the method of that number
 abbrev pub own_name : Written → ℕ → List ℕ
@@ -76,7 +80,7 @@ abbrev pub guessed_own_kind : Written → List (List ℕ) → Option Kind
 guessed_own_kind w (word ∷ []) = if bytes_eq word (codes "commit") then Some Commit
     else (if bytes_eq word (codes "open") then Some BlockOpen else Some BlockClose)
 guessed_own_kind w (word ∷ x ∷ fields) = if bytes_eq word (codes "call")
-    then option_map (λ method. Call method (args_from fields)) (named_from 0 w.methods x)
+    then option_map (λ m. Call (own_call m) (args_from fields)) (named_from 0 w.methods x)
     else (if bytes_eq word (codes "return") then Some (Return (number_of x))
     else (if bytes_eq word (codes "write") then Some (Write (number_of x) (args_from fields).a)
     else Some BlockCommit))

@@ -2,24 +2,19 @@
 -- there are, and of a method how often it commits. All else is said by
 -- the specification in front of the log. Without it nothing is allowed, and nothing shows.
 use Rattle.std.specs.Prelude.{ℕ, Bool, true, List, [], codes, Option, None}
+use Rattle.vyrd_base.specs.declared.own.method.OwnMethod.{OwnMethod}
 use Rattle.vyrd_base.specs.declared.subject.Args.{Args}
 use Rattle.vyrd_base.specs.declared.subject.Commits.{Commits}
 use Rattle.vyrd_base.specs.Limits.{is_own_within}
 use Rattle.vyrd_base.specs.Amounts.{Amounts}
 use Rattle.vyrd_base.specs.Structures.{Structure}
 
--- a method, by its place among those of the specification from 0 on
-pub record OwnMethod : Type 0 where
-  pub number : ℕ
-  pub commits : Commits
-
 -- the names of its methods stand in the specification
 abbrev pub called : OwnMethod → List ℕ
 called method = codes "own"
 
--- how many of three arguments a method has is said there, too
 abbrev pub arity : OwnMethod → ℕ
-arity method = 3
+arity method = method.arity
 
 -- any argument is in range
 abbrev pub takes : ℕ → OwnMethod → Args → Bool
