@@ -27,12 +27,12 @@ line_is words callers =
 
 pub few_words : (words callers : ℕ) → is_own_sized words callers ≡ true → words < 2 ^ 32
 few_words words callers sized =
-    let h = at_most_of words 1048576 (first_true _ _ (first_true _ _ sized)) in
+    let h = at_most_of words 65536 (first_true _ _ (first_true _ _ sized)) in
     omega (arith, h)
 
 pub few_callers : (words callers : ℕ) → is_own_sized words callers ≡ true → callers < 2 ^ 32
 few_callers words callers sized =
-    let h = at_most_of callers 1024 (second_true (nat_le words 1048576 && nat_le 1 callers) _ sized) in
+    let h = at_most_of callers 256 (second_true (nat_le words 65536 && nat_le 1 callers) _ sized) in
     omega (arith, h)
 
 -- a line that is read as a header is the text of one

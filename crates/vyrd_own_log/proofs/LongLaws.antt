@@ -1,13 +1,11 @@
 -- No line with more than 200 bytes spells anything.
-use Rattle.std.proofs.Common.{◌≡◌, ℕ, suc, zero, ◌<◌, ◌≤◌, ◌^◌, Bool, true, false, cond, ◌&&◌, List, [], ◌∷◌, map, take, length, Option, Some, None, refl, ap, ◌∙◌, arith, length-append}
+use Rattle.std.proofs.Common.{◌≡◌, ℕ, suc, zero, ◌<◌, ◌≤◌, ◌^◌, Bool, true, false, cond, ◌&&◌, List, [], ◌∷◌, map, take, length, Option, Some, None, refl, ap, sym, ◌∙◌, arith, length-append}
 use Rattle.std.specs.Prelude.{◌==◌, nat_lt, nat_le, codes, decimal, drop, Ok, Err}
 use Rattle.std.specs.List.{join_with_byte}
 use Rattle.std.specs.Str.{bytes_eq}
 use Rattle.std.proofs.Math.Bool.{and-false}
 use Rattle.std.proofs.lemmas.Slice.Eq.{bytes_eq-Decides}
 use Rattle.vyrd_base.specs.declared.header.Header.{Header}
-use Rattle.vyrd_base.specs.declared.subject.Method.TheVariants.{Own as OfOwn}
-use Rattle.vyrd_base.specs.declared.subject.Method.TheVariants.{Multiset, Cache, Tree, Buffers}
 use Rattle.vyrd_base.specs.declared.log.Kind.{Kind}
 use Rattle.vyrd_base.specs.declared.log.Kind.TheVariants.{Call, Return, Write, Commit, BlockOpen, BlockClose, BlockCommit}
 use Rattle.vyrd_base.specs.declared.log.Entry.{Entry}
@@ -27,7 +25,7 @@ use Rattle.vyrd_base.proofs.TestLaws.{first_true, second_true, below_of, is_belo
 use Rattle.vyrd_own_log.specs.Spelled.{IsOf}
 use Rattle.vyrd_own_log.proofs.NameLaws.{named_is}
 use Rattle.vyrd_own_log.proofs.HeaderLaws.{header_sound, few_words, few_callers}
-use Rattle.vyrd_own_log.proofs.EntryLaws.{AllCallable, entry_sound, below_most}
+use Rattle.vyrd_own_log.proofs.EntryLaws.{AllCallable, entry_sound, below_most, called_fields, called_test}
 
 length-join : (c : ℕ) (fields : List (List ℕ)) → length (join_with_byte c fields) ≤ spaced_length fields
 length-join c [] = omega arith
@@ -48,18 +46,18 @@ short_32 : (n : ℕ) → nat_lt n (2 ^ 32) ≡ true → length (decimal n) ≤ 1
 short_32 n e = short_number n (below_of n (2 ^ 32) e)
 
 -- the fields after the caller have at most 71 bytes, with their spaces
-short_kind : (w : Written) (kind : Kind) → AllCallable w → is_own_kind kind ≡ true → IsOf w kind → spaced_length (own_fields w kind) ≤ 71
-short_kind w (Call (OfOwn m) args) all e of =
-    let n = named_is 0 w.methods (own_name w m.number) m all of in
+short_kind : (w : Written) (kind : Kind) → AllCallable w → is_own_kind w kind ≡ true → IsOf w kind → spaced_length (own_fields w kind) ≤ 71
+short_kind w (Call method args) all e of =
+    let m = of.named in
+    let n = named_is 0 w.methods (own_name w m.number) m all of.found in
+    let ranged = sym (called_test w all method of args) ∙ e in
     let name : length (own_name w m.number) ≤ 32 = n.short in
-    let a = short_32 args.a (second_true (are_padded m.arity args) _ (first_true _ _ (first_true _ _ e))) in
-    let b = short_32 args.b (second_true (are_padded m.arity args && nat_lt args.a (2 ^ 32)) _ (first_true _ _ e)) in
-    let c = short_32 args.c (second_true (are_padded m.arity args && nat_lt args.a (2 ^ 32) && nat_lt args.b (2 ^ 32)) _ e) in
-    omega (arith, name, fewer m.arity (args.a ∷ args.b ∷ args.c ∷ []), a, b, c)
-short_kind w (Call (Multiset m) args) all e of = absurd of
-short_kind w (Call (Cache m) args) all e of = absurd of
-short_kind w (Call (Tree m) args) all e of = absurd of
-short_kind w (Call (Buffers m) args) all e of = absurd of
+    let a = short_32 args.a (second_true (are_padded m.arity args) _ (first_true _ _ (first_true _ _ ranged))) in
+    let b = short_32 args.b (second_true (are_padded m.arity args && nat_lt args.a (2 ^ 32)) _ (first_true _ _ ranged)) in
+    let c = short_32 args.c (second_true (are_padded m.arity args && nat_lt args.a (2 ^ 32) && nat_lt args.b (2 ^ 32)) _ ranged) in
+    let few = fewer m.arity (args.a ∷ args.b ∷ args.c ∷ []) in
+    let fields = ap spaced_length (called_fields w all method of args) in
+    omega (arith, fields, name, few, a, b, c)
 short_kind w (Return reply) all e of = omega (arith, short_value reply (below_most reply e))
 short_kind w (Write word value) all e of =
     let x = short_32 word (first_true _ _ e) in

@@ -18,12 +18,17 @@ use Rattle.vyrd_own_log.specs.Callable.{is_callable}
 abbrev pub name_in : List Method → ℕ → List ℕ
 name_in methods j = option_map_or (λ m. m.name) (slice_get methods j) []
 
+-- the number of arguments of a method by its place
+abbrev pub arity_in : List Method → ℕ → ℕ
+arity_in methods j = option_map_or (λ m. m.arity) (slice_get methods j) 0
+
 -- what is known of the method that a name finds, among those from a number on
 pub record IsNamed (i : ℕ) (methods : List Method) (name : List ℕ) (m : OwnMethod) : Type 0 where
   pub place : ℕ
   pub within : place < length methods
   pub number : m.number ≡ i + place
   pub called : name_in methods place ≡ name
+  pub arity : arity_in methods place ≡ m.arity
   pub few : m.arity ≤ 3
   pub short : length name ≤ 32
   pub one_word : lacks 32 name ≡ true
@@ -49,6 +54,7 @@ named_is i (first ∷ methods) name m all e =
           within = omega arith;
           number = let number : i ≡ m.number = ap (λ o. o.number) same in omega (arith, number);
           called = called;
+          arity = ap (λ o. o.arity) same;
           few = let arity : first.arity ≡ m.arity = ap (λ o. o.arity) same in omega (arith, arity, few);
           short = omega (arith, ap length called, short);
           one_word = ap (lacks 32) (sym called) ∙ second_true (nat_le first.arity 3 && nat_le (length first.name) 32) _ ok;
@@ -60,6 +66,7 @@ named_is i (first ∷ methods) name m all e =
           within = omega (arith, more.within);
           number = omega (arith, more.number);
           called = more.called;
+          arity = more.arity;
           few = more.few;
           short = more.short;
           one_word = more.one_word;

@@ -3,15 +3,15 @@
 use Rattle.std.specs.Prelude.{◌≡◌, ℕ, ◌^◌, ◌<◌, zero, suc, true, List, ◌++◌}
 use Rattle.std.specs.Prelude.{Option, Some, None, not, ◌==◌}
 use Rattle.std.specs.List.{list_all}
-use Rattle.vyrd_base.specs.declared.subject.Method.TheVariants.{Own as OfOwn}
-use Rattle.vyrd_base.specs.declared.subject.Method.TheVariants.{Multiset, Cache, Tree, Buffers}
+use Rattle.vyrd_base.specs.declared.own.method.OwnMethod.{OwnMethod}
+use Rattle.vyrd_base.specs.declared.subject.Method.{Method}
 use Rattle.vyrd_base.specs.declared.subject.Args.{Args}
 use Rattle.vyrd_base.specs.declared.log.Kind.{Kind}
-use Rattle.vyrd_base.specs.declared.log.Kind.TheVariants.{Call, Return, Write, Commit, BlockOpen}
-use Rattle.vyrd_base.specs.declared.log.Kind.TheVariants.{BlockClose, BlockCommit}
-use Rattle.vyrd_base.specs.Subjects.{are_padded}
+use Rattle.vyrd_base.specs.declared.log.Kind.TheVariants.{Call}
+use Rattle.vyrd_base.specs.Subjects.{own_call, own_number, are_padded}
 use Rattle.vyrd_base.specs.Spelling.{spaced}
 use Rattle.vyrd_base.specs.Own.Programs.{Written}
+use Rattle.vyrd_base.specs.Own.OwnRules.{own_arity}
 use Rattle.vyrd_base.specs.Own.Entries.{own_name, named_from, own_fields, is_own_kind}
 use Rattle.vyrd_text.specs.Fields.{after_field}
 use Rattle.vyrd_text.specs.Spelled.{args_text}
@@ -25,39 +25,28 @@ abbrev pub own_args : ℕ → Args → Option (List ℕ)
 own_args zero args = None
 own_args (suc more) args = Some (args_text (suc more) args)
 
+-- a call names the method that its name finds
+pub record IsCalled (w : Written) (method : Method) : Type 0 where
+  pub named : OwnMethod
+  pub is : own_call named ≡ method
+  pub found : named_from 0 w.methods (own_name w named.number) ≡ Some named
+
 -- a called method is the one that its name finds
 abbrev pub IsOf : Written → Kind → Type 0
-IsOf w (Call (OfOwn m) args) = named_from 0 w.methods (own_name w m.number) ≡ Some m
-IsOf w (Call (Multiset m) args) = ⊥
-IsOf w (Call (Cache m) args) = ⊥
-IsOf w (Call (Tree m) args) = ⊥
-IsOf w (Call (Buffers m) args) = ⊥
-IsOf w (Return reply) = Unit {0}
-IsOf w (Write word value) = Unit {0}
-IsOf w Commit = Unit {0}
-IsOf w BlockOpen = Unit {0}
-IsOf w BlockClose = Unit {0}
-IsOf w BlockCommit = Unit {0}
+IsOf w (Call method args) = IsCalled w method
+IsOf w kind = Unit {0}
 
 -- where a method has no argument, the first is 0
-abbrev pub HasNoOther : Kind → Type 0
-HasNoOther (Call (OfOwn m) args) = m.arity ≡ 0 → args.a ≡ 0
-HasNoOther (Call (Multiset m) args) = Unit {0}
-HasNoOther (Call (Cache m) args) = Unit {0}
-HasNoOther (Call (Tree m) args) = Unit {0}
-HasNoOther (Call (Buffers m) args) = Unit {0}
-HasNoOther (Return reply) = Unit {0}
-HasNoOther (Write word value) = Unit {0}
-HasNoOther Commit = Unit {0}
-HasNoOther BlockOpen = Unit {0}
-HasNoOther BlockClose = Unit {0}
-HasNoOther BlockCommit = Unit {0}
+abbrev pub HasNoOther : Written → Kind → Type 0
+HasNoOther w (Call method args) =
+    (i : ℕ) → own_number method ≡ Some i → own_arity w i ≡ 0 → args.a ≡ 0
+HasNoOther w kind = Unit {0}
 
 -- the kind in the text's ranges whose text it is
 abbrev pub IsOwnKindRead : Written → List ℕ → Option Kind → Type 0
 IsOwnKindRead w text None =
-    (kind : Kind) → is_own_kind kind ≡ true → IsOf w kind → text ≡ own_kind_text w kind → ⊥
-IsOwnKindRead w text (Some kind) = (is_own_kind kind ≡ true) × IsOf w kind × HasNoOther kind
+    (kind : Kind) → is_own_kind w kind ≡ true → IsOf w kind → text ≡ own_kind_text w kind → ⊥
+IsOwnKindRead w text (Some kind) = (is_own_kind w kind ≡ true) × IsOf w kind × HasNoOther w kind
     × (text ≡ own_kind_text w kind)
 
 -- the arguments below 2^32 that a method with so many of them has, whose text this is behind its name

@@ -81,7 +81,7 @@ fn read_called(program: &Program, text: &[u8]) -> Option<Kind>
     let (name, rest) = split_field(text);
     let method = find_method(&program.methods, name)?;
     let args = read_own_args(method.arity, rest)?;
-    Some(Kind::Call(vyrd_base::Method::Own(method), args))
+    Some(Kind::Call(vyrd_base::Method::own(method), args))
 }
 
 /// What stands before the first space, and what stands after that space, if there is one.

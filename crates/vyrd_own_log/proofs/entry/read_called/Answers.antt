@@ -45,6 +45,6 @@ returns c =
     let name = c.split_field.result.0.now in
     let is : named_from 0 w.methods name ≡ Some c.in_ok-method.method =
     ap (λ ms. named_from 0 (map method_of ms) name) (sym c.deref.ensures.value) ∙ sym c.in_ok-method.ensures in
-    call_read w all c.args.text.now name (option_map (λ rest. rest.now) c.split_field.result.1)
+    rw c.own.ensures (call_read w all c.args.text.now name (option_map (λ rest. rest.now) c.split_field.result.1)
     c.split_field.ensures.parts c.split_field.ensures.one_word c.in_ok-method.method c.in_ok-args.args is c.in_ok-args.ensures
-    (omega arith) (omega arith) (omega arith)
+    (omega arith) (omega arith) (omega arith))
