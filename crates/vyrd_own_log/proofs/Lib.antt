@@ -8,3 +8,4 @@ pub mod RestLaws
 pub mod SteadyLaws
 pub mod ReaderLaws
 pub mod ReadLaws
+pub mod GrownLaws

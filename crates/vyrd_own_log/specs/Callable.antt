@@ -1,4 +1,4 @@
--- Specifications whose methods the entries of a log can call. Each that was read from a text is one.
+-- Specifications whose methods the entries of a log can call. Each that is read from a text is one.
 use Rattle.std.specs.Prelude.{◌==◌, Bool, not, ◌&&◌, nat_le, List, length}
 use Rattle.std.specs.List.{list_all}
 use Rattle.vyrd_base.specs.Own.Programs.{Method}

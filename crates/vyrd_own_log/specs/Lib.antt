@@ -7,3 +7,4 @@ pub mod Rests
 pub mod Readers
 pub mod KeptView
 pub mod ReaderView
+pub mod Grown

@@ -42,7 +42,8 @@ goes_on r rest is_whole more =
 -- The bytes brought this, and the rest of them is unfinished: whatever comes next, the reading of
 -- all bytes is what was brought and then what is made of what comes.
 pub record HasReached (r : LineState) (rest : List ℕ) (b : Brought) (bytes : List ℕ) : Type 0 where
-  pub follows : (is_whole : Bool) (more : List ℕ) → own_reading (input_to r is_whole) (bytes ++ more)
+  pub follows : (is_whole : Bool) (more : List ℕ) →
+      own_reading (input_to r is_whole) (bytes ++ more)
       ≡ with_read b (goes_on r rest is_whole more)
   pub said : r.said ≡ read_lines nothing_read b.lines
 
@@ -59,22 +60,22 @@ brought_in read = record {
 abbrev pub is_one_line : List ℕ → Bool
 is_one_line bytes = list_all (λ b. not (b == 10)) bytes
 
--- What is true of all that a reader keeps, also after it found no memory. The unfinished line has at
--- most 200 bytes.
+-- What is true of all that a reader keeps, also after it found no memory: the unfinished line has
+-- at most 200 bytes.
 pub record IsSafe (k : Kept) : Type 0 where
   pub steady : IsSteady k.lines
   pub short : length k.unfinished ≤ 200
 
--- and before that: the unfinished line has no line feed, and if it breaks a rule already, that is
--- known
+-- and as long as it found memory: the unfinished line has no line feed, and if it breaks a rule
+-- already, that is known
 pub record IsSound (k : Kept) : Type 0 where
   pub steady : IsSteady k.lines
   pub first : IsFirst k.lines.stage k.lines
   pub one_line : is_one_line k.unfinished ≡ true
   pub noticed : k.lines.fault ≡ None → rest_rule k.lines k.unfinished ≡ None
 
--- The reader has been fed these bytes, and found memory: what it keeps is what they say as bytes that
--- may go on, and whatever comes next is read as what follows them.
+-- The reader has been fed these bytes, and found memory: what it keeps is what they say as bytes
+-- that may go on, and whatever comes next is read as what follows them.
 pub record HasRead (reader : ReaderState) (bytes : List ℕ) : Type 0 where
   pub works : reader.has_failed ≡ false
   pub sound : IsSound reader.kept

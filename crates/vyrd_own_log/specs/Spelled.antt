@@ -49,7 +49,7 @@ IsOwnKindRead w text None =
 IsOwnKindRead w text (Some kind) = (is_own_kind w kind ≡ true) × IsOf w kind × HasNoOther w kind
     × (text ≡ own_kind_text w kind)
 
--- the arguments below 2^32 that a method with so many of them has, whose text this is behind its name
+-- the arguments below 2^32 whose text this is, behind the name of a method that has so many of them
 abbrev pub AreOwnArgsRead : ℕ → Option (List ℕ) → Option Args → Type 0
 AreOwnArgsRead arity text None = (args : Args) → are_padded arity args ≡ true → args.a < 2 ^ 32
     → args.b < 2 ^ 32 → args.c < 2 ^ 32 → text ≡ own_args arity args → ⊥

@@ -92,8 +92,8 @@ IsFirst (Starts h last) r = Unit {0}
 IsFirst (Entries h) r = Unit {0}
 IsFirst (End h) r = Unit {0}
 
--- What is true of every reader: it may read from 1 to 268,435,456 lines, its line is at most one past
--- them, and entries can call the methods that were read.
+-- What is true of every reader: it may read from 1 to 268,435,456 lines, its line is at most one
+-- past them, and entries can call the methods that were read.
 pub record IsSteady (r : LineState) : Type 0 where
   pub low : 1 ≤ r.max_lines
   pub high : r.max_lines ≤ 268435456

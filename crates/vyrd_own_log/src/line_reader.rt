@@ -5,13 +5,12 @@ ghost use Rattle.std.specs.Str.{bytes_eq};
 ghost use Rattle.vyrd_base.specs.Own.Log.{is_note, own_header_in};
 ghost use Rattle.vyrd_base.specs.Own.Reader.{nothing_read, read_next};
 ghost use Rattle.vyrd_own_text.specs.Meaning.{so_far};
-ghost use Rattle.vyrd_own_log.specs.Callable.{are_callable};
 ghost use Rattle.vyrd_text.specs.Answered.{IsAnswer};
 ghost use Rattle.vyrd_own_log.specs.States.{fresh, header_at, has_ended, IsSteady};
 ghost use Rattle.vyrd_own_log.specs.Rests.{bad_at, rest_if};
 ghost use Rattle.vyrd_own_log.specs.Steps.{next, broken, header_step, specification_step};
 ghost use Rattle.vyrd_own_log.specs.Steps.{entry_step, starts_step, own_step};
-ghost use Rattle.vyrd_own_log.specs.StateView.{state_of};
+ghost use Rattle.vyrd_own_log.specs.StateView.{state_of, can_call};
 
 use crate::entry::read_entry;
 use crate::fault::LineFault;
@@ -173,11 +172,11 @@ impl LineReader {
     /// Reads a line of the specification.
     fn take_specification(&mut self, header: Header, line: &[u8]) -> Result<Found, AllocError>
         requires few { self.old.line ≤ 268435456 }
-        requires callable { are_callable (so_far self.old.specification).specification.methods ≡ true }
+        requires callable { can_call self.old ≡ true }
         ensures step { IfOk result (λ found. (state_of self.new, found)
             ≡ specification_step (state_of self.old) header
             (read_next (so_far self.old.specification) line.now)) }
-        ensures callable { are_callable (so_far self.new.specification).specification.methods ≡ true }
+        ensures callable { can_call self.new ≡ true }
         ensures counted { self.new.line ≤ self.old.line + 1 }
         ensures limit { self.new.max_lines ≡ self.old.max_lines }
     {
@@ -204,7 +203,7 @@ impl LineReader {
     /// Reads a line where starting words may stand, after the last of those before.
     fn take_start(&mut self, header: Header, last: Option<StartWord>, line: &[u8]) -> Found
         requires few { self.old.line ≤ 268435456 }
-        requires callable { are_callable (so_far self.old.specification).specification.methods ≡ true }
+        requires callable { can_call self.old ≡ true }
         ensures step { (state_of self.new, result)
             ≡ starts_step (state_of self.old) header last line.now }
         ensures limit { self.new.max_lines ≡ self.old.max_lines }
@@ -228,8 +227,9 @@ impl LineReader {
     /// Reads a line where entries stand.
     fn take_entry(&mut self, header: Header, line: &[u8]) -> Found
         requires few { self.old.line ≤ 268435456 }
-        requires callable { are_callable (so_far self.old.specification).specification.methods ≡ true }
-        ensures step { (state_of self.new, result) ≡ entry_step (state_of self.old) header line.now }
+        requires callable { can_call self.old ≡ true }
+        ensures step { (state_of self.new, result)
+            ≡ entry_step (state_of self.old) header line.now }
         ensures limit { self.new.max_lines ≡ self.old.max_lines }
     {
         if is_note(line) {

@@ -3,7 +3,8 @@
 ghost use Rattle.std.specs.Prelude.{◌≡◌, ◌∷◌, ◌++◌, [], true, IfOk, OnOk};
 ghost use Rattle.vyrd_text.specs.Answered.{IsAnswer};
 ghost use Rattle.vyrd_own_log.specs.KeptView.{kept_of};
-ghost use Rattle.vyrd_own_log.specs.Readers.{fresh_kept, is_one_line, IsSafe, IsSound, IsTaken, IsFed};
+ghost use Rattle.vyrd_own_log.specs.Readers.{fresh_kept, is_one_line, IsSafe, IsSound};
+ghost use Rattle.vyrd_own_log.specs.Readers.{IsTaken, IsFed};
 ghost use Rattle.vyrd_own_log.specs.Rests.{fault_at_end};
 ghost use Rattle.vyrd_own_log.specs.Steps.{nothing_brought, starts_of, entries_of, numbers_of};
 

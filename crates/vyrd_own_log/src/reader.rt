@@ -57,23 +57,30 @@ impl OwnLogReader {
         out: &mut Vec<Entry>,
         numbers: &mut Vec<u64>,
     ) -> Result<(), TextFault>
-        ensures limit { (state_in self.new).kept.lines.max_lines ≡ (state_in self.old).kept.lines.max_lines }
+        ensures limit { (state_in self.new).kept.lines.max_lines
+            ≡ (state_in self.old).kept.lines.max_lines }
         ensures read { (bytes : List ℕ) → HasRead (state_in self.old) bytes
             → UnlessMemory result (HasRead (state_in self.new) (bytes ++ piece.now)) }
-        ensures entries { (bytes : List ℕ) → HasRead (state_in self.old) bytes → UnlessMemory result
-            (IsGrownBy out.old.items (own_reading (so_far (state_in self.old)) bytes).entries out.new.items
-            (own_reading (so_far (state_in self.old)) (bytes ++ piece.now)).entries) }
-        ensures numbers { (bytes : List ℕ) → HasRead (state_in self.old) bytes → UnlessMemory result
-            (IsGrownBy numbers.old.items (own_reading (so_far (state_in self.old)) bytes).numbers
-            numbers.new.items (own_reading (so_far (state_in self.old)) (bytes ++ piece.now)).numbers) }
-        ensures answer { (bytes : List ℕ) → HasRead (state_in self.old) bytes → UnlessMemory result
-            (IsAnswer result (own_reading (so_far (state_in self.old)) (bytes ++ piece.now)).fault) }
-        ensures stopped { self.old.has_failed ≡ false → IsSome (state_in self.old).kept.lines.fault
-            → (self.new ≡ self.old) × (out.new.items ≡ out.old.items)
+        ensures entries { (bytes : List ℕ) → HasRead (state_in self.old) bytes
+            → UnlessMemory result (IsGrownBy
+            out.old.items (own_reading (so_far (state_in self.old)) bytes).entries
+            out.new.items (own_reading (so_far (state_in self.old)) (bytes ++ piece.now)).entries) }
+        ensures numbers { (bytes : List ℕ) → HasRead (state_in self.old) bytes
+            → UnlessMemory result (IsGrownBy
+            numbers.old.items (own_reading (so_far (state_in self.old)) bytes).numbers
+            numbers.new.items
+            (own_reading (so_far (state_in self.old)) (bytes ++ piece.now)).numbers) }
+        ensures answer { (bytes : List ℕ) → HasRead (state_in self.old) bytes
+            → UnlessMemory result (IsAnswer result
+            (own_reading (so_far (state_in self.old)) (bytes ++ piece.now)).fault) }
+        ensures stopped { (state_in self.old).has_failed ≡ false
+            → IsSome (state_in self.old).kept.lines.fault
+            → (state_in self.new ≡ state_in self.old) × (out.new.items ≡ out.old.items)
             × (numbers.new.items ≡ numbers.old.items)
             × IsAnswer result (state_in self.old).kept.lines.fault }
-        ensures fails { result ≡ Err TextFault.Memory → self.new.has_failed ≡ true }
-        ensures fails_again { self.old.has_failed ≡ true → result ≡ Err TextFault.Memory }
+        ensures fails { result ≡ Err TextFault.Memory → (state_in self.new).has_failed ≡ true }
+        ensures fails_again { (state_in self.old).has_failed ≡ true
+            → result ≡ Err TextFault.Memory }
     {
         if self.has_failed {
             return Err(TextFault::Memory);
@@ -98,10 +105,11 @@ impl OwnLogReader {
             → IsAnswer result (own_reading (whole (state_in self.now)) bytes).fault }
         ensures ended { (bytes : List ℕ) → HasRead (state_in self.now) bytes
             → OnOk result ((own_reading (whole (state_in self.now)) bytes).ended ≡ true) }
-        ensures alike { (bytes : List ℕ) → HasRead (state_in self.now) bytes → own_reading (whole (state_in self.now)) bytes
+        ensures alike { (bytes : List ℕ) → HasRead (state_in self.now) bytes
+            → own_reading (whole (state_in self.now)) bytes
             ≡ record (own_reading (so_far (state_in self.now)) bytes)
             { fault = (own_reading (whole (state_in self.now)) bytes).fault } }
-        ensures fails { self.now.has_failed ≡ true → result ≡ Err TextFault.Memory }
+        ensures fails { (state_in self.now).has_failed ≡ true → result ≡ Err TextFault.Memory }
     {
         if self.has_failed {
             return Err(TextFault::Memory);
@@ -118,12 +126,12 @@ impl OwnLogReader {
         self.kept.lines.header()
     }
 
-    /// The specification as far as it was read, which is all of it once a starting word, an entry or
-    /// `end` was.
+    /// The specification as far as it was read, which is all of it once a starting word, an entry
+    /// or `end` was.
     pub fn program(&self) -> &Program
         ensures kept { written result.now ≡ (state_in self.now).kept.lines.said.specification }
-        ensures read { (bytes : List ℕ) → HasRead (state_in self.now) bytes
-            → written result.now ≡ written_in (own_reading (so_far (state_in self.now)) bytes).lines }
+        ensures read { (bytes : List ℕ) → HasRead (state_in self.now) bytes → written result.now
+            ≡ written_in (own_reading (so_far (state_in self.now)) bytes).lines }
     {
         &self.kept.lines.specification.program
     }
@@ -149,7 +157,7 @@ impl OwnLogReader {
 
     /// Whether a call has found no memory.
     pub fn has_failed(&self) -> bool
-        ensures { result ≡ self.now.has_failed }
+        ensures { result ≡ (state_in self.now).has_failed }
     {
         self.has_failed
     }

@@ -1,0 +1,190 @@
+-- What longer bytes say: what was read stays read, and a fault of text that is known stays.
+use Rattle.std.proofs.Common.{◌≡◌, ℕ, ◌≤◌, Bool, true, false, not, List, [], ◌∷◌, ◌++◌, Option, Some, None, refl, ap, sym, ◌∙◌, subst, arith, append_assoc}
+use Rattle.std.specs.Prelude.{◌==◌}
+use Rattle.std.proofs.lemmas.List.{append-nil}
+use Rattle.vyrd_base.specs.declared.header.Header.{Header}
+use Rattle.vyrd_base.specs.declared.verdict.Rule.{Rule}
+use Rattle.vyrd_base.specs.Reading.{TextFault}
+use Rattle.vyrd_base.specs.Own.Reader.{written_in}
+use Rattle.vyrd_base.specs.Own.Log.{OwnReading, own_reading}
+use Rattle.vyrd_base.proofs.SplitLaws.{cut, lacks, lacks-append}
+use Rattle.vyrd_base.proofs.TestLaws.{both_true, same_of}
+use Rattle.vyrd_own_log.specs.declared.stage.Stage.{Stage}
+use Rattle.vyrd_own_log.specs.declared.stage.Stage.TheVariants as stages
+use Rattle.vyrd_own_log.specs.Callable.{are_callable}
+use Rattle.vyrd_own_log.specs.States.{header_at, has_ended, input_to, lines_on, known, unless_faulty, IsFirst}
+use Rattle.vyrd_text.proofs.AheadLaws.{parts_of}
+use Rattle.vyrd_own_log.specs.Steps.{broken, own_step, Brought, nothing_brought, brought_then, brought_by, with_read}
+use Rattle.vyrd_own_log.specs.Rests.{rest_rule}
+use Rattle.vyrd_own_log.specs.Readers.{Kept, fresh_kept, goes_on, HasReached, IsSound, IsTaken}
+use Rattle.vyrd_own_log.specs.Grown.{to_go_on, input_of, IsGrown}
+use Rattle.vyrd_own_log.proofs.ReaderLaws.{longer_taken, faulty_taken, broken_taken, line_taken, line_sound, read_now}
+
+-- bytes were read so far
+record Reached (max : ℕ) (bytes : List ℕ) : Type 0 where
+  kept : Kept
+  brought : Brought
+  sound : IsSound kept
+  limit : kept.lines.max_lines ≡ max
+  reached : HasReached kept.lines kept.unfinished brought bytes
+
+-- one byte more
+module _ (max : ℕ) (before : List ℕ) (at : Reached max before) where
+  taken_to : (x : ℕ) (b : Brought) (n : Kept) → IsTaken at.kept (x ∷ []) b n → IsSound n → Reached max (before ++ x ∷ [])
+  taken_to x b n taken sound = record {
+    kept = n;
+    brought = brought_then at.brought b;
+    sound = sound;
+    limit = taken.limit ∙ at.limit;
+    reached = taken.reached at.brought before at.reached;
+  }
+
+  byte_within : (x : ℕ) → lacks 10 (x ∷ []) ≡ true → Reached max (before ++ x ∷ [])
+  byte_within x one = by_fault at.kept.lines.fault refl
+    where
+      by_rule : at.kept.lines.fault ≡ None → (o : Option Rule) → rest_rule at.kept.lines (at.kept.unfinished ++ x ∷ []) ≡ o
+          → Reached max (before ++ x ∷ [])
+      by_rule fine None is = taken_to x nothing_brought (record at.kept { unfinished = at.kept.unfinished ++ x ∷ [] })
+          (longer_taken at.kept (x ∷ [])) (record {
+            steady = at.sound.steady;
+            first = at.sound.first;
+            one_line = lacks-append 10 at.kept.unfinished (x ∷ []) at.sound.one_line one;
+            noticed = λ f. is;
+          })
+      by_rule fine (Some rule) is = taken_to x nothing_brought (record at.kept { lines = (broken at.kept.lines rule).0 })
+          (broken_taken at.kept (x ∷ []) at.sound one fine rule is) (record {
+            steady = record { low = at.sound.steady.low; high = at.sound.steady.high; counted = at.sound.steady.counted; callable = at.sound.steady.callable };
+            first = first_of at.kept.lines.stage at.sound.first;
+            one_line = at.sound.one_line;
+            noticed = λ f. cc;
+          })
+        where
+          first_of : (st : Stage) → IsFirst st at.kept.lines → IsFirst st (broken at.kept.lines rule).0
+          first_of stages.Header f = f
+          first_of (stages.Specification h) f = tt
+          first_of (stages.Starts h last) f = tt
+          first_of (stages.Entries h) f = tt
+          first_of (stages.End h) f = tt
+
+      by_fault : (f : Option TextFault) → at.kept.lines.fault ≡ f → Reached max (before ++ x ∷ [])
+      by_fault (Some f) is = taken_to x nothing_brought at.kept (faulty_taken at.kept f (x ∷ []) is) at.sound
+      by_fault None is = by_rule is (rest_rule at.kept.lines (at.kept.unfinished ++ x ∷ [])) refl
+
+  line_feed : Reached max (before ++ 10 ∷ [])
+  line_feed = taken_to 10 (brought_by at.kept.lines.line (at.kept.unfinished ++ []) (own_step at.kept.lines (at.kept.unfinished ++ [])).1)
+      (record { lines = (own_step at.kept.lines (at.kept.unfinished ++ [])).0; unfinished = []; start = at.kept.start })
+      (line_taken at.kept [] at.sound refl at.kept.start) (line_sound at.kept [] at.sound refl at.kept.start)
+
+  one_more : (x : ℕ) → Reached max (before ++ x ∷ [])
+  one_more x = by_test (x == 10) refl
+    where
+      by_test : (b : Bool) → (x == 10) ≡ b → Reached max (before ++ x ∷ [])
+      by_test true e = subst (λ y. Reached max (before ++ y ∷ [])) (sym (same_of x 10 e)) line_feed
+      by_test false e = byte_within x (both_true _ _ (ap not e) refl)
+
+all_more : (max : ℕ) (before bytes : List ℕ) → Reached max before → Reached max (before ++ bytes)
+all_more max before [] at = subst (Reached max) (sym (append-nil before)) at
+all_more max before (x ∷ bytes) at =
+    subst (Reached max) (append_assoc before (x ∷ []) bytes) (all_more max (before ++ x ∷ []) bytes (one_more max before at x))
+
+reached_all : (max : ℕ) (bytes : List ℕ) → 1 ≤ max → max ≤ 268435456 → Reached max bytes
+unfolding own_reading
+reached_all max bytes low high = all_more max [] bytes (record {
+  kept = fresh_kept max;
+  brought = nothing_brought;
+  sound = record {
+    steady = record { low = low; high = high; counted = omega arith; callable = refl };
+    first = (refl, refl);
+    one_line = refl;
+    noticed = λ fine. refl;
+  };
+  limit = refl;
+  reached = record { follows = λ w more. refl; said = refl };
+})
+
+-- what is read on keeps the header and the end
+module _ (k : Kept) (w : Bool) (more : List ℕ) where
+  header_stays : (h : Header) → header_at k.lines.stage ≡ Some h → (goes_on k.lines k.unfinished w more).header ≡ Some h
+  header_stays h e = by_fault k.lines.fault
+    where
+      by_stage : (st : Stage) (lines : List (List ℕ)) → header_at st ≡ Some h
+          → (lines_on (input_to k.lines w) k.lines.said k.lines.line st lines).header ≡ Some h
+      by_stage stages.Header lines f = cc
+      by_stage (stages.Specification g) lines f = f
+      by_stage (stages.Starts g last) lines f = f
+      by_stage (stages.Entries g) lines f = f
+      by_stage (stages.End g) lines f = f
+
+      by_fault : (o : Option TextFault) → (unless_faulty k.lines (input_to k.lines w) (cut (k.unfinished ++ more)) o).header ≡ Some h
+      by_fault (Some f) = e
+      by_fault None = by_stage k.lines.stage (cut (k.unfinished ++ more)) e
+
+  end_stays : has_ended k.lines.stage ≡ true → ((goes_on k.lines k.unfinished w more).ended ≡ true) × ((goes_on k.lines k.unfinished w more).entries ≡ [])
+  end_stays e = by_fault k.lines.fault
+    where
+      End : OwnReading → Type 0
+      End read = (read.ended ≡ true) × (read.entries ≡ [])
+
+      by_stage : (st : Stage) (line : List ℕ) (lines : List (List ℕ)) → has_ended st ≡ true
+          → ((lines_on (input_to k.lines w) k.lines.said k.lines.line st (line ∷ lines)).ended ≡ true)
+          × ((lines_on (input_to k.lines w) k.lines.said k.lines.line st (line ∷ lines)).entries ≡ [])
+      by_stage stages.Header line lines f = cc
+      by_stage (stages.Specification g) line lines f = cc
+      by_stage (stages.Starts g last) line lines f = cc
+      by_stage (stages.Entries g) line lines f = cc
+      by_stage (stages.End g) line lines f = (refl, refl)
+
+      by_fault : (o : Option TextFault) → ((unless_faulty k.lines (input_to k.lines w) (cut (k.unfinished ++ more)) o).ended ≡ true)
+          × ((unless_faulty k.lines (input_to k.lines w) (cut (k.unfinished ++ more)) o).entries ≡ [])
+      by_fault (Some f) = (e, refl)
+      by_fault None =
+          let p = parts_of (k.unfinished ++ more) in
+          subst (λ ps. ((lines_on (input_to k.lines w) k.lines.said k.lines.line k.lines.stage ps).ended ≡ true)
+          × ((lines_on (input_to k.lines w) k.lines.said k.lines.line k.lines.stage ps).entries ≡ [])) (sym p.2)
+          (by_stage k.lines.stage p.0 p.1 e)
+
+  fault_stays : (f : TextFault) → k.lines.fault ≡ Some f → goes_on k.lines k.unfinished w more ≡ known k.lines k.lines.fault
+  fault_stays f is =
+      ap (unless_faulty k.lines (input_to k.lines w) (cut (k.unfinished ++ more))) is ∙ ap (known k.lines) (sym is)
+
+pub reading_grown : (max : ℕ) (w : Bool) (bytes more : List ℕ) → 1 ≤ max → max ≤ 268435456
+    → IsGrown (own_reading (to_go_on max) bytes) (own_reading (input_of max w) (bytes ++ more))
+reading_grown max w bytes more low high = record {
+  header = λ h e. ap (λ read. read.header) new ∙ header_stays k w more h (sym (ap (λ read. read.header) old) ∙ e);
+  lines = (on.lines, ap (λ read. read.lines) new ∙ ap (λ t. t ++ on.lines) (sym (ap (λ read. read.lines) old ∙ append-nil b.lines)));
+  starting = (on.starting, ap (λ read. read.starting) new ∙ ap (λ t. t ++ on.starting) (sym (ap (λ read. read.starting) old ∙ append-nil b.starting)));
+  entries = (on.entries, ap (λ read. read.entries) new ∙ ap (λ t. t ++ on.entries) (sym (ap (λ read. read.entries) old ∙ append-nil b.entries)));
+  numbers = (on.numbers, ap (λ read. read.numbers) new ∙ ap (λ t. t ++ on.numbers) (sym (ap (λ read. read.numbers) old ∙ append-nil b.numbers)));
+  ended = λ e.
+      let done = end_stays k w more (sym (ap (λ read. read.ended) old) ∙ e) in (
+        ap (λ read. read.ended) new ∙ done.0,
+        ap (λ read. read.entries) new ∙ ap (λ t. b.entries ++ t) done.1 ∙ sym (ap (λ read. read.entries) old),
+      );
+  fault = λ f e. new ∙ ap (with_read b) (fault_stays k w more f (sym (ap (λ read. read.fault) old) ∙ e)) ∙ sym old;
+}
+  where
+    at : Reached max bytes
+    at = reached_all max bytes low high
+
+    k : Kept
+    k = at.kept
+
+    b : Brought
+    b = at.brought
+
+    on : OwnReading
+    on = goes_on k.lines k.unfinished w more
+
+    old : own_reading (to_go_on max) bytes ≡ with_read b (known k.lines k.lines.fault)
+    old = ap (λ m. own_reading (to_go_on m) bytes) (sym at.limit) ∙ read_now k b bytes at.sound at.reached
+
+    new : own_reading (input_of max w) (bytes ++ more) ≡ with_read b on
+    new = ap (λ m. own_reading (input_of m w) (bytes ++ more)) (sym at.limit) ∙ at.reached.follows w more
+
+pub reading_callable : (max : ℕ) (bytes : List ℕ) → 1 ≤ max → max ≤ 268435456
+    → are_callable (written_in (own_reading (to_go_on max) bytes).lines).methods ≡ true
+reading_callable max bytes low high =
+    let at = reached_all max bytes low high in
+    let old = ap (λ m. own_reading (to_go_on m) bytes) (sym at.limit) ∙ read_now at.kept at.brought bytes at.sound at.reached in
+    ap (λ ls. are_callable (written_in ls).methods) (ap (λ (read : OwnReading). read.lines) old ∙ append-nil at.brought.lines)
+    ∙ ap (λ s. are_callable s.specification.methods) (sym at.reached.said) ∙ at.sound.steady.callable

@@ -1,0 +1,24 @@
+//! Laws of reading. Each function does nothing: its contract is the law.
+
+ghost use Rattle.std.specs.Prelude.{◌≡◌, ◌≤◌, ℕ, List, ◌++◌, Bool, true};
+ghost use Rattle.vyrd_base.specs.Own.Reader.{written_in};
+ghost use Rattle.vyrd_base.specs.Own.Log.{own_reading};
+ghost use Rattle.vyrd_own_log.specs.Callable.{are_callable};
+ghost use Rattle.vyrd_own_log.specs.Grown.{to_go_on, input_of, IsGrown};
+
+/// What is read of bytes is read for good: of all longer bytes, as bytes that may go on and as the
+/// whole input, what was read begins alike, the header stays, `end` stays the end, and a fault of
+/// text stays the fault.
+#[tactic(auto, using(crate::proofs::GrownLaws::reading_grown))]
+pub fn read_for_good()
+    ensures { (max : ℕ) (is_whole : Bool) (bytes more : List ℕ) → 1 ≤ max → max ≤ 268435456
+        → IsGrown (own_reading (to_go_on max) bytes)
+        (own_reading (input_of max is_whole) (bytes ++ more)) }
+{}
+
+/// Entries can call the methods of each specification that a log's text has.
+#[tactic(auto, using(crate::proofs::GrownLaws::reading_callable))]
+pub fn methods_can_be_called()
+    ensures { (max : ℕ) (bytes : List ℕ) → 1 ≤ max → max ≤ 268435456
+        → are_callable (written_in (own_reading (to_go_on max) bytes).lines).methods ≡ true }
+{}
