@@ -1,6 +1,6 @@
 //! What words show.
 
-ghost use Rattle.std.specs.Prelude.{◌≡◌, ◌++◌, ◌==◌, OnOk, IfOk};
+ghost use Rattle.std.specs.Prelude.{◌≡◌, ◌++◌, ◌==◌, OnOk};
 ghost use Rattle.std.specs.List.{list_all};
 ghost use Rattle.vyrd_own.specs.Layout.{written, show_of};
 ghost use Rattle.vyrd_base.specs.Own.Steps.{blank, given_by, part_gives};
@@ -8,7 +8,7 @@ ghost use Rattle.vyrd_base.specs.Own.Steps.{blank, given_by, part_gives};
 use crate::program::{Program, Show};
 use crate::state::StateOf;
 use crate::steps::{Room, value_of};
-use std::alloc::{AllocError, Global};
+use std::alloc::AllocError;
 
 /// Puts what part `i` gives to keys, by its words, at the end of `parts`. `nothing` is a state in
 /// which nothing was set.
@@ -28,14 +28,12 @@ pub fn put_parts(
     if are_all_0(words) {
         return Ok(());
     }
-    let alloc = room.alloc;
     room.values.clear();
     room.values.extend_from_slice(&program.constants)?;
     room.values.push(i)?;
     room.values.extend_from_slice(words)?;
     for show in &program.shows {
-        let pair = given(alloc, show, nothing, &room.values, &mut room.done)?;
-        parts.push(pair)?;
+        parts.push(given(show, nothing, &room.values))?;
     }
     Ok(())
 }
@@ -53,17 +51,12 @@ fn are_all_0(words: &[u64]) -> bool
 }
 
 /// The key and the amount of a line `shows`.
-fn given(
-    alloc: Global,
-    show: &Show,
-    nothing: &StateOf,
-    values: &[u64],
-    done: &mut Vec<u64>,
-) -> Result<(u64, u64), AllocError>
+fn given(show: &Show, nothing: &StateOf, values: &[u64]) -> (u64, u64)
     requires { nothing.now ≡ blank }
-    ensures { IfOk result (λ pair. pair ≡ given_by values.now (show_of show.now)) }
+    ensures { result ≡ given_by values.now (show_of show.now) }
 {
-    let key = value_of(alloc, &show.key, nothing, values, done)?;
-    let amount = value_of(alloc, &show.amount, nothing, values, done)?;
-    Ok((key, amount))
+    (
+        value_of(&show.key, nothing, values),
+        value_of(&show.amount, nothing, values),
+    )
 }

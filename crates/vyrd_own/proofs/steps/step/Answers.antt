@@ -29,4 +29,4 @@ returns-clause-allowed c _ =
     (ap (map case_of) c.deref.ensures.value)
     (c.in_ok-allowed.ensures ∙ ap (λ b. cond b done None) c.if-not-allowed.false))
     ∙ ap Some
-    (sym (c.in_ok-put_all.ensures ∙ ap (with_effects c.args.state.now) c.deref-3.ensures.value))
+    (sym (c.in_ok-put_all.ensures.ok ∙ ap (with_effects c.args.state.now) c.deref-3.ensures.value))
