@@ -11,6 +11,7 @@
 
 mod code;
 mod evaluation;
+mod few;
 pub mod laws;
 mod node;
 mod ordered;
@@ -25,10 +26,11 @@ mod words;
 pub mod worked;
 
 pub use code::Code;
+pub use few::answer_of_few;
 pub use node::Node;
 pub use program::{Case, Change, Method, Program, Show};
 pub use shown::ShownAmounts;
 pub use state::StateOf;
-pub use steps::{Room, answer, step};
+pub use steps::{Room, answer, find_effects, step};
 pub use vyrd_base::{Effect, Op};
-pub use words::put_parts;
+pub use words::{part_pairs, put_parts};

@@ -7,7 +7,7 @@ ghost use Rattle.vyrd_base.specs.Own.Expressions.{least_from, greatest_to};
 use crate::ordered::OrderedAmounts;
 use std::alloc::{AllocError, Global};
 use std::marker::Model;
-use vyrd_base::AmountTable;
+use vyrd_base::{AmountTable, View};
 
 /// Amounts by key, to be looked up in constant time, and to be changed and asked for the nearest
 /// key in logarithmic time.
@@ -92,5 +92,13 @@ impl ShownAmounts {
         ensures { result ≡ length self.now }
     {
         self.keys.count()
+    }
+
+    /// The keys with their amounts, as a view. It costs time and memory for each key, and time for
+    /// the whole table.
+    pub fn view(&self, alloc: Global) -> Result<View, AllocError>
+        ensures { IfOk result (λ v. v ≡ self.now) }
+    {
+        self.table.view(alloc)
     }
 }

@@ -6,7 +6,7 @@ ghost use Rattle.vyrd_base.specs.Amounts.{IsAmounts};
 ghost use Rattle.vyrd_base.specs.States.{State};
 ghost use Rattle.vyrd_base.specs.Own.Expressions.{list_at, first_of, last_of};
 ghost use Rattle.vyrd_own.specs.Layout.{written};
-ghost use Rattle.vyrd_base.specs.Own.Steps.{with_effects, start_of, hidden_with};
+ghost use Rattle.vyrd_base.specs.Own.Steps.{with_effects, start_of, hidden_with, blank};
 ghost use Rattle.vyrd_own.specs.Queues.{queue_at, puts_in, HaveRoom};
 ghost use Rattle.vyrd_own.specs.Apart.{registers_with, registers_after, lists_after, lists_with};
 
@@ -62,10 +62,24 @@ impl StateOf {
         })
     }
 
+    /// The state in which nothing was set.
+    pub fn blank(alloc: Global) -> Result<StateOf, AllocError>
+        ensures { IfOk result (λ s. s ≡ blank) }
+    {
+        Ok(StateOf {
+            shown: ShownAmounts::new(alloc, 0)?,
+            hidden: AmountTable::new(alloc, 0)?,
+            registers: Vec::new(alloc),
+            lists: Vec::new(alloc),
+            keys: 0,
+        })
+    }
+
     /// What the state shows.
     #[inline(always)]
     pub fn shown(&self) -> &ShownAmounts
-        ensures { result.now ≡ self.now.shown }
+        ensures shown { result.now ≡ self.now.shown }
+        ensures formed { IsAmounts self.now.shown }
     {
         &self.shown
     }

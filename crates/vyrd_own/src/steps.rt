@@ -155,15 +155,29 @@ pub fn step(
         → effects_of (written program.now) (method_of method.now) state.old args.now reply
         ≡ Some room.new.effects.items }
 {
-    let alloc = room.alloc;
-    put_values(program, method, args, state, &mut room.values)?;
-    room.values.push(reply)?;
-    let allowed = put_allowed(&method.cases, state, &room.values, &mut room.effects)?;
-    if !allowed {
+    if !find_effects(program, method, args, reply, state, room)? {
         return Ok(false);
     }
-    state.put_all(alloc, &room.effects, &mut room.updates)?;
+    state.put_all(room.alloc, &room.effects, &mut room.updates)?;
     Ok(true)
+}
+
+/// Finds out what a call does with its reply, in numbers, and says whether the reply is allowed. The
+/// room then has what it does.
+pub fn find_effects(
+    program: &Program,
+    method: &Method,
+    args: &[u64],
+    reply: u64,
+    state: &StateOf,
+    room: &mut Room,
+) -> Result<bool, AllocError>
+    ensures { IfOk result (λ allowed. effects_of (written program.now) (method_of method.now) state.now
+        args.now reply ≡ (if allowed then Some room.new.effects.items else None)) }
+{
+    put_values(program, method, args, state, &mut room.values)?;
+    room.values.push(reply)?;
+    put_allowed(&method.cases, state, &room.values, &mut room.effects)
 }
 
 /// What an execution that commits nothing has to reply.
