@@ -92,14 +92,14 @@ room_for_more old new es j n d low same kept was here = λ i any inside.
     by_case i inside (inl before) = omega (arith, was i before (omega arith), kept i)
     by_case i inside (inr now) = here i (or_none (puts_in i (slice_index_or es j d)) ∙ now) inside
 
+pub all_taken : {A : Type 0} (xs : List A) (k : ℕ) → length xs ≤ k → take k xs ≡ xs
+all_taken [] zero h = refl
+all_taken [] (suc k) h = refl
+all_taken (x ∷ xs) zero h = absurd (omega arith)
+all_taken (x ∷ xs) (suc k) h = ap (λ rest. x ∷ rest) (all_taken xs k (omega arith))
+
 pub all_room : (lists : List Queued) (es : List Effect) (j n : ℕ) → length es ≤ j → HaveRoom lists (take j es) n → HaveRoom lists es n
 all_room lists es j n past room = subst (λ xs. HaveRoom lists xs n) (all_taken es j past) room
-  where
-    all_taken : (xs : List Effect) (k : ℕ) → length xs ≤ k → take k xs ≡ xs
-    all_taken [] zero h = refl
-    all_taken [] (suc k) h = refl
-    all_taken (x ∷ xs) zero h = absurd (omega arith)
-    all_taken (x ∷ xs) (suc k) h = ap (λ rest. x ∷ rest) (all_taken xs k (omega arith))
 
 -- one effect more was done
 pub lists_more : (es : List Effect) (j : ℕ) (d : Effect) (lists after end : List (List ℕ)) → j < length es

@@ -1,0 +1,4 @@
+pub mod Small
+pub mod Touched
+pub mod Parts
+pub mod Laws
