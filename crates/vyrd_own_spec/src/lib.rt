@@ -4,9 +4,13 @@
 //! and answers by the rules that the lines of the specification give (`own_rules`).
 #![tactic(auto)]
 
+mod compared;
+mod own_spec;
 mod parts;
 mod specification;
 mod stepping;
 
+pub use compared::OwnCompared;
+pub use own_spec::OwnSpec;
 pub use parts::OwnParts;
 pub use specification::Specification;

@@ -1,17 +1,17 @@
 //! The parts of a specification's words.
 
-ghost use Rattle.std.specs.Prelude.{◌≡◌, ◌+◌, ◌*◌, ◌/◌, ◌≤◌, ◌^◌, length, IfOk};
+ghost use Rattle.std.specs.Prelude.{◌≡◌, ◌/◌, ◌≤◌, IfOk};
 ghost use Rattle.std.specs.Arc.{arc_value};
 ghost use Rattle.vyrd_base.specs.Own.Reader.{written_in};
 ghost use Rattle.vyrd_base.specs.Own.Steps.{blank};
-ghost use Rattle.vyrd_own_spec.specs.Small.{IsSmall};
+ghost use Rattle.vyrd_own.specs.Layout.{written};
 ghost use Rattle.vyrd_own_spec.specs.Parts.{width_of, AreFew};
 
 use crate::specification::Specification;
 use std::alloc::{AllocError, Global};
 use std::sync::Arc;
 use vyrd_base::Header;
-use vyrd_own::{StateOf, part_pairs};
+use vyrd_own::{Program, StateOf, part_pairs};
 use vyrd_view::Decode;
 
 /// How words are decoded by a specification of the user's own. If it has no part, each word is a
@@ -27,6 +27,41 @@ pub struct OwnParts {
     ghost blank: { nothing ≡ blank },
     ghost width_is: { width ≡ width_of (written_in (arc_value specification)) },
     ghost few: { AreFew (written_in (arc_value specification)) width places parts },
+}
+
+impl OwnParts {
+    /// The parts of this many words, of which the specification tells what they show.
+    pub fn new(
+        alloc: Global,
+        header: Header,
+        specification: Arc<Specification>,
+    ) -> Result<OwnParts, AllocError>
+        ensures header { IfOk result (λ d. d.header ≡ header) }
+        ensures lines { IfOk result
+            (λ d. arc_value d.specification ≡ arc_value specification) }
+        ensures parts { IfOk result (λ d. d.parts ≡ header.size / d.width) }
+    {
+        let program = specification.program();
+        let width = width(program);
+        let places = program.shows.len().max(1);
+        let parts = header.size() as usize / width;
+        Ok(OwnParts {
+            header,
+            nothing: StateOf::blank(alloc)?,
+            width,
+            places,
+            parts,
+            specification,
+        })
+    }
+}
+
+/// How many words a part has.
+fn width(program: &Program) -> usize
+    ensures is { result ≡ width_of (written program.now) }
+    ensures some { 1 ≤ result }
+{
+    if program.words == 0 { 1 } else { program.words }
 }
 
 impl Decode for OwnParts {

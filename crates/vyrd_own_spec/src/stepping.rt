@@ -1,10 +1,10 @@
 //! Steps and answers by the rules of a specification's lines.
 
-ghost use Rattle.std.specs.Prelude.{◌≡◌, ◌≢◌, ◌≤◌, ◌++◌, [], ◌∷◌, true, false, length, map, take};
+ghost use Rattle.std.specs.Prelude.{◌≡◌, ◌≢◌, ◌≤◌, ◌++◌, ◌==◌, ◌||◌, [], ◌∷◌, true, false, length, map, take};
 ghost use Rattle.std.specs.Prelude.{OnOk, IfOk, Ok, Some, None, if◌then◌else◌, slice_get};
 ghost use Rattle.std.specs.Option.{option_map_or};
 ghost use Rattle.std.specs.List.{list_any};
-ghost use Rattle.vyrd_base.specs.Amounts.{keys_of};
+ghost use Rattle.vyrd_base.specs.Amounts.{IsAmounts, keys_of};
 ghost use Rattle.vyrd_base.specs.Rules.{given};
 ghost use Rattle.vyrd_base.specs.Subjects.{own_number};
 ghost use Rattle.vyrd_base.specs.Own.Expressions.{most};
@@ -12,12 +12,13 @@ ghost use Rattle.vyrd_base.specs.Own.OwnRules.{own_answer};
 ghost use Rattle.vyrd_base.specs.Own.Reader.{written_in};
 ghost use Rattle.vyrd_base.specs.Own.Steps.{shown_keys, is_clearing};
 ghost use Rattle.vyrd_own.specs.Layout.{method_of, written};
+ghost use Rattle.vyrd_spec.specs.Touching.{with_touched};
 ghost use Rattle.vyrd_own_spec.specs.Small.{IsSmall};
 ghost use Rattle.vyrd_own_spec.specs.Touched.{touched_by, next_by, effects_by, touches, answer_by};
 
 use crate::specification::Specification;
 use std::alloc::{AllocError, Global};
-use vyrd_base::{Args, Method};
+use vyrd_base::{Args, Header, Method};
 use vyrd_own::{Effect, Program, Room, StateOf, answer_of_few, find_effects};
 
 /// Makes a step with a call and its reply, and says whether the reply is allowed. `touched` then has
@@ -39,6 +40,9 @@ pub(crate) fn step(
     ensures same { result ≢ Ok true → state.new ≡ state.old }
     ensures touched { result ≡ Ok true
         → touched.new.items ≡ touches (written_in specification.now) state.old method args reply }
+    ensures changed { result ≡ Ok true
+        → with_touched touched.new.items state.new.shown state.old.shown ≡ state.new.shown }
+    ensures registers { length state.new.registers ≡ length state.old.registers }
 {
     if !plan(specification.program(), method, args, reply, state, room)? {
         return Ok(false);
@@ -93,11 +97,13 @@ fn put_touched(
     effects: &[Effect],
     touched: &mut Vec<u64>,
 ) -> Result<(), AllocError>
-    ensures { OnOk result (touched.new.items ≡ touched_by state.now effects.now) }
+    ensures touched { OnOk result (touched.new.items ≡ touched_by state.now effects.now) }
+    ensures formed { IsAmounts state.now.shown }
 {
+    let shown = state.shown();
     touched.clear();
     if clears(effects) {
-        put_keys(state.shown().view(alloc)?.pairs(), touched)?;
+        put_keys(shown.view(alloc)?.pairs(), touched)?;
     }
     put_set(effects, touched)
 }
@@ -160,4 +166,11 @@ fn answer_by(program: &Program, method: Method, args: Args, state: &StateOf) -> 
     let found = program.methods.get(number as usize)?;
     let all = all_args(args);
     answer_of_few(program, found, given(&all, found.arity), state)
+}
+
+/// Whether nothing is shown: there are no words, or the specification has no part.
+pub(crate) fn shows_nothing(header: Header, specification: &Specification) -> bool
+    ensures { result ≡ (header.size == 0 || (written_in specification.now).words == 0) }
+{
+    header.size() == 0 || specification.program().words == 0
 }
