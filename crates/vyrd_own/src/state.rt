@@ -75,6 +75,15 @@ impl StateOf {
         })
     }
 
+    /// The same state, except that it shows this.
+    pub fn with_shown(mut self, shown: ShownAmounts) -> StateOf
+        requires { IsAmounts shown }
+        ensures { result ≡ record self { shown = shown } }
+    {
+        self.shown = shown;
+        self
+    }
+
     /// What the state shows.
     #[inline(always)]
     pub fn shown(&self) -> &ShownAmounts

@@ -1,3 +1,4 @@
 pub mod CallLaws
 pub mod TouchLaws
 pub mod PartLaws
+pub mod StartLaws

@@ -1,11 +1,15 @@
 -- How words are decoded, part by part.
-use Rattle.std.specs.Prelude.{ℕ, ◌==◌, ◌≤◌, ◌^◌, List, length, slice_index_or, if◌then◌else◌}
+use Rattle.std.specs.Prelude.{◌≡◌, ℕ, ◌*◌, ◌/◌, ◌==◌, ◌≤◌, ◌^◌, List, length, slice_index_or, if◌then◌else◌}
 use Rattle.vyrd_base.specs.Own.Programs.{Written}
 use Rattle.vyrd_base.specs.Own.Steps.{part_gives}
 
 -- how many words a part has: if there is no part, each word is one that gives nothing
 abbrev pub width_of : Written → ℕ
 width_of w = if w.words == 0 then 1 else w.words
+
+-- whether so many words are a whole number of parts
+abbrev pub IsWhole : ℕ → Written → Type 0
+IsWhole size w = size / width_of w * width_of w ≡ size
 
 -- what a part gives in each of its places
 abbrev pub own_gives : Written → ℕ → List ℕ → ℕ → ℕ × ℕ

@@ -8,6 +8,7 @@ mod compared;
 mod own_spec;
 mod parts;
 mod specification;
+mod start;
 mod stepping;
 
 pub use compared::OwnCompared;
