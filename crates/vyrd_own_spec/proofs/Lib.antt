@@ -2,3 +2,4 @@ pub mod CallLaws
 pub mod TouchLaws
 pub mod PartLaws
 pub mod StartLaws
+pub mod SmallLaws

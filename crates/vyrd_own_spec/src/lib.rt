@@ -1,10 +1,14 @@
 //! A specification of the user's own, by which a log can be judged.
 //!
-//! The central type is [`OwnSpec`]: a specification that was read, with a state that steps. It steps
-//! and answers by the rules that the lines of the specification give (`own_rules`).
+//! The central type is [`OwnSpec`]: a [`Specification`] that was read, with a state. It steps, answers
+//! and shows by the rules that the specification's lines give (`own_rules` of `vyrd_base`), so that
+//! `Judge` of `vyrd_judge` takes it as any other. A step that is refused, or for which memory runs
+//! out, leaves all as it was. The words are compared part by part, as the specification decodes them
+//! ([`OwnParts`]); they have to be a whole number of parts.
 #![tactic(auto)]
 
 mod compared;
+pub mod laws;
 mod own_spec;
 mod parts;
 mod specification;

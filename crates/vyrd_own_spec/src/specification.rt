@@ -33,8 +33,7 @@ impl Specification {
     /// The specification that these lines spell, without their line feeds and without the line
     /// `log`.
     pub fn new(program: Program, lines: Vec<Vec<u8>>) -> Specification
-        requires says { written program ≡ written_in (texts lines.items) }
-        requires small { IsSmall (written program) }
+        requires { written program ≡ written_in (texts lines.items) }
         ensures { result ≡ texts lines.items }
     {
         Specification { program, lines }
