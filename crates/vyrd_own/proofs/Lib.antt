@@ -2,3 +2,6 @@ pub mod NodeLaws
 pub mod OrderLaws
 pub mod StepLaws
 pub mod ChangeLaws
+pub mod SetLaws
+pub mod ApartLaws
+pub mod QueueLaws

@@ -1,72 +1,91 @@
--- The values of nodes are those of their expressions.
-use Rattle.std.proofs.Common.{◌≡◌, ℕ, List, [], ◌∷◌, ◌++◌, length, refl, ap, ◌∙◌, sym, suc}
-use Rattle.std.proofs.Common.{zero}
-use Rattle.std.specs.Prelude.{map, slice_index_or, ◌-◌}
+-- The expressions of nodes, one after the other.
+use Rattle.std.proofs.Common.{◌≡◌, ℕ, List, [], ◌∷◌, ◌++◌, length, refl, ap, ◌∙◌, sym, suc, zero}
+use Rattle.std.proofs.Common.{arith, take, ◌<◌, ◌+◌, length-append}
+use Rattle.std.specs.Prelude.{◌-◌, ◌≤◌, drop}
+use Rattle.std.proofs.lemmas.List.{take-append-drop, length-take-le}
 use Rattle.vyrd_own.specs.declared.node.Node.{Node}
-use Rattle.vyrd_own.specs.declared.node.Node.TheVariants.{Number, At, Count, Shown, Hidden, Least}
-use Rattle.vyrd_own.specs.declared.node.Node.TheVariants.{Greatest, First, Last, Size, Not, Infix}
-use Rattle.vyrd_own.specs.declared.node.Node.TheVariants.{Choice}
-use Rattle.vyrd_base.specs.States.{State}
-use Rattle.vyrd_base.specs.Own.Expressions.{Expr, number, value}
-use Rattle.vyrd_own.specs.Nodes.{earlier, expr_at, exprs_from, exprs_of, expr_of, earlier_value}
-use Rattle.vyrd_own.specs.Nodes.{value_at, values_from}
+use Rattle.vyrd_base.specs.Own.Expressions.{Expr, number}
+use Rattle.vyrd_own.specs.Nodes.{earlier, expr_at, exprs_from, exprs_of, expr_of}
 
--- a value of a list of values
-pub earlier-map : (f : Expr → ℕ) → f (number 0) ≡ 0 → (exprs : List Expr) (i : ℕ) → f (earlier exprs i) ≡ earlier_value (map f exprs) i
-earlier-map f z [] i = z
-earlier-map f z (e ∷ exprs) zero = refl
-earlier-map f z (e ∷ exprs) (suc i) = earlier-map f z exprs i
+-- one node more
+from_more : (exprs : List Expr) (nodes : List Node) (node : Node)
+    → exprs_from exprs (nodes ++ node ∷ []) ≡ exprs_from exprs nodes ++ expr_at (exprs_from exprs nodes) node ∷ []
+from_more exprs [] node = refl
+from_more exprs (n ∷ nodes) node = from_more (exprs ++ expr_at exprs n ∷ []) nodes node
 
-pub value-earlier : (s : State) (values : List ℕ) (exprs : List Expr) (i : ℕ)
-    → value s values (earlier exprs i) ≡ earlier_value (map (value s values) exprs) i
-value-earlier s values exprs i = earlier-map (value s values) refl exprs i
+-- the last of a list
+last_more : (exprs : List Expr) (e : Expr) → earlier (exprs ++ e ∷ []) (length (exprs ++ e ∷ []) - 1) ≡ e
+last_more exprs e = ap (earlier (exprs ++ e ∷ [])) (index exprs) ∙ at_end exprs
+  where
+    index : (xs : List Expr) → length (xs ++ e ∷ []) - 1 ≡ length xs
+    index xs = omega (arith, length-append xs (e ∷ []))
 
-pub value-expr_at : (s : State) (values : List ℕ) (exprs : List Expr) (node : Node)
-    → value s values (expr_at exprs node) ≡ value_at s values (map (value s values) exprs) node
-value-expr_at s values exprs (Number n) = refl
-value-expr_at s values exprs (At i) = refl
-value-expr_at s values exprs Count = refl
-value-expr_at s values exprs (First i) = refl
-value-expr_at s values exprs (Last i) = refl
-value-expr_at s values exprs (Size i) = refl
-value-expr_at s values exprs (Shown a) = rw (value-earlier s values exprs a)
-value-expr_at s values exprs (Hidden a) = rw (value-earlier s values exprs a)
-value-expr_at s values exprs (Least a) = rw (value-earlier s values exprs a)
-value-expr_at s values exprs (Greatest a) = rw (value-earlier s values exprs a)
-value-expr_at s values exprs (Not a) = rw (value-earlier s values exprs a)
-value-expr_at s values exprs (Infix op a b) = simp (value-earlier s values exprs)
-value-expr_at s values exprs (Choice t a b) = simp (value-earlier s values exprs)
+    at_end : (xs : List Expr) → earlier (xs ++ e ∷ []) (length xs) ≡ e
+    at_end [] = refl
+    at_end (x ∷ xs) = at_end xs
 
-map-snoc : (f : Expr → ℕ) (xs : List Expr) (x : Expr) → map f (xs ++ x ∷ []) ≡ map f xs ++ f x ∷ []
-map-snoc f [] x = refl
-map-snoc f (y ∷ xs) x = ap (λ zs. f y ∷ zs) (map-snoc f xs x)
-
-pub values-exprs : (s : State) (values : List ℕ) (exprs : List Expr) (nodes : List Node)
-    → map (value s values) (exprs_from exprs nodes) ≡ values_from s values (map (value s values) exprs) nodes
-values-exprs s values exprs [] = refl
-values-exprs s values exprs (node ∷ nodes) =
-    values-exprs s values (exprs ++ expr_at exprs node ∷ []) nodes
-    ∙ ap (λ done. values_from s values done nodes)
-    (map-snoc (value s values) exprs (expr_at exprs node)
-    ∙ ap (λ v. map (value s values) exprs ++ v ∷ []) (value-expr_at s values exprs node))
-
-length-map : (f : Expr → ℕ) (xs : List Expr) → length (map f xs) ≡ length xs
-length-map f [] = refl
-length-map f (x ∷ xs) = ap suc (length-map f xs)
-
--- the value of the last node
-pub value-expr_of : (s : State) (values done : List ℕ) (nodes : List Node) → values_from s values [] nodes ≡ done
-    → slice_index_or done (length done - 1) 0 ≡ value s values (expr_of nodes)
+-- the expression of all nodes is that of the last, after those before it
+pub expr_last : (front nodes : List Node) (node : Node) → nodes ≡ front ++ node ∷ [] → expr_of nodes ≡ expr_at (exprs_of front) node
 unfolding expr_of exprs_of
-value-expr_of s values done nodes is =
-    let exprs = exprs_from [] nodes in
-    let all = values-exprs s values [] nodes ∙ is in
-    sym (value-earlier s values exprs (length exprs - 1)
-    ∙ ap (λ vs. earlier_value vs (length exprs - 1)) all
-    ∙ ap (λ n. earlier_value done (n - 1)) (sym (length-map (value s values) exprs) ∙ ap length all))
+expr_last front nodes node is =
+    ap (λ ns. earlier (exprs_from [] ns) (length (exprs_from [] ns) - 1)) is
+    ∙ ap (λ es. earlier es (length es - 1)) (from_more [] front node)
+    ∙ last_more (exprs_from [] front) (expr_at (exprs_from [] front) node)
 
--- the value of a lone node
-pub value-single : (s : State) (values : List ℕ) (nodes : List Node) (node : Node) → nodes ≡ node ∷ []
-    → value_at s values [] node ≡ value s values (expr_of nodes)
+-- there is no node
+pub expr_none : (nodes : List Node) → nodes ≡ [] → expr_of nodes ≡ number 0
 unfolding expr_of exprs_of
-value-single s values nodes node e = sym (ap (λ ns. value s values (expr_of ns)) e ∙ value-expr_at s values [] node)
+expr_none nodes is = ap (λ ns. earlier (exprs_from [] ns) (length (exprs_from [] ns) - 1)) is
+
+-- the first expressions are those of the first nodes
+length_from : (exprs : List Expr) (nodes : List Node) → length (exprs_from exprs nodes) ≡ length exprs + length nodes
+length_from exprs [] = omega arith
+length_from exprs (n ∷ nodes) =
+    omega (arith, length_from (exprs ++ expr_at exprs n ∷ []) nodes, length-append exprs (expr_at exprs n ∷ []))
+
+kept_at : (exprs : List Expr) (nodes : List Node) (i : ℕ) → i < length exprs → earlier (exprs_from exprs nodes) i ≡ earlier exprs i
+kept_at exprs [] i low = refl
+kept_at exprs (n ∷ nodes) i low =
+    kept_at (exprs ++ expr_at exprs n ∷ []) nodes i (omega (arith, length-append exprs (expr_at exprs n ∷ [])))
+    ∙ inside exprs i low
+  where
+    inside : (xs : List Expr) (j : ℕ) → j < length xs → earlier (xs ++ expr_at exprs n ∷ []) j ≡ earlier xs j
+    inside [] j h = absurd (omega arith)
+    inside (x ∷ xs) zero h = refl
+    inside (x ∷ xs) (suc j) h = inside xs j (omega arith)
+
+from_split : (exprs : List Expr) (nodes others : List Node) → exprs_from exprs (nodes ++ others) ≡ exprs_from (exprs_from exprs nodes) others
+from_split exprs [] others = refl
+from_split exprs (n ∷ nodes) others = from_split (exprs ++ expr_at exprs n ∷ []) nodes others
+
+-- an earlier expression is that of the nodes up to its own
+pub earlier_is : (front upto : List Node) (i : ℕ) → i < length front → upto ≡ take (i + 1) front → expr_of upto ≡ earlier (exprs_of front) i
+unfolding expr_of exprs_of
+earlier_is front upto i low is =
+    ap (λ ns. earlier (exprs_from [] ns) (length (exprs_from [] ns) - 1)) is
+    ∙ ap (earlier (exprs_from [] (take (i + 1) front))) index
+    ∙ sym (kept_at (exprs_from [] (take (i + 1) front)) (drop (i + 1) front) i below)
+    ∙ ap (λ es. earlier es i) (sym (from_split [] (take (i + 1) front) (drop (i + 1) front)) ∙ ap (exprs_from []) (take-append-drop (i + 1) front))
+  where
+    count : length (exprs_from [] (take (i + 1) front)) ≡ i + 1
+    count = length_from [] (take (i + 1) front) ∙ omega (arith, length-take-le (i + 1) front (omega arith))
+
+    index : length (exprs_from [] (take (i + 1) front)) - 1 ≡ i
+    index = omega (arith, count)
+
+    below : i < length (exprs_from [] (take (i + 1) front))
+    below = omega (arith, count)
+
+-- past the nodes there is no expression
+pub earlier_none : (front : List Node) (i : ℕ) → length front ≤ i → earlier (exprs_of front) i ≡ number 0
+unfolding exprs_of
+earlier_none front i past = beyond (exprs_from [] front) i (omega (arith, length_from [] front))
+  where
+    beyond : (xs : List Expr) (j : ℕ) → length xs ≤ j → earlier xs j ≡ number 0
+    beyond [] j h = refl
+    beyond (x ∷ xs) zero h = absurd (omega arith)
+    beyond (x ∷ xs) (suc j) h = beyond xs j (omega arith)
+
+pub length_zero : (nodes : List Node) → length nodes ≡ 0 → nodes ≡ []
+length_zero [] e = refl
+length_zero (n ∷ nodes) e = absurd (omega arith)

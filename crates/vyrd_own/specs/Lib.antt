@@ -1,3 +1,6 @@
 pub mod Nodes
 pub mod Layout
+pub mod Queues
+pub mod Apart
+pub mod Sets
 pub mod Samples

@@ -1,83 +1,67 @@
 //! The value of an expression.
 
-ghost use Rattle.std.specs.Prelude.{◌≡◌, [], ◌∷◌, IfOk, IfSome, slice_index, if◌then◌else◌};
-ghost use Rattle.vyrd_base.specs.Own.Expressions.{value, operated, holds};
-ghost use Rattle.vyrd_own.specs.Nodes.{expr_of, value_at};
+ghost use Rattle.std.specs.Prelude.{◌≡◌, slice_index};
+ghost use Rattle.vyrd_base.specs.Own.Expressions.{value, operated};
+ghost use Rattle.vyrd_own.specs.Nodes.{expr_of, expr_at, exprs_of, earlier};
 
 use crate::node::Node;
 use crate::state::StateOf;
-use std::alloc::{AllocError, Global};
 use vyrd_base::Op;
 
-/// The value of the expression of these nodes. `done` is room for the values of its nodes, and what
-/// it held is gone.
-pub fn evaluate(
-    alloc: Global,
-    nodes: &[Node],
-    state: &StateOf,
-    values: &[u64],
-    done: &mut Vec<u64>,
-) -> Result<u64, AllocError>
-    ensures { IfOk result (λ v. v
-        ≡ value state.now values.now (expr_of nodes.now)) }
+/// The value of the expression of these nodes. It takes no memory, and looks at each node once, if
+/// each is spoken of by one later node.
+#[cycle(evaluation)]
+pub fn evaluate(nodes: &[Node], state: &StateOf, values: &[u64]) -> u64
+    ensures { result ≡ value state.now values.now (expr_of nodes.now) }
 {
-    if let Some(node) = single(nodes) {
-        return node_value(alloc, node, state, values, &[]);
-    }
-    done.clear();
-    for node in nodes {
-        let found = node_value(alloc, *node, state, values, done)?;
-        done.push(found)?;
-    }
-    Ok(at(done, done.len().saturating_sub(1)))
+    let Some((last, front)) = nodes.split_last() else {
+        return 0;
+    };
+    node_value(*last, front, state, values)
 }
 
-/// The only node, if there is one and no other.
+/// The value of a node, after those before it.
+#[cycle(evaluation)]
 #[inline(always)]
-fn single(nodes: &[Node]) -> Option<Node>
-    ensures { IfSome result (λ node. nodes.now ≡ node ∷ []) }
-{
-    if nodes.len() == 1 {
-        return Some(nodes[0]);
-    }
-    None
-}
-
-/// The value of a node, after those of the nodes before it.
-#[inline(always)]
-fn node_value(
-    alloc: Global,
-    node: Node,
-    state: &StateOf,
-    values: &[u64],
-    done: &[u64],
-) -> Result<u64, AllocError>
-    ensures { IfOk result (λ v. v
-        ≡ value_at state.now values.now done.now node) }
+fn node_value(node: Node, front: &[Node], state: &StateOf, values: &[u64]) -> u64
+    ensures { result ≡ value state.now values.now (expr_at (exprs_of front.now) node) }
 {
     match node {
-        Node::Number(n) => Ok(n),
-        Node::At(i) => Ok(at(values, i)),
-        Node::Shown(a) => Ok(state.shown().amount(at(done, a))),
-        Node::Hidden(a) => Ok(state.hidden().amount(at(done, a))),
-        Node::Least(a) => state.shown().least(alloc, at(done, a)),
-        Node::Greatest(a) => state.shown().greatest(alloc, at(done, a)),
-        Node::Count => state.shown().count(alloc),
-        Node::First(i) => Ok(state.first(i)),
-        Node::Last(i) => Ok(state.last(i)),
-        Node::Size(i) => Ok(state.size(i)),
-        Node::Not(a) => Ok(u64::from(at(done, a) == 0)),
-        Node::Infix(op, a, b) => Ok(operate(op, at(done, a), at(done, b))),
-        Node::Choice(test, a, b) => Ok(chosen(at(done, test), at(done, a), at(done, b))),
+        Node::Number(n) => n,
+        Node::At(i) => at(values, i),
+        Node::Shown(a) => state.shown().amount(earlier(front, a, state, values)),
+        Node::Hidden(a) => state.hidden().amount(earlier(front, a, state, values)),
+        Node::Least(a) => state.shown().least(earlier(front, a, state, values)),
+        Node::Greatest(a) => state.shown().greatest(earlier(front, a, state, values)),
+        Node::Count => state.shown().count(),
+        Node::First(i) => state.first(i),
+        Node::Last(i) => state.last(i),
+        Node::Size(i) => state.size(i),
+        Node::Not(a) => u64::from(earlier(front, a, state, values) == 0),
+        Node::Infix(op, a, b) => operate(
+            op,
+            earlier(front, a, state, values),
+            earlier(front, b, state, values),
+        ),
+        Node::Choice(test, a, b) => {
+            if earlier(front, test, state, values) != 0 {
+                earlier(front, a, state, values)
+            } else {
+                earlier(front, b, state, values)
+            }
+        }
     }
 }
 
-/// The second or the third, by the first.
-#[inline(always)]
-fn chosen(test: u64, a: u64, b: u64) -> u64
-    ensures { result ≡ (if holds test then a else b) }
+/// The value of an earlier node, and 0 if it isn't there.
+#[cycle(evaluation)]
+fn earlier(front: &[Node], i: usize, state: &StateOf, values: &[u64]) -> u64
+    ensures { result ≡ value state.now values.now (earlier (exprs_of front.now) i) }
 {
-    if test != 0 { a } else { b }
+    if i < front.len() {
+        return evaluate(&front[..i + 1], state, values);
+    }
+    0
 }
 
 /// The value of that number, and 0 if it isn't there.

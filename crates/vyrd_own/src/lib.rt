@@ -4,13 +4,14 @@
 //! reply, `answer` is what an execution replies that commits nothing, and `put_parts` is what a
 //! part of the words gives to keys. Each answers exactly what the definitions say of the
 //! specification as it is written (`Steps` and `Expressions` of `vyrd_base`, in `specs/Own`), for
-//! any state and any arguments, or that memory ran out. An expression is evaluated in one pass over
-//! a list of nodes; how the nodes make the expression is a matter of the layout (`specs/Layout`),
-//! of which the definitions know nothing.
+//! any state and any arguments, or that memory ran out; then the state is as it was. An expression
+//! is evaluated over a list of nodes, without memory; how the nodes make the expression is a matter
+//! of the layout (`specs/Layout`), of which the definitions know nothing.
 #![tactic(auto)]
 
 mod code;
 mod evaluation;
+mod few;
 pub mod laws;
 mod node;
 mod ordered;
@@ -19,14 +20,17 @@ mod queue;
 mod shown;
 mod state;
 mod steps;
+mod store;
+mod updates;
 mod words;
 pub mod worked;
 
 pub use code::Code;
+pub use few::answer_of_few;
 pub use node::Node;
 pub use program::{Case, Change, Method, Program, Show};
 pub use shown::ShownAmounts;
 pub use state::StateOf;
-pub use steps::{Room, answer, step};
+pub use steps::{Room, answer, find_effects, step};
 pub use vyrd_base::{Effect, Op};
-pub use words::put_parts;
+pub use words::{part_pairs, put_parts};

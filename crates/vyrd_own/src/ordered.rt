@@ -1,7 +1,7 @@
 //! Amounts by key in the order of their keys.
 
 ghost use Rattle.std.specs.Prelude.{◌≡◌, ◌≢◌, OnOk, OnErr, IfOk, [], length};
-ghost use Rattle.vyrd_base.specs.Amounts.{IsAmounts, amount_of, with_amount};
+ghost use Rattle.vyrd_base.specs.Amounts.{amount_of, with_amount};
 ghost use Rattle.vyrd_base.specs.Own.Expressions.{least_from, greatest_to};
 
 use std::alloc::{AllocError, Global};
@@ -36,17 +36,12 @@ impl OrderedAmounts {
         }
     }
 
-    /// The amount of the key, and 0 if it isn't there.
-    pub fn amount(&self, key: u64) -> u64
-        ensures { result ≡ amount_of self.now key }
-    {
-        self.pairs.get(&key).copied().unwrap_or(0)
-    }
-
-    /// Gives the key this amount; 0 takes the key out. If memory runs out, all is as it was.
+    /// Gives the key this amount; 0 takes the key out. Only a key that isn't there yet takes
+    /// memory; if there is none, all is as it was.
     pub fn set(&mut self, key: u64, amount: u64) -> Result<(), AllocError>
         ensures ok { OnOk result (self.new ≡ with_amount self.old key amount) }
         ensures err { OnErr result (self.new ≡ self.old) }
+        ensures absent { OnErr result (amount_of self.old key ≡ 0) }
     {
         if amount == 0 {
             self.remove(key);
@@ -64,7 +59,7 @@ impl OrderedAmounts {
     }
 
     /// Takes the key out, if it is there.
-    fn remove(&mut self, key: u64)
+    pub fn remove(&mut self, key: u64)
         ensures { self.new ≡ with_amount self.old key 0 }
     {
         self.pairs.remove(&key);

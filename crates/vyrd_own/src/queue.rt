@@ -1,6 +1,6 @@
 //! A list with two ends.
 
-ghost use Rattle.std.specs.Prelude.{◌≡◌, ◌++◌, [], ◌∷◌, OnOk, length};
+ghost use Rattle.std.specs.Prelude.{◌≡◌, ◌+◌, ◌<◌, ◌≤◌, ◌++◌, [], ◌∷◌, OnOk, length};
 ghost use Rattle.vyrd_base.specs.Own.Expressions.{first_of, last_of};
 ghost use Rattle.vyrd_base.specs.Own.Steps.{without_first, without_last};
 
@@ -9,24 +9,27 @@ use std::collections::VecDeque;
 use std::marker::Model;
 
 /// A list that grows and shrinks at both ends, each in constant time. It keeps the memory of its
-/// greatest length, and no more.
+/// greatest length, and no more than twice that.
 #[derive(Drop)]
 pub struct Queue {
     items: VecDeque<u64>,
 }
 
 impl Model for Queue {
-    ghost use Rattle.std.specs.Prelude.{List, ℕ};
+    ghost use Rattle.std.specs.Prelude.{◌-◌};
+    ghost use Rattle.std.specs.VecDeque.{deque_capacity, deque_len};
+    ghost use Rattle.vyrd_own.specs.Queues.{Queued};
 
-    ghost Value = { List ℕ };
+    ghost Value = { Queued };
 
-    ghost view = { λ q. q.items.items };
+    ghost view = { λ q.
+        record { items = q.items.items; room = deque_capacity q.items - deque_len q.items } };
 }
 
 impl Queue {
     /// The empty list.
     pub fn new(alloc: Global) -> Queue
-        ensures { result ≡ [] }
+        ensures { result.items ≡ [] }
     {
         Queue {
             items: VecDeque::new(alloc),
@@ -36,7 +39,7 @@ impl Queue {
     /// The first, or the greatest number.
     #[inline(always)]
     pub fn first(&self) -> u64
-        ensures { result ≡ first_of self.now }
+        ensures { result ≡ first_of self.now.items }
     {
         match self.items.front() {
             Some(item) => *item,
@@ -47,7 +50,7 @@ impl Queue {
     /// The last, or the greatest number.
     #[inline(always)]
     pub fn last(&self) -> u64
-        ensures { result ≡ last_of self.now }
+        ensures { result ≡ last_of self.now.items }
     {
         match self.items.back() {
             Some(item) => *item,
@@ -58,33 +61,52 @@ impl Queue {
     /// How many there are.
     #[inline(always)]
     pub fn size(&self) -> u64
-        ensures { result ≡ length self.now }
+        ensures { result ≡ length self.now.items }
     {
         self.items.len() as u64
     }
 
-    /// One more at the end.
+    /// Makes room for that many more, or leaves it as it was.
     #[inline(always)]
-    pub fn append(&mut self, item: u64) -> Result<(), AllocError>
-        ensures { OnOk result (self.new ≡ self.old ++ item ∷ []) }
+    pub fn reserve(&mut self, more: usize) -> Result<(), AllocError>
+        ensures items { self.new.items ≡ self.old.items }
+        ensures kept { self.old.room ≤ self.new.room }
+        ensures room { OnOk result (more ≤ self.new.room) }
     {
-        self.items.push_back(item)?;
-        Ok(())
+        self.items.reserve(more)
     }
 
-    /// One more at the front.
+    /// One more at the end, for which there is room.
     #[inline(always)]
-    pub fn prepend(&mut self, item: u64) -> Result<(), AllocError>
-        ensures { OnOk result (self.new ≡ item ∷ self.old) }
+    pub fn append(&mut self, item: u64)
+        requires { 0 < self.old.room }
+        ensures items { self.new.items ≡ self.old.items ++ item ∷ [] }
+        ensures room { self.old.room ≤ self.new.room + 1 }
     {
-        self.items.push_front(item)?;
-        Ok(())
+        match self.items.push_back(item) {
+            Ok(()) => {}
+            Err(_) => unreachable!(),
+        }
+    }
+
+    /// One more at the front, for which there is room.
+    #[inline(always)]
+    pub fn prepend(&mut self, item: u64)
+        requires { 0 < self.old.room }
+        ensures items { self.new.items ≡ item ∷ self.old.items }
+        ensures room { self.old.room ≤ self.new.room + 1 }
+    {
+        match self.items.push_front(item) {
+            Ok(()) => {}
+            Err(_) => unreachable!(),
+        }
     }
 
     /// Without the first.
     #[inline(always)]
     pub fn drop_first(&mut self)
-        ensures { self.new ≡ without_first self.old }
+        ensures items { self.new.items ≡ without_first self.old.items }
+        ensures room { self.old.room ≤ self.new.room }
     {
         self.items.pop_front();
     }
@@ -92,14 +114,16 @@ impl Queue {
     /// Without the last.
     #[inline(always)]
     pub fn drop_last(&mut self)
-        ensures { self.new ≡ without_last self.old }
+        ensures items { self.new.items ≡ without_last self.old.items }
+        ensures room { self.old.room ≤ self.new.room }
     {
         self.items.pop_back();
     }
 
     /// Empty again.
     pub fn clear(&mut self)
-        ensures { self.new ≡ [] }
+        ensures items { self.new.items ≡ [] }
+        ensures room { self.old.room ≤ self.new.room }
     {
         self.items.clear();
     }

@@ -1,138 +1,104 @@
-//! The shown amounts: in a table, and in the order of their keys where a specification asks for it.
+//! The shown amounts: in a table, and in the order of their keys.
 
-ghost use Rattle.std.specs.Prelude.{◌≡◌, OnOk, IfOk, [], length};
+ghost use Rattle.std.specs.Prelude.{◌≡◌, OnOk, OnErr, IfOk, [], length};
 ghost use Rattle.vyrd_base.specs.Amounts.{IsAmounts, amount_of, with_amount};
-ghost use Rattle.vyrd_base.specs.Tables.{HasAll, amounts_in};
 ghost use Rattle.vyrd_base.specs.Own.Expressions.{least_from, greatest_to};
 
 use crate::ordered::OrderedAmounts;
 use std::alloc::{AllocError, Global};
 use std::marker::Model;
-use vyrd_base::AmountTable;
+use vyrd_base::{AmountTable, View};
 
-/// Amounts by key, to be looked up and changed in constant time, and to be asked for the nearest
-/// key in logarithmic time where they are kept in order too.
+/// Amounts by key, to be looked up in constant time, and to be changed and asked for the nearest
+/// key in logarithmic time.
 #[derive(Drop)]
 pub struct ShownAmounts {
     table: AmountTable,
     keys: OrderedAmounts,
-    in_order: bool,
 }
 
 impl Model for ShownAmounts {
-    ghost use Rattle.std.specs.Prelude.{◌≡◌, true};
-    ghost use Rattle.vyrd_base.specs.Amounts.{Amounts};
+    ghost use Rattle.std.specs.Prelude.{◌≡◌};
+    ghost use Rattle.vyrd_base.specs.Amounts.{Amounts, IsAmounts};
 
     ghost Value = { Amounts };
 
     ghost view = { λ s. s.table };
 
-    ghost invariant = { λ s. s.in_order ≡ true → s.keys ≡ s.table };
+    ghost invariant = { λ s. (s.keys ≡ s.table) × IsAmounts s.table };
 }
 
 impl ShownAmounts {
-    /// No key. The keys are kept in order if that is asked for.
-    pub fn new(alloc: Global, keys: usize, in_order: bool) -> Result<ShownAmounts, AllocError>
+    /// No key, in a table that is made for so many.
+    pub fn new(alloc: Global, keys: usize) -> Result<ShownAmounts, AllocError>
         ensures { IfOk result (λ s. s ≡ []) }
     {
         Ok(ShownAmounts {
             table: AmountTable::new(alloc, keys)?,
             keys: OrderedAmounts::new(alloc),
-            in_order,
         })
     }
 
     /// The amount of the key, and 0 if it isn't there.
     #[inline(always)]
     pub fn amount(&self, key: u64) -> u64
-        ensures { result ≡ amount_of self.now key }
+        ensures amount { result ≡ amount_of self.now key }
+        ensures formed { IsAmounts self.now }
     {
         self.table.amount(key)
     }
 
-    /// Gives the key this amount; 0 takes the key out. Nothing is said of the amounts once memory
-    /// has run out.
-    #[inline(always)]
+    /// Gives the key this amount; 0 takes the key out. Only a key that isn't there yet takes
+    /// memory; if there is none, all is as it was.
     pub fn set(&mut self, key: u64, amount: u64) -> Result<(), AllocError>
-        ensures { OnOk result (self.new ≡ with_amount self.old key amount) }
+        ensures ok { OnOk result (self.new ≡ with_amount self.old key amount) }
+        ensures err { OnErr result (self.new ≡ self.old) }
+        ensures absent { OnErr result (amount_of self.old key ≡ 0) }
     {
-        if self.in_order {
-            return self.set_in_order(key, amount);
+        self.table.set(key, amount)?;
+        match self.keys.set(key, amount) {
+            Ok(()) => Ok(()),
+            Err(error) => {
+                self.table.remove(key);
+                Err(error)
+            }
         }
-        self.table.set(key, amount)
     }
 
-    /// The same where the keys are kept in order.
-    #[inline(never)]
-    fn set_in_order(&mut self, key: u64, amount: u64) -> Result<(), AllocError>
-        ensures { OnOk result (self.new ≡ with_amount self.old key amount) }
+    /// Takes the key out, if it is there.
+    pub fn remove(&mut self, key: u64)
+        ensures { self.new ≡ with_amount self.old key 0 }
     {
-        let was_in_order = self.in_order;
-        self.in_order = false;
-        self.table.set(key, amount)?;
-        self.keys.set(key, amount)?;
-        self.in_order = was_in_order;
-        Ok(())
+        self.table.remove(key);
+        self.keys.remove(key);
     }
 
     /// The least key from this one on.
-    pub fn least(&self, alloc: Global, key: u64) -> Result<u64, AllocError>
-        ensures { IfOk result (λ k. k ≡ least_from key self.now) }
+    pub fn least(&self, key: u64) -> u64
+        ensures { result ≡ least_from key self.now }
     {
-        if self.in_order {
-            return Ok(self.keys.least(key));
-        }
-        Ok(self.sorted(alloc)?.least(key))
+        self.keys.least(key)
     }
 
     /// The greatest key up to this one.
-    pub fn greatest(&self, alloc: Global, key: u64) -> Result<u64, AllocError>
-        ensures { IfOk result (λ k. k ≡ greatest_to key self.now) }
+    pub fn greatest(&self, key: u64) -> u64
+        ensures { result ≡ greatest_to key self.now }
     {
-        if self.in_order {
-            return Ok(self.keys.greatest(key));
-        }
-        Ok(self.sorted(alloc)?.greatest(key))
+        self.keys.greatest(key)
     }
 
     /// How many keys have an amount.
-    pub fn count(&self, alloc: Global) -> Result<u64, AllocError>
-        ensures { IfOk result (λ n. n ≡ length self.now) }
+    pub fn count(&self) -> u64
+        ensures { result ≡ length self.now }
     {
-        if self.in_order {
-            return Ok(self.keys.count());
-        }
-        Ok(self.sorted(alloc)?.count())
+        self.keys.count()
     }
 
-    /// Takes all keys out. It takes time and memory for as many keys as the table is made for.
-    pub fn clear(&mut self, alloc: Global, keys: usize) -> Result<(), AllocError>
-        ensures { OnOk result (self.new ≡ []) }
+    /// The keys with their amounts, as a view. It costs time and memory for each key, and time for
+    /// the whole table.
+    pub fn view(&self, alloc: Global) -> Result<View, AllocError>
+        ensures { IfOk result (λ v. v ≡ self.now) }
     {
-        *self = ShownAmounts::new(alloc, keys, self.in_order)?;
-        Ok(())
+        self.table.view(alloc)
     }
-
-    /// The amounts in order. It costs time and memory for each key.
-    fn sorted(&self, alloc: Global) -> Result<OrderedAmounts, AllocError>
-        ensures { IfOk result (λ keys. keys ≡ self.now) }
-    {
-        let mut sums = OrderedAmounts::new(alloc);
-        put_all(&mut sums, self.table.view(alloc)?.pairs())?;
-        Ok(sums)
-    }
-}
-
-/// Sets the amount of each pair's key, if it isn't 0.
-fn put_all(sums: &mut OrderedAmounts, pairs: &[(u64, u64)]) -> Result<(), AllocError>
-    requires formed { IsAmounts sums.old }
-    requires all { HasAll sums.old pairs.now }
-    ensures { OnOk result (sums.new ≡ amounts_in pairs.now sums.old) }
-{
-    for (key, amount) in pairs {
-        if *amount != 0 {
-            sums.set(*key, *amount)?;
-        }
-    }
-    Ok(())
 }

@@ -1,14 +1,19 @@
 //! A state of a specification.
 
-ghost use Rattle.std.specs.Prelude.{◌≡◌, ◌++◌, OnOk, IfOk, [], map, length, List, ℕ};
+ghost use Rattle.std.specs.Prelude.{◌≡◌, ◌+◌, ◌<◌, ◌≤◌, ℕ, List, [], ◌∷◌, true, map, length};
+ghost use Rattle.std.specs.Prelude.{OnOk, OnErr, IfOk, if◌then◌else◌};
+ghost use Rattle.vyrd_base.specs.Amounts.{IsAmounts};
 ghost use Rattle.vyrd_base.specs.States.{State};
 ghost use Rattle.vyrd_base.specs.Own.Expressions.{list_at, first_of, last_of};
 ghost use Rattle.vyrd_own.specs.Layout.{written};
-ghost use Rattle.vyrd_base.specs.Own.Steps.{with_effect, with_effects, start_of, hidden_with};
+ghost use Rattle.vyrd_base.specs.Own.Steps.{with_effects, start_of, hidden_with, blank};
+ghost use Rattle.vyrd_own.specs.Queues.{queue_at, puts_in, HaveRoom};
+ghost use Rattle.vyrd_own.specs.Apart.{registers_with, registers_after, lists_after, lists_with};
 
 use crate::program::Program;
 use crate::queue::Queue;
 use crate::shown::ShownAmounts;
+use crate::updates::Updates;
 use std::alloc::{AllocError, Global};
 use std::marker::Model;
 use vyrd_base::{AmountTable, Effect};
@@ -24,6 +29,8 @@ pub struct StateOf {
 }
 
 impl Model for StateOf {
+    ghost use Rattle.std.specs.Prelude.{map};
+    ghost use Rattle.vyrd_base.specs.Amounts.{IsAmounts};
     ghost use Rattle.vyrd_base.specs.States.{State};
 
     ghost Value = { State };
@@ -32,25 +39,22 @@ impl Model for StateOf {
       shown = s.shown;
       hidden = s.hidden;
       registers = s.registers.items;
-      lists = s.lists.items;
+      lists = map (λ q. q.items) s.lists.items;
     } };
+
+    ghost invariant = { λ s. IsAmounts s.shown × IsAmounts s.hidden };
 }
 
 impl StateOf {
     /// The state at the start.
     #[tactic(auto, unfolding(vyrd_base::specs::Own::Steps::start_of))]
-    pub fn new(
-        alloc: Global,
-        program: &Program,
-        keys: usize,
-        in_order: bool,
-    ) -> Result<StateOf, AllocError>
+    pub fn new(alloc: Global, program: &Program, keys: usize) -> Result<StateOf, AllocError>
         ensures { IfOk result (λ s. s ≡ start_of (written program.now)) }
     {
         let mut hidden = AmountTable::new(alloc, keys)?;
         put_hidden(&mut hidden, &program.hidden)?;
         Ok(StateOf {
-            shown: ShownAmounts::new(alloc, keys, in_order)?,
+            shown: ShownAmounts::new(alloc, keys)?,
             hidden,
             registers: Vec::from_slice(alloc, &program.registers)?,
             lists: lists_of(alloc, &program.lists)?,
@@ -58,10 +62,33 @@ impl StateOf {
         })
     }
 
+    /// The state in which nothing was set.
+    pub fn blank(alloc: Global) -> Result<StateOf, AllocError>
+        ensures { IfOk result (λ s. s ≡ blank) }
+    {
+        Ok(StateOf {
+            shown: ShownAmounts::new(alloc, 0)?,
+            hidden: AmountTable::new(alloc, 0)?,
+            registers: Vec::new(alloc),
+            lists: Vec::new(alloc),
+            keys: 0,
+        })
+    }
+
+    /// The same state, except that it shows this.
+    pub fn with_shown(mut self, shown: ShownAmounts) -> StateOf
+        requires { IsAmounts shown }
+        ensures { result ≡ record self { shown = shown } }
+    {
+        self.shown = shown;
+        self
+    }
+
     /// What the state shows.
     #[inline(always)]
     pub fn shown(&self) -> &ShownAmounts
-        ensures { result.now ≡ self.now.shown }
+        ensures shown { result.now ≡ self.now.shown }
+        ensures formed { IsAmounts self.now.shown }
     {
         &self.shown
     }
@@ -115,94 +142,151 @@ impl StateOf {
         0
     }
 
-    /// Does all of this, one after the other. Nothing is said of the state once memory has run out.
-    pub fn put_all(&mut self, alloc: Global, effects: &[Effect]) -> Result<(), AllocError>
-        ensures { OnOk result (self.new ≡ with_effects self.old effects.now) }
+    /// Does all of this, one after the other. If memory runs out, all is as it was.
+    pub fn put_all(
+        &mut self,
+        alloc: Global,
+        effects: &[Effect],
+        updates: &mut Updates,
+    ) -> Result<(), AllocError>
+        ensures ok { OnOk result (self.new ≡ with_effects self.old effects.now) }
+        ensures err { OnErr result (self.new ≡ self.old) }
     {
-        for effect in effects {
-            self.put(alloc, *effect)?;
-        }
+        let clears = updates.gather(effects)?;
+        reserve(&mut self.lists, effects)?;
+        put_amounts(
+            alloc,
+            self.keys,
+            clears,
+            &mut self.shown,
+            &mut self.hidden,
+            updates,
+        )?;
+        set_registers(&mut self.registers, effects);
+        change_lists(&mut self.lists, effects);
         Ok(())
     }
+}
 
-    /// Does this.
-    #[inline(always)]
-    pub fn put(&mut self, alloc: Global, effect: Effect) -> Result<(), AllocError>
-        ensures { OnOk result (self.new ≡ with_effect self.old effect) }
-    {
-        match effect {
-            Effect::SetShown(key, amount) => self.shown.set(key, amount)?,
-            Effect::SetHidden(key, amount) => self.hidden.set(key, amount)?,
-            Effect::SetRegister(i, new) => self.set_register(i, new),
-            Effect::PutLast(i, new) => self.append(i, new)?,
-            Effect::PutFirst(i, new) => self.prepend(i, new)?,
-            Effect::TakeFirst(i) => self.drop_first(i),
-            Effect::TakeLast(i) => self.drop_last(i),
-            Effect::Empty(i) => self.clear_list(i),
-            Effect::EmptyShown => self.shown.clear(alloc, self.keys)?,
-        }
-        Ok(())
+/// Sets the registers.
+fn set_registers(registers: &mut Vec<u64>, effects: &[Effect])
+    ensures { registers.new.items ≡ registers_after registers.old.items effects.now }
+{
+    for effect in effects {
+        set_register(registers, *effect);
     }
+}
 
-    /// Sets the register of that number, if there is one.
-    fn set_register(&mut self, i: usize, new: u64)
-        ensures { self.new ≡ with_effect self.old (Effect.SetRegister i new) }
-    {
-        if i < self.registers.len() {
-            self.registers[i] = new;
+/// Sets the register that this sets, if there is one.
+#[inline(always)]
+fn set_register(registers: &mut Vec<u64>, effect: Effect)
+    ensures { registers.new.items ≡ registers_with registers.old.items effect }
+{
+    if let Effect::SetRegister(i, new) = effect {
+        if i < registers.len() {
+            registers[i] = new;
         }
     }
+}
 
-    /// Puts one more at the end of the list of that number, if there is one.
-    #[inline(always)]
-    fn append(&mut self, i: usize, new: u64) -> Result<(), AllocError>
-        ensures { OnOk result (self.new ≡ with_effect self.old (Effect.PutLast i new)) }
-    {
-        if i < self.lists.len() {
-            self.lists[i].append(new)?;
-        }
-        Ok(())
+/// Makes room in the lists that get something, for as much as there are effects.
+fn reserve(lists: &mut Vec<Queue>, effects: &[Effect]) -> Result<(), AllocError>
+    ensures items { map (λ q. q.items) lists.new.items ≡ map (λ q. q.items) lists.old.items }
+    ensures room { OnOk result (HaveRoom lists.new.items effects.now (length effects.now)) }
+{
+    for effect in effects {
+        reserve_for(lists, *effect, effects.len())?;
     }
+    Ok(())
+}
 
-    /// Puts one more at the front of the list of that number, if there is one.
-    #[inline(always)]
-    fn prepend(&mut self, i: usize, new: u64) -> Result<(), AllocError>
-        ensures { OnOk result (self.new ≡ with_effect self.old (Effect.PutFirst i new)) }
-    {
-        if i < self.lists.len() {
-            self.lists[i].prepend(new)?;
-        }
-        Ok(())
+/// Makes room in the list that this puts something in, if there is one.
+#[inline(always)]
+fn reserve_for(lists: &mut Vec<Queue>, effect: Effect, more: usize) -> Result<(), AllocError>
+    ensures items { map (λ q. q.items) lists.new.items ≡ map (λ q. q.items) lists.old.items }
+    ensures len { length lists.new.items ≡ length lists.old.items }
+    ensures kept { (j : ℕ) → (queue_at lists.old.items j).room ≤ (queue_at lists.new.items j).room }
+    ensures room { OnOk result (HaveRoom lists.new.items (effect ∷ []) more) }
+{
+    match effect {
+        Effect::PutLast(i, _) => reserve_in(lists, i, more),
+        Effect::PutFirst(i, _) => reserve_in(lists, i, more),
+        _ => Ok(()),
     }
+}
 
-    /// Takes the first of the list of that number, if there is one.
-    #[inline(always)]
-    fn drop_first(&mut self, i: usize)
-        ensures { self.new ≡ with_effect self.old (Effect.TakeFirst i) }
-    {
-        if i < self.lists.len() {
-            self.lists[i].drop_first();
-        }
+/// Makes room in the list of that number, if there is one.
+fn reserve_in(lists: &mut Vec<Queue>, i: usize, more: usize) -> Result<(), AllocError>
+    ensures items { map (λ q. q.items) lists.new.items ≡ map (λ q. q.items) lists.old.items }
+    ensures len { length lists.new.items ≡ length lists.old.items }
+    ensures kept { (j : ℕ) → (queue_at lists.old.items j).room ≤ (queue_at lists.new.items j).room }
+    ensures room { OnOk result
+        (i < length lists.new.items → more ≤ (queue_at lists.new.items i).room) }
+{
+    if i < lists.len() {
+        let list = &mut lists[i];
+        list.reserve(more)?;
     }
+    Ok(())
+}
 
-    /// Takes the last of the list of that number, if there is one.
-    #[inline(always)]
-    fn drop_last(&mut self, i: usize)
-        ensures { self.new ≡ with_effect self.old (Effect.TakeLast i) }
-    {
-        if i < self.lists.len() {
-            self.lists[i].drop_last();
-        }
+/// Changes the lists, in which there is room.
+fn change_lists(lists: &mut Vec<Queue>, effects: &[Effect])
+    requires { HaveRoom lists.old.items effects.now (length effects.now) }
+    ensures { map (λ q. q.items) lists.new.items
+        ≡ lists_after (map (λ q. q.items) lists.old.items) effects.now }
+{
+    for effect in effects {
+        change_list(lists, *effect);
     }
+}
 
-    /// Empties the list of that number, if there is one.
-    fn clear_list(&mut self, i: usize)
-        ensures { self.new ≡ with_effect self.old (Effect.Empty i) }
-    {
-        if i < self.lists.len() {
-            self.lists[i].clear();
-        }
+/// Does this to the lists.
+#[inline(always)]
+fn change_list(lists: &mut Vec<Queue>, effect: Effect)
+    requires { (i : ℕ) → puts_in i effect ≡ true → i < length lists.old.items
+        → 0 < (queue_at lists.old.items i).room }
+    ensures items { map (λ q. q.items) lists.new.items
+        ≡ lists_with (map (λ q. q.items) lists.old.items) effect }
+    ensures len { length lists.new.items ≡ length lists.old.items }
+    ensures room { (j : ℕ)
+        → (queue_at lists.old.items j).room ≤ (queue_at lists.new.items j).room + 1 }
+{
+    match effect {
+        Effect::PutLast(i, new) if i < lists.len() => lists[i].append(new),
+        Effect::PutFirst(i, new) if i < lists.len() => lists[i].prepend(new),
+        Effect::TakeFirst(i) if i < lists.len() => lists[i].drop_first(),
+        Effect::TakeLast(i) if i < lists.len() => lists[i].drop_last(),
+        Effect::Empty(i) if i < lists.len() => lists[i].clear(),
+        _ => {}
     }
+}
+
+/// Changes the shown and the hidden amounts, all of them or none. What is shown is cleared first, if
+/// that is asked for.
+fn put_amounts(
+    alloc: Global,
+    keys: usize,
+    clears: bool,
+    shown: &mut ShownAmounts,
+    hidden: &mut AmountTable,
+    updates: &mut Updates,
+) -> Result<(), AllocError>
+    requires shown { IsAmounts shown.old }
+    requires hidden { IsAmounts hidden.old }
+    ensures shown { OnOk result (shown.new
+        ≡ hidden_with (if clears then [] else shown.old) updates.old.shown.items) }
+    ensures hidden { OnOk result (hidden.new ≡ hidden_with hidden.old updates.old.hidden.items) }
+    ensures shown_same { OnErr result (shown.new ≡ shown.old) }
+    ensures hidden_same { OnErr result (hidden.new ≡ hidden.old) }
+{
+    if !clears {
+        return updates.put(shown, hidden);
+    }
+    let mut fresh = ShownAmounts::new(alloc, keys)?;
+    updates.put(&mut fresh, hidden)?;
+    *shown = fresh;
+    Ok(())
 }
 
 /// Sets the amount of each pair's key.
@@ -217,18 +301,20 @@ fn put_hidden(hidden: &mut AmountTable, pairs: &[(u64, u64)]) -> Result<(), Allo
 
 /// A list with these.
 fn list_of(alloc: Global, items: &[u64]) -> Result<Queue, AllocError>
-    ensures { IfOk result (λ q. q ≡ items.now) }
+    ensures { IfOk result (λ q. q.items ≡ items.now) }
 {
     let mut list = Queue::new(alloc);
+    list.reserve(items.len())?;
     for item in items {
-        list.append(*item)?;
+        list.append(*item);
     }
     Ok(list)
 }
 
 /// A list for each of these.
 fn lists_of(alloc: Global, all: &[Vec<u64>]) -> Result<Vec<Queue>, AllocError>
-    ensures { IfOk result (λ lists. lists.items ≡ map (λ list. list.items) all.now) }
+    ensures { IfOk result (λ lists. map (λ q. q.items) lists.items
+        ≡ map (λ list. list.items) all.now) }
 {
     let mut lists = Vec::new(alloc);
     for items in all {

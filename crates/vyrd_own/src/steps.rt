@@ -1,6 +1,6 @@
 //! Steps and answers.
 
-ghost use Rattle.std.specs.Prelude.{◌≡◌, ◌++◌, [], ◌∷◌, map, OnOk, IfOk, true, false, Some, None};
+ghost use Rattle.std.specs.Prelude.{◌≡◌, ◌≢◌, ◌++◌, [], ◌∷◌, map, OnOk, IfOk, true, false, Some, None};
 ghost use Rattle.std.specs.Prelude.{Ok};
 ghost use Rattle.std.specs.Prelude.{if◌then◌else◌, option_map};
 ghost use Rattle.vyrd_base.specs.Own.Expressions.{value};
@@ -12,6 +12,7 @@ use crate::code::Code;
 use crate::evaluation::evaluate;
 use crate::program::{Case, Change, Method, Program};
 use crate::state::StateOf;
+use crate::updates::Updates;
 use std::alloc::{AllocError, Global};
 use vyrd_base::Effect;
 
@@ -20,8 +21,8 @@ use vyrd_base::Effect;
 pub struct Room {
     pub alloc: Global,
     pub values: Vec<u64>,
-    pub done: Vec<u64>,
     pub effects: Vec<Effect>,
+    pub updates: Updates,
 }
 
 impl Room {
@@ -30,34 +31,27 @@ impl Room {
         Room {
             alloc,
             values: Vec::new(alloc),
-            done: Vec::new(alloc),
             effects: Vec::new(alloc),
+            updates: Updates::new(alloc),
         }
     }
 }
 
 /// The value of an expression.
-pub fn value_of(
-    alloc: Global,
-    code: &Code,
-    state: &StateOf,
-    values: &[u64],
-    done: &mut Vec<u64>,
-) -> Result<u64, AllocError>
-    ensures { IfOk result (λ v. v ≡ value state.now values.now (expr_in code.now)) }
+#[inline(always)]
+pub fn value_of(code: &Code, state: &StateOf, values: &[u64]) -> u64
+    ensures { result ≡ value state.now values.now (expr_in code.now) }
 {
-    evaluate(alloc, &code.nodes, state, values, done)
+    evaluate(&code.nodes, state, values)
 }
 
 /// Puts into `values` what has a name in the method.
 pub fn put_values(
-    alloc: Global,
     program: &Program,
     method: &Method,
     args: &[u64],
     state: &StateOf,
     values: &mut Vec<u64>,
-    done: &mut Vec<u64>,
 ) -> Result<(), AllocError>
     ensures { OnOk result (values.new.items
         ≡ at_hand (written program.now) (method_of method.now) state.now args.now) }
@@ -66,74 +60,49 @@ pub fn put_values(
     values.extend_from_slice(&program.constants)?;
     values.extend_from_slice(state.registers())?;
     values.extend_from_slice(args)?;
-    put_lets(alloc, &method.lets, state, values, done)
+    put_lets(&method.lets, state, values)
 }
 
 /// Puts the value of each `let` at the end.
-fn put_lets(
-    alloc: Global,
-    lets: &[Code],
-    state: &StateOf,
-    values: &mut Vec<u64>,
-    done: &mut Vec<u64>,
-) -> Result<(), AllocError>
+fn put_lets(lets: &[Code], state: &StateOf, values: &mut Vec<u64>) -> Result<(), AllocError>
     ensures { OnOk result (values.new.items
         ≡ with_lets state.now values.old.items (map expr_in lets.now)) }
 {
     for code in lets {
-        let found = value_of(alloc, code, state, values, done)?;
+        let found = value_of(code, state, values);
         values.push(found)?;
     }
     Ok(())
 }
 
 /// What a line of a case does.
-fn effect(
-    alloc: Global,
-    change: &Change,
-    state: &StateOf,
-    values: &[u64],
-    done: &mut Vec<u64>,
-) -> Result<Effect, AllocError>
-    ensures { IfOk result (λ e. e ≡ effect_of state.now values.now (change_of change.now)) }
+fn effect(change: &Change, state: &StateOf, values: &[u64]) -> Effect
+    ensures { result ≡ effect_of state.now values.now (change_of change.now) }
 {
     match change {
-        Change::Shown(key, amount) => {
-            let key = value_of(alloc, key, state, values, done)?;
-            let amount = value_of(alloc, amount, state, values, done)?;
-            Ok(Effect::SetShown(key, amount))
-        }
-        Change::Hidden(key, amount) => {
-            let key = value_of(alloc, key, state, values, done)?;
-            let amount = value_of(alloc, amount, state, values, done)?;
-            Ok(Effect::SetHidden(key, amount))
-        }
-        Change::Register(i, new) => {
-            let new = value_of(alloc, new, state, values, done)?;
-            Ok(Effect::SetRegister(*i, new))
-        }
-        Change::Append(i, new) => {
-            let new = value_of(alloc, new, state, values, done)?;
-            Ok(Effect::PutLast(*i, new))
-        }
-        Change::Prepend(i, new) => {
-            let new = value_of(alloc, new, state, values, done)?;
-            Ok(Effect::PutFirst(*i, new))
-        }
-        Change::DropFirst(i) => Ok(Effect::TakeFirst(*i)),
-        Change::DropLast(i) => Ok(Effect::TakeLast(*i)),
-        Change::Clear(i) => Ok(Effect::Empty(*i)),
-        Change::ClearShown => Ok(Effect::EmptyShown),
+        Change::Shown(key, amount) => Effect::SetShown(
+            value_of(key, state, values),
+            value_of(amount, state, values),
+        ),
+        Change::Hidden(key, amount) => Effect::SetHidden(
+            value_of(key, state, values),
+            value_of(amount, state, values),
+        ),
+        Change::Register(i, new) => Effect::SetRegister(*i, value_of(new, state, values)),
+        Change::Append(i, new) => Effect::PutLast(*i, value_of(new, state, values)),
+        Change::Prepend(i, new) => Effect::PutFirst(*i, value_of(new, state, values)),
+        Change::DropFirst(i) => Effect::TakeFirst(*i),
+        Change::DropLast(i) => Effect::TakeLast(*i),
+        Change::Clear(i) => Effect::Empty(*i),
+        Change::ClearShown => Effect::EmptyShown,
     }
 }
 
 /// Puts what the lines of a case do into `effects`.
 fn put_effects(
-    alloc: Global,
     changes: &[Change],
     state: &StateOf,
     values: &[u64],
-    done: &mut Vec<u64>,
     effects: &mut Vec<Effect>,
 ) -> Result<(), AllocError>
     ensures { OnOk result (effects.new.items
@@ -141,8 +110,7 @@ fn put_effects(
 {
     effects.clear();
     for change in changes {
-        let found = effect(alloc, change, state, values, done)?;
-        effects.push(found)?;
+        effects.push(effect(change, state, values))?;
     }
     Ok(())
 }
@@ -150,19 +118,17 @@ fn put_effects(
 /// Puts what the first case does that allows the reply into `effects`, and says whether there is
 /// one.
 fn put_allowed(
-    alloc: Global,
     cases: &[Case],
     state: &StateOf,
     values: &[u64],
-    done: &mut Vec<u64>,
     effects: &mut Vec<Effect>,
 ) -> Result<bool, AllocError>
     ensures { IfOk result (λ allowed. allowed_effects state.now values.now (map case_of cases.now)
         ≡ (if allowed then Some effects.new.items else None)) }
 {
     for case in cases {
-        if value_of(alloc, &case.allow, state, values, done)? != 0 {
-            put_effects(alloc, &case.changes, state, values, done, effects)?;
+        if value_of(&case.allow, state, values) != 0 {
+            put_effects(&case.changes, state, values, effects)?;
             return Ok(true);
         }
     }
@@ -170,8 +136,7 @@ fn put_allowed(
 }
 
 /// Makes a step with a call and its reply, and says whether the reply is allowed. The room then has
-/// what the step did. If the reply is refused, the state is as it was. Nothing is said of the state
-/// once memory has run out.
+/// what the step did. If the reply is refused, and if memory runs out, the state is as it was.
 pub fn step(
     program: &Program,
     method: &Method,
@@ -185,35 +150,34 @@ pub fn step(
         ≡ Some state.new }
     ensures refused { result ≡ Ok false
         → next_of (written program.now) (method_of method.now) args.now reply state.old ≡ None }
-    ensures same { result ≡ Ok false → state.new ≡ state.old }
+    ensures same { result ≢ Ok true → state.new ≡ state.old }
     ensures effects { result ≡ Ok true
         → effects_of (written program.now) (method_of method.now) state.old args.now reply
         ≡ Some room.new.effects.items }
 {
-    let alloc = room.alloc;
-    put_values(
-        alloc,
-        program,
-        method,
-        args,
-        state,
-        &mut room.values,
-        &mut room.done,
-    )?;
-    room.values.push(reply)?;
-    let allowed = put_allowed(
-        alloc,
-        &method.cases,
-        state,
-        &room.values,
-        &mut room.done,
-        &mut room.effects,
-    )?;
-    if !allowed {
+    if !find_effects(program, method, args, reply, state, room)? {
         return Ok(false);
     }
-    state.put_all(alloc, &room.effects)?;
+    state.put_all(room.alloc, &room.effects, &mut room.updates)?;
     Ok(true)
+}
+
+/// Finds out what a call does with its reply, in numbers, and says whether the reply is allowed. The
+/// room then has what it does.
+pub fn find_effects(
+    program: &Program,
+    method: &Method,
+    args: &[u64],
+    reply: u64,
+    state: &StateOf,
+    room: &mut Room,
+) -> Result<bool, AllocError>
+    ensures { IfOk result (λ allowed. effects_of (written program.now) (method_of method.now) state.now
+        args.now reply ≡ (if allowed then Some room.new.effects.items else None)) }
+{
+    put_values(program, method, args, state, &mut room.values)?;
+    room.values.push(reply)?;
+    put_allowed(&method.cases, state, &room.values, &mut room.effects)
 }
 
 /// What an execution that commits nothing has to reply.
@@ -228,18 +192,9 @@ pub fn answer(
     ensures { IfOk result (λ a. a
         ≡ answer_of (written program.now) (method_of method.now) args.now state.now) }
 {
-    let alloc = room.alloc;
     let Some(code) = &method.answer else {
         return Ok(None);
     };
-    put_values(
-        alloc,
-        program,
-        method,
-        args,
-        state,
-        &mut room.values,
-        &mut room.done,
-    )?;
-    Ok(Some(value_of(alloc, code, state, &room.values, &mut room.done)?))
+    put_values(program, method, args, state, &mut room.values)?;
+    Ok(Some(value_of(code, state, &room.values)))
 }

@@ -1,14 +1,16 @@
 //! What words show.
 
-ghost use Rattle.std.specs.Prelude.{◌≡◌, ◌++◌, ◌==◌, OnOk, IfOk};
+ghost use Rattle.std.specs.Prelude.{◌≡◌, ◌+◌, ◌≤◌, ◌==◌, ◌++◌, ◌∷◌, ℕ, map, length, OnOk};
+ghost use Rattle.std.specs.Prelude.{slice_index_or};
 ghost use Rattle.std.specs.List.{list_all};
 ghost use Rattle.vyrd_own.specs.Layout.{written, show_of};
 ghost use Rattle.vyrd_base.specs.Own.Steps.{blank, given_by, part_gives};
 
+use crate::few::{Few, put_few};
 use crate::program::{Program, Show};
 use crate::state::StateOf;
 use crate::steps::{Room, value_of};
-use std::alloc::{AllocError, Global};
+use std::alloc::AllocError;
 
 /// Puts what part `i` gives to keys, by its words, at the end of `parts`. `nothing` is a state in
 /// which nothing was set.
@@ -28,14 +30,12 @@ pub fn put_parts(
     if are_all_0(words) {
         return Ok(());
     }
-    let alloc = room.alloc;
     room.values.clear();
     room.values.extend_from_slice(&program.constants)?;
     room.values.push(i)?;
     room.values.extend_from_slice(words)?;
     for show in &program.shows {
-        let pair = given(alloc, show, nothing, &room.values, &mut room.done)?;
-        parts.push(pair)?;
+        parts.push(given(show, nothing, &room.values))?;
     }
     Ok(())
 }
@@ -53,17 +53,56 @@ fn are_all_0(words: &[u64]) -> bool
 }
 
 /// The key and the amount of a line `shows`.
-fn given(
-    alloc: Global,
-    show: &Show,
-    nothing: &StateOf,
-    values: &[u64],
-    done: &mut Vec<u64>,
-) -> Result<(u64, u64), AllocError>
+fn given(show: &Show, nothing: &StateOf, values: &[u64]) -> (u64, u64)
     requires { nothing.now ≡ blank }
-    ensures { IfOk result (λ pair. pair ≡ given_by values.now (show_of show.now)) }
+    ensures { result ≡ given_by values.now (show_of show.now) }
 {
-    let key = value_of(alloc, &show.key, nothing, values, done)?;
-    let amount = value_of(alloc, &show.amount, nothing, values, done)?;
-    Ok((key, amount))
+    (
+        value_of(&show.key, nothing, values),
+        value_of(&show.amount, nothing, values),
+    )
+}
+
+/// What part `i` gives to keys, by its words, in four places; those past its lines `shows` give
+/// nothing. `nothing` is a state in which nothing was set.
+#[tactic(auto, unfolding(vyrd_base::specs::Own::Steps::part_gives))]
+pub fn part_pairs(program: &Program, i: u64, words: &[u64], nothing: &StateOf) -> [(u64, u64); 4]
+    requires blank { nothing.now ≡ blank }
+    requires shows { length program.now.shows.items ≤ 4 }
+    requires few { length program.now.constants.items + 1 + length words.now ≤ 128 }
+    ensures { (j : ℕ) → slice_index_or result j (0, 0)
+        ≡ slice_index_or (part_gives (written program.now) i words.now) j (0, 0) }
+{
+    let mut pairs = [(0, 0); 4];
+    if are_all_0(words) {
+        return pairs;
+    }
+    let values = part_values(&program.constants, i, words);
+    put_pairs(&mut pairs, &program.shows, nothing, values.as_slice());
+    pairs
+}
+
+/// What has a name in a part: the constants, the number of the part and its words.
+fn part_values(constants: &[u64], i: u64, words: &[u64]) -> Few
+    requires { length constants.now + 1 + length words.now ≤ 128 }
+    ensures { result.items ≡ constants.now ++ i ∷ words.now }
+{
+    let mut values = Few::new();
+    put_few(&mut values, constants);
+    values.push(i);
+    put_few(&mut values, words);
+    values
+}
+
+/// Puts what the lines `shows` give into the first places.
+fn put_pairs(pairs: &mut [(u64, u64)], shows: &[Show], nothing: &StateOf, values: &[u64])
+    requires blank { nothing.now ≡ blank }
+    requires room { length shows.now ≤ length pairs.old }
+    requires none { (j : ℕ) → slice_index_or pairs.old j (0, 0) ≡ (0, 0) }
+    ensures { (j : ℕ) → slice_index_or pairs.new j (0, 0)
+        ≡ slice_index_or (map (given_by values.now) (map show_of shows.now)) j (0, 0) }
+{
+    for (j, show) in shows.iter().enumerate() {
+        pairs[j] = given(show, nothing, values);
+    }
 }

@@ -181,14 +181,9 @@ fn says(
     }
 }
 
-/// Whether a state of the specification says all of that in turn, with its keys in order or not.
-fn says_all(
-    alloc: Global,
-    program: &Program,
-    in_order: bool,
-    all: &[Asked],
-) -> Result<bool, AllocError> {
-    let mut state = StateOf::new(alloc, program, 64, in_order)?;
+/// Whether a state of the specification says all of that in turn.
+fn says_all(alloc: Global, program: &Program, all: &[Asked]) -> Result<bool, AllocError> {
+    let mut state = StateOf::new(alloc, program, 64)?;
     let mut room = Room::new(alloc);
     for asked in all {
         if !says(program, &mut state, &mut room, asked)? {
@@ -204,7 +199,7 @@ fn are_stepped(alloc: Global) -> Result<bool, AllocError> {
         let Some(program) = read(alloc, text)? else {
             return Ok(false);
         };
-        if !says_all(alloc, &program, false, asked)? || !says_all(alloc, &program, true, asked)? {
+        if !says_all(alloc, &program, asked)? {
             return Ok(false);
         }
     }

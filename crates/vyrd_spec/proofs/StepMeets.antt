@@ -60,7 +60,7 @@ touched_changes (OwnAtMostOnce i) = λ args key e. cc
 touched_changes (OwnOnce i) = λ args key e. cc
 
 -- the amounts with those of some keys in other amounts
-with_formed : (ks : List ℕ) (t s : Amounts) → IsAmounts s → IsAmounts (with_touched ks t s)
+pub with_formed : (ks : List ℕ) (t s : Amounts) → IsAmounts s → IsAmounts (with_touched ks t s)
 with_formed [] t s is = is
 with_formed (k ∷ ks) t s is =
     with_formed ks t (with_amount s k (amount_of t k)) (IsAmounts-with_amount s k (amount_of t k) is)
@@ -79,7 +79,7 @@ key_amount k t s q = amount_of-with_amount s k (amount_of t k) q ∙ by_key (k =
     by_key false e = ap (λ b. cond b (amount_of t k) (amount_of s q)) (flipped k q e)
 
 -- each of the keys has its amount in the other amounts, and no other key has changed
-with_amounts : (ks : List ℕ) (t s : Amounts) (q : ℕ)
+pub with_amounts : (ks : List ℕ) (t s : Amounts) (q : ℕ)
     → amount_of (with_touched ks t s) q ≡ cond (is_touched ks q) (amount_of t q) (amount_of s q)
 with_amounts [] t s q = refl
 with_amounts (k ∷ ks) t s q =

@@ -15,7 +15,7 @@ pub(crate) const NOTHING: (u64, u64) = (0, 0);
 ///
 /// A type says how one part is decoded, and no more: which parts are decoded again after a change
 /// is the same for all, in `ByParts`.
-pub trait Decode: Sized + Copy + Drop {
+pub trait Decode: Sized + Drop {
     // How many words a part has.
     ghost width: { Self → ℕ };
 

@@ -1,8 +1,17 @@
 use Rattle.std.proofs.Common.{subst, sym, ap, ◌∙◌}
-use Rattle.vyrd_base.specs.Amounts.{IsAmounts, with_amount}
+use Rattle.std.specs.Prelude.{unwrap_or}
+use Rattle.std.proofs.lemmas.Result.{err_from_is_err_and}
+use Rattle.vyrd_base.specs.Amounts.{IsAmounts, amount_of, with_amount}
 use Rattle.vyrd_base.proofs.AmountLaws.{IsAmounts-with_amount}
-use Rattle.vyrd_base.proofs.AmountMaps.{insert-with_amount}
+use Rattle.vyrd_base.proofs.AmountMaps.{lookup-find, insert-with_amount}
 use Rattle.vyrd_own.proofs.ordered.OrderedAmounts.set.Goals as goal
+
+pub returns-in_err-insert-clause-absent : goal.returns-in_err-insert-clause-absent
+returns-in_err-insert-clause-absent c =
+    let es = c.self.inside.pairs.entries in
+    let p = err_from_is_err_and c.from_residual.result c.from_residual.ensures.1 in
+    rw p.1 (sym (ap (λ s. amount_of s c.args.key) c.self.view_is)
+    ∙ ap (λ o. unwrap_or o 0) (sym (lookup-find c.args.key es) ∙ c.in_err-insert.ensures.absent))
 
 pub invariant_of-self : goal.invariant_of-self
 invariant_of-self c =

@@ -1,0 +1,311 @@
+-- Pairs that set amounts, and what is added and taken back.
+use Rattle.std.proofs.Common.{◌≡◌, ℕ, Bool, true, false, cond, List, [], ◌∷◌, ◌++◌, refl, ap, ◌∙◌}
+use Rattle.std.proofs.Common.{sym, subst, arith, ◌<◌, ◌≤◌, ◌+◌, length, drop, inl, inr, zero, suc, add-one, drop-cons}
+use Rattle.std.proofs.Math.ListN.{drop_of_length-le}
+use Rattle.std.specs.Prelude.{◌≢◌, ◌==◌, ◌||◌, slice_index_or, ◌⊎◌}
+use Rattle.vyrd_base.specs.Amounts.{Amounts, IsAmounts, amount_of, with_amount}
+use Rattle.vyrd_base.proofs.AmountLaws.{amount_of-with_amount, IsAmounts-with_amount, same_amounts}
+use Rattle.vyrd_base.proofs.TestLaws.{same_of, is_same}
+use Rattle.vyrd_base.specs.Own.Steps.{hidden_with}
+use Rattle.vyrd_own.specs.Sets.{amount_after, is_set, is_among, AreAdded, HasKeys}
+
+-- a test is true or false
+pub decided : (b : Bool) → (b ≡ true) ⊎ (b ≡ false)
+decided true = inl refl
+decided false = inr refl
+
+-- what pairs make of amounts
+pub amount_of-set : (s : Amounts) (pairs : List (ℕ × ℕ)) (q : ℕ)
+    → amount_of (hidden_with s pairs) q ≡ amount_after pairs q (amount_of s q)
+amount_of-set s [] q = refl
+amount_of-set s (p ∷ pairs) q =
+    amount_of-set (with_amount s p.0 p.1) pairs q
+    ∙ ap (amount_after pairs q) (amount_of-with_amount s p.0 p.1 q)
+
+pub formed_set : (s : Amounts) (pairs : List (ℕ × ℕ)) → IsAmounts s → IsAmounts (hidden_with s pairs)
+formed_set s [] is = is
+formed_set s (p ∷ pairs) is =
+    formed_set (with_amount s p.0 p.1) pairs (IsAmounts-with_amount s p.0 p.1 is)
+
+-- one pair more
+pub set_more : (s : Amounts) (pairs : List (ℕ × ℕ)) (k a : ℕ)
+    → hidden_with s (pairs ++ (k, a) ∷ []) ≡ with_amount (hidden_with s pairs) k a
+set_more s [] k a = refl
+set_more s (p ∷ pairs) k a = set_more (with_amount s p.0 p.1) pairs k a
+
+-- the amount of a key that is set doesn't depend on the one before, and that of any other key is it
+named_by : (pairs : List (ℕ × ℕ)) (q x : ℕ) (b : Bool) → is_set pairs q ≡ b
+    → amount_after pairs q x ≡ cond b (amount_after pairs q 0) x
+named_by [] q x true e = cc
+named_by [] q x false e = refl
+named_by (p ∷ pairs) q x b e = by_head (λ c. named_by pairs q x c) (q == p.0) b e
+  where
+    by_head : ((c : Bool) → is_set pairs q ≡ c → amount_after pairs q x ≡ cond c (amount_after pairs q 0) x)
+        → (h : Bool) → (b : Bool) → (h || is_set pairs q) ≡ b
+        → amount_after pairs q (cond h p.1 x) ≡ cond b (amount_after pairs q (cond h p.1 0)) x
+    by_head rest true true e = refl
+    by_head rest true false e = cc
+    by_head rest false b e = rest b e
+
+pub named : (pairs : List (ℕ × ℕ)) (q x : ℕ)
+    → amount_after pairs q x ≡ cond (is_set pairs q) (amount_after pairs q 0) x
+named pairs q x = named_by pairs q x (is_set pairs q) refl
+
+pub named_same : (pairs : List (ℕ × ℕ)) (q x y : ℕ) → is_set pairs q ≡ true
+    → amount_after pairs q x ≡ amount_after pairs q y
+named_same pairs q x y e = named_by pairs q x true e ∙ sym (named_by pairs q y true e)
+
+-- a key that is to have an amount is set
+pub set_of_some : (pairs : List (ℕ × ℕ)) (q : ℕ) → amount_after pairs q 0 ≢ 0 → is_set pairs q ≡ true
+set_of_some pairs q some = elim (decided (is_set pairs q)) [
+  | inl here ↦ here
+  | inr away ↦ absurd (some (named_by pairs q 0 false away))
+]
+
+-- each pair with the amount that its key has in the end
+abbrev pub finals : List (ℕ × ℕ) → List (ℕ × ℕ) → List (ℕ × ℕ)
+finals all [] = []
+finals all (p ∷ pairs) = (p.0, amount_after all p.0 0) ∷ finals all pairs
+
+cond_alike : (b : Bool) (x : ℕ) → cond b x x ≡ x
+cond_alike true x = refl
+cond_alike false x = refl
+
+finals_named : (all pairs : List (ℕ × ℕ)) (q x : ℕ)
+    → amount_after (finals all pairs) q x ≡ cond (is_set pairs q) (amount_after all q 0) x
+finals_named all [] q x = refl
+finals_named all (p ∷ pairs) q x = by_head (λ y. finals_named all pairs q y) (q == p.0) refl
+  where
+    by_head : ((y : ℕ) → amount_after (finals all pairs) q y ≡ cond (is_set pairs q) (amount_after all q 0) y)
+        → (h : Bool) → (q == p.0) ≡ h → amount_after (finals all pairs) q (cond h (amount_after all p.0 0) x)
+        ≡ cond (h || is_set pairs q) (amount_after all q 0) x
+    by_head rest true he = rest (amount_after all p.0 0)
+        ∙ ap (λ k. cond (is_set pairs q) (amount_after all q 0) (amount_after all k 0)) (sym (same_of q p.0 he))
+        ∙ cond_alike (is_set pairs q) (amount_after all q 0)
+    by_head rest false he = rest x
+
+-- once all are set, the amounts are those that the pairs make of the amounts before keys were added
+pub all_set : (before after : Amounts) (added : List ℕ) (pairs : List (ℕ × ℕ)) → IsAmounts before
+    → AreAdded before after added pairs → hidden_with after (finals pairs pairs) ≡ hidden_with before pairs
+all_set before after added pairs is a =
+    same_amounts (hidden_with after (finals pairs pairs)) (hidden_with before pairs)
+    (formed_set after (finals pairs pairs) a.formed) (formed_set before pairs is)
+    (λ q. amount_of-set after (finals pairs pairs) q ∙ finals_named pairs pairs q (amount_of after q)
+    ∙ sym (named pairs q (amount_of after q)) ∙ a.same q ∙ sym (amount_of-set before pairs q))
+
+-- keys stay there that are to have an amount
+pub keys_kept : (s : Amounts) (pairs : List (ℕ × ℕ)) (k : ℕ) → HasKeys s pairs
+    → HasKeys (with_amount s k (amount_after pairs k 0)) pairs
+keys_kept s pairs k has = λ q some none. by_key q some (q == k) refl
+    (sym (amount_of-with_amount s k (amount_after pairs k 0) q) ∙ none)
+  where
+    by_key : (q : ℕ) → amount_after pairs q 0 ≢ 0 → (h : Bool) → (q == k) ≡ h
+        → cond h (amount_after pairs k 0) (amount_of s q) ≡ 0 → ⊥
+    by_key q some true he e = some (ap (λ x. amount_after pairs x 0) (same_of q k he) ∙ e)
+    by_key q some false he e = has q some e
+
+-- the keys taken out
+abbrev pub zeros : List ℕ → List (ℕ × ℕ)
+zeros [] = []
+zeros (k ∷ keys) = (k, 0) ∷ zeros keys
+
+zeros_named : (keys : List ℕ) (q x : ℕ) → amount_after (zeros keys) q x ≡ cond (is_among keys q) 0 x
+zeros_named [] q x = refl
+zeros_named (k ∷ keys) q x = by_head (λ y. zeros_named keys q y) (q == k)
+  where
+    by_head : ((y : ℕ) → amount_after (zeros keys) q y ≡ cond (is_among keys q) 0 y) → (h : Bool)
+        → amount_after (zeros keys) q (cond h 0 x) ≡ cond (h || is_among keys q) 0 x
+    by_head rest true = rest 0 ∙ cond_alike (is_among keys q) 0
+    by_head rest false = rest x
+
+-- what was added is taken back
+pub all_back : (before after : Amounts) (added : List ℕ) (pairs : List (ℕ × ℕ)) → IsAmounts before
+    → AreAdded before after added pairs → hidden_with after (zeros added) ≡ before
+all_back before after added pairs is a =
+    same_amounts (hidden_with after (zeros added)) before (formed_set after (zeros added) a.formed) is
+    (λ q. amount_of-set after (zeros added) q ∙ zeros_named added q (amount_of after q) ∙ by_key q (is_among added q) refl)
+  where
+    by_key : (q : ℕ) (h : Bool) → is_among added q ≡ h → cond h 0 (amount_of after q) ≡ amount_of before q
+    by_key q true e = sym (a.absent q e)
+    by_key q false e = a.others q e
+
+-- nothing was added yet
+pub none_added : (s : Amounts) (pairs : List (ℕ × ℕ)) → IsAmounts s → AreAdded s s [] pairs
+none_added s pairs is =
+    record { formed = is; others = λ q e. refl; absent = λ q e. cc; same = λ q. refl }
+
+or_split : (a b : Bool) → (a || b) ≡ true → (a ≡ true) ⊎ (b ≡ true)
+or_split true b e = inl refl
+or_split false b e = inr e
+
+among_more : (keys : List ℕ) (k q : ℕ) → is_among (keys ++ k ∷ []) q ≡ (is_among keys q || (q == k))
+among_more [] k q = by_test (q == k)
+  where
+    by_test : (b : Bool) → (b || false) ≡ b
+    by_test true = refl
+    by_test false = refl
+among_more (x ∷ keys) k q = by_head (among_more keys k q) (q == x)
+  where
+    by_head : is_among (keys ++ k ∷ []) q ≡ (is_among keys q || (q == k)) → (h : Bool) → (h || is_among (keys ++ k ∷ []) q) ≡ ((h || is_among keys q) || (q == k))
+    by_head rest true = refl
+    by_head rest false = rest
+
+left_false : (a b : Bool) → (a || b) ≡ false → a ≡ false
+left_false false b e = refl
+left_false true b e = cc
+
+-- a key that isn't there is named as one that is added
+pub named_too : (before after : Amounts) (added : List ℕ) (pairs : List (ℕ × ℕ)) (k : ℕ)
+    → AreAdded before after added pairs → amount_of after k ≡ 0 → AreAdded before after (added ++ k ∷ []) pairs
+named_too before after added pairs k a none = record {
+  formed = a.formed;
+  others = λ q e. a.others q (left_false (is_among added q) (q == k) (sym (among_more added k q) ∙ e));
+  absent = λ q e. elim (or_split (is_among added q) (q == k) (sym (among_more added k q) ∙ e)) [
+    | inl here ↦ a.absent q here
+    | inr here ↦ ap (amount_of before) (same_of q k here) ∙ missing
+  ];
+  same = a.same;
+}
+  where
+    missing : amount_of before k ≡ 0
+    missing = elim (decided (is_among added k)) [
+      | inl here ↦ a.absent k here
+      | inr away ↦ sym (a.others k away) ∙ none
+    ]
+
+-- the key is there now
+pub set_too : (before after : Amounts) (added : List ℕ) (pairs : List (ℕ × ℕ)) (k x : ℕ)
+    → AreAdded before after added pairs → is_among added k ≡ true → is_set pairs k ≡ true
+    → AreAdded before (with_amount after k x) added pairs
+set_too before after added pairs k x a among set = record {
+  formed = IsAmounts-with_amount after k x a.formed;
+  others = λ q e. amount_of-with_amount after k x q
+      ∙ ap (λ b. cond b x (amount_of after q)) (apart q e (q == k) refl) ∙ a.others q e;
+  absent = a.absent;
+  same = λ q. by_key q (q == k) refl;
+}
+  where
+    apart : (q : ℕ) → is_among added q ≡ false → (h : Bool) → (q == k) ≡ h → h ≡ false
+    apart q e true he = sym among ∙ ap (is_among added) (sym (same_of q k he)) ∙ e
+    apart q e false he = refl
+
+    by_key : (q : ℕ) (h : Bool) → (q == k) ≡ h
+        → amount_after pairs q (amount_of (with_amount after k x) q) ≡ amount_after pairs q (amount_of before q)
+    by_key q true he = named_same pairs q (amount_of (with_amount after k x) q) (amount_of before q)
+        (ap (is_set pairs) (same_of q k he) ∙ set)
+    by_key q false he = ap (amount_after pairs q)
+        (amount_of-with_amount after k x q ∙ ap (λ b. cond b x (amount_of after q)) he) ∙ a.same q
+
+-- a key that was named last is among those named
+pub among_last : (keys : List ℕ) (k : ℕ) → is_among (keys ++ k ∷ []) k ≡ true
+among_last keys k = among_more keys k k ∙ ap (λ b. is_among keys k || b) (is_same k k refl) ∙ or_true (is_among keys k)
+  where
+    or_true : (a : Bool) → (a || true) ≡ true
+    or_true true = refl
+    or_true false = refl
+
+-- a pair's key is set
+pub set_at : (pairs : List (ℕ × ℕ)) (i : ℕ) (d : ℕ × ℕ) → i < length pairs → is_set pairs (slice_index_or pairs i d).0 ≡ true
+set_at [] i d low = absurd (omega arith)
+set_at (p ∷ pairs) zero d low = ap (λ b. b || is_set pairs p.0) (is_same p.0 p.0 refl)
+set_at (p ∷ pairs) (suc i) d low =
+    ap (λ b. ((slice_index_or pairs i d).0 == p.0) || b) (set_at pairs i d (omega arith)) ∙ or_true ((slice_index_or pairs i d).0 == p.0)
+  where
+    or_true : (a : Bool) → (a || true) ≡ true
+    or_true true = refl
+    or_true false = refl
+
+-- the keys of the pairs that were gone through are there, if they are to have an amount
+abbrev pub HaveRoomTo : Amounts → List (ℕ × ℕ) → ℕ → Type 0
+HaveRoomTo s pairs i =
+    (q : ℕ) → amount_after pairs q 0 ≢ 0 → is_set (drop i pairs) q ≡ false → amount_of s q ≢ 0
+
+pub room_more : (s t : Amounts) (pairs : List (ℕ × ℕ)) (i : ℕ) (d : ℕ × ℕ) → i < length pairs → HaveRoomTo s pairs i
+    → ((q : ℕ) → (q == (slice_index_or pairs i d).0) ≡ false → amount_of t q ≡ amount_of s q)
+    → (amount_after pairs (slice_index_or pairs i d).0 0 ≢ 0 → amount_of t (slice_index_or pairs i d).0 ≢ 0)
+    → HaveRoomTo t pairs (i + 1)
+room_more s t pairs i d low room others here = λ q some away. by_key q some away (q == (slice_index_or pairs i d).0) refl
+  where
+    by_key : (q : ℕ) → amount_after pairs q 0 ≢ 0 → is_set (drop (i + 1) pairs) q ≡ false → (h : Bool)
+        → (q == (slice_index_or pairs i d).0) ≡ h → amount_of t q ≢ 0
+    by_key q some away true he = λ none.
+        here (λ zero'. some (ap (λ x. amount_after pairs x 0) (same_of q (slice_index_or pairs i d).0 he) ∙ zero'))
+        (ap (amount_of t) (sym (same_of q (slice_index_or pairs i d).0 he)) ∙ none)
+    by_key q some away false he = λ none.
+        room q some (ap (λ ps. is_set ps q) (drop-cons pairs i d low) ∙ ap (λ b. b || is_set (drop (suc i) pairs) q) he
+        ∙ ap (λ n. is_set (drop n pairs) q) (sym (add-one i)) ∙ away)
+        (sym (others q he) ∙ none)
+
+-- no key was gone through, and all were
+pub no_room_yet : (s : Amounts) (pairs : List (ℕ × ℕ)) → HaveRoomTo s pairs 0
+no_room_yet s pairs = λ q some away. absurd (not_both (is_set pairs q) (set_of_some pairs q some) away)
+  where
+    not_both : (b : Bool) → b ≡ true → b ≡ false → ⊥
+    not_both b e f = cc
+
+pub room_for_all : (s : Amounts) (pairs : List (ℕ × ℕ)) (i : ℕ) → length pairs ≤ i → HaveRoomTo s pairs i → HasKeys s pairs
+room_for_all s pairs i past room = λ q some. room q some (ap (λ ps. is_set ps q) (drop_of_length-le pairs past))
+
+-- the key of a pair
+abbrev pub key_at : List (ℕ × ℕ) → ℕ → ℕ
+key_at pairs i = (slice_index_or pairs i (0, 0)).0
+
+-- one pair more was gone through, whose key is there or needn't be
+pub step_kept : (before s t : Amounts) (added keys : List ℕ) (pairs : List (ℕ × ℕ)) (i : ℕ) → i < length pairs
+    → (AreAdded before s added pairs × HaveRoomTo s pairs i) → t ≡ s → keys ≡ added
+    → (amount_after pairs (key_at pairs i) 0 ≢ 0 → amount_of s (key_at pairs i) ≢ 0)
+    → AreAdded before t keys pairs × HaveRoomTo t pairs (i + 1)
+step_kept before s t added keys pairs i low was same_s same_keys there = (
+  subst (λ x. AreAdded before x keys pairs) (sym same_s) (subst (λ ks. AreAdded before s ks pairs) (sym same_keys) was.0),
+  subst (λ x. HaveRoomTo x pairs (i + 1)) (sym same_s) (room_more s s pairs i (0, 0) low was.1 (λ q e. refl) there),
+)
+
+-- one pair more was gone through, whose key was added
+pub step_added : (before s t : Amounts) (added keys : List ℕ) (pairs : List (ℕ × ℕ)) (i x : ℕ) → i < length pairs
+    → (AreAdded before s added pairs × HaveRoomTo s pairs i) → amount_of s (key_at pairs i) ≡ 0 → x ≢ 0
+    → t ≡ with_amount s (key_at pairs i) x → keys ≡ added ++ key_at pairs i ∷ []
+    → AreAdded before t keys pairs × HaveRoomTo t pairs (i + 1)
+step_added before s t added keys pairs i x low was none some is_t is_keys = (
+  subst (λ y. AreAdded before y keys pairs) (sym is_t)
+      (subst (λ ks. AreAdded before (with_amount s k x) ks pairs) (sym is_keys)
+      (set_too before s (added ++ k ∷ []) pairs k x (named_too before s added pairs k was.0 none) (among_last added k)
+      (set_at pairs i (0, 0) low))),
+  subst (λ y. HaveRoomTo y pairs (i + 1)) (sym is_t)
+      (room_more s (with_amount s k x) pairs i (0, 0) low was.1
+      (λ q e. amount_of-with_amount s k x q ∙ ap (λ b. cond b x (amount_of s q)) e)
+      (λ _. λ zero'. some (sym (amount_of-with_amount s k x k ∙ ap (λ b. cond b x (amount_of s k)) (is_same k k refl)) ∙ zero'))),
+)
+  where
+    k : ℕ
+    k = key_at pairs i
+
+-- a key was named, and couldn't be added
+pub named_only : (before s t : Amounts) (added keys : List ℕ) (pairs : List (ℕ × ℕ)) (k : ℕ) → AreAdded before s added pairs
+    → amount_of s k ≡ 0 → t ≡ s → keys ≡ added ++ k ∷ [] → AreAdded before t keys pairs
+named_only before s t added keys pairs k was none is_t is_keys =
+    subst (λ y. AreAdded before y keys pairs) (sym is_t)
+    (subst (λ ks. AreAdded before s ks pairs) (sym is_keys) (named_too before s added pairs k was none))
+
+-- one key more is set
+pub set_step : (s t : Amounts) (pairs : List (ℕ × ℕ)) (i : ℕ) (end : Amounts) → i < length pairs
+    → ((hidden_with s (finals pairs (drop i pairs)) ≡ end) × HasKeys s pairs)
+    → t ≡ with_amount s (key_at pairs i) (amount_after pairs (key_at pairs i) 0)
+    → (hidden_with t (finals pairs (drop (i + 1) pairs)) ≡ end) × HasKeys t pairs
+set_step s t pairs i end low was is_t = (
+  ap (λ y. hidden_with y (finals pairs (drop (i + 1) pairs))) is_t
+      ∙ ap (λ n. hidden_with (with_amount s (key_at pairs i) (amount_after pairs (key_at pairs i) 0)) (finals pairs (drop n pairs))) (add-one i)
+      ∙ ap (λ ps. hidden_with s (finals pairs ps)) (sym (drop-cons pairs i (0, 0) low)) ∙ was.0,
+  subst (λ y. HasKeys y pairs) (sym is_t) (keys_kept s pairs (key_at pairs i) was.1),
+)
+
+-- a key that wasn't there, set and taken out
+pub taken_back : (s : Amounts) (k a : ℕ) → IsAmounts s → amount_of s k ≡ 0 → with_amount (with_amount s k a) k 0 ≡ s
+taken_back s k a is none =
+    same_amounts (with_amount (with_amount s k a) k 0) s
+    (IsAmounts-with_amount (with_amount s k a) k 0 (IsAmounts-with_amount s k a is)) is
+    (λ q. amount_of-with_amount (with_amount s k a) k 0 q
+    ∙ ap (cond (q == k) 0) (amount_of-with_amount s k a q) ∙ by_key q (q == k) refl)
+  where
+    by_key : (q : ℕ) (h : Bool) → (q == k) ≡ h → cond h 0 (cond h a (amount_of s q)) ≡ amount_of s q
+    by_key q true e = sym (ap (amount_of s) (same_of q k e) ∙ none)
+    by_key q false e = refl

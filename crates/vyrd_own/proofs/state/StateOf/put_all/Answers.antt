@@ -1,0 +1,32 @@
+use Rattle.std.proofs.Common.{Bool, true, false, cond, [], ap, sym, ◌∙◌, subst}
+use Rattle.vyrd_base.specs.Amounts.{Amounts, IsAmounts}
+use Rattle.vyrd_base.proofs.AmountLaws.{no_amounts}
+use Rattle.vyrd_base.specs.Own.Steps.{with_effects}
+use Rattle.vyrd_own.specs.Apart.{lists_after}
+use Rattle.vyrd_own.proofs.SetLaws.{formed_set}
+use Rattle.vyrd_own.proofs.ApartLaws.{each_part}
+use Rattle.vyrd_own.proofs.state.StateOf.put_all.Goals as goal
+
+-- what stands at the start of a step are amounts, cleared or not
+formed_first : (b : Bool) (s : Amounts) → IsAmounts s → IsAmounts (cond b [] s)
+formed_first true s is = no_amounts
+formed_first false s is = is
+
+pub invariant_of-self-2 : goal.invariant_of-self-2
+invariant_of-self-2 c = (
+  subst IsAmounts (sym c.in_ok-put_amounts.ensures.shown)
+      (formed_set (cond c.in_ok-clears.clears [] c.self.inside.shown) c.gather.new.self.shown.items
+      (formed_first c.in_ok-clears.clears c.self.inside.shown c.self.invariant.0)),
+  subst IsAmounts (sym c.in_ok-put_amounts.ensures.hidden)
+      (formed_set c.self.inside.hidden c.gather.new.self.hidden.items c.self.invariant.1),
+)
+
+pub returns-clause-ok : goal.returns-clause-ok
+returns-clause-ok c =
+    each_part _ c.args.effects.now c.in_ok-clears.clears c.gather.new.self.shown.items c.gather.new.self.hidden.items
+    c.put_amounts.new.shown c.put_amounts.new.hidden c.set_registers.new.registers.items _
+    c.in_ok-clears.ensures.clears c.in_ok-clears.ensures.shown c.in_ok-clears.ensures.hidden
+    c.in_ok-put_amounts.ensures.shown c.in_ok-put_amounts.ensures.hidden
+    c.set_registers.ensures
+    (c.change_lists.ensures ∙ ap (λ ls. lists_after ls c.args.effects.now) c.in_ok-reserve.ensures.items)
+    ∙ ap (λ s. with_effects s c.args.effects.now) c.self.view_is

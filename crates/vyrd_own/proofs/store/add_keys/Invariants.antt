@@ -1,0 +1,8 @@
+use Rattle.vyrd_own.specs.Sets.{AreAdded}
+use Rattle.vyrd_own.proofs.SetLaws.{HaveRoomTo}
+use Rattle.vyrd_own.proofs.store.add_keys.Given as goal
+
+abbrev pub invariant-loop-key : goal.invariant-loop-key
+invariant-loop-key g l =
+    AreAdded (g.S.Store.amounts l.fn.store) (g.S.Store.amounts l.store) l.added.items l.pairs
+    × HaveRoomTo (g.S.Store.amounts l.store) l.pairs l.key-index

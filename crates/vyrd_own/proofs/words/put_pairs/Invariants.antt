@@ -1,0 +1,9 @@
+use Rattle.std.proofs.Common.{◌≡◌, ℕ, take}
+use Rattle.std.specs.Prelude.{map, slice_index_or}
+use Rattle.vyrd_own.specs.Layout.{show_of}
+use Rattle.vyrd_base.specs.Own.Steps.{given_by}
+use Rattle.vyrd_own.proofs.words.put_pairs.Given as goal
+
+abbrev pub invariant-loop-j : goal.invariant-loop-j
+invariant-loop-j l =
+    (k : ℕ) → slice_index_or l.pairs k (0, 0) ≡ slice_index_or (map (given_by l.values) (map show_of (take l.j l.shows))) k (0, 0)

@@ -1,0 +1,63 @@
+-- What is said of a call by its number.
+use Rattle.std.proofs.Common.{◌≡◌, ℕ, zero, suc, ◌<◌, ◌≤◌, List, [], ◌∷◌, Option, Some, None, refl, ap, ◌∙◌}
+use Rattle.std.proofs.Common.{sym, arith, length, take}
+use Rattle.std.specs.Prelude.{map, option_map, option_and_then, slice_get, slice_index_or}
+use Rattle.std.specs.Option.{option_map_or}
+use Rattle.std.proofs.lemmas.List.{length-take}
+use Rattle.vyrd_base.specs.States.{State}
+use Rattle.vyrd_base.specs.Subjects.{own_number}
+use Rattle.vyrd_base.specs.Rules.{given}
+use Rattle.vyrd_base.specs.declared.subject.Method as declared
+use Rattle.vyrd_base.specs.declared.subject.Args.{Args}
+use Rattle.vyrd_base.specs.declared.own.effect.Effect.{Effect}
+use Rattle.vyrd_base.specs.Own.Programs.{Method, Written}
+use Rattle.vyrd_base.specs.Own.OwnRules.{own_method, own_next}
+use Rattle.vyrd_base.specs.Own.Steps.{with_effects, effects_of, next_of, answer_of}
+use Rattle.vyrd_own.specs.declared.program.Method as program
+use Rattle.vyrd_own.specs.Layout.{method_of}
+use Rattle.vyrd_own_spec.specs.Touched.{own_effects, effects_by, next_by, answer_by}
+
+module _ (w : Written) (args : Args) (reply : ℕ) (s : State) where
+  next_of_method : (i : ℕ) (o : Option Method)
+      → option_and_then (λ m. next_of w m (given w i args) reply s) o
+      ≡ option_map (with_effects s) (option_and_then (λ m. effects_of w m s (given w i args) reply) o)
+  unfolding next_of
+  next_of_method i None = refl
+  next_of_method i (Some m) = refl
+
+  next_of_number : (n : Option ℕ) → option_and_then (λ i. own_next w i (given w i args) reply s) n
+      ≡ option_map (with_effects s) (option_and_then (λ i. own_effects w i args reply s) n)
+  next_of_number None = refl
+  next_of_number (Some i) = next_of_method i (own_method w i)
+
+-- the state after a call, by what it does
+pub next_of_effects : (w : Written) (method : declared.Method) (args : Args) (reply : ℕ) (s : State) (o : Option (List Effect))
+    → effects_by w method args reply s ≡ o → next_by w method args reply s ≡ option_map (with_effects s) o
+next_of_effects w method args reply s o e =
+    next_of_number w args reply s (own_number method) ∙ ap (option_map (with_effects s)) e
+
+-- a method that was found
+pub method_found : (methods : List program.Method) (i : ℕ) (m : program.Method) → i < length methods
+    → m ≡ slice_index_or methods i m → slice_get (map method_of methods) i ≡ Some (method_of m)
+method_found [] i m low is = absurd (omega arith)
+method_found (x ∷ methods) zero m low is = ap (λ y. Some (method_of y)) (sym is)
+method_found (x ∷ methods) (suc i) m low is = method_found methods i m (omega arith) is
+
+-- what it answers
+pub answer_found : (w : Written) (method : declared.Method) (args : Args) (s : State) (i : ℕ) (m : Method) (given_args : List ℕ) (o : Option ℕ)
+    → own_number method ≡ Some i → own_method w i ≡ Some m
+    → given_args ≡ take m.arity (args.a ∷ args.b ∷ args.c ∷ []) → o ≡ answer_of w m given_args s → o ≡ answer_by w method args s
+answer_found w method args s i m given_args o number found is answer =
+    answer
+    ∙ ap (λ as'. answer_of w m as' s)
+    (is ∙ sym (ap (λ found'. take (option_map_or (λ x. x.arity) found' 0) (args.a ∷ args.b ∷ args.c ∷ [])) found))
+    ∙ sym (ap (option_and_then (λ m'. answer_of w m' (given w i args) s)) found)
+    ∙ sym (ap (option_and_then (λ i'. option_and_then (λ m'. answer_of w m' (given w i' args) s) (own_method w i'))) number)
+
+-- there are three arguments at most
+pub few_given : (n a b c : ℕ) (xs : List ℕ) → xs ≡ take n (a ∷ b ∷ c ∷ []) → length xs ≤ 3
+few_given n a b c xs is = omega (arith, ap length is, length-take n (a ∷ b ∷ c ∷ []))
+
+pub length-mapped : {A B : Type 0} (f : A → B) (xs : List A) → length (map f xs) ≡ length xs
+length-mapped f [] = refl
+length-mapped f (x ∷ xs) = ap suc (length-mapped f xs)

@@ -1,0 +1,5 @@
+pub mod CallLaws
+pub mod TouchLaws
+pub mod PartLaws
+pub mod StartLaws
+pub mod SmallLaws

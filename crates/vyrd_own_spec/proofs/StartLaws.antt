@@ -1,0 +1,118 @@
+-- Sums of what places give, one place after the other.
+use Rattle.std.proofs.Common.{◌≡◌, ℕ, zero, suc, ◌+◌, ◌-◌, ◌*◌, ◌/◌, ◌<◌, ◌≤◌, ◌^◌, List, [], map, length, refl, ap, ◌∙◌, sym, subst, arith}
+use Rattle.vyrd_base.specs.Amounts.{Amounts, amount_of, plus_amount, given, part_given, collected}
+use Rattle.vyrd_base.specs.Places.{numbers_below}
+use Rattle.vyrd_base.proofs.AmountLaws.{IsAmounts-with_amount, no_amounts, same_amounts}
+use Rattle.vyrd_base.proofs.SumLaws.{amount_of-plus, amount_of-collected, IsAmounts-collected, own_part}
+use Rattle.std.specs.Prelude.{slice_range}
+use Rattle.vyrd_base.specs.Own.Programs.{Written}
+use Rattle.vyrd_view.specs.Decoded.{pair_at}
+use Rattle.vyrd_view.specs.Laws.Sums.{given_map_push, place_of}
+use Rattle.vyrd_base.specs.States.{State}
+use Rattle.vyrd_base.specs.Own.Steps.{start_of}
+use Rattle.vyrd_base.specs.Own.OwnRules.{own_view}
+use Rattle.vyrd_own_spec.specs.Small.{IsSmall}
+use Rattle.vyrd_own_spec.specs.Parts.{width_of, own_gives, AreFew, IsWhole}
+use Rattle.vyrd_own_spec.specs.Laws.Parts.{own_shown}
+use Rattle.vyrd_own_spec.specs.Sums.{HasSums}
+
+-- no place
+pub no_sums : (sums : Amounts) (f : ℕ → ℕ × ℕ) (m : ℕ) → sums ≡ [] → m ≡ 0 → HasSums sums f m
+no_sums sums f m none start =
+    subst (λ s. HasSums s f m) (sym none)
+    (subst (λ n. HasSums [] f n) (sym start) (record { formed = no_amounts; each = λ q. refl }))
+
+-- one place more
+pub sums_more : (sums after : Amounts) (f : ℕ → ℕ × ℕ) (m : ℕ) (pair : ℕ × ℕ) → HasSums sums f m → pair ≡ f m
+    → after ≡ plus_amount sums pair.0 pair.1 → HasSums after f (m + 1)
+sums_more sums after f m pair has is then =
+    subst (λ s. HasSums s f (m + 1)) (sym then) (record {
+      formed = IsAmounts-with_amount sums pair.0 (amount_of sums pair.0 + pair.1) has.formed;
+      each = λ q. amount_of-plus sums pair.0 pair.1 q
+          ∙ ap (λ n. n + part_given q pair) (has.each q)
+          ∙ ap (λ p. given q (map f (numbers_below m)) + part_given q p) is
+          ∙ sym (given_map_push q f m);
+    })
+
+-- more places give no less
+rises : (q : ℕ) (f : ℕ → ℕ × ℕ) (m k : ℕ) → given q (map f (numbers_below m)) ≤ given q (map f (numbers_below (m + k)))
+rises q f m zero =
+    let none : m + 0 ≡ m = omega arith in
+    subst (λ n. given q (map f (numbers_below m)) ≤ given q (map f (numbers_below n))) (sym none) (omega arith)
+rises q f m (suc k) =
+    let more : m + suc k ≡ m + k + 1 = omega arith in
+    subst (λ n. given q (map f (numbers_below m)) ≤ given q (map f (numbers_below n))) (sym more)
+    (omega (arith, rises q f m k, given_map_push q f (m + k)))
+
+-- a sum that is too large stays so
+pub beyond_all : (sums : Amounts) (f : ℕ → ℕ × ℕ) (m n : ℕ) (pair : ℕ × ℕ) → HasSums sums f m → pair ≡ f m → m < n
+    → 2 ^ 64 ≤ amount_of sums pair.0 + pair.1 → (q : ℕ) × (2 ^ 64 ≤ given q (map f (numbers_below n)))
+beyond_all sums f m n pair has is low much = (pair.0, at_end)
+  where
+    own_more : part_given pair.0 (f m) ≡ pair.1
+    own_more = ap (part_given pair.0) (sym is) ∙ own_part pair.0 pair.1
+
+    rest : ℕ
+    rest = n - (m + 1)
+
+    all : m + 1 + rest ≡ n
+    all = omega arith
+
+    here : 2 ^ 64 ≤ given pair.0 (map f (numbers_below (m + 1)))
+    here = omega (arith, much, has.each pair.0, given_map_push pair.0 f m, own_more)
+
+    at_end : 2 ^ 64 ≤ given pair.0 (map f (numbers_below n))
+    at_end = subst (λ k. 2 ^ 64 ≤ given pair.0 (map f (numbers_below k))) all (omega (arith, here, rises pair.0 f (m + 1) rest))
+
+-- the sums of all places are what is collected
+pub all_summed : (sums : Amounts) (f : ℕ → ℕ × ℕ) (m : ℕ) → HasSums sums f m → sums ≡ collected (map f (numbers_below m))
+all_summed sums f m has =
+    same_amounts sums (collected (map f (numbers_below m))) has.formed (IsAmounts-collected (map f (numbers_below m)))
+    (λ q. has.each q ∙ sym (amount_of-collected (map f (numbers_below m)) q))
+
+-- a pair as it was decoded
+pub decoded : (w : Written) (width places part j a b : ℕ) (words : List ℕ) (pair : ℕ × ℕ) → a ≡ width → b ≡ width → j < places
+    → pair ≡ own_gives w part (slice_range words (part * a) (part * a + b)) j
+    → pair ≡ pair_at width places (own_gives w) words (part * places + j)
+decoded w width places part j a b words pair ea eb low is =
+    is ∙ ap (λ x. own_gives w part (slice_range words (part * x) (part * x + b)) j) ea
+    ∙ ap (λ x. own_gives w part (slice_range words (part * width) (part * width + x)) j) eb
+    ∙ sym (place_of width places (own_gives w) words part j low)
+
+-- the sums of all places are what the words show
+pub shown_summed : (w : Written) (width places parts : ℕ) (words : List ℕ) (sums : Amounts) → width ≡ width_of w
+    → AreFew w width places parts → length words ≡ parts * width
+    → HasSums sums (pair_at width places (own_gives w) words) (parts * places) → sums ≡ own_view w words
+shown_summed w width places parts words sums wide few count has =
+    all_summed sums (pair_at width places (own_gives w) words) (parts * places) has
+    ∙ own_shown w words wide few count
+
+pub shown_beyond : (w : Written) (width places parts : ℕ) (words : List ℕ) → width ≡ width_of w
+    → AreFew w width places parts → length words ≡ parts * width
+    → ((q : ℕ) × (2 ^ 64 ≤ given q (map (pair_at width places (own_gives w) words) (numbers_below (parts * places)))))
+    → (q : ℕ) × (2 ^ 64 ≤ amount_of (own_view w words) q)
+shown_beyond w width places parts words wide few count (q, much) =
+    let pairs = map (pair_at width places (own_gives w) words) (numbers_below (parts * places)) in (
+      q,
+      subst (λ n. 2 ^ 64 ≤ n)
+          (sym (amount_of-collected pairs q) ∙ ap (λ s. amount_of s q) (own_shown w words wide few count)) much,
+    )
+
+-- how many words there are, if they are a whole number of parts
+pub count_is : (size n width parts : ℕ) (w own : Written) → n ≡ size → IsWhole size w → own ≡ w → width ≡ width_of own
+    → parts ≡ size / width → n ≡ parts * width
+count_is size n width parts w own all whole same wide many =
+    let is : width ≡ width_of w = wide ∙ ap width_of same in
+    all ∙ sym whole ∙ ap (λ k. size / k * k) (sym is) ∙ ap (λ p. p * width) (sym many)
+
+-- the registers at the start
+pub start_registers : (w : Written) → (start_of w).registers ≡ w.registers
+unfolding start_of
+start_registers w = refl
+
+pub few_registers : (w : Written) (n s : State) (shown : Amounts) → IsSmall w → n ≡ start_of w → s ≡ record n { shown = shown }
+    → length s.registers ≤ 16
+few_registers w n s shown small is then =
+    let all : length s.registers ≡ length w.registers =
+    ap (λ (t : State). length t.registers) then ∙ ap (λ (t : State). length t.registers) is ∙ ap (λ (rs : List ℕ). length rs) (start_registers w) in
+    omega (arith, all, small.registers)

@@ -1,0 +1,22 @@
+use Rattle.std.proofs.Common.{◌/◌, ap, sym, ◌∙◌, subst}
+use Rattle.vyrd_base.specs.Own.Programs.{Written}
+use Rattle.vyrd_base.specs.Own.Reader.{written_in}
+use Rattle.vyrd_own.specs.Layout.{show_of, written}
+use Rattle.vyrd_own_spec.specs.Parts.{width_of, AreFew}
+use Rattle.vyrd_own_spec.proofs.PartLaws.{are_few}
+use Rattle.vyrd_own_spec.proofs.CallLaws.{length-mapped}
+use Rattle.vyrd_own_spec.proofs.parts.OwnParts.new.Goals as goal
+
+pub invariant_of-result : goal.invariant_of-result
+invariant_of-result c =
+    let says = c.program-program.ensures.says ∙ ap written_in c.deref.ensures in
+    record {
+      blank = c.in_ok-blank.ensures;
+      width_is = c.width-width.ensures.is ∙ ap width_of says;
+      few = subst (λ (w : Written). AreFew w c.width-width.result c.max-places.result (c.size.result / c.width-width.result)) says
+          (subst (λ n. AreFew (written c.program-program.result.now) c.width-width.result c.max-places.result (n / c.width-width.result))
+          (sym c.size.ensures)
+          (are_few c.args.header (written c.program-program.result.now) c.width-width.result c.max-places.result c.len.result
+          c.program-program.ensures.small c.width-width.ensures.is c.width-width.ensures.some
+          (c.len.ensures ∙ c.program-program.result.now.shows.ok.0 ∙ sym (length-mapped show_of c.program-program.result.now.shows.items)) c.max-places.ensures));
+    }

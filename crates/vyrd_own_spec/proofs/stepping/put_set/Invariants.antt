@@ -1,0 +1,7 @@
+use Rattle.std.proofs.Common.{◌≡◌, ◌++◌, drop}
+use Rattle.vyrd_base.specs.Own.Steps.{shown_keys}
+use Rattle.vyrd_own_spec.proofs.stepping.put_set.Given as goal
+
+abbrev pub invariant-loop-effect : goal.invariant-loop-effect
+invariant-loop-effect l =
+    l.touched.items ++ shown_keys (drop l.effect-index l.effects) ≡ l.fn.touched.items ++ shown_keys l.effects

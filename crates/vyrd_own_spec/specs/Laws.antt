@@ -1,0 +1,2 @@
+-- Laws that impls cite.
+pub mod Parts

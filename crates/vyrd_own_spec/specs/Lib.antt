@@ -1,0 +1,5 @@
+pub mod Small
+pub mod Touched
+pub mod Parts
+pub mod Sums
+pub mod Laws

@@ -1,0 +1,21 @@
+//! A specification of the user's own, by which a log can be judged.
+//!
+//! The central type is [`OwnSpec`]: a [`Specification`] that was read, with a state. It steps, answers
+//! and shows by the rules that the specification's lines give (`own_rules` of `vyrd_base`), so that
+//! `Judge` of `vyrd_judge` takes it as any other. A step that is refused, or for which memory runs
+//! out, leaves all as it was. The words are compared part by part, as the specification decodes them
+//! ([`OwnParts`]); they have to be a whole number of parts.
+#![tactic(auto)]
+
+mod compared;
+pub mod laws;
+mod own_spec;
+mod parts;
+mod specification;
+mod start;
+mod stepping;
+
+pub use compared::OwnCompared;
+pub use own_spec::OwnSpec;
+pub use parts::OwnParts;
+pub use specification::Specification;
