@@ -1,9 +1,10 @@
 //! A run that is kept and judged.
 
-ghost use Rattle.std.specs.Prelude.{◌≡◌, List, [], IfOk};
+ghost use Rattle.std.specs.Prelude.{◌≡◌, true, List, [], IfOk};
 ghost use Rattle.vyrd_base.specs.declared.history.Stamped.{Stamped};
 ghost use Rattle.vyrd_base.specs.Histories.{log_of};
 ghost use Rattle.vyrd_base.specs.Rules.{Charter, built_in, rules_by};
+ghost use Rattle.vyrd_base.specs.Subjects.{is_built_in};
 ghost use Rattle.vyrd_base.specs.Verdicts.{verdict};
 ghost use Rattle.vyrd_live.specs.Recorded.{HasRecorded};
 
@@ -23,6 +24,7 @@ pub(crate) struct Recording {
 impl Recording {
     /// A recording of a run in which nothing was done yet.
     pub(crate) fn new(alloc: Global, header: Header) -> Result<Recording, AllocError>
+        requires built_in { is_built_in header.subject ≡ true }
         ensures recorded { IfOk result (λ r. HasRecorded r []) }
         ensures charter { IfOk result (λ r. r.judge.judge.kept.charter ≡ built_in header) }
     {

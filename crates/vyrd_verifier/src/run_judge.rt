@@ -1,10 +1,11 @@
 //! A judge that follows a run.
 
-ghost use Rattle.std.specs.Prelude.{◌≡◌, Bool, false, List, [], IfOk};
+ghost use Rattle.std.specs.Prelude.{◌≡◌, Bool, true, false, List, [], IfOk};
 ghost use Rattle.std.specs.Result.{is_err};
 ghost use Rattle.vyrd_base.specs.declared.history.Stamped.{Stamped};
 ghost use Rattle.vyrd_base.specs.Histories.{log_of};
 ghost use Rattle.vyrd_base.specs.Rules.{Charter, built_in, rules_by};
+ghost use Rattle.vyrd_base.specs.Subjects.{is_built_in};
 ghost use Rattle.vyrd_base.specs.Verdicts.{verdict, verdict_so_far};
 ghost use Rattle.vyrd_verifier.specs.Judging.{HasJudged};
 
@@ -36,6 +37,7 @@ impl Model for RunJudge {
 impl RunJudge {
     /// A judge of a run in which nothing was done yet.
     pub fn new(alloc: Global, header: Header) -> Result<RunJudge, AllocError>
+        requires built_in { is_built_in header.subject ≡ true }
         ensures judged { IfOk result (λ j. HasJudged j []) }
         ensures charter { IfOk result (λ j. j.judge.kept.charter ≡ built_in header) }
         ensures has_failed { IfOk result (λ j. j.judge.has_failed ≡ false) }

@@ -6,6 +6,7 @@ ghost use Rattle.std.specs.Result.{is_err};
 ghost use Rattle.vyrd_base.specs.declared.history.Stamped.{Stamped};
 ghost use Rattle.vyrd_base.specs.Histories.{log_of};
 ghost use Rattle.vyrd_base.specs.Rules.{built_in, rules_by};
+ghost use Rattle.vyrd_base.specs.Subjects.{is_built_in};
 ghost use Rattle.vyrd_base.specs.Verdicts.{verdict_so_far, verdict};
 ghost use Rattle.vyrd_verifier.specs.Judging.{HasJudged};
 ghost use Rattle.vyrd_verifier.specs.Taken.{numbered, in_order_below, has_failed, has_number};
@@ -47,6 +48,7 @@ impl Model for Verifier {
 impl Verifier {
     /// A verifier that has taken in nothing.
     pub fn new(alloc: Global, header: Header) -> Result<Verifier, AllocError>
+        requires built_in { is_built_in header.subject ≡ true }
         ensures taken { IfOk result (λ v. HasTakenIn HasJudged v []) }
         ensures charter { IfOk result (λ v. v.sink.judge.kept.charter ≡ built_in header) }
         ensures has_failed { IfOk result (λ v. has_failed v ≡ false) }

@@ -3,10 +3,14 @@ use Rattle.vyrd_memory.specs.Showing.{HasRun}
 use Rattle.vyrd_memory.specs.Turns.{GetsStuck}
 use Rattle.vyrd_work.specs.Workloads.{workload_of}
 use Rattle.vyrd_work.specs.WorkScripts.{work_scripts}
+use Rattle.vyrd_work.proofs.BuiltIn.{work_built_in}
 use Rattle.vyrd_every.proofs.Workloads.{not_stuck}
 use Rattle.vyrd_live.specs.Recorded.{HasRecorded}
 use Rattle.vyrd_live.proofs.TurnLaws.{run_recorded, turns_accepted}
 use Rattle.vyrd_live.proofs.by_turns.run_by_turns.Goals as goal
+
+pub new-requires : goal.new-requires
+new-requires g c = record { built_in = work_built_in (workload_of c.args.work.now) c.requires.limits }
 
 pub returns-in-Ok-clause-played : goal.returns-in-Ok-clause-played
 returns-in-Ok-clause-played g c =

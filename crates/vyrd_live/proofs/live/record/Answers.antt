@@ -2,8 +2,12 @@
 use Rattle.std.proofs.Common.{ap}
 use Rattle.vyrd_trace.specs.declared.plan.Plan.{Plan}
 use Rattle.vyrd_work.specs.Workloads.{workload_of}
+use Rattle.vyrd_work.proofs.BuiltIn.{work_built_in}
 use Rattle.vyrd_live.proofs.FreshWorkers.{both_ok, too_low_at, in_range}
 use Rattle.vyrd_live.proofs.live.record.Goals as goal
+
+pub new-requires : goal.new-requires
+new-requires g c = record { built_in = work_built_in (workload_of c.args.work.now) c.requires.limits }
 
 pub returns-clause-too_low : goal.returns-clause-too_low
 returns-clause-too_low g c =
