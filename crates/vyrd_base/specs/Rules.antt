@@ -4,7 +4,7 @@
 --
 -- What a state shows is up to the rules: its shown amounts, or less of them, or nothing, where no
 -- views are to be compared.
-use Rattle.std.specs.Prelude.{ℕ, ◌==◌, List, [], ◌∷◌, ◌++◌, replicate, take, Option, Some}
+use Rattle.std.specs.Prelude.{ℕ, ◌==◌, List, [], ◌∷◌, ◌++◌, replicate, take, Option, Some, None}
 use Rattle.std.specs.Prelude.{option_map, option_and_then, if◌then◌else◌}
 use Rattle.std.specs.Option.{option_map_or}
 use Rattle.vyrd_base.specs.declared.header.Header.{Header}
@@ -20,7 +20,7 @@ use Rattle.vyrd_base.specs.Represented.{state_of_words}
 use Rattle.vyrd_base.specs.Own.Expressions.{most}
 use Rattle.vyrd_base.specs.Own.Programs.{Written}
 use Rattle.vyrd_base.specs.Own.OwnRules.{own_arity, own_next, own_answer, own_shown, own_view}
-use Rattle.vyrd_base.specs.Own.OwnRules.{own_start}
+use Rattle.vyrd_base.specs.Own.OwnRules.{own_start, may_stand}
 use Rattle.vyrd_base.specs.Own.Reader.{written_in}
 
 pub record Rules : Type 0 where
@@ -55,7 +55,8 @@ abbrev pub given : Written → ℕ → Args → List ℕ
 given w i args = take (own_arity w i) (args.a ∷ args.b ∷ args.c ∷ [])
 
 -- The rules of a log of version 3: those that its specification gives. Without words no views are
--- compared.
+-- compared. Words that aren't a whole number of parts, or show 2^64 or more of a key, stand for no
+-- state.
 abbrev pub own_rules : Header → Written → Rules
 own_rules h w = record {
   header = h;
@@ -65,7 +66,7 @@ own_rules h w = record {
       option_map_or (λ i. own_answer w state i (given w i args)) (own_number method) most;
   shown = λ state. if h.size == 0 then [] else own_shown w state;
   view = own_view w;
-  start = λ words. Some (own_start w words);
+  start = λ words. if may_stand w words then Some (own_start w words) else None;
 }
 
 -- A charter names rules, as data: that of a built-in subject is the header of a log, and that of a

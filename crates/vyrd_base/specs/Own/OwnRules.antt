@@ -1,6 +1,8 @@
 -- The rules that a specification gives. A method is named by its number, which is its place among
 -- the specification's methods from 0 on, and arguments are a list of numbers.
-use Rattle.std.specs.Prelude.{ℕ, ◌==◌, List, [], Option, option_and_then, unwrap_or, slice_get}
+use Rattle.std.specs.Prelude.{ℕ, ◌*◌, ◌/◌, ◌^◌, ◌==◌, Bool, ◌||◌, ◌&&◌, nat_lt, List, [], length}
+use Rattle.std.specs.Prelude.{Option, option_and_then, unwrap_or, slice_get}
+use Rattle.std.specs.List.{list_all}
 use Rattle.std.specs.Prelude.{if◌then◌else◌}
 use Rattle.std.specs.Option.{option_map_or}
 use Rattle.vyrd_base.specs.Amounts.{Amounts}
@@ -39,3 +41,13 @@ own_view w words = if w.words == 0 then [] else view_of w words
 -- the state at the start: it shows what the words show, and all else is as the specification says
 abbrev pub own_start : Written → List ℕ → State
 own_start w words = record (start_of w) { shown = own_view w words }
+
+-- whether so many words are a whole number of parts
+abbrev pub is_whole : Written → ℕ → Bool
+is_whole w n = w.words == 0 || n / w.words * w.words == n
+
+-- whether words stand for a state: they are a whole number of parts, and show less than 2^64 of each
+-- key
+abbrev pub may_stand : Written → List ℕ → Bool
+may_stand w words =
+    is_whole w (length words) && list_all (λ p. nat_lt p.1 (2 ^ 64)) (own_view w words)
