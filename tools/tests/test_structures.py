@@ -35,8 +35,8 @@ class Structures(unittest.TestCase):
         for file in files:
             self.assertEqual(named(file.read_text(), names), [], f"in {file.relative_to(CRATES)}")
 
-    def test_there_are_four(self):
-        self.assertEqual(structures(), ["Multiset", "Cache", "Tree", "Buffers"])
+    def test_there_are_four_and_the_users_own(self):
+        self.assertEqual(structures(), ["Multiset", "Cache", "Tree", "Buffers", "Own"])
 
     def test_what_names_one_is_found(self):
         for text in (
