@@ -1,5 +1,5 @@
 -- What was read of an input says the logs of the whole input, and what is judged of it while it is read.
-use Rattle.std.proofs.Common.{◌≡◌, ℕ, ◌+◌, ◌≤◌, List, ◌++◌, length, Option, refl, ap, ◌∙◌, sym, subst, arith, inl, inr, append-nil, length-append}
+use Rattle.std.proofs.Common.{◌≡◌, ℕ, ◌+◌, ◌≤◌, List, ◌++◌, length, refl, ap, ◌∙◌, sym, subst, arith, length-append}
 use Rattle.std.specs.Prelude.{IfSome, Result, Ok, Err, IfOk}
 use Rattle.vyrd_base.specs.Devices.{SourceKnown}
 use Rattle.vyrd_base.specs.declared.verdict.Verdict.{Verdict}

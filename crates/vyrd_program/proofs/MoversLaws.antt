@@ -1,8 +1,8 @@
 -- What was read of an input says the history of the whole input.
-use Rattle.std.proofs.Common.{◌≡◌, ℕ, List, [], ◌+◌, ◌++◌, length, length-append, refl, Option, Some, None, ap, ◌∙◌, sym, subst, arith, inl, inr, append-nil}
-use Rattle.std.specs.Prelude.{◌⊎◌, IfSome, IfOk, Result, Ok, Err}
+use Rattle.std.proofs.Common.{◌≡◌, ℕ, List, [], ◌+◌, ◌++◌, length, length-append, refl, ap, ◌∙◌, sym, subst, arith}
+use Rattle.std.specs.Prelude.{IfSome, IfOk, Result, Ok, Err}
 use Rattle.std.specs.declared.alloc.AllocError.{AllocError}
-use Rattle.vyrd_base.specs.Devices.{SourceKnown, IsAtEnd}
+use Rattle.vyrd_base.specs.Devices.{SourceKnown}
 use Rattle.vyrd_mover.specs.declared.blocks.Blocks.{Blocks}
 use Rattle.vyrd_mover.specs.BlocksText.{blocks_text}
 use Rattle.vyrd_mover.specs.EventsRead.{AreBlocksOf}

@@ -1,11 +1,12 @@
 //! The account of a run, kept while the run is played.
 
-ghost use Rattle.std.specs.Prelude.{◌≡◌, ◌+◌, ◌<◌, ◌≤◌, ◌^◌, ◌∷◌, ◌++◌, [], ℕ, List, length, IfOk};
+ghost use Rattle.std.specs.Prelude.{◌≡◌, ◌+◌, ◌<◌, ◌≤◌, ◌^◌, ◌∷◌, ◌++◌, [], ℕ, true, List, length, IfOk};
 ghost use Rattle.std.specs.Prelude.{OnOk};
 ghost use Rattle.vyrd_base.specs.declared.header.Header.{Header};
 ghost use Rattle.vyrd_base.specs.declared.history.Stamped.{Stamped};
 ghost use Rattle.vyrd_base.specs.Histories.{log_of};
 ghost use Rattle.vyrd_base.specs.Rules.{Charter, built_in, rules_by};
+ghost use Rattle.vyrd_base.specs.Subjects.{is_built_in};
 ghost use Rattle.vyrd_base.specs.Verdicts.{verdict};
 ghost use Rattle.vyrd_program.specs.declared.show.Show.{Show};
 ghost use Rattle.vyrd_program.specs.Accounts.{HasTaken, text_so_far};
@@ -57,6 +58,7 @@ impl Model for Account {
 impl Account {
     /// An account of a run in which nothing was done yet.
     pub fn new(alloc: Global, header: Header, show: Show) -> Result<Account, AllocError>
+        requires built_in { is_built_in header.subject ≡ true }
         ensures taken { IfOk result (λ a. HasTaken a []) }
         ensures charter { IfOk result (λ a. a.judge.kept.charter ≡ built_in header) }
         ensures show { IfOk result (λ a. a.show ≡ show) }

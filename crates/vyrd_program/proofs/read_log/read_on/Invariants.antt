@@ -1,4 +1,4 @@
-use Rattle.std.proofs.Common.{◌≡◌, ◌≤◌, length, false}
+use Rattle.std.proofs.Common.{◌≡◌, length, false}
 use Rattle.vyrd_base.specs.Devices.{AfterReads}
 use Rattle.vyrd_program.specs.Inputs.{longest_read}
 use Rattle.vyrd_program.specs.Progress.{IsChecking}

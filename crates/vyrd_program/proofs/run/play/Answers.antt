@@ -1,14 +1,17 @@
 use Rattle.std.proofs.Common.{◌∙◌, ◌<◌, ap, subst, inl, inr, Some, None}
 use Rattle.std.specs.Prelude.{IfSome}
 use Rattle.vyrd_memory.specs.Bounds.{bounds_of}
-use Rattle.vyrd_trace.specs.Hands.{most_events}
 use Rattle.vyrd_work.specs.Workloads.{workload_of}
 use Rattle.vyrd_work.specs.WorkScripts.{ops_of, work_scripts}
 use Rattle.vyrd_live.specs.LiveRuns.{LeavesRun}
+use Rattle.vyrd_work.proofs.BuiltIn.{work_built_in}
 use Rattle.vyrd_live.proofs.FreshWorkers.{both_ok}
 use Rattle.vyrd_program.specs.Accounts.{HasTaken}
 use Rattle.vyrd_program.proofs.TellingLaws.{tells_live}
 use Rattle.vyrd_program.proofs.run.play.Goals as goal
+
+pub new-requires : goal.new-requires
+new-requires g c = record { built_in = work_built_in (workload_of c.args.work) c.requires.limits }
 
 pub returns : goal.returns
 returns g c = λ most.

@@ -3,11 +3,15 @@ use Rattle.vyrd_memory.specs.Turns.{GetsStuck}
 use Rattle.vyrd_memory.specs.Showing.{HasRun}
 use Rattle.vyrd_work.specs.Workloads.{workload_of}
 use Rattle.vyrd_work.specs.WorkScripts.{work_scripts}
+use Rattle.vyrd_work.proofs.BuiltIn.{work_built_in}
 use Rattle.vyrd_live.proofs.FreshWorkers.{both_ok}
 use Rattle.vyrd_program.specs.Accounts.{HasTaken}
 use Rattle.vyrd_program.proofs.StepLaws.{of_match}
 use Rattle.vyrd_program.proofs.TellingLaws.{of_some, tells_run}
 use Rattle.vyrd_program.proofs.step.play.Goals as goal
+
+pub new-requires : goal.new-requires
+new-requires c = record { built_in = work_built_in (workload_of c.args.work) c.requires }
 
 pub returns-in-Some : goal.returns-in-Some
 returns-in-Some c =
