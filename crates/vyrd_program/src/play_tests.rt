@@ -144,7 +144,9 @@ fn accepts_2000<R: Threads + Wait + Sync>(rt: &R, alloc: Global, sink: &mut Memo
 
 /// How many of 2,000 generated operations are judged in their run by turns.
 fn judged_of_2000(alloc: Global) -> Option<u64> {
-    let work = generate(alloc, 2000).ok()?;
+    let Ok(work) = generate(alloc, 2000) else {
+        return None;
+    };
     match run_by_turns::<AnyMachine>(alloc, &work).ok()??.verdict {
         Verdict::Accepted {
             commits,

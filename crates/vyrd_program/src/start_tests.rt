@@ -79,7 +79,9 @@ fn plain_words_of(
 /// The words that a live run of forty inserts leaves.
 fn words_left<R: Threads + Wait + Sync>(rt: &R, alloc: Global) -> Option<Vec<u64>> {
     let text = forty_inserts(alloc).ok()?;
-    let work = read_work(alloc, text.as_bytes()).ok()?;
+    let Ok(work) = read_work(alloc, text.as_bytes()) else {
+        return None;
+    };
     let run = run_live(rt, alloc, &work, MOST_EVENTS, &OpenGate).ok()?;
     Some(run.words)
 }

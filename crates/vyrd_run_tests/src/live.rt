@@ -37,13 +37,16 @@ fn run_text<R: Threads + Wait + Sync, G: Gate>(
 const MOST: usize = 1000;
 
 /// The verdict about a live run of a workload's text, if that is one, whose events a vector takes.
+#[tactic(auto, using(vyrd_work::proofs::BuiltIn::work_built_in))]
 fn shown<R: Threads + Wait + Sync, G: Gate>(
     rt: &R,
     alloc: Global,
     text: &[u8],
     gate: &G,
 ) -> Option<Verdict> {
-    let work = read_work(alloc, text).ok()?;
+    let Ok(work) = read_work(alloc, text) else {
+        return None;
+    };
     let header = work.header;
     let played = show_live(rt, alloc, work, MOST as u64, gate, Vec::new(alloc)).ok()?;
     if played.sink.len() > MOST || played.spent.is_some() {
