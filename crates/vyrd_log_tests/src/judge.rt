@@ -3,6 +3,7 @@
 
 ghost use Rattle.std.specs.Prelude.{◌≡◌, ◌≤◌, ◌<◌, ◌+◌, ◌^◌, true, length};
 ghost use Rattle.vyrd_base.specs.Starts.{may_start};
+ghost use Rattle.vyrd_base.specs.Subjects.{is_built_in};
 
 use std::alloc::{AllocError, Global};
 use std::test::Fail;
@@ -250,6 +251,7 @@ fn judged_from(
     start: &[StartWord],
     entries: &[Entry],
 ) -> Result<Option<Verdict>, AllocError>
+    requires built_in { is_built_in header.subject ≡ true }
     requires may_start { may_start header start.now ≡ true }
     requires few { length entries.now ≤ 20 }
 {

@@ -1,7 +1,8 @@
 //! What words of each subject show.
 
-ghost use Rattle.std.specs.Prelude.{◌≡◌, ◌<◌, false, length, replicate, OnOk};
+ghost use Rattle.std.specs.Prelude.{◌≡◌, ◌<◌, true, false, length, replicate, OnOk};
 ghost use Rattle.vyrd_base.specs.Layout.{plain_words};
+ghost use Rattle.vyrd_base.specs.Subjects.{is_built_in};
 
 use std::alloc::{AllocError, Global};
 use std::marker::Brand;
@@ -95,6 +96,7 @@ fn show(alloc: Global, subject: Subject, size: u32, words: &[u64], pairs: &[(u64
 }
 
 /// What the words show, if they are as many as the subject of this size has.
+#[tactic(auto, using(vyrd_base::proofs::HeaderLaws::first_version_built_in))]
 fn shown(alloc: Global, subject: Subject, size: u32, words: &[u64]) -> Option<View> {
     let header = Header::new(1, subject, size, 1)?;
     if words.len() != header.plain_words() as usize {
@@ -158,6 +160,7 @@ fn one_slot<L: Ledger>(
     requires parts { blank.parts ≡ L.parts }
     requires some { 0 < blank.parts }
     requires count { plain_words header ≡ 8 }
+    requires built_in { is_built_in header.subject ≡ true }
 {
     let mut steps = Steps::<L>::new(blank);
     let mut compared = Compared::new(alloc, header)?;
@@ -235,6 +238,7 @@ const CHANGED: &[Changed] = &[
 ];
 
 #[test]
+#[tactic(auto, using(vyrd_base::proofs::HeaderLaws::first_version_built_in))]
 fn changes_are_compared(rt: HostRuntime) {
     for (row, (subject, writes, amounts, found)) in CHANGED.iter().enumerate() {
         let header = Header::new(1, *subject, 2, 1).unwrap();
@@ -254,6 +258,7 @@ fn differences<L: Ledger>(
     requires name { blank.name ≡ L.name }
     requires parts { blank.parts ≡ L.parts }
     requires some { 0 < blank.parts }
+    requires built_in { is_built_in header.subject ≡ true }
 {
     let mut steps = Steps::<L>::new(blank);
     let mut compared = Compared::new(alloc, header)?;
