@@ -6,7 +6,7 @@ ghost use Rattle.vyrd_base.specs.Rules.{rules_by};
 ghost use Rattle.vyrd_base.specs.declared.header.Header.{Header};
 ghost use Rattle.vyrd_base.specs.declared.log.Entry.{Entry};
 ghost use Rattle.vyrd_base.specs.declared.log.StartWord.{StartWord};
-ghost use Rattle.vyrd_base.specs.Starts.{may_start, words_at_start, state_at_start};
+ghost use Rattle.vyrd_base.specs.Starts.{do_follow, words_at_start, state_at_start};
 ghost use Rattle.vyrd_base.specs.Commits.{is_commit};
 ghost use Rattle.vyrd_base.specs.Verdicts.{first_fault, verdict, verdict_so_far};
 ghost use Rattle.vyrd_judge.specs.Following.{Kept, HasTakenIn, IsFaultless, IsSomewhere};
@@ -85,7 +85,7 @@ impl<S: Spec> Follower<S> {
     ) -> Result<Follower<S>, AllocError>
         requires spec_header { (rules_by (S.charter spec)).header ≡ header }
         requires made { S.made spec ≡ 0 }
-        requires may_start { may_start header start.now ≡ true }
+        requires follows { do_follow header None start.now ≡ true }
         requires words { words.now ≡ words_at_start header start.now }
         requires state { state_at_start (rules_by (S.charter spec)) start.now
             ≡ Some (S.state spec) }

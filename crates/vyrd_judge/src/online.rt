@@ -6,7 +6,7 @@ ghost use Rattle.std.specs.Prelude.{is_none, IfSome};
 ghost use Rattle.std.specs.Result.{is_err};
 ghost use Rattle.vyrd_base.specs.declared.log.Entry.{Entry};
 ghost use Rattle.vyrd_base.specs.declared.log.StartWord.{StartWord};
-ghost use Rattle.vyrd_base.specs.Starts.{may_start, words_at_start, state_at_start};
+ghost use Rattle.vyrd_base.specs.Starts.{may_start, do_follow, words_at_start, state_at_start};
 ghost use Rattle.vyrd_base.specs.declared.verdict.Verdict.{Verdict};
 ghost use Rattle.vyrd_base.specs.declared.verdict.Verdict.TheVariants.{Malformed};
 ghost use Rattle.vyrd_base.specs.declared.header.Header.{Header};
@@ -118,7 +118,8 @@ impl<S: BuiltIn> Judge<S> {
 
 impl<S: Spec> Judge<S> {
     /// A judge that has followed no entry of a log that begins with these words, by the rules of a
-    /// specification that is in its state at the start.
+    /// specification that is in its state at the start. The words are in the header's ranges, and
+    /// rise.
     pub fn begin(
         alloc: Global,
         header: Header,
@@ -128,7 +129,7 @@ impl<S: Spec> Judge<S> {
     ) -> Result<Judge<S>, AllocError>
         requires spec_header { (rules_by (S.charter spec)).header ≡ header }
         requires made { S.made spec ≡ 0 }
-        requires may_start { may_start header start.now ≡ true }
+        requires follows { do_follow header None start.now ≡ true }
         requires words { words.now ≡ words_at_start header start.now }
         requires state { state_at_start (rules_by (S.charter spec)) start.now
             ≡ Some (S.state spec) }

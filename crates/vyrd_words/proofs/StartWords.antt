@@ -40,14 +40,18 @@ starts_fit h last (s ∷ starting) e =
       starts_fit h (Some s) starting (second_true (not (is_out_of_range h s || is_out_of_order last s)) _ e),
     )
 
-pub starts_of : (h : Header) (starting : List StartWord) → may_start h starting ≡ true → StartsFit h starting
-starts_of h [] may = tt
-starts_of h (s ∷ starting) may = starts_fit h None (s ∷ starting) (second_true (h.version == 2) _ may)
+pub starts_of : (h : Header) (starting : List StartWord) → do_follow h None starting ≡ true → StartsFit h starting
+starts_of h starting follows = starts_fit h None starting follows
+
+-- those that a log of version 2 may begin with keep both rules
+pub may_follow : (h : Header) (starting : List StartWord) → may_start h starting ≡ true → do_follow h None starting ≡ true
+may_follow h [] may = refl
+may_follow h (s ∷ starting) may = second_true (h.version == 2) _ may
 
 -- all words that have a starting value are the header's
-pub start_within : (h : Header) (starting : List StartWord) → may_start h starting ≡ true
+pub start_within : (h : Header) (starting : List StartWord) → do_follow h None starting ≡ true
     → All (λ w. w < plain_words h) (map (λ s. s.word) starting)
-start_within h starting may = within starting (starts_of h starting may)
+start_within h starting follows = within starting (starts_of h starting follows)
   where
     within : (starting : List StartWord) → StartsFit h starting → All (λ w. w < plain_words h) (map (λ s. s.word) starting)
     within [] fit = All-nil (λ w. w < plain_words h)
@@ -64,11 +68,10 @@ rising h last (s ∷ starting) low e =
     let rest = rising h s starting (in_range h s both.0).word (second_true (not (is_out_of_range h s || nat_le s.word last.word)) _ e) in
     omega (arith, above, rest)
 
-pub start_few : (h : Header) (starting : List StartWord) → may_start h starting ≡ true → length starting ≤ plain_words h
-start_few h [] may = omega arith
-start_few h (s ∷ starting) may =
-    let follows = second_true (h.version == 2) (do_follow h None (s ∷ starting)) may in
-    let first = starts_of h (s ∷ starting) may in
+pub start_few : (h : Header) (starting : List StartWord) → do_follow h None starting ≡ true → length starting ≤ plain_words h
+start_few h [] follows = omega arith
+start_few h (s ∷ starting) follows =
+    let first = starts_of h (s ∷ starting) follows in
     let rest = rising h s starting first.0.word (second_true (not (is_out_of_range h s || false)) (do_follow h (Some s) starting) follows) in
     omega (arith, rest)
 
@@ -89,10 +92,10 @@ all_below : (f : ℕ → ℕ) (k n : ℕ) → ((w : ℕ) → f w < 2 ^ 63) → A
 all_below f k zero low = All-nil (λ value. value < 2 ^ 63)
 all_below f k (suc n) low = All-cons (λ value. value < 2 ^ 63) (f k) (map f (numbers_from (k + 1) n)) (low k) (all_below f (k + 1) n low)
 
-pub small_at_start : (h : Header) (starting : List StartWord) → may_start h starting ≡ true
+pub small_at_start : (h : Header) (starting : List StartWord) → do_follow h None starting ≡ true
     → All (λ value. value < 2 ^ 63) (words_at_start h starting)
-small_at_start h starting may =
-    all_below (value_after starting []) 0 (plain_words h) (λ w. small h starting w (starts_of h starting may))
+small_at_start h starting follows =
+    all_below (value_after starting []) 0 (plain_words h) (λ w. small h starting w (starts_of h starting follows))
 
 -- a word that isn't among them is 0
 elsewhere_zero : (starting : List StartWord) (w : ℕ) → list_any (λ x. x == w) (map (λ s. s.word) starting) ≡ false

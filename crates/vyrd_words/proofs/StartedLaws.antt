@@ -9,7 +9,7 @@ use Rattle.vyrd_base.specs.declared.log.StartWord.{StartWord}
 use Rattle.vyrd_base.specs.Layout.{plain_words}
 use Rattle.vyrd_base.specs.Places.{first_answer}
 use Rattle.vyrd_base.specs.Words.{given_to, value_after}
-use Rattle.vyrd_base.specs.Starts.{is_out_of_range, is_out_of_order, do_follow, may_start, words_at_start}
+use Rattle.vyrd_base.specs.Starts.{is_out_of_range, is_out_of_order, do_follow, words_at_start}
 use Rattle.vyrd_base.proofs.PlaceLaws.{first_answer-append}
 use Rattle.vyrd_base.proofs.TestLaws.{above_of, is_same, lower_isnt, first_true, second_true, neither_true}
 use Rattle.vyrd_base.proofs.EffectWords.{map_set}
@@ -21,9 +21,9 @@ some_fits h [] i d fit low = absurd (omega (arith, low))
 some_fits h (s ∷ starting) zero d fit low = fit.0
 some_fits h (s ∷ starting) (suc i) d fit low = some_fits h starting i d fit.1 (omega (arith, low))
 
-pub word_fits : (h : Header) (starting : List StartWord) (i : ℕ) (d : StartWord) → may_start h starting ≡ true → i < length starting
+pub word_fits : (h : Header) (starting : List StartWord) (i : ℕ) (d : StartWord) → do_follow h None starting ≡ true → i < length starting
     → (get_or starting i d).word < plain_words h
-word_fits h starting i d may low = (some_fits h starting i d (starts_of h starting may) low).word
+word_fits h starting i d follows low = (some_fits h starting i d (starts_of h starting follows) low).word
 
 -- They rise.
 follows_on : (h : Header) (o : Option StartWord) (s : StartWord) (starting : List StartWord) → do_follow h o (s ∷ starting) ≡ true
@@ -58,14 +58,13 @@ not_before h o (s ∷ starting) (suc i) d follows low =
     ap (λ b. option_or (cond b (Some s.value) None) (value_in w (take i starting))) (lower_isnt s.word w (above_all h s starting i d onward within))
     ∙ not_before h (Some s) starting i d onward within
 
-none_before : (h : Header) (starting : List StartWord) (i : ℕ) (d : StartWord) → may_start h starting ≡ true → i < length starting
+none_before : (h : Header) (starting : List StartWord) (i : ℕ) (d : StartWord) → do_follow h None starting ≡ true → i < length starting
     → value_in (get_or starting i d).word (take i starting) ≡ None
-none_before h [] i d may low = absurd (omega (arith, low))
-none_before h (s ∷ starting) i d may low = not_before h None (s ∷ starting) i d (second_true (h.version == 2) _ may) low
+none_before h starting i d follows low = not_before h None starting i d follows low
 
-pub started_more : (h : Header) (starting : List StartWord) (i : ℕ) (d : StartWord) → may_start h starting ≡ true → i < length starting
+pub started_more : (h : Header) (starting : List StartWord) (i : ℕ) (d : StartWord) → do_follow h None starting ≡ true → i < length starting
     → set (words_at_start h (take i starting)) (get_or starting i d).word (get_or starting i d).value ≡ words_at_start h (take (i + 1) starting)
-started_more h starting i d may low =
+started_more h starting i d follows low =
     sym (map_set (value_after (take i starting) []) (value_after (take (i + 1) starting) []) 0 (plain_words h) x.word x.value
     (ap (value_after (take (i + 1) starting) []) zero_more ∙ here) others)
   where
@@ -81,7 +80,7 @@ started_more h starting i d may low =
 
     here : unwrap_or (value_in x.word (take (i + 1) starting)) 0 ≡ x.value
     here = ap (λ o. unwrap_or o 0) (more x.word
-        ∙ ap (λ o. option_or o (option_or (given_to x.word (x.word, x.value)) None)) (none_before h starting i d may low)
+        ∙ ap (λ o. option_or o (option_or (given_to x.word (x.word, x.value)) None)) (none_before h starting i d follows low)
         ∙ ap (λ b. option_or (cond b (Some x.value) None) None) (is_same x.word x.word refl))
 
     or_none : (o : Option ℕ) → option_or o None ≡ o

@@ -1,21 +1,21 @@
 //! The starting words of a log.
 
-ghost use Rattle.std.specs.Prelude.{◌≡◌, true, map, IfOk};
+ghost use Rattle.std.specs.Prelude.{◌≡◌, true, None, map, IfOk};
 ghost use Rattle.vyrd_base.specs.Layout.{plain_words};
-ghost use Rattle.vyrd_base.specs.Starts.{may_start, words_at_start};
+ghost use Rattle.vyrd_base.specs.Starts.{do_follow, words_at_start};
 
 use std::alloc::{AllocError, Global};
 use vyrd_base::{Header, StartWord};
 
 /// All plain words at the start: those that the log begins with have their values, and all others
-/// are 0. It takes time and memory for each plain word and each starting word. The only error is
-/// that memory has run out.
+/// are 0. The starting words are in the header's ranges, and rise. It takes time and memory for each
+/// plain word and each starting word. The only error is that memory has run out.
 pub fn words_at_start(
     alloc: Global,
     header: Header,
     start: &[StartWord],
 ) -> Result<Vec<u64>, AllocError>
-    requires { may_start header start.now ≡ true }
+    requires { do_follow header None start.now ≡ true }
     ensures { IfOk result (λ words. words.items ≡ words_at_start header start.now) }
 {
     let mut words = vec![in alloc; 0; header.plain_words() as usize]?;

@@ -17,11 +17,11 @@ new-requires-2-clause-all g c = ap length c.requires.words ∙ length-words_at_s
 
 pub new-requires-2-clause-values : goal.new-requires-2-clause-values
 new-requires-2-clause-values g c =
-    subst (All (λ value. value < 2 ^ 63)) (sym c.requires.words) (small_at_start c.args.header c.args.start.now c.requires.may_start)
+    subst (All (λ value. value < 2 ^ 63)) (sym c.requires.words) (small_at_start c.args.header c.args.start.now c.requires.follows)
 
 pub new-requires-2-clause-changed : goal.new-requires-2-clause-changed
 new-requires-2-clause-changed g c =
-    subst (All (λ w. w < plain_words c.args.header)) (sym c.in_ok-changed.ensures) (start_within c.args.header c.args.start.now c.requires.may_start)
+    subst (All (λ w. w < plain_words c.args.header)) (sym c.in_ok-changed.ensures) (start_within c.args.header c.args.start.now c.requires.follows)
 
 pub new-requires-2-clause-elsewhere : goal.new-requires-2-clause-elsewhere
 new-requires-2-clause-elsewhere g c =
@@ -57,7 +57,7 @@ invariant_of-result g c =
       c.in_ok-new.ensures.header ∙ named,
       c.in_ok-new-2.ensures.header ∙ named,
       c.in_ok-new-3.ensures.header ∙ named,
-      omega (arith, start_few c.args.header c.args.start.now c.requires.may_start, few_words c.args.header),
+      omega (arith, start_few c.args.header c.args.start.now c.requires.follows, few_words c.args.header),
       omega arith,
       c.in_ok-new-2.ensures.views_header ∙ named,
       ap view_by c.in_ok-new-2.ensures.shows ∙ c.in_ok-compared.ensures.view

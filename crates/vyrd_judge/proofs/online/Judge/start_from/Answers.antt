@@ -6,7 +6,7 @@ use Rattle.vyrd_base.specs.declared.log.StartWord.{StartWord}
 use Rattle.vyrd_base.specs.States.{State}
 use Rattle.vyrd_base.specs.Rules.{rules_of, rules_by}
 use Rattle.vyrd_base.specs.Starts.{words_at_start, state_at_start}
-use Rattle.vyrd_words.proofs.StartWords.{length-words_at_start, small_at_start}
+use Rattle.vyrd_words.proofs.StartWords.{may_follow, length-words_at_start, small_at_start}
 use Rattle.vyrd_judge.proofs.online.Judge.start_from.Goals as goal
 
 -- the state at the start is that of the specification that was found
@@ -16,6 +16,12 @@ state_found : (h : Header) (starting : List StartWord) (words : List ℕ) (o : O
 unfolding state_at_start
 state_found h starting words o same found = ap (rules_of h).start (sym same) ∙ sym found
 
+pub words_at_start-requires : goal.words_at_start-requires
+words_at_start-requires g c = may_follow c.args.header c.args.start.now c.requires.may_start
+
+pub begin-requires-clause-follows : goal.begin-requires-clause-follows
+begin-requires-clause-follows g c = may_follow c.args.header c.args.start.now c.requires.may_start
+
 pub start_from-requires-clause-count : goal.start_from-requires-clause-count
 start_from-requires-clause-count g c =
     ap length (c.deref.ensures.value ∙ c.in_ok-words.ensures) ∙ length-words_at_start c.args.header c.args.start.now
@@ -23,7 +29,7 @@ start_from-requires-clause-count g c =
 pub start_from-requires-clause-small : goal.start_from-requires-clause-small
 start_from-requires-clause-small g c =
     subst (All (λ value. value < 2 ^ 63)) (sym (c.deref.ensures.value ∙ c.in_ok-words.ensures))
-    (small_at_start c.args.header c.args.start.now c.requires.may_start)
+    (small_at_start c.args.header c.args.start.now (may_follow c.args.header c.args.start.now c.requires.may_start))
 
 pub returns-in_default-clause-none : goal.returns-in_default-clause-none
 returns-in_default-clause-none g c =
