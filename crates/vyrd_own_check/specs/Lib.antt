@@ -1,0 +1,4 @@
+pub mod LogReadings
+pub mod Checking
+pub mod KeptView
+pub mod CheckerView
