@@ -37,7 +37,7 @@ is_past (stages.End h) = true
 pub record IsCounted (r : LineState) (b : Brought) : Type 0 where
   pub past : has_any b.entries ≡ true → is_past r.stage ≡ true
   pub numbered : length b.numbers ≡ length b.starting + length b.entries + ends (has_ended r.stage)
-  pub few : length b.entries + 1 ≤ r.line
+  pub few : length b.numbers + 1 ≤ r.line
 
 -- what one line brings to a reader at this stage and on this line
 record Counts (st : Stage) (n : ℕ) (s : LineState × Found) : Type 0 where
@@ -45,7 +45,7 @@ record Counts (st : Stage) (n : ℕ) (s : LineState × Found) : Type 0 where
   begun : has_any (entries_of s.1) ≡ true → is_past s.0.stage ≡ true
   numbered : length (numbers_of n s.1) + ends (has_ended st)
       ≡ length (starts_of s.1) + length (entries_of s.1) + ends (has_ended s.0.stage)
-  few : length (entries_of s.1) + n ≤ s.0.line
+  few : length (numbers_of n s.1) + n ≤ s.0.line
 
 -- nothing, where nothing moves
 left : (st : Stage) (n : ℕ) (t : LineState) → t.stage ≡ st → t.line ≡ n → Counts st n (t, found.Nothing)
@@ -61,7 +61,7 @@ left st n t same here =
 moved : (st to : Stage) (n : ℕ) (x : Found) (t : LineState) → t.stage ≡ to → t.line ≡ n + 1 → (is_past st ≡ true → is_past to ≡ true)
     → (has_any (entries_of x) ≡ true → is_past to ≡ true)
     → length (numbers_of n x) + ends (has_ended st) ≡ length (starts_of x) + length (entries_of x) + ends (has_ended to)
-    → length (entries_of x) ≤ 1 → Counts st n (t, x)
+    → length (numbers_of n x) ≤ 1 → Counts st n (t, x)
 moved st to n x t same here past begun numbered one = record {
   past = λ e. ap is_past same ∙ past e;
   begun = λ e. ap is_past same ∙ begun e;
@@ -147,7 +147,7 @@ module _ (r : LineState) (line : List ℕ) where
       let entries = length-append b.entries (entries_of x) in record {
         past = by_entries b.entries counted.past;
         numbered = omega (arith, numbers, starting, entries, counted.numbered, one.numbered);
-        few = omega (arith, entries, counted.few, one.few);
+        few = omega (arith, numbers, counted.few, one.few);
       }
     where
       by_entries : (es : List Entry) → (has_any es ≡ true → is_past r.stage ≡ true)

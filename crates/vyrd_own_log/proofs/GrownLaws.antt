@@ -247,7 +247,7 @@ pub reading_formed : (max : ℕ) (bytes : List ℕ) → 1 ≤ max → max ≤ 26
 reading_formed max bytes low high = record {
   numbered = by_parts (ap (λ (read : OwnReading). read.numbers) old ∙ append-nil b.numbers) (ap (λ (read : OwnReading). read.starting) old ∙ append-nil b.starting)
       (ap (λ (read : OwnReading). read.entries) old ∙ append-nil b.entries) (ap (λ (read : OwnReading). read.ended) old);
-  few = omega (arith, ap length (ap (λ (read : OwnReading). read.entries) old ∙ append-nil b.entries), at.counted.few, at.sound.steady.counted, at.limit);
+  few = omega (arith, ap length (ap (λ (read : OwnReading). read.numbers) old ∙ append-nil b.numbers), at.counted.few, at.sound.steady.counted, at.limit);
   headless = λ none. by_begun (has_any b.entries || has_ended k.lines.stage) refl (sym (ap (λ (read : OwnReading). read.header) old) ∙ none);
   header = λ h has. reading_follows (to_go_on max) bytes h has;
 }

@@ -39,12 +39,11 @@ abbrev pub ends : Bool → ℕ
 ends true = 1
 ends false = 0
 
--- Starting words, entries and `end` have their lines, there are no more entries than there may be
--- lines, none comes without a header, and the starting words keep both rules.
+-- Starting words, entries and `end` have their lines, which are no more than there may be, none comes without a header, and the starting words keep both rules.
 pub record IsFormed (max : ℕ) (read : OwnReading) : Type 0 where
   pub numbered : length read.numbers
       ≡ length read.starting + length read.entries + ends read.ended
-  pub few : length read.entries ≤ max
+  pub few : length read.numbers ≤ max
   pub headless : read.header ≡ None → has_begun read ≡ false
   pub header : (h : Header) → read.header ≡ Some h
       → (h.subject ≡ Own) × (do_follow h None read.starting ≡ true)

@@ -24,9 +24,9 @@ pub fn methods_can_be_called()
         → are_callable (written_in (own_reading (to_go_on max) bytes).lines).methods ≡ true }
 {}
 
-/// Starting words, entries and `end` have their lines in what is read, there are no more entries
-/// than there may be lines, none comes without a header, the header is that of a subject of the
-/// user's own, and the starting words keep both rules.
+/// Starting words, entries and `end` have their lines in what is read, which are no more than there
+/// may be, none comes without a header, the header is that of a subject of the user's own, and the
+/// starting words keep both rules.
 pub fn readings_are_formed()
     ensures { (max : ℕ) (bytes : List ℕ) → 1 ≤ max → max ≤ 268435456
         → IsFormed max (own_reading (to_go_on max) bytes) }
