@@ -1,5 +1,5 @@
 -- What a piece that was read and judged makes of what is kept.
-use Rattle.std.proofs.Common.{◌≡◌, ℕ, true, false, ◌||◌, List, [], ◌++◌, length, Option, Some, None, refl, ap, subst, ◌∙◌, sym, arith}
+use Rattle.std.proofs.Common.{◌≡◌, ℕ, ◌+◌, ◌≤◌, ◌^◌, true, false, ◌||◌, List, [], ◌++◌, length, length-append, Option, Some, None, refl, ap, subst, ◌∙◌, sym, arith}
 use Rattle.std.specs.Prelude.{option_map}
 use Rattle.std.specs.Option.{option_or}
 use Rattle.std.proofs.Math.Logic.{∥∥₁_elim}
@@ -37,6 +37,34 @@ pub record Fed (old : Kept) (reader : ReaderState) (begun : Option JudgeView) (p
       → fault ≡ option_map (λ fault. Malformed fault.line fault.rule) (read_so_far (limit_of old) (bytes ++ piece)).fault
   pub judge : IsBegun (has_any entries || has_ended reader.kept.lines.stage) (header_at reader.kept.lines.stage) reader.kept.specified
       reader.kept.start old.judge begun
+
+-- what grew from nothing, behind what was there
+pub grown_on : {A : Type 0} (old brought all : List A) {x y : List A} → all ≡ old ++ brought → IsGrownBy [] x brought y → IsGrownBy old x all y
+grown_on old brought all is grown =
+    record { more = grown.more; one = is ∙ ap (λ xs. old ++ xs) grown.one; other = grown.other }
+
+-- there is room for the numbers of lines that the piece brings
+pub numbers_room : (old : Kept) (piece brought : List ℕ) → IsLimit (limit_of old)
+    → ((bytes : List ℕ) → HasRead old.reader bytes
+    → IsGrownBy [] (read_so_far (limit_of old) bytes).numbers brought (read_so_far (limit_of old) (bytes ++ piece)).numbers)
+    → IsSomewhere old → length old.numbers + length brought ≤ 2 ^ 62
+numbers_room old piece brought limit grows somewhere = at_most_of _ _ (∥∥₁_elim somewhere (Bool-set _ _) (λ s.
+    is_at_most _ _ (few s.0 s.1)))
+  where
+    few : (bytes : List ℕ) → IsUndecided old bytes → length old.numbers + length brought ≤ 2 ^ 62
+    few bytes u =
+        let max = limit_of old in
+        let formed = reading_formed max (bytes ++ piece) limit.low limit.high in
+        let grown = grows bytes u.read in
+        omega (
+          arith,
+          formed.few,
+          ap length u.numbers,
+          ap length grown.one,
+          ap length grown.other,
+          length-append (read_so_far max bytes).numbers grown.more,
+          limit.high,
+        )
 
 own_of : (s : Subject) → is_built_in s ≡ false → s ≡ Own
 own_of Multiset e = cc
@@ -112,7 +140,7 @@ module _ (old : Kept) (reader : ReaderState) (begun : Option JudgeView) (piece :
           let formed = reading_formed max (bytes ++ piece) limit.low limit.high in
           let parted = ap length ready.entries in
           has_room begun (read_so_far max (bytes ++ piece)) (read_so_far max bytes).entries entries
-          ready.before (omega (arith, formed.few, parted, limit.high))
+          ready.before (omega (arith, formed.few, formed.numbered, parted, limit.high))
 
       by_judge : (o : Option JudgeView) → begun ≡ o → HasRoom o entries
       by_judge None is = tt

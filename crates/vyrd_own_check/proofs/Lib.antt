@@ -7,3 +7,4 @@ pub mod FedLaws
 pub mod CheckedLaws
 pub mod StartLaws
 pub mod SpecifiedLaws
+pub mod NumberLaws

@@ -4,4 +4,4 @@ use Rattle.vyrd_own_check.specs.declared.text_judge.OwnTextJudge.{OwnTextJudge}
 use Rattle.vyrd_own_check.specs.Checking.{Kept}
 
 abbrev pub kept_in : OwnTextJudge → Kept
-kept_in t = record { reader = state_in t.reader; judge = t.judge; numbers = t.numbers.items }
+kept_in t = record { reader = state_in t.reader; judge = t.judge; numbers = t.numbers }

@@ -20,8 +20,9 @@ const LONGEST_PART: usize = 8_192;
 /// entries of at most 8,192 bytes, and what [`Judge`](vyrd_judge::Judge) keeps. The time grows with
 /// the bytes. Once `feed` has found no memory, it and `finish` say so from then on.
 ///
-/// Besides, it keeps the number of the line of each entry, since a verdict may name any of them. So
-/// its memory grows with the entries, by 8 bytes each.
+/// Besides, it keeps on which lines the entries stand, since a verdict may name any of them: where
+/// each run of them begins that no note interrupts. So its memory grows with the notes between
+/// entries.
 pub struct OwnChecker {
     text: OwnTextJudge,
     so_far: Option<Verdict>,

@@ -3,11 +3,12 @@
 ghost use Rattle.std.specs.Prelude.{◌≡◌, option_map};
 ghost use Rattle.vyrd_base.specs.Own.LogVerdicts.{line_in_text, told_in_text};
 
+use crate::numbers::LineNumbers;
 use vyrd_base::Verdict;
 
 /// What is wrong, if anything is, by the lines of the text: `numbers` are those of starting words,
 /// entries and `end`.
-pub(crate) fn told(numbers: &[u64], wrong: Option<Verdict>) -> Option<Verdict>
+pub(crate) fn told(numbers: &LineNumbers, wrong: Option<Verdict>) -> Option<Verdict>
     ensures { result ≡ option_map (told_in_text numbers.now) wrong }
 {
     match wrong {
@@ -17,7 +18,7 @@ pub(crate) fn told(numbers: &[u64], wrong: Option<Verdict>) -> Option<Verdict>
 }
 
 /// The verdict by the lines of the text.
-fn told_in_text(numbers: &[u64], verdict: Verdict) -> Verdict
+fn told_in_text(numbers: &LineNumbers, verdict: Verdict) -> Verdict
     ensures { result ≡ told_in_text numbers.now verdict }
 {
     match verdict {
@@ -43,11 +44,8 @@ fn told_in_text(numbers: &[u64], verdict: Verdict) -> Verdict
 
 /// The line of the text, for the line that a starting word, an entry or `end` would have right
 /// behind the header.
-fn line_in_text(numbers: &[u64], line: u64) -> u64
+fn line_in_text(numbers: &LineNumbers, line: u64) -> u64
     ensures { result ≡ line_in_text numbers.now line }
 {
-    match numbers.get(line.saturating_sub(2) as usize) {
-        Some(number) => *number,
-        None => line,
-    }
+    numbers.number_or(line.saturating_sub(2), line)
 }

@@ -25,6 +25,7 @@ ghost use Rattle.vyrd_own_check.specs.Checking.{IsLimit, IsReady, IsJudging, IsB
 ghost use Rattle.vyrd_own_check.specs.Checking.{IsUndecided, IsSomewhere, limit_of, untold_in};
 
 use crate::lines::told;
+use crate::numbers::LineNumbers;
 use crate::starting::start_judge;
 use std::alloc::{AllocError, Global};
 use vyrd_base::{Entry, Rule, Verdict};
@@ -38,16 +39,16 @@ const FIRST_START_LINE: u64 = 2;
 
 /// Reads the text of a log piece by piece, and judges the entries of each piece. They are forgotten
 /// at the next. The judge is made at the first entry or at `end`, for until then more starting
-/// words may come.
-///
-/// The number of the line is kept of each starting word, of each entry and of `end`.
+/// words may come. The numbers of the lines of all starting words, of all entries and of `end` are
+/// kept, since a verdict may name any of them.
 #[derive(Drop)]
 pub(crate) struct OwnTextJudge {
     alloc: Global,
     pub(crate) reader: OwnLogReader,
     pub(crate) judge: Option<Judge<OwnSpec>>,
+    pub(crate) numbers: LineNumbers,
     entries: Vec<Entry>,
-    pub(crate) numbers: Vec<u64>,
+    brought: Vec<u64>,
 }
 
 impl OwnTextJudge {
@@ -61,8 +62,9 @@ impl OwnTextJudge {
             alloc,
             reader: OwnLogReader::new(alloc, max_lines),
             judge: None,
+            numbers: LineNumbers::new(alloc),
             entries: Vec::new(alloc),
-            numbers: Vec::new(alloc),
+            brought: Vec::new(alloc),
         }
     }
 
@@ -79,12 +81,14 @@ impl OwnTextJudge {
             IfOk result (λ v. v ≡ None → IsUndecided (kept_in self.new) (bytes ++ piece.now)) }
     {
         self.entries.clear();
+        self.brought.clear();
         let fault = read(
             &mut self.reader,
             piece,
             &mut self.entries,
-            &mut self.numbers,
+            &mut self.brought,
         )?;
+        self.numbers.extend(&self.brought)?;
         begin(self.alloc, &self.reader, &self.entries, &mut self.judge)?;
         let wrong = judge_entries(&mut self.judge, &self.entries, self.reader.ended())?;
         Ok(told(&self.numbers, wrong).or(fault))
