@@ -1,10 +1,10 @@
 -- What longer bytes say: what was read stays read, and a fault of text that is known stays.
-use Rattle.std.proofs.Common.{◌≡◌, ℕ, ◌≤◌, Bool, true, false, not, List, [], ◌∷◌, ◌++◌, Option, Some, None, refl, ap, sym, ◌∙◌, subst, arith, append_assoc}
+use Rattle.std.proofs.Common.{◌≡◌, ℕ, ◌+◌, ◌≤◌, Bool, true, false, not, ◌||◌, length, List, [], ◌∷◌, ◌++◌, Option, Some, None, refl, ap, sym, ◌∙◌, subst, arith, append_assoc}
 use Rattle.std.specs.Prelude.{◌==◌}
 use Rattle.std.proofs.lemmas.List.{append-nil}
 use Rattle.vyrd_base.specs.declared.header.Header.{Header}
 use Rattle.vyrd_base.specs.declared.verdict.Rule.{Rule}
-use Rattle.vyrd_base.specs.Reading.{TextFault}
+use Rattle.vyrd_base.specs.Reading.{TextFault, has_any}
 use Rattle.vyrd_base.specs.Own.Reader.{written_in}
 use Rattle.vyrd_base.specs.Own.Log.{OwnReading, own_reading}
 use Rattle.vyrd_base.proofs.SplitLaws.{cut, lacks, lacks-append}
@@ -17,7 +17,9 @@ use Rattle.vyrd_text.proofs.AheadLaws.{parts_of}
 use Rattle.vyrd_own_log.specs.Steps.{broken, own_step, Brought, nothing_brought, brought_then, brought_by, with_read}
 use Rattle.vyrd_own_log.specs.Rests.{rest_rule}
 use Rattle.vyrd_own_log.specs.Readers.{Kept, fresh_kept, goes_on, HasReached, IsSound, IsTaken}
-use Rattle.vyrd_own_log.specs.Grown.{to_go_on, input_of, IsGrown}
+use Rattle.vyrd_own_log.specs.Grown.{to_go_on, input_of, has_begun, IsGrown, ends, IsFormed}
+use Rattle.vyrd_own_log.proofs.CountLaws.{IsCounted, is_past, line_counted, same_counted}
+use Rattle.vyrd_own_log.proofs.FollowLaws.{IsBare, entries_bare, reading_follows}
 use Rattle.vyrd_own_log.proofs.ReaderLaws.{longer_taken, faulty_taken, broken_taken, line_taken, line_sound, read_now}
 
 -- bytes were read so far
@@ -26,16 +28,19 @@ record Reached (max : ℕ) (bytes : List ℕ) : Type 0 where
   brought : Brought
   sound : IsSound kept
   limit : kept.lines.max_lines ≡ max
+  counted : IsCounted kept.lines brought
   reached : HasReached kept.lines kept.unfinished brought bytes
 
 -- one byte more
 module _ (max : ℕ) (before : List ℕ) (at : Reached max before) where
-  taken_to : (x : ℕ) (b : Brought) (n : Kept) → IsTaken at.kept (x ∷ []) b n → IsSound n → Reached max (before ++ x ∷ [])
-  taken_to x b n taken sound = record {
+  taken_to : (x : ℕ) (b : Brought) (n : Kept) → IsTaken at.kept (x ∷ []) b n → IsSound n → IsCounted n.lines (brought_then at.brought b)
+      → Reached max (before ++ x ∷ [])
+  taken_to x b n taken sound counted = record {
     kept = n;
     brought = brought_then at.brought b;
     sound = sound;
     limit = taken.limit ∙ at.limit;
+    counted = counted;
     reached = taken.reached at.brought before at.reached;
   }
 
@@ -50,14 +55,14 @@ module _ (max : ℕ) (before : List ℕ) (at : Reached max before) where
             first = at.sound.first;
             one_line = lacks-append 10 at.kept.unfinished (x ∷ []) at.sound.one_line one;
             noticed = λ f. is;
-          })
+          }) (same_counted at.kept.lines at.kept.lines at.brought refl refl at.counted)
       by_rule fine (Some rule) is = taken_to x nothing_brought (record at.kept { lines = (broken at.kept.lines rule).0 })
           (broken_taken at.kept (x ∷ []) at.sound one fine rule is) (record {
             steady = record { low = at.sound.steady.low; high = at.sound.steady.high; counted = at.sound.steady.counted; callable = at.sound.steady.callable };
             first = first_of at.kept.lines.stage at.sound.first;
             one_line = at.sound.one_line;
             noticed = λ f. cc;
-          })
+          }) (same_counted at.kept.lines (broken at.kept.lines rule).0 at.brought refl refl at.counted)
         where
           first_of : (st : Stage) → IsFirst st at.kept.lines → IsFirst st (broken at.kept.lines rule).0
           first_of stages.Header f = f
@@ -68,12 +73,14 @@ module _ (max : ℕ) (before : List ℕ) (at : Reached max before) where
 
       by_fault : (f : Option TextFault) → at.kept.lines.fault ≡ f → Reached max (before ++ x ∷ [])
       by_fault (Some f) is = taken_to x nothing_brought at.kept (faulty_taken at.kept f (x ∷ []) is) at.sound
+          (same_counted at.kept.lines at.kept.lines at.brought refl refl at.counted)
       by_fault None is = by_rule is (rest_rule at.kept.lines (at.kept.unfinished ++ x ∷ [])) refl
 
   line_feed : Reached max (before ++ 10 ∷ [])
   line_feed = taken_to 10 (brought_by at.kept.lines.line (at.kept.unfinished ++ []) (own_step at.kept.lines (at.kept.unfinished ++ [])).1)
-      (record { lines = (own_step at.kept.lines (at.kept.unfinished ++ [])).0; unfinished = []; start = at.kept.start })
-      (line_taken at.kept [] at.sound refl at.kept.start) (line_sound at.kept [] at.sound refl at.kept.start)
+      (record { lines = (own_step at.kept.lines (at.kept.unfinished ++ [])).0; unfinished = []; specified = at.kept.specified; start = at.kept.start })
+      (line_taken at.kept [] at.sound refl at.kept.specified at.kept.start) (line_sound at.kept [] at.sound refl at.kept.specified at.kept.start)
+      (line_counted at.kept.lines (at.kept.unfinished ++ []) at.brought at.counted)
 
   one_more : (x : ℕ) → Reached max (before ++ x ∷ [])
   one_more x = by_test (x == 10) refl
@@ -99,8 +106,33 @@ reached_all max bytes low high = all_more max [] bytes (record {
     noticed = λ fine. refl;
   };
   limit = refl;
+  counted = record { past = λ e. cc; numbered = refl; few = omega arith };
   reached = record { follows = λ w more. refl; said = refl };
 })
+
+-- the end was read, and nothing comes after it
+record IsOver (read : OwnReading) : Type 0 where
+  ended : read.ended ≡ true
+  entries : read.entries ≡ []
+  numbers : read.numbers ≡ []
+
+-- where something past the starting words was read, none of them comes any more
+pub past_of : (k : Kept) (b : Brought) → IsCounted k.lines b → (has_any b.entries || has_ended k.lines.stage) ≡ true → is_past k.lines.stage ≡ true
+past_of k b counted e = by_stage k.lines.stage refl e
+  where
+    by_any : (any : Bool) → has_any b.entries ≡ any → any || false ≡ true → is_past k.lines.stage ≡ true
+    by_any true is f = counted.past is
+    by_any false is f = cc
+
+    past : has_ended k.lines.stage ≡ false → (has_any b.entries || has_ended k.lines.stage) ≡ true → is_past k.lines.stage ≡ true
+    past none f = by_any (has_any b.entries) refl (ap (λ t. has_any b.entries || t) (sym none) ∙ f)
+
+    by_stage : (st : Stage) → k.lines.stage ≡ st → (has_any b.entries || has_ended k.lines.stage) ≡ true → is_past k.lines.stage ≡ true
+    by_stage stages.Header is f = past (ap has_ended is) f
+    by_stage (stages.Specification h) is f = past (ap has_ended is) f
+    by_stage (stages.Starts h last) is f = past (ap has_ended is) f
+    by_stage (stages.Entries h) is f = ap is_past is
+    by_stage (stages.End h) is f = ap is_past is
 
 -- what is read on keeps the header and the end
 module _ (k : Kept) (w : Bool) (more : List ℕ) where
@@ -119,29 +151,41 @@ module _ (k : Kept) (w : Bool) (more : List ℕ) where
       by_fault (Some f) = e
       by_fault None = by_stage k.lines.stage (cut (k.unfinished ++ more)) e
 
-  end_stays : has_ended k.lines.stage ≡ true → ((goes_on k.lines k.unfinished w more).ended ≡ true) × ((goes_on k.lines k.unfinished w more).entries ≡ [])
+  end_stays : has_ended k.lines.stage ≡ true → IsOver (goes_on k.lines k.unfinished w more)
   end_stays e = by_fault k.lines.fault
     where
-      End : OwnReading → Type 0
-      End read = (read.ended ≡ true) × (read.entries ≡ [])
-
       by_stage : (st : Stage) (line : List ℕ) (lines : List (List ℕ)) → has_ended st ≡ true
-          → ((lines_on (input_to k.lines w) k.lines.said k.lines.line st (line ∷ lines)).ended ≡ true)
-          × ((lines_on (input_to k.lines w) k.lines.said k.lines.line st (line ∷ lines)).entries ≡ [])
+          → IsOver (lines_on (input_to k.lines w) k.lines.said k.lines.line st (line ∷ lines))
       by_stage stages.Header line lines f = cc
       by_stage (stages.Specification g) line lines f = cc
       by_stage (stages.Starts g last) line lines f = cc
       by_stage (stages.Entries g) line lines f = cc
-      by_stage (stages.End g) line lines f = (refl, refl)
+      by_stage (stages.End g) line lines f = record { ended = refl; entries = refl; numbers = refl }
 
-      by_fault : (o : Option TextFault) → ((unless_faulty k.lines (input_to k.lines w) (cut (k.unfinished ++ more)) o).ended ≡ true)
-          × ((unless_faulty k.lines (input_to k.lines w) (cut (k.unfinished ++ more)) o).entries ≡ [])
-      by_fault (Some f) = (e, refl)
+      by_fault : (o : Option TextFault) → IsOver (unless_faulty k.lines (input_to k.lines w) (cut (k.unfinished ++ more)) o)
+      by_fault (Some f) = record { ended = e; entries = refl; numbers = refl }
       by_fault None =
           let p = parts_of (k.unfinished ++ more) in
-          subst (λ ps. ((lines_on (input_to k.lines w) k.lines.said k.lines.line k.lines.stage ps).ended ≡ true)
-          × ((lines_on (input_to k.lines w) k.lines.said k.lines.line k.lines.stage ps).entries ≡ [])) (sym p.2)
+          subst (λ ps. IsOver (lines_on (input_to k.lines w) k.lines.said k.lines.line k.lines.stage ps)) (sym p.2)
           (by_stage k.lines.stage p.0 p.1 e)
+
+  -- neither lines of the specification nor starting words come any more
+  past_bare : is_past k.lines.stage ≡ true → IsBare (goes_on k.lines k.unfinished w more)
+  past_bare e = by_fault k.lines.fault
+    where
+      by_stage : (st : Stage) (lines : List (List ℕ)) → is_past st ≡ true → IsBare (lines_on (input_to k.lines w) k.lines.said k.lines.line st lines)
+      by_stage stages.Header lines f = cc
+      by_stage (stages.Specification g) lines f = cc
+      by_stage (stages.Starts g last) lines f = cc
+      by_stage (stages.Entries g) lines f =
+          let bare = entries_bare (input_to k.lines w) k.lines.said.specification k.lines.line lines in
+          record { lines = bare.lines; starting = bare.starting }
+      by_stage (stages.End g) [] f = record { lines = refl; starting = refl }
+      by_stage (stages.End g) (line ∷ lines) f = record { lines = refl; starting = refl }
+
+      by_fault : (o : Option TextFault) → IsBare (unless_faulty k.lines (input_to k.lines w) (cut (k.unfinished ++ more)) o)
+      by_fault (Some f) = record { lines = refl; starting = refl }
+      by_fault None = by_stage k.lines.stage (cut (k.unfinished ++ more)) e
 
   fault_stays : (f : TextFault) → k.lines.fault ≡ Some f → goes_on k.lines k.unfinished w more ≡ known k.lines k.lines.fault
   fault_stays f is =
@@ -155,10 +199,16 @@ reading_grown max w bytes more low high = record {
   starting = (on.starting, ap (λ read. read.starting) new ∙ ap (λ t. t ++ on.starting) (sym (ap (λ read. read.starting) old ∙ append-nil b.starting)));
   entries = (on.entries, ap (λ read. read.entries) new ∙ ap (λ t. t ++ on.entries) (sym (ap (λ read. read.entries) old ∙ append-nil b.entries)));
   numbers = (on.numbers, ap (λ read. read.numbers) new ∙ ap (λ t. t ++ on.numbers) (sym (ap (λ read. read.numbers) old ∙ append-nil b.numbers)));
+  begun = λ e.
+      let bare = past_bare k w more (past_of k b at.counted (begun_is e)) in (
+        ap (λ read. read.lines) new ∙ ap (λ t. b.lines ++ t) bare.lines ∙ sym (ap (λ read. read.lines) old),
+        ap (λ read. read.starting) new ∙ ap (λ t. b.starting ++ t) bare.starting ∙ sym (ap (λ read. read.starting) old),
+      );
   ended = λ e.
       let done = end_stays k w more (sym (ap (λ read. read.ended) old) ∙ e) in (
-        ap (λ read. read.ended) new ∙ done.0,
-        ap (λ read. read.entries) new ∙ ap (λ t. b.entries ++ t) done.1 ∙ sym (ap (λ read. read.entries) old),
+        ap (λ read. read.ended) new ∙ done.ended,
+        ap (λ read. read.entries) new ∙ ap (λ t. b.entries ++ t) done.entries ∙ sym (ap (λ read. read.entries) old),
+        ap (λ read. read.numbers) new ∙ ap (λ t. b.numbers ++ t) done.numbers ∙ sym (ap (λ read. read.numbers) old),
       );
   fault = λ f e. new ∙ ap (with_read b) (fault_stays k w more f (sym (ap (λ read. read.fault) old) ∙ e)) ∙ sym old;
 }
@@ -178,6 +228,9 @@ reading_grown max w bytes more low high = record {
     old : own_reading (to_go_on max) bytes ≡ with_read b (known k.lines k.lines.fault)
     old = ap (λ m. own_reading (to_go_on m) bytes) (sym at.limit) ∙ read_now k b bytes at.sound at.reached
 
+    begun_is : has_begun (own_reading (to_go_on max) bytes) ≡ true → (has_any b.entries || has_ended k.lines.stage) ≡ true
+    begun_is e = sym (ap has_begun old ∙ ap (λ es. has_any es || has_ended k.lines.stage) (append-nil b.entries)) ∙ e
+
     new : own_reading (input_of max w) (bytes ++ more) ≡ with_read b on
     new = ap (λ m. own_reading (input_of m w) (bytes ++ more)) (sym at.limit) ∙ at.reached.follows w more
 
@@ -188,3 +241,47 @@ reading_callable max bytes low high =
     let old = ap (λ m. own_reading (to_go_on m) bytes) (sym at.limit) ∙ read_now at.kept at.brought bytes at.sound at.reached in
     ap (λ ls. are_callable (written_in ls).methods) (ap (λ (read : OwnReading). read.lines) old ∙ append-nil at.brought.lines)
     ∙ ap (λ s. are_callable s.specification.methods) (sym at.reached.said) ∙ at.sound.steady.callable
+
+-- what is true of all that is read
+pub reading_formed : (max : ℕ) (bytes : List ℕ) → 1 ≤ max → max ≤ 268435456 → IsFormed max (own_reading (to_go_on max) bytes)
+reading_formed max bytes low high = record {
+  numbered = by_parts (ap (λ (read : OwnReading). read.numbers) old ∙ append-nil b.numbers) (ap (λ (read : OwnReading). read.starting) old ∙ append-nil b.starting)
+      (ap (λ (read : OwnReading). read.entries) old ∙ append-nil b.entries) (ap (λ (read : OwnReading). read.ended) old);
+  few = omega (arith, ap length (ap (λ (read : OwnReading). read.numbers) old ∙ append-nil b.numbers), at.counted.few, at.sound.steady.counted, at.limit);
+  headless = λ none. by_begun (has_any b.entries || has_ended k.lines.stage) refl (sym (ap (λ (read : OwnReading). read.header) old) ∙ none);
+  header = λ h has. reading_follows (to_go_on max) bytes h has;
+}
+  where
+    at : Reached max bytes
+    at = reached_all max bytes low high
+
+    k : Kept
+    k = at.kept
+
+    b : Brought
+    b = at.brought
+
+    old : own_reading (to_go_on max) bytes ≡ with_read b (known k.lines k.lines.fault)
+    old = ap (λ m. own_reading (to_go_on m) bytes) (sym at.limit) ∙ read_now k b bytes at.sound at.reached
+
+    read : OwnReading
+    read = own_reading (to_go_on max) bytes
+
+    by_parts : read.numbers ≡ b.numbers → read.starting ≡ b.starting → read.entries ≡ b.entries → read.ended ≡ has_ended k.lines.stage
+        → length read.numbers ≡ length read.starting + length read.entries + ends read.ended
+    by_parts numbers starting entries ended =
+        ap length numbers ∙ at.counted.numbered ∙ (λ i. length (sym starting i) + length (sym entries i) + ends (sym ended i))
+
+    begun_is : has_begun read ≡ (has_any b.entries || has_ended k.lines.stage)
+    begun_is = ap has_begun old ∙ ap (λ es. has_any es || has_ended k.lines.stage) (append-nil b.entries)
+
+    by_stage : (st : Stage) → is_past st ≡ true → header_at st ≡ None → ⊥
+    by_stage stages.Header past none = cc
+    by_stage (stages.Specification h) past none = cc
+    by_stage (stages.Starts h last) past none = cc
+    by_stage (stages.Entries h) past none = cc
+    by_stage (stages.End h) past none = cc
+
+    by_begun : (t : Bool) → (has_any b.entries || has_ended k.lines.stage) ≡ t → header_at k.lines.stage ≡ None → has_begun read ≡ false
+    by_begun false is none = begun_is ∙ is
+    by_begun true is none = absurd (by_stage k.lines.stage (past_of k b at.counted is) none)

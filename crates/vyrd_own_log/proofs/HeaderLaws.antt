@@ -79,7 +79,7 @@ pub no_beginning : (line : List ℕ) → ((rest : List ℕ) → line ≡ codes "
 no_beginning line none = no_header line (λ words callers sized e. none (decimal words ++ 32 ∷ decimal callers) e)
 
 -- the text of a header is read as that header
-header_complete : (words callers : ℕ) → is_own_sized words callers ≡ true
+pub header_complete : (words callers : ℕ) → is_own_sized words callers ≡ true
     → own_header_in (own_text words callers) ≡ header_of 3 Own words callers
 unfolding own_header_in
 header_complete words callers sized =

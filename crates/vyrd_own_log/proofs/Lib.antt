@@ -8,4 +8,6 @@ pub mod RestLaws
 pub mod SteadyLaws
 pub mod ReaderLaws
 pub mod ReadLaws
+pub mod CountLaws
+pub mod FollowLaws
 pub mod GrownLaws

@@ -19,7 +19,7 @@ use Rattle.vyrd_text.specs.declared.fault.TextFault.TheVariants.{Malformed, Memo
 use Rattle.vyrd_text.specs.Answered.{IsAnswer, UnlessMemory}
 use Rattle.vyrd_own_log.specs.declared.stage.Found.{Found}
 use Rattle.vyrd_own_log.specs.States.{LineState, input_to, known, unless_faulty, reads_on, has_ended}
-use Rattle.vyrd_own_log.specs.Steps.{broken, own_step, Brought, nothing_brought, brought_then, brought_by, starts_of, entries_of, numbers_of, with_read}
+use Rattle.vyrd_own_log.specs.Steps.{broken, own_step, Brought, nothing_brought, brought_then, brought_by, lines_of, starts_of, entries_of, numbers_of, with_read}
 use Rattle.vyrd_own_log.specs.Rests.{rest_if, rest_rule, end_fault, fault_at_end}
 use Rattle.vyrd_own_log.specs.Readers.{Kept, ReaderState, fresh_kept, so_far, whole, HasReached, brought_in, HasRead, is_one_line, IsSound, IsTaken, IsFed, IsGrownBy}
 use Rattle.vyrd_own_log.proofs.RestLaws.{rest_whole}
@@ -30,6 +30,7 @@ pub nothing_fed : (k : Kept) (es : List Entry) (ns : List ℕ) → IsFed k [] es
 nothing_fed k es ns = record {
   brought = nothing_brought;
   taken = empty_taken k k.start;
+  specified = sym (append-nil k.specified);
   start = sym (append-nil k.start);
   grown = sym (append-nil es);
   counted = sym (append-nil ns);
@@ -41,17 +42,19 @@ pub fed_then : (k m n : Kept) (xs ys : List ℕ) (es fs gs : List Entry) (ms ns 
 fed_then k m n xs ys es fs gs ms ns os first second = record {
   brought = brought_then first.brought second.brought;
   taken = taken_then k m n xs ys first.brought second.brought first.taken second.taken;
+  specified = second.specified ∙ ap (λ t. t ++ second.brought.lines) first.specified ∙ append_assoc k.specified first.brought.lines second.brought.lines;
   start = second.start ∙ ap (λ t. t ++ second.brought.starting) first.start ∙ append_assoc k.start first.brought.starting second.brought.starting;
   grown = second.grown ∙ ap (λ t. t ++ second.brought.entries) first.grown ∙ append_assoc es first.brought.entries second.brought.entries;
   counted = second.counted ∙ ap (λ t. t ++ second.brought.numbers) first.counted ∙ append_assoc ms first.brought.numbers second.brought.numbers;
 }
 
 -- bytes that bring nothing were fed
-pub taken_fed : (k m : Kept) (xs : List ℕ) (es : List Entry) (ns : List ℕ) → IsTaken k xs nothing_brought m → m.start ≡ k.start
-    → IsFed k xs es es ns ns m
-taken_fed k m xs es ns taken same = record {
+pub taken_fed : (k m : Kept) (xs : List ℕ) (es : List Entry) (ns : List ℕ) → IsTaken k xs nothing_brought m → m.specified ≡ k.specified
+    → m.start ≡ k.start → IsFed k xs es es ns ns m
+taken_fed k m xs es ns taken alike same = record {
   brought = nothing_brought;
   taken = taken;
+  specified = alike ∙ sym (append-nil k.specified);
   start = same ∙ sym (append-nil k.start);
   grown = sym (append-nil es);
   counted = sym (append-nil ns);
@@ -59,14 +62,16 @@ taken_fed k m xs es ns taken same = record {
 
 -- a whole line was fed
 pub line_fed : (k n : Kept) (xs : List ℕ) (found : Found) (es fs : List Entry) (ms ns : List ℕ) → IsSound k → is_one_line xs ≡ true
-    → (n.lines, found) ≡ own_step k.lines (k.unfinished ++ xs) → n.unfinished ≡ [] → n.start ≡ k.start ++ starts_of found
+    → (n.lines, found) ≡ own_step k.lines (k.unfinished ++ xs) → n.unfinished ≡ []
+    → n.specified ≡ k.specified ++ lines_of (k.unfinished ++ xs) found → n.start ≡ k.start ++ starts_of found
     → fs ≡ es ++ entries_of found → ns ≡ ms ++ numbers_of k.lines.line found → IsFed k (xs ++ 10 ∷ []) es fs ms ns n
-line_fed k n xs found es fs ms ns sound one step empty start grown counted =
+line_fed k n xs found es fs ms ns sound one step empty specified start grown counted =
     let found_is : found ≡ (own_step k.lines (k.unfinished ++ xs)).1 = ap (λ (s : LineState × Found). s.1) step in record {
       brought = brought_by k.lines.line (k.unfinished ++ xs) (own_step k.lines (k.unfinished ++ xs)).1;
       taken = subst (λ m. IsTaken k (xs ++ 10 ∷ []) (brought_by k.lines.line (k.unfinished ++ xs) (own_step k.lines (k.unfinished ++ xs)).1) m)
-          (λ i. record { lines = (sym step i).0; unfinished = sym empty i; start = n.start })
-          (line_taken k xs sound one n.start);
+          (λ i. record { lines = (sym step i).0; unfinished = sym empty i; specified = n.specified; start = n.start })
+          (line_taken k xs sound one n.specified n.start);
+      specified = specified ∙ ap (λ f. k.specified ++ lines_of (k.unfinished ++ xs) f) found_is;
       start = start ∙ ap (λ f. k.start ++ starts_of f) found_is;
       grown = grown ∙ ap (λ f. es ++ entries_of f) found_is;
       counted = counted ∙ ap (λ f. ms ++ numbers_of k.lines.line f) found_is;
@@ -75,7 +80,8 @@ line_fed k n xs found es fs ms ns sound one step empty start grown counted =
 pub line_kept : (k n : Kept) (xs : List ℕ) (found : Found) → IsSound k → is_one_line xs ≡ true
     → (n.lines, found) ≡ own_step k.lines (k.unfinished ++ xs) → n.unfinished ≡ [] → IsSound n
 line_kept k n xs found sound one step empty =
-    subst IsSound (λ i. record { lines = (sym step i).0; unfinished = sym empty i; start = n.start }) (line_sound k xs sound one n.start)
+    subst IsSound (λ i. record { lines = (sym step i).0; unfinished = sym empty i; specified = n.specified; start = n.start })
+    (line_sound k xs sound one n.specified n.start)
 
 -- what holds of an `Ok`
 pub one_ok : {E P Q : Type 0} (r : Result (Unit {0}) E) → (P → Q) → OnOk r P → OnOk r Q
@@ -117,8 +123,8 @@ ok_of (Err x) e p = cc
 -- a fault that is found before the line is whole
 module _ (k n : Kept) (bytes : List ℕ) (sound : IsSound k) (one_line : is_one_line bytes ≡ true) (fine : k.lines.fault ≡ None) (rule : Rule) (found : Found)
     (bad : rest_rule k.lines (k.unfinished ++ bytes) ≡ Some rule) (is : (n.lines, found) ≡ broken k.lines rule) (rest : n.unfinished ≡ k.unfinished) where
-  same : n ≡ record { lines = (broken k.lines rule).0; unfinished = k.unfinished; start = n.start }
-  same = λ i. record { lines = (is i).0; unfinished = rest i; start = n.start }
+  same : n ≡ record { lines = (broken k.lines rule).0; unfinished = k.unfinished; specified = n.specified; start = n.start }
+  same = λ i. record { lines = (is i).0; unfinished = rest i; specified = n.specified; start = n.start }
 
   pub fault_taken : IsTaken k bytes nothing_brought n
   fault_taken = restart k bytes (record k { lines = (broken k.lines rule).0 }) n (ap (λ m. m.lines) same) rest
@@ -154,8 +160,8 @@ brought_is k b bytes sound has =
     sym (ap brought_in (read_now k b bytes sound has) ∙ and_nothing b)
 
 pub has_read : (r : ReaderState) (b : Brought) (bytes : List ℕ) → r.has_failed ≡ false → IsSound r.kept
-    → HasReached r.kept.lines r.kept.unfinished b bytes → r.kept.start ≡ b.starting → HasRead r bytes
-has_read r b bytes works sound has start =
+    → HasReached r.kept.lines r.kept.unfinished b bytes → r.kept.specified ≡ b.lines → r.kept.start ≡ b.starting → HasRead r bytes
+has_read r b bytes works sound has specified start =
     let now = read_now r.kept b bytes sound has in
     let is = brought_is r.kept b bytes sound has in
     record {
@@ -163,6 +169,7 @@ has_read r b bytes works sound has start =
       sound = sound;
       header = sym (ap (λ read. read.header) now);
       specification = ap (λ s. s.specification) (has.said ∙ ap (λ x. read_lines nothing_read x.lines) is);
+      lines = specified ∙ ap (λ x. x.lines) is;
       start = start ∙ ap (λ x. x.starting) is;
       ended = sym (ap (λ read. read.ended) now);
       fault = sym (ap (λ read. read.fault) now);
@@ -179,7 +186,7 @@ fresh_read max r low high works is =
       first = (refl, refl);
       one_line = refl;
       noticed = λ fine. refl;
-    }) (record { follows = λ w more. refl; said = refl }) refl)
+    }) (record { follows = λ w more. refl; said = refl }) refl refl)
 
 -- bytes were fed to a reader that had read some
 module _ (old new : ReaderState) (bytes piece : List ℕ) (es fs : List Entry) (ms ns : List ℕ) (has : HasRead old bytes)
@@ -194,7 +201,8 @@ module _ (old new : ReaderState) (bytes piece : List ℕ) (es fs : List Entry) (
   now = one.taken.reached (brought_in (own_reading (so_far old) bytes)) bytes has.reached
 
   pub fed_read : HasRead new (bytes ++ piece)
-  fed_read = has_read new all (bytes ++ piece) works (kept has.sound) now (one.start ∙ ap (λ t. t ++ one.brought.starting) has.start)
+  fed_read = has_read new all (bytes ++ piece) works (kept has.sound) now
+      (one.specified ∙ ap (λ t. t ++ one.brought.lines) has.lines) (one.start ∙ ap (λ t. t ++ one.brought.starting) has.start)
 
   same_input : so_far new ≡ so_far old
   same_input = ap (λ n. record { max_lines = n; is_whole = false }) one.taken.limit
@@ -213,7 +221,7 @@ module _ (old new : ReaderState) (bytes piece : List ℕ) (es fs : List Entry) (
 
 -- a reader with a fault is fed nothing
 pub faulty_fed : (k : Kept) (f : TextFault) (piece : List ℕ) (es : List Entry) (ns : List ℕ) → k.lines.fault ≡ Some f → IsFed k piece es es ns ns k
-faulty_fed k f piece es ns is = taken_fed k k piece es ns (faulty_taken k f piece is) refl
+faulty_fed k f piece es ns is = taken_fed k k piece es ns (faulty_taken k f piece is) refl refl
 
 pub unless : {P : Type 0} (r : Result (Unit {0}) fault.TextFault) → P → UnlessMemory r P
 unless (Ok x) p = p

@@ -145,9 +145,9 @@ module _ (k : Kept) (xs : List ℕ) (sound : IsSound k) (one_line : lacks 10 xs 
   abbrev step : LineState × Found
   step = own_step k.lines front
 
-  pub line_taken : (start : List StartWord) → IsTaken k (xs ++ 10 ∷ []) (brought_by k.lines.line front step.1)
-      (record { lines = step.0; unfinished = []; start = start })
-  line_taken start = record {
+  pub line_taken : (specified : List (List ℕ)) (start : List StartWord) → IsTaken k (xs ++ 10 ∷ []) (brought_by k.lines.line front step.1)
+      (record { lines = step.0; unfinished = []; specified = specified; start = start })
+  line_taken specified start = record {
     limit = is.limit;
     reached = λ a before has. record {
       follows = λ w more.
@@ -176,8 +176,9 @@ module _ (k : Kept) (xs : List ℕ) (sound : IsSound k) (one_line : lacks 10 xs 
           (reads_on step.0 (record { max_lines = sym is.limit i; is_whole = w }) (sym p.2 i)))
 
   -- and what is kept then
-  pub line_sound : (start : List StartWord) → IsSound (record { lines = step.0; unfinished = []; start = start })
-  line_sound start = record {
+  pub line_sound : (specified : List (List ℕ)) (start : List StartWord)
+      → IsSound (record { lines = step.0; unfinished = []; specified = specified; start = start })
+  line_sound specified start = record {
     steady = (step_is k.lines front sound.steady).steady;
     first = (step_is k.lines front sound.steady).first sound.first;
     one_line = refl;

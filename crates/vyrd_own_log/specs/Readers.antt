@@ -12,10 +12,12 @@ use Rattle.vyrd_own_log.specs.States.{IsFirst, IsSteady}
 use Rattle.vyrd_own_log.specs.Steps.{Brought, brought_then, with_read}
 use Rattle.vyrd_own_log.specs.Rests.{rest_rule}
 
--- what is kept: that of the whole lines, the bytes after them, and the starting words
+-- what is kept: that of the whole lines, the bytes after them, the lines of the specification, and
+-- the starting words
 pub record Kept : Type 0 where
   pub lines : LineState
   pub unfinished : List ℕ
+  pub specified : List (List ℕ)
   pub start : List StartWord
 
 -- what a reader keeps, and whether it found no memory
@@ -25,7 +27,7 @@ pub record ReaderState : Type 0 where
 
 -- before the first byte
 abbrev pub fresh_kept : ℕ → Kept
-fresh_kept max = record { lines = fresh max; unfinished = []; start = [] }
+fresh_kept max = record { lines = fresh max; unfinished = []; specified = []; start = [] }
 
 -- the reader's limit, for bytes that may go on and for the whole input
 abbrev pub so_far : ReaderState → Input
@@ -82,6 +84,7 @@ pub record HasRead (reader : ReaderState) (bytes : List ℕ) : Type 0 where
   pub header : header_at reader.kept.lines.stage ≡ (own_reading (so_far reader) bytes).header
   pub specification : reader.kept.lines.said.specification
       ≡ written_in (own_reading (so_far reader) bytes).lines
+  pub lines : reader.kept.specified ≡ (own_reading (so_far reader) bytes).lines
   pub start : reader.kept.start ≡ (own_reading (so_far reader) bytes).starting
   pub ended : has_ended reader.kept.lines.stage ≡ (own_reading (so_far reader) bytes).ended
   pub fault : reader.kept.lines.fault ≡ (own_reading (so_far reader) bytes).fault
@@ -94,12 +97,13 @@ pub record IsTaken (old : Kept) (bytes : List ℕ) (b : Brought) (new : Kept) : 
   pub reached : (a : Brought) (before : List ℕ) → HasReached old.lines old.unfinished a before
       → HasReached new.lines new.unfinished (brought_then a b) (before ++ bytes)
 
--- What the bytes brought was added: starting words to those that are kept, and entries and numbers
--- to lists.
+-- What the bytes brought was added: lines of the specification and starting words to those that are
+-- kept, and entries and numbers to lists.
 pub record IsFed (old : Kept) (bytes : List ℕ) (entries entries_new : List Entry)
     (numbers numbers_new : List ℕ) (new : Kept) : Type 0 where
   pub brought : Brought
   pub taken : IsTaken old bytes brought new
+  pub specified : new.specified ≡ old.specified ++ brought.lines
   pub start : new.start ≡ old.start ++ brought.starting
   pub grown : entries_new ≡ entries ++ brought.entries
   pub counted : numbers_new ≡ numbers ++ brought.numbers

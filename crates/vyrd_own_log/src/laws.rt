@@ -4,11 +4,12 @@ ghost use Rattle.std.specs.Prelude.{◌≡◌, ◌≤◌, ℕ, List, ◌++◌, B
 ghost use Rattle.vyrd_base.specs.Own.Reader.{written_in};
 ghost use Rattle.vyrd_base.specs.Own.Log.{own_reading};
 ghost use Rattle.vyrd_own_log.specs.Callable.{are_callable};
-ghost use Rattle.vyrd_own_log.specs.Grown.{to_go_on, input_of, IsGrown};
+ghost use Rattle.vyrd_own_log.specs.Grown.{to_go_on, input_of, IsGrown, IsFormed};
 
 /// What is read of bytes is read for good: of all longer bytes, as bytes that may go on and as the
-/// whole input, what was read begins alike, the header stays, `end` stays the end, and a fault of
-/// text stays the fault.
+/// whole input, what was read begins alike, the header stays, the specification and the starting
+/// words stay once an entry or `end` was read, `end` stays the end, and a fault of text stays the
+/// fault.
 #[tactic(auto, using(crate::proofs::GrownLaws::reading_grown))]
 pub fn read_for_good()
     ensures { (max : ℕ) (is_whole : Bool) (bytes more : List ℕ) → 1 ≤ max → max ≤ 268435456
@@ -21,4 +22,12 @@ pub fn read_for_good()
 pub fn methods_can_be_called()
     ensures { (max : ℕ) (bytes : List ℕ) → 1 ≤ max → max ≤ 268435456
         → are_callable (written_in (own_reading (to_go_on max) bytes).lines).methods ≡ true }
+{}
+
+/// Starting words, entries and `end` have their lines in what is read, which are no more than there
+/// may be, none comes without a header, the header is that of a subject of the user's own, and the
+/// starting words keep both rules.
+pub fn readings_are_formed()
+    ensures { (max : ℕ) (bytes : List ℕ) → 1 ≤ max → max ≤ 268435456
+        → IsFormed max (own_reading (to_go_on max) bytes) }
 {}

@@ -1,12 +1,14 @@
 //! What takes in the pieces of a log's text, and keeps the unfinished line.
 
 ghost use Rattle.std.specs.Prelude.{◌≡◌, ◌∷◌, ◌++◌, [], true, IfOk, OnOk};
+ghost use Rattle.vyrd_own.specs.Layout.{texts};
 ghost use Rattle.vyrd_text.specs.Answered.{IsAnswer};
 ghost use Rattle.vyrd_own_log.specs.KeptView.{kept_of};
 ghost use Rattle.vyrd_own_log.specs.Readers.{fresh_kept, is_one_line, IsSafe, IsSound};
 ghost use Rattle.vyrd_own_log.specs.Readers.{IsTaken, IsFed};
 ghost use Rattle.vyrd_own_log.specs.Rests.{fault_at_end};
 ghost use Rattle.vyrd_own_log.specs.Steps.{nothing_brought, starts_of, entries_of, numbers_of};
+ghost use Rattle.vyrd_own_log.specs.Steps.{lines_of};
 
 use crate::line_reader::{LONGEST, LineReader};
 use crate::stage::Found;
@@ -14,12 +16,13 @@ use std::alloc::{AllocError, Global};
 use vyrd_base::{Entry, Rule, StartWord};
 use vyrd_text::{TextFault, split_line};
 
-/// A reader of a log's text, while it finds memory. It keeps the specification, the starting words
-/// and at most one unfinished line.
+/// A reader of a log's text, while it finds memory. It keeps the specification and its lines, the
+/// starting words and at most one unfinished line.
 #[derive(Drop)]
 pub(crate) struct PieceReader {
     pub(crate) lines: LineReader,
     pub(crate) unfinished: Vec<u8>,
+    pub(crate) specified: Vec<Vec<u8>>,
     pub(crate) start: Vec<StartWord>,
 }
 
@@ -31,6 +34,7 @@ impl PieceReader {
         PieceReader {
             lines: LineReader::new(alloc, max_lines),
             unfinished: Vec::new(alloc),
+            specified: Vec::new(alloc),
             start: Vec::new(alloc),
         }
     }
@@ -121,6 +125,7 @@ impl PieceReader {
     {
         let number = self.lines.line;
         let found = self.lines.take_line(line)?;
+        keep(self.lines.alloc, line, found, &mut self.specified)?;
         put(number, found, &mut self.start, out, numbers)
     }
 
@@ -139,6 +144,12 @@ impl PieceReader {
     {
         let number = self.lines.line;
         let found = self.lines.take_line(&self.unfinished)?;
+        keep(
+            self.lines.alloc,
+            &self.unfinished,
+            found,
+            &mut self.specified,
+        )?;
         self.unfinished.clear();
         put(number, found, &mut self.start, out, numbers)
     }
@@ -151,6 +162,7 @@ impl PieceReader {
             → IsTaken (kept_of self.old) bytes.now nothing_brought (kept_of self.new)) }
         ensures sound { OnOk result (IsSound (kept_of self.old) → IsSound (kept_of self.new)) }
         ensures safe { IsSafe (kept_of self.new) }
+        ensures specified { self.new.specified ≡ self.old.specified }
         ensures start { self.new.start ≡ self.old.start }
         ensures limit { self.new.lines.max_lines ≡ self.old.lines.max_lines }
     {
@@ -166,6 +178,29 @@ impl PieceReader {
             None => self.unfinished.extend_from_slice(bytes),
         }
     }
+}
+
+/// Keeps the line if it is one of the specification.
+fn keep(
+    alloc: Global,
+    line: &[u8],
+    found: Found,
+    specified: &mut Vec<Vec<u8>>,
+) -> Result<(), AllocError>
+    ensures { OnOk result
+        (texts specified.new.items ≡ texts specified.old.items ++ lines_of line.now found) }
+{
+    match found {
+        Found::Specified => {
+            let kept = Vec::from_slice(alloc, line)?;
+            specified.push(kept)?;
+        }
+        Found::Nothing => {}
+        Found::Start(_) => {}
+        Found::Entry(_) => {}
+        Found::End => {}
+    }
+    Ok(())
 }
 
 /// Appends what a line brings that has this number.

@@ -3,7 +3,7 @@
 ghost use Rattle.std.specs.Prelude.{◌≡◌, ◌≤◌, ℕ, List, [], ◌++◌, true, false, Err, OnOk, IsSome};
 ghost use Rattle.vyrd_base.specs.Own.Log.{own_reading};
 ghost use Rattle.vyrd_base.specs.Own.Reader.{written_in};
-ghost use Rattle.vyrd_own.specs.Layout.{written};
+ghost use Rattle.vyrd_own.specs.Layout.{texts, written};
 ghost use Rattle.vyrd_text.specs.Answered.{IsAnswer, UnlessMemory};
 ghost use Rattle.vyrd_own_log.specs.States.{header_at, has_ended};
 ghost use Rattle.vyrd_own_log.specs.Readers.{HasRead, IsSafe, so_far, whole, IsGrownBy};
@@ -16,7 +16,7 @@ use vyrd_own::Program;
 use vyrd_text::TextFault;
 
 /// A reader of a log of version 3, whose text may come in pieces of any size. It keeps the
-/// specification, the starting words and at most one unfinished line. Once `feed` has found no
+/// specification and its lines, the starting words and at most one unfinished line. Once `feed` has found no
 /// memory, it and `finish` say so from then on.
 #[derive(Drop)]
 pub struct OwnLogReader {
@@ -134,6 +134,17 @@ impl OwnLogReader {
             ≡ written_in (own_reading (so_far (state_in self.now)) bytes).lines }
     {
         &self.kept.lines.specification.program
+    }
+
+    /// The lines of the specification that were read so far, in their order and without their line
+    /// feeds. They are all of it once a starting word, an entry or `end` was read: at most 1,000
+    /// lines of at most 200 bytes.
+    pub fn lines(&self) -> &[Vec<u8>]
+        ensures kept { texts result.now ≡ (state_in self.now).kept.specified }
+        ensures read { (bytes : List ℕ) → HasRead (state_in self.now) bytes
+            → texts result.now ≡ (own_reading (so_far (state_in self.now)) bytes).lines }
+    {
+        &self.kept.specified
     }
 
     /// The starting words that were read so far, in their order. They are all of the log's once an

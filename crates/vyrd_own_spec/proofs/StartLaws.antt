@@ -1,6 +1,11 @@
 -- Sums of what places give, one place after the other.
-use Rattle.std.proofs.Common.{◌≡◌, ℕ, zero, suc, ◌+◌, ◌-◌, ◌*◌, ◌/◌, ◌<◌, ◌≤◌, ◌^◌, List, [], map, length, refl, ap, ◌∙◌, sym, subst, arith}
-use Rattle.vyrd_base.specs.Amounts.{Amounts, amount_of, plus_amount, given, part_given, collected}
+use Rattle.std.proofs.Common.{◌≡◌, ℕ, zero, suc, ◌+◌, ◌-◌, ◌*◌, ◌/◌, ◌<◌, ◌≤◌, ◌^◌, Bool, true, false, cond, not, ◌&&◌, ◌||◌, List, [], ◌∷◌, map, length, Option, Some, None, refl, ap, ◌∙◌, sym, subst, arith}
+use Rattle.std.specs.Prelude.{◌==◌, nat_lt, filter, unwrap_or}
+use Rattle.std.specs.Ordering.{nat_cmp, eq_by_cmp}
+use Rattle.std.specs.declared.cmp.Ordering.TheVariants.{Less, Equal, Greater}
+use Rattle.std.specs.FinMap.Entries.{find, put, by_order}
+use Rattle.vyrd_base.proofs.TestLaws.{both_true, first_true, second_true, is_below, below_of, same_of}
+use Rattle.vyrd_base.specs.Amounts.{Amounts, amount_of, with_amount, plus_amount, given, part_given, collected}
 use Rattle.vyrd_base.specs.Places.{numbers_below}
 use Rattle.vyrd_base.proofs.AmountLaws.{IsAmounts-with_amount, no_amounts, same_amounts}
 use Rattle.vyrd_base.proofs.SumLaws.{amount_of-plus, amount_of-collected, IsAmounts-collected, own_part}
@@ -10,24 +15,68 @@ use Rattle.vyrd_view.specs.Decoded.{pair_at}
 use Rattle.vyrd_view.specs.Laws.Sums.{given_map_push, place_of}
 use Rattle.vyrd_base.specs.States.{State}
 use Rattle.vyrd_base.specs.Own.Steps.{start_of}
-use Rattle.vyrd_base.specs.Own.OwnRules.{own_view}
+use Rattle.vyrd_base.specs.Own.OwnRules.{own_view, is_whole}
 use Rattle.vyrd_own_spec.specs.Small.{IsSmall}
 use Rattle.vyrd_own_spec.specs.Parts.{width_of, own_gives, AreFew, IsWhole}
 use Rattle.vyrd_own_spec.specs.Laws.Parts.{own_shown}
-use Rattle.vyrd_own_spec.specs.Sums.{HasSums}
+use Rattle.vyrd_own_spec.specs.Sums.{are_low, HasSums}
 
 -- no place
 pub no_sums : (sums : Amounts) (f : ℕ → ℕ × ℕ) (m : ℕ) → sums ≡ [] → m ≡ 0 → HasSums sums f m
 no_sums sums f m none start =
     subst (λ s. HasSums s f m) (sym none)
-    (subst (λ n. HasSums [] f n) (sym start) (record { formed = no_amounts; each = λ q. refl }))
+    (subst (λ n. HasSums [] f n) (sym start) (record { formed = no_amounts; low = refl; each = λ q. refl }))
+
+-- amounts that are low stay so with one that is
+low_filter : (p : ℕ × ℕ → Bool) (s : Amounts) → are_low s ≡ true → are_low (filter p s) ≡ true
+low_filter p [] low = refl
+low_filter p (e ∷ s) low = by_test (p e) (low_filter p s (second_true (nat_lt e.1 (2 ^ 64)) (are_low s) low))
+  where
+    by_test : (b : Bool) → are_low (filter p s) ≡ true → are_low (cond b (e ∷ filter p s) (filter p s)) ≡ true
+    by_test true rest = both_true (nat_lt e.1 (2 ^ 64)) _ (first_true (nat_lt e.1 (2 ^ 64)) (are_low s) low) rest
+    by_test false rest = rest
+
+low_put : (k a : ℕ) (s : Amounts) → nat_lt a (2 ^ 64) ≡ true → are_low s ≡ true → are_low (put nat_cmp k a s) ≡ true
+low_put k a [] small low = both_true (nat_lt a (2 ^ 64)) true small refl
+low_put k a (e ∷ s) small low =
+    let first = first_true (nat_lt e.1 (2 ^ 64)) (are_low s) low in
+    let rest = second_true (nat_lt e.1 (2 ^ 64)) (are_low s) low in
+    elim (nat_cmp k e.0) as (λ o. are_low (by_order o ((k, a) ∷ e ∷ s) ((e.0, a) ∷ s) (e ∷ put nat_cmp k a s)) ≡ true) [
+      | Less ↦ both_true (nat_lt a (2 ^ 64)) _ small low
+      | Equal ↦ both_true (nat_lt a (2 ^ 64)) _ small rest
+      | Greater ↦ both_true (nat_lt e.1 (2 ^ 64)) _ first (low_put k a s small rest)
+    ]
+
+low_with : (s : Amounts) (k a : ℕ) → nat_lt a (2 ^ 64) ≡ true → are_low s ≡ true → are_low (with_amount s k a) ≡ true
+low_with s k a small low = by_test (a == 0)
+  where
+    by_test : (b : Bool) → are_low (cond b (filter (λ entry. not (entry.0 == k)) s) (put nat_cmp k a s)) ≡ true
+    by_test true = low_filter (λ entry. not (entry.0 == k)) s low
+    by_test false = low_put k a s small low
+
+-- where all are low, each is
+low_found : (s : Amounts) (q : ℕ) → are_low s ≡ true → amount_of s q < 2 ^ 64
+low_found [] q low = omega arith
+low_found (e ∷ s) q low = by_test (eq_by_cmp nat_cmp q e.0) (low_found s q (second_true (nat_lt e.1 (2 ^ 64)) (are_low s) low))
+  where
+    by_test : (b : Bool) → amount_of s q < 2 ^ 64 → unwrap_or (cond b (Some e.1) (find nat_cmp q s)) 0 < 2 ^ 64
+    by_test true rest = below_of e.1 (2 ^ 64) (first_true (nat_lt e.1 (2 ^ 64)) (are_low s) low)
+    by_test false rest = rest
+
+pub not_low : (s : Amounts) → ((q : ℕ) × (2 ^ 64 ≤ amount_of s q)) → are_low s ≡ false
+not_low s (q, much) = by_test (are_low s) refl
+  where
+    by_test : (b : Bool) → are_low s ≡ b → b ≡ false
+    by_test true e = absurd (omega (arith, low_found s q e, much))
+    by_test false e = refl
 
 -- one place more
 pub sums_more : (sums after : Amounts) (f : ℕ → ℕ × ℕ) (m : ℕ) (pair : ℕ × ℕ) → HasSums sums f m → pair ≡ f m
-    → after ≡ plus_amount sums pair.0 pair.1 → HasSums after f (m + 1)
-sums_more sums after f m pair has is then =
+    → after ≡ plus_amount sums pair.0 pair.1 → amount_of sums pair.0 + pair.1 < 2 ^ 64 → HasSums after f (m + 1)
+sums_more sums after f m pair has is then small =
     subst (λ s. HasSums s f (m + 1)) (sym then) (record {
       formed = IsAmounts-with_amount sums pair.0 (amount_of sums pair.0 + pair.1) has.formed;
+      low = low_with sums pair.0 (amount_of sums pair.0 + pair.1) (is_below (amount_of sums pair.0 + pair.1) (2 ^ 64) small) has.low;
       each = λ q. amount_of-plus sums pair.0 pair.1 q
           ∙ ap (λ n. n + part_given q pair) (has.each q)
           ∙ ap (λ p. given q (map f (numbers_below m)) + part_given q p) is
@@ -104,6 +153,14 @@ pub count_is : (size n width parts : ℕ) (w own : Written) → n ≡ size → I
 count_is size n width parts w own all whole same wide many =
     let is : width ≡ width_of w = wide ∙ ap width_of same in
     all ∙ sym whole ∙ ap (λ k. size / k * k) (sym is) ∙ ap (λ p. p * width) (sym many)
+
+-- words that are a whole number of parts
+pub whole_is : (w : Written) (n : ℕ) → is_whole w n ≡ true → IsWhole n w
+whole_is w n e = by_test (w.words == 0) e
+  where
+    by_test : (b : Bool) → (b || n / w.words * w.words == n) ≡ true → n / cond b 1 w.words * cond b 1 w.words ≡ n
+    by_test true f = omega arith
+    by_test false f = same_of (n / w.words * w.words) n f
 
 -- the registers at the start
 pub start_registers : (w : Written) → (start_of w).registers ≡ w.registers

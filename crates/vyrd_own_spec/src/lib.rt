@@ -4,7 +4,7 @@
 //! and shows by the rules that the specification's lines give (`own_rules` of `vyrd_base`), so that
 //! `Judge` of `vyrd_judge` takes it as any other. A step that is refused, or for which memory runs
 //! out, leaves all as it was. The words are compared part by part, as the specification decodes them
-//! ([`OwnParts`]); they have to be a whole number of parts.
+//! ([`OwnParts`]). Words that aren't a whole number of parts stand for no state.
 #![tactic(auto)]
 
 mod compared;

@@ -1,10 +1,9 @@
 //! The specification of the user's own.
 
-ghost use Rattle.std.specs.Prelude.{◌≡◌, ◌≤◌, ◌^◌, ℕ, true, length, Ok, None, IfOk, IfSome};
+ghost use Rattle.std.specs.Prelude.{◌≡◌, ◌≤◌, true, not, length, is_none, IfOk, IfSome};
 ghost use Rattle.std.specs.Arc.{arc_value};
 ghost use Rattle.vyrd_base.specs.declared.subject.Subject.TheVariants.{Own};
-ghost use Rattle.vyrd_base.specs.Amounts.{amount_of};
-ghost use Rattle.vyrd_base.specs.Own.OwnRules.{own_start, own_view};
+ghost use Rattle.vyrd_base.specs.Own.OwnRules.{own_start, may_stand};
 ghost use Rattle.vyrd_base.specs.Own.Reader.{written_in};
 ghost use Rattle.vyrd_base.specs.Rules.{own};
 ghost use Rattle.vyrd_own_spec.specs.Parts.{IsWhole};
@@ -13,7 +12,7 @@ ghost use Rattle.vyrd_own_spec.specs.Touched.{touches};
 use crate::compared::OwnCompared;
 use crate::parts::OwnParts;
 use crate::specification::Specification;
-use crate::start::{KEYS, shown_at_start};
+use crate::start::{KEYS, is_whole, shown_at_start};
 use crate::stepping::{answer, shows_nothing, step};
 use std::alloc::{AllocError, Global};
 use std::sync::Arc;
@@ -38,9 +37,9 @@ pub struct OwnSpec {
 }
 
 impl OwnSpec {
-    /// The specification in the state for which these plain words stand at the start, of which each
-    /// key has less than 2^64. It is none if there is a key that has more. The words have to be a
-    /// whole number of parts. It takes time and memory in proportion to the words.
+    /// The specification in the state for which these plain words stand at the start. It is none if
+    /// they stand for no state: if they aren't a whole number of parts, or show 2^64 or more of a
+    /// key. It takes time and memory in proportion to the words.
     pub fn start(
         alloc: Global,
         header: Header,
@@ -49,16 +48,18 @@ impl OwnSpec {
     ) -> Result<Option<OwnSpec>, AllocError>
         requires subject { header.subject ≡ Own }
         requires count { length words.now ≡ header.size }
-        requires whole { IsWhole header.size (written_in specification) }
         ensures header { IfOk result (λ found. IfSome found (λ s. s.header ≡ header)) }
         ensures lines { IfOk result
             (λ found. IfSome found (λ s. arc_value s.specification ≡ specification)) }
         ensures made { IfOk result (λ found. IfSome found (λ s. s.made ≡ 0)) }
         ensures state { IfOk result (λ found. IfSome found (λ s. s.state
             ≡ own_start (written_in specification) words.now)) }
-        ensures beyond { result ≡ Ok None → (q : ℕ) × (2 ^ 64
-            ≤ amount_of (own_view (written_in specification) words.now) q) }
+        ensures none { IfOk result (λ found. is_none found
+            ≡ not (may_stand (written_in specification) words.now)) }
     {
+        if !is_whole(&specification, words.len()) {
+            return Ok(None);
+        }
         let specification = Arc::new(alloc, specification)?;
         let Some(shown) = shown_at_start(alloc, header, &specification, words)? else {
             return Ok(None);

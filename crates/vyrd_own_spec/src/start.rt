@@ -1,15 +1,15 @@
 //! What words show at the start.
 
 ghost use Rattle.std.specs.Prelude.{◌≡◌, ◌+◌, ◌*◌, ◌<◌, ◌≤◌, ◌^◌, ℕ, [], length, map, Ok, Some, None};
-ghost use Rattle.std.specs.Prelude.{true, false, IfOk, IfSome};
+ghost use Rattle.std.specs.Prelude.{true, false, not, is_none, IfOk, IfSome};
 ghost use Rattle.std.specs.Arc.{arc_value};
 ghost use Rattle.vyrd_base.specs.Amounts.{IsAmounts, amount_of, plus_amount, given};
 ghost use Rattle.vyrd_base.specs.Places.{numbers_below};
-ghost use Rattle.vyrd_base.specs.Own.OwnRules.{own_view};
+ghost use Rattle.vyrd_base.specs.Own.OwnRules.{is_whole, own_view};
 ghost use Rattle.vyrd_base.specs.Own.Reader.{written_in};
 ghost use Rattle.vyrd_view.specs.Decoded.{pair_at};
 ghost use Rattle.vyrd_own_spec.specs.Parts.{own_gives, IsWhole};
-ghost use Rattle.vyrd_own_spec.specs.Sums.{HasSums};
+ghost use Rattle.vyrd_own_spec.specs.Sums.{are_low, HasSums};
 
 use crate::parts::OwnParts;
 use crate::specification::Specification;
@@ -21,6 +21,14 @@ use vyrd_view::Decode;
 
 /// For how many keys a table is made. More take longer, and further memory.
 pub(crate) const KEYS: usize = 1024;
+
+/// Whether so many words are a whole number of parts.
+pub(crate) fn is_whole(specification: &Specification, count: usize) -> bool
+    ensures { result ≡ is_whole (written_in specification.now) count }
+{
+    let words = specification.program().words;
+    words == 0 || count / words * words == count
+}
 
 /// What these words show, or none if a key has more than 2^64 - 1.
 pub(crate) fn shown_at_start(
@@ -34,8 +42,8 @@ pub(crate) fn shown_at_start(
     ensures shown { IfOk result (λ found. IfSome found (λ shown. shown
         ≡ own_view (written_in (arc_value specification.now)) words.now)) }
     ensures formed { IfOk result (λ found. IfSome found IsAmounts) }
-    ensures beyond { result ≡ Ok None → (q : ℕ) × (2 ^ 64
-        ≤ amount_of (own_view (written_in (arc_value specification.now)) words.now) q) }
+    ensures fits { IfOk result (λ found. is_none found
+        ≡ not (are_low (own_view (written_in (arc_value specification.now)) words.now))) }
 {
     let decoder = OwnParts::new(alloc, header, Arc::try_clone(specification)?)?;
     let mut shown = ShownAmounts::new(alloc, KEYS)?;
@@ -105,6 +113,7 @@ fn add_part(
 /// Adds a pair, if the sum fits 64 bits.
 fn add(shown: &mut ShownAmounts, pair: (u64, u64)) -> Result<bool, AllocError>
     ensures fits { result ≡ Ok true → shown.new ≡ plus_amount shown.old pair.0 pair.1 }
+    ensures low { result ≡ Ok true → amount_of shown.old pair.0 + pair.1 < 2 ^ 64 }
     ensures beyond { result ≡ Ok false → 2 ^ 64 ≤ amount_of shown.old pair.0 + pair.1 }
 {
     match shown.amount(pair.0).checked_add(pair.1) {

@@ -39,4 +39,4 @@ loop-place-preserved c =
     c.args.words.now (get_or c.decode-pairs.result c.loop-place.place (0, 0)) c.width.ensures c.width-2.ensures
     (omega (arith, c.loop-place-test.true, c.places-place-end.ensures))
     (c.decode-pairs.ensures c.loop-place.place (omega (arith, c.loop-place-test.true, c.places-place-end.ensures))))
-    (c.in_ok-add.ensures.fits (ap Ok c.if-not-branch.false)))
+    (c.in_ok-add.ensures.fits (ap Ok c.if-not-branch.false)) (c.in_ok-add.ensures.low (ap Ok c.if-not-branch.false)))

@@ -1,4 +1,6 @@
-use Rattle.std.proofs.Common.{◌++◌, ◌∷◌, [], ap, sym, refl, ◌∙◌, subst, append_assoc}
+use Rattle.std.specs.Global.{Vec}
+use Rattle.vyrd_own.specs.Layout.{texts}
+use Rattle.std.proofs.Common.{ℕ, ◌++◌, ◌∷◌, [], ap, sym, refl, ◌∙◌, subst, append_assoc}
 use Rattle.vyrd_own_log.specs.KeptView.{kept_of}
 use Rattle.vyrd_own_log.specs.Readers.{IsFed}
 use Rattle.vyrd_own_log.proofs.ReadLaws.{fed_then, taken_fed, nothing_fed, one_ok}
@@ -45,5 +47,6 @@ returns-clause-fed c = one_ok c.take_unfinished.result
     let n = kept_of c.take_unfinished.new.self in
     subst (λ t. IsFed k t c.args.out.now.items c.loop-line.out.items c.args.numbers.now.items c.loop-line.numbers.items n) (sym front.parted)
     (fed_then k m n front.read c.loop-line.rest.now _ _ _ _ _ _ front.fed
-    (taken_fed m n c.loop-line.rest.now c.loop-line.out.items c.loop-line.numbers.items (taken front.sound) (ap (λ v. v.items) c.take_unfinished.ensures.start))))
+    (taken_fed m n c.loop-line.rest.now c.loop-line.out.items c.loop-line.numbers.items (taken front.sound)
+    (ap (λ (v : Vec (Vec ℕ)). texts v.items) c.take_unfinished.ensures.specified) (ap (λ v. v.items) c.take_unfinished.ensures.start))))
     c.take_unfinished.ensures.taken

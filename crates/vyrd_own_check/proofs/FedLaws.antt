@@ -1,0 +1,173 @@
+-- What a piece that was read and judged makes of what is kept.
+use Rattle.std.proofs.Common.{◌≡◌, ℕ, ◌+◌, ◌≤◌, ◌^◌, true, false, ◌||◌, List, [], ◌++◌, length, length-append, Option, Some, None, refl, ap, subst, ◌∙◌, sym, arith}
+use Rattle.std.specs.Prelude.{option_map}
+use Rattle.std.specs.Option.{option_or}
+use Rattle.std.proofs.Math.Logic.{∥∥₁_elim}
+use Rattle.std.proofs.Math.Bool.{Bool-set}
+use Rattle.vyrd_base.specs.declared.header.Header.{Header}
+use Rattle.vyrd_base.specs.declared.subject.Subject.{Subject}
+use Rattle.vyrd_base.specs.declared.subject.Subject.TheVariants.{Multiset, Cache, Tree, Buffers, Own}
+use Rattle.vyrd_base.specs.declared.log.Entry.{Entry}
+use Rattle.vyrd_base.specs.declared.verdict.Verdict.{Verdict}
+use Rattle.vyrd_base.specs.declared.verdict.Verdict.TheVariants.{Malformed}
+use Rattle.vyrd_base.specs.Starts.{do_follow}
+use Rattle.vyrd_base.specs.Subjects.{is_built_in}
+use Rattle.vyrd_base.specs.Reading.{has_any}
+use Rattle.vyrd_base.specs.Own.LogVerdicts.{told_in_text, own_text_verdict_so_far}
+use Rattle.vyrd_base.proofs.TestLaws.{at_most_of, is_at_most}
+use Rattle.vyrd_own_log.specs.States.{header_at, has_ended}
+use Rattle.vyrd_own_log.specs.Readers.{ReaderState, HasRead, IsGrownBy}
+use Rattle.vyrd_own_log.proofs.GrownLaws.{reading_grown, reading_formed}
+use Rattle.vyrd_judge.specs.Following.{JudgeView}
+use Rattle.vyrd_own_check.specs.LogReadings.{read_so_far}
+use Rattle.vyrd_own_check.specs.Checking.{IsLimit, IsJudging, IsReady, IsBegun, HasRoom, Kept, limit_of, IsUndecided, IsSomewhere, untold_in}
+use Rattle.vyrd_own_check.proofs.ReadingFacts.{known_so_far}
+use Rattle.vyrd_own_check.proofs.PieceLaws.{judge_before, has_room}
+
+-- a piece was read, and the judge is there if it may be
+pub record Fed (old : Kept) (reader : ReaderState) (begun : Option JudgeView) (piece : List ℕ) (entries : List Entry) (numbers : List ℕ)
+    (fault : Option Verdict) : Type 0 where
+  pub limit : reader.kept.lines.max_lines ≡ limit_of old
+  pub read : (bytes : List ℕ) → HasRead old.reader bytes → HasRead reader (bytes ++ piece)
+  pub grown : (bytes : List ℕ) → HasRead old.reader bytes
+      → IsGrownBy [] (read_so_far (limit_of old) bytes).entries entries (read_so_far (limit_of old) (bytes ++ piece)).entries
+  pub counted : (bytes : List ℕ) → HasRead old.reader bytes
+      → IsGrownBy old.numbers (read_so_far (limit_of old) bytes).numbers numbers (read_so_far (limit_of old) (bytes ++ piece)).numbers
+  pub faulty : (bytes : List ℕ) → HasRead old.reader bytes
+      → fault ≡ option_map (λ fault. Malformed fault.line fault.rule) (read_so_far (limit_of old) (bytes ++ piece)).fault
+  pub judge : IsBegun (has_any entries || has_ended reader.kept.lines.stage) (header_at reader.kept.lines.stage) reader.kept.specified
+      reader.kept.start old.judge begun
+
+-- what grew from nothing, behind what was there
+pub grown_on : {A : Type 0} (old brought all : List A) {x y : List A} → all ≡ old ++ brought → IsGrownBy [] x brought y → IsGrownBy old x all y
+grown_on old brought all is grown =
+    record { more = grown.more; one = is ∙ ap (λ xs. old ++ xs) grown.one; other = grown.other }
+
+-- there is room for the numbers of lines that the piece brings
+pub numbers_room : (old : Kept) (piece brought : List ℕ) → IsLimit (limit_of old)
+    → ((bytes : List ℕ) → HasRead old.reader bytes
+    → IsGrownBy [] (read_so_far (limit_of old) bytes).numbers brought (read_so_far (limit_of old) (bytes ++ piece)).numbers)
+    → IsSomewhere old → length old.numbers + length brought ≤ 2 ^ 62
+numbers_room old piece brought limit grows somewhere = at_most_of _ _ (∥∥₁_elim somewhere (Bool-set _ _) (λ s.
+    is_at_most _ _ (few s.0 s.1)))
+  where
+    few : (bytes : List ℕ) → IsUndecided old bytes → length old.numbers + length brought ≤ 2 ^ 62
+    few bytes u =
+        let max = limit_of old in
+        let formed = reading_formed max (bytes ++ piece) limit.low limit.high in
+        let grown = grows bytes u.read in
+        omega (
+          arith,
+          formed.few,
+          ap length u.numbers,
+          ap length grown.one,
+          ap length grown.other,
+          length-append (read_so_far max bytes).numbers grown.more,
+          limit.high,
+        )
+
+own_of : (s : Subject) → is_built_in s ≡ false → s ≡ Own
+own_of Multiset e = cc
+own_of Cache e = cc
+own_of Tree e = cc
+own_of Buffers e = cc
+own_of Own e = refl
+
+module _ (old : Kept) (reader : ReaderState) (piece : List ℕ) (limit : IsLimit (limit_of old)) (within : reader.kept.lines.max_lines ≡ limit_of old)
+    (reads : (bytes : List ℕ) → HasRead old.reader bytes → HasRead reader (bytes ++ piece)) (somewhere : IsSomewhere old) where
+  bounds : IsLimit reader.kept.lines.max_lines
+  bounds = subst IsLimit (sym within) limit
+
+  -- the header that the reader keeps is that of a subject of the user's own
+  pub fed_own : (h : Header) → header_at reader.kept.lines.stage ≡ Some h → h.subject ≡ Own
+  fed_own h has = own_of h.subject (∥∥₁_elim somewhere (Bool-set _ _) (λ s.
+      ap is_built_in ((reading_formed reader.kept.lines.max_lines (s.0 ++ piece) bounds.low bounds.high).header h
+      (sym (reads s.0 s.1.read).header ∙ has)).0))
+
+  -- the starting words that the reader keeps are in the header's ranges, and rise
+  pub fed_follows : (h : Header) → header_at reader.kept.lines.stage ≡ Some h → do_follow h None reader.kept.start ≡ true
+  fed_follows h has = ∥∥₁_elim somewhere (Bool-set _ _) (λ s.
+      let read = reads s.0 s.1.read in
+      ap (do_follow h None) read.start
+      ∙ ((reading_formed reader.kept.lines.max_lines (s.0 ++ piece) bounds.low bounds.high).header h (sym read.header ∙ has)).1)
+
+-- what the reader keeps is what the bytes with the piece say, up to the old limit
+record IsReadTo (reader : ReaderState) (bytes : List ℕ) (max : ℕ) : Type 0 where
+  header : header_at reader.kept.lines.stage ≡ (read_so_far max bytes).header
+  lines : reader.kept.specified ≡ (read_so_far max bytes).lines
+  start : reader.kept.start ≡ (read_so_far max bytes).starting
+  ended : has_ended reader.kept.lines.stage ≡ (read_so_far max bytes).ended
+
+read_to : (reader : ReaderState) (bytes : List ℕ) (max : ℕ) → reader.kept.lines.max_lines ≡ max
+    → HasRead reader bytes → IsReadTo reader bytes max
+read_to reader bytes max limit read =
+    subst (IsReadTo reader bytes) limit
+    (record { header = read.header; lines = read.lines; start = read.start; ended = read.ended })
+
+module _ (old : Kept) (reader : ReaderState) (begun : Option JudgeView) (piece : List ℕ) (entries : List Entry) (numbers : List ℕ)
+    (fault : Option Verdict) (fed : Fed old reader begun piece entries numbers fault) where
+  -- the judge is ready for the entries of the piece
+  pub fed_ready : IsLimit (limit_of old) → (bytes : List ℕ) → IsUndecided old bytes
+      → IsReady begun (read_so_far (limit_of old) (bytes ++ piece))
+      (read_so_far (limit_of old) bytes).entries entries (has_ended reader.kept.lines.stage)
+  fed_ready limit bytes u =
+      let max = limit_of old in
+      let was = read_so_far max bytes in
+      let is = read_so_far max (bytes ++ piece) in
+      let read = read_to reader (bytes ++ piece) max fed.limit (fed.read bytes u.read) in
+      let grown = fed.grown bytes u.read in
+      let all : is.entries ≡ was.entries ++ entries =
+      grown.other ∙ ap (λ more. was.entries ++ more) (sym grown.one) in
+      let judge : IsBegun (has_any entries || is.ended) is.header is.lines is.starting old.judge begun =
+      rw (← read.ended, ← read.header, ← read.lines, ← read.start) fed.judge in
+      record {
+        before = judge_before old.judge begun was is entries u.judging (reading_grown max false bytes piece limit.low limit.high)
+            (reading_formed max (bytes ++ piece) limit.low limit.high).headless all judge;
+        entries = all;
+        ended = sym read.ended;
+      }
+
+  -- there is room for the entries of the piece
+  pub fed_room : IsLimit (limit_of old) → IsSomewhere old → HasRoom begun entries
+  fed_room limit somewhere = by_judge begun refl
+    where
+      max : ℕ
+      max = limit_of old
+
+      room : (bytes : List ℕ) → IsUndecided old bytes → HasRoom begun entries
+      room bytes u =
+          let ready = fed_ready limit bytes u in
+          let formed = reading_formed max (bytes ++ piece) limit.low limit.high in
+          let parted = ap length ready.entries in
+          has_room begun (read_so_far max (bytes ++ piece)) (read_so_far max bytes).entries entries
+          ready.before (omega (arith, formed.few, formed.numbered, parted, limit.high))
+
+      by_judge : (o : Option JudgeView) → begun ≡ o → HasRoom o entries
+      by_judge None is = tt
+      by_judge (Some j) is = at_most_of _ _ (∥∥₁_elim somewhere (Bool-set _ _) (λ s.
+          is_at_most _ _ (subst (λ o. HasRoom o entries) is (room s.0 s.1))))
+
+  -- the numbers of lines are those of the bytes with the piece
+  fed_numbers : (bytes : List ℕ) → IsUndecided old bytes → numbers ≡ (read_so_far (limit_of old) (bytes ++ piece)).numbers
+  fed_numbers bytes u =
+      let counted = fed.counted bytes u.read in
+      counted.one ∙ ap (λ ns. ns ++ counted.more) u.numbers ∙ sym counted.other
+
+  -- the answer is the verdict so far
+  pub fed_answer : (wrong : Option Verdict) (bytes : List ℕ) → IsUndecided old bytes
+      → wrong ≡ untold_in (read_so_far (limit_of old) (bytes ++ piece))
+      → option_or (option_map (told_in_text numbers) wrong) fault ≡ own_text_verdict_so_far (limit_of old) (bytes ++ piece)
+  fed_answer wrong bytes u wrong_is =
+      known_so_far (limit_of old) (bytes ++ piece) numbers wrong fault (fed_numbers bytes u) wrong_is (fed.faulty bytes u.read)
+
+  -- without a verdict what is kept goes on
+  pub fed_undecided : (after : Option JudgeView) (bytes : List ℕ) → IsUndecided old bytes
+      → IsJudging after (read_so_far (limit_of old) (bytes ++ piece))
+      → own_text_verdict_so_far (limit_of old) (bytes ++ piece) ≡ None
+      → IsUndecided (record { reader = reader; judge = after; numbers = numbers }) (bytes ++ piece)
+  fed_undecided after bytes u judging nothing = record {
+    read = fed.read bytes u.read;
+    judging = subst (λ m. IsJudging after (read_so_far m (bytes ++ piece))) (sym fed.limit) judging;
+    numbers = fed_numbers bytes u ∙ ap (λ m. (read_so_far m (bytes ++ piece)).numbers) (sym fed.limit);
+    nothing = ap (λ m. own_text_verdict_so_far m (bytes ++ piece)) fed.limit ∙ nothing;
+  }

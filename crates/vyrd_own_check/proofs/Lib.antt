@@ -1,0 +1,10 @@
+pub mod PlaceLaws
+pub mod LastLaws
+pub mod ReadingFacts
+pub mod EndFacts
+pub mod PieceLaws
+pub mod FedLaws
+pub mod CheckedLaws
+pub mod StartLaws
+pub mod SpecifiedLaws
+pub mod NumberLaws

@@ -1,0 +1,207 @@
+-- How what is kept goes on with a piece of the text.
+use Rattle.std.proofs.Common.{◌≡◌, ℕ, ◌≤◌, Bool, true, false, cond, ◌||◌, List, [], ◌∷◌, ◌++◌, length, Option, Some, None, refl, ap, subst, ◌∙◌, sym, arith, length-append, option_map}
+use Rattle.std.specs.Prelude.{option_and_then, is_none}
+use Rattle.std.specs.Bool.{then_some}
+use Rattle.std.specs.Option.{option_or}
+use Rattle.std.proofs.lemmas.Bool.{or_left, or_right}
+use Rattle.vyrd_base.specs.Rules.{Charter, own, Rules, rules_by}
+use Rattle.vyrd_base.specs.declared.header.Header.{Header}
+use Rattle.vyrd_base.specs.declared.log.Entry.{Entry}
+use Rattle.vyrd_base.specs.declared.log.StartWord.{StartWord}
+use Rattle.vyrd_base.specs.declared.verdict.Rule.TheVariants.{StartState, CallOpen}
+use Rattle.vyrd_base.specs.declared.verdict.Verdict.TheVariants.{Malformed}
+use Rattle.vyrd_base.specs.Places.{newest_first}
+use Rattle.vyrd_base.specs.Front.{front}
+use Rattle.vyrd_base.specs.Starts.{state_at_start}
+use Rattle.vyrd_base.specs.Reading.{has_any}
+use Rattle.vyrd_base.specs.Verdicts.{line_of, first_fault, shape_verdict, verdict_so_far, is_call_open, end_verdict}
+use Rattle.vyrd_base.specs.Own.Log.{OwnReading, own_reading}
+use Rattle.vyrd_base.specs.Own.LogVerdicts.{own_text_verdict_so_far}
+use Rattle.vyrd_own_log.specs.Grown.{has_begun, IsGrown}
+use Rattle.vyrd_own_log.specs.Readers.{ReaderState, HasRead}
+use Rattle.vyrd_judge.specs.Following.{JudgeView, HasFollowed}
+use Rattle.vyrd_judge.proofs.OnlineLaws.{faultless_of}
+use Rattle.vyrd_own_check.specs.Checking.{charter_in, untold_by, untold_in, IsJudging, IsBefore, IsReady, HasRoom, IsMade, IsBegun, IsUndecided}
+use Rattle.vyrd_own_check.proofs.PlaceLaws.{nothing_so_far}
+use Rattle.vyrd_own_check.proofs.LastLaws.{charter_stays}
+
+-- a judge without a verdict has counted the entries that it has followed
+counted : (j : JudgeView) (starting : List StartWord) (log : List Entry) → j.so_far ≡ None
+    → HasFollowed j starting log
+    → j.kept.entries ≡ length log
+counted j starting log none f = (faultless_of none f).taken_in.entries
+
+-- more entries after some
+any_more : (xs more : List Entry) → has_any xs ≡ true → has_any (xs ++ more) ≡ true
+any_more [] more e = cc
+any_more (x ∷ xs) more e = refl
+
+-- what has begun goes on
+begun_on : (old new : OwnReading) → IsGrown old new → has_begun old ≡ true → has_begun new ≡ true
+begun_on old new g begun = by_end old.ended refl begun
+  where
+    by_end : (b : Bool) → old.ended ≡ b → (has_any old.entries || b) ≡ true → has_begun new ≡ true
+    by_end true e f = or_right (has_any new.entries) new.ended (g.ended e).0
+    by_end false e f = by_entries (has_any old.entries) refl f
+      where
+        by_entries : (a : Bool) → has_any old.entries ≡ a → (a || false) ≡ true
+            → has_begun new ≡ true
+        by_entries false is h = cc
+        by_entries true is h =
+            or_left (has_any new.entries) new.ended
+            (ap has_any g.entries.1 ∙ any_more old.entries g.entries.0 is)
+
+-- Once an entry or `end` may have been read, the judge has followed the entries from before.
+pub judge_before : (before after : Option JudgeView) (old new : OwnReading) (more : List Entry)
+    → IsJudging before old → IsGrown old new → (new.header ≡ None → has_begun new ≡ false)
+    → new.entries ≡ old.entries ++ more
+    → IsBegun (has_any more || new.ended) new.header new.lines new.starting before after
+    → IsBefore after new old.entries
+judge_before (Some j) after old new more judging g headed all begun =
+    subst (λ o. IsBefore o new old.entries) (sym begun) (record {
+      charter = charter_stays old new j.kept.charter g judging.begun judging.charter;
+      followed = subst (λ ss. HasFollowed j ss old.entries) (sym (g.begun judging.begun).1) judging.followed;
+      so_far = judging.so_far;
+      begun = begun_on old new g judging.begun;
+    })
+judge_before None after old new more judging g headed all begun =
+    by_test (has_any more || new.ended) refl begun
+  where
+    same : has_begun new ≡ (has_any more || new.ended)
+    same = ap (λ es. has_any es || new.ended) (all ∙ ap (λ es. es ++ more) judging.0)
+
+    by_made : (h : Header) (o : Option JudgeView) → new.header ≡ Some h → has_begun new ≡ true
+        → IsMade h new.lines new.starting o → IsBefore o new old.entries
+    by_made h None has now made = (judging.0, λ f. (own h new.lines, ap (option_map (λ k. own k new.lines)) has, made))
+    by_made h (Some j) has now made = record {
+      charter = ap (option_map (λ k. own k new.lines)) has ∙ ap Some (sym made.0);
+      followed = subst (HasFollowed j new.starting) (sym judging.0) made.1;
+      so_far = made.2;
+      begun = now;
+    }
+
+    by_header : (o : Option Header) → new.header ≡ o → has_begun new ≡ true
+        → IsBegun true o new.lines new.starting None after → IsBefore after new old.entries
+    by_header None has now b = absurd (never (sym (headed has) ∙ now))
+      where
+        never : false ≡ true → ⊥
+        never e = cc
+    by_header (Some h) has now b = by_made h after has now b
+
+    by_test : (b : Bool) → (has_any more || new.ended) ≡ b
+        → IsBegun b new.header new.lines new.starting None after → IsBefore after new old.entries
+    by_test false e b = subst (λ o. IsBefore o new old.entries) (sym b) (judging.0, λ f. absurd (never (sym (same ∙ e) ∙ f)))
+      where
+        never : false ≡ true → ⊥
+        never x = cc
+    by_test true e b = by_header new.header refl (same ∙ e) b
+
+-- there is room for the entries of a log that keeps the limit of lines
+pub has_room : (judge : Option JudgeView) (read : OwnReading) (log entries : List Entry)
+    → IsBefore judge read log
+    → length (log ++ entries) ≤ 268435456 → HasRoom judge entries
+has_room None read log entries before few = tt
+has_room (Some j) read log entries before few =
+    let kept = counted j read.starting log before.so_far before.followed in
+    omega (arith, kept, length-append log entries, few)
+
+-- what is wrong with what was read, by the judge's charter
+pub wrong_by : (j : JudgeView) (read : OwnReading) (log more : List Entry) (done : Bool)
+    → IsReady (Some j) read log more done
+    → untold_in read ≡ option_or (verdict_so_far (rules_by j.kept.charter) read.starting (log ++ more))
+    (cond done (end_verdict (rules_by j.kept.charter) read.starting (log ++ more)) None)
+wrong_by j read log more done ready =
+    ap (option_and_then (untold_by read)) ready.before.charter
+    ∙ (λ i. option_or (verdict_so_far (rules_by j.kept.charter) read.starting (ready.entries i))
+    (cond (ready.ended i) (end_verdict (rules_by j.kept.charter) read.starting (ready.entries i)) None))
+
+-- a judge that has followed the last entries, with no verdict
+pub judging_on : (old new : JudgeView) (read : OwnReading) (log more : List Entry) (done : Bool)
+    → IsReady (Some old) read log more done
+    → new.kept.charter ≡ old.kept.charter → HasFollowed new read.starting (log ++ more)
+    → new.so_far ≡ None → IsJudging (Some new) read
+judging_on old new read log more done ready same followed none = record {
+  charter = ready.before.charter ∙ ap Some (sym same);
+  followed = subst (HasFollowed new read.starting) (sym ready.entries) followed;
+  so_far = none;
+  begun = ready.before.begun;
+}
+
+-- If the starting words stand for no state, that is what is wrong once an entry or `end` was read.
+start_wrong : (r : Rules) (starting : List StartWord) (entries : List Entry) (done : Bool)
+    → is_none (state_at_start r starting) ≡ true
+    → (has_any entries || done) ≡ true
+    → option_or (verdict_so_far r starting entries) (cond done (end_verdict r starting entries) None)
+    ≡ Some (Malformed 2 StartState)
+unfolding verdict_so_far end_verdict
+start_wrong r starting [] false stands begun = cc
+start_wrong r starting [] true stands begun =
+    ap (λ o. option_or o (end_verdict r starting [])) (nothing_so_far r starting)
+    ∙ ap (λ b. option_or (then_some b (Malformed 2 StartState))
+    (then_some (is_call_open r.header (newest_first []))
+    (Malformed (line_of starting (length {A = Entry} [])) CallOpen))) stands
+start_wrong r starting (e ∷ entries) done stands begun =
+    ap (λ b. option_or (option_or (then_some b (Malformed 2 StartState))
+    (option_or (first_fault r starting (front r.header (e ∷ entries)))
+    (shape_verdict r.header starting (e ∷ entries))))
+    (cond done (end_verdict r starting (e ∷ entries)) None)) stands
+
+-- nothing was read
+unread : (entries : List Entry) (done : Bool) → (has_any entries || done) ≡ false
+    → (entries ≡ []) × (done ≡ false)
+unread [] done e = (refl, e)
+unread (x ∷ entries) done e = cc
+
+-- without a judge all that was read since is the last entries
+only_last : (read : OwnReading) (log more : List Entry) (done : Bool) → IsReady None read log more done
+    → has_begun read ≡ (has_any more || done)
+only_last read log more done ready =
+    λ i. has_any ((ready.entries ∙ ap (λ es. es ++ more) ready.before.0) i) || ready.ended i
+
+-- where nothing was read nothing is wrong
+nothing_wrong : (read : OwnReading) → has_begun read ≡ false → untold_in read ≡ None
+nothing_wrong read e =
+    let none = unread read.entries read.ended e in
+    ap (λ f. option_and_then f (charter_in read))
+    (λ i. λ l. option_or (verdict_so_far (rules_by l) read.starting (none.0 i))
+    (cond (none.1 i) (end_verdict (rules_by l) read.starting (none.0 i)) None))
+    ∙ by_charter (charter_in read)
+  where
+    by_charter : (o : Option Charter)
+        → option_and_then (λ l. option_or (verdict_so_far (rules_by l) read.starting []) None) o ≡ None
+    by_charter None = refl
+    by_charter (Some l) = ap (λ o. option_or o None) (nothing_so_far (rules_by l) read.starting)
+
+-- what is wrong if there is no judge
+pub wrong_without : (read : OwnReading) (log more : List Entry) (done : Bool)
+    → IsReady None read log more done
+    → then_some (has_any more || done) (Malformed 2 StartState) ≡ untold_in read
+wrong_without read log more done ready = by_test (has_any more || done) refl
+  where
+    same : has_begun read ≡ (has_any more || done)
+    same = only_last read log more done ready
+
+    by_test : (b : Bool) → (has_any more || done) ≡ b
+        → then_some b (Malformed 2 StartState) ≡ untold_in read
+    by_test false e = sym (nothing_wrong read (same ∙ e))
+    by_test true e =
+        let begun = same ∙ e in
+        let stands = ready.before.1 begun in
+        sym (ap (option_and_then (untold_by read)) stands.1
+        ∙ start_wrong (rules_by stands.0) read.starting read.entries read.ended stands.2 begun)
+
+pub still_without : (read : OwnReading) (log more : List Entry) (done : Bool)
+    → IsReady None read log more done
+    → then_some (has_any more || done) (Malformed 2 StartState) ≡ None → IsJudging None read
+still_without read log more done ready none = by_test (has_any more || done) refl none
+  where
+    by_test : (b : Bool) → (has_any more || done) ≡ b → then_some b (Malformed 2 StartState) ≡ None
+        → IsJudging None read
+    by_test false e f = unread read.entries read.ended (only_last read log more done ready ∙ e)
+    by_test true e f = cc
+
+-- before the first byte
+pub undecided_first : (reader : ReaderState) (numbers : List ℕ) → HasRead reader [] → numbers ≡ []
+    → IsUndecided (record { reader = reader; judge = None; numbers = numbers }) []
+unfolding own_reading own_text_verdict_so_far
+undecided_first reader numbers read none = record { read = read; judging = (refl, refl); numbers = none; nothing = refl }

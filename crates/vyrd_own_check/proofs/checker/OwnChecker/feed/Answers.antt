@@ -1,0 +1,58 @@
+use Rattle.std.proofs.Common.{◌≡◌, [], ◌++◌, refl, append_assoc, append-nil, take-append-drop, ap, subst, sym, ◌∙◌}
+use Rattle.vyrd_base.specs.Own.LogVerdicts.{own_text_verdict_so_far}
+use Rattle.vyrd_own_check.specs.Checking.{HasChecked}
+use Rattle.vyrd_own_check.specs.CheckerView.{checker_in}
+use Rattle.vyrd_own_check.proofs.CheckedLaws.{so_far_is, checked_all, checked_stands}
+use Rattle.vyrd_own_check.proofs.checker.OwnChecker.feed.Goals as goal
+
+pub loop-rest-init : goal.loop-rest-init
+loop-rest-init c = record {
+  read = [];
+  parted = refl;
+  checked = λ bytes checked. subst (HasChecked (checker_in c.args.self.now)) (sym (append-nil bytes)) checked;
+  works = c.if-self.false;
+  limit = refl;
+}
+
+pub loop-rest-preserved : goal.loop-rest-preserved
+loop-rest-preserved c =
+    let read = c.loop-rest.invariant.read in
+    let part = c.split_at.result.0.now in
+    let after = c.split_at.result.1.now in
+    let rest : c.loop-rest.rest.now ≡ part ++ after =
+    sym ((λ i. c.split_at.ensures.front i ++ c.split_at.ensures.back i) ∙ take-append-drop c.min.result c.loop-rest.rest.now) in
+    record {
+      read = read ++ part;
+      parted = c.loop-rest.invariant.parted ∙ ap (λ xs. read ++ xs) rest ∙ sym (append_assoc read part after);
+      checked = λ bytes checked. subst (HasChecked (checker_in c.feed_part.new.self)) (append_assoc bytes read part)
+          (c.in_ok-feed_part.ensures.checked (bytes ++ read) (c.loop-rest.invariant.checked bytes checked));
+      works = c.in_ok-feed_part.ensures.has_failed;
+      limit = c.in_ok-feed_part.ensures.limit ∙ c.loop-rest.invariant.limit;
+    }
+
+pub returns-in-Some-clause-checked : goal.returns-in-Some-clause-checked
+returns-in-Some-clause-checked c = λ bytes checked.
+    checked_stands (checker_in c.loop-rest.self) bytes c.args.piece.now c.loop-rest.invariant.read c.loop-rest.rest.now c.in-Some.verdict
+    c.loop-rest.self.sound.limit c.in-Some.is
+    c.loop-rest.invariant.parted (c.loop-rest.invariant.checked bytes checked)
+
+pub returns-in-Some-clause-answer : goal.returns-in-Some-clause-answer
+returns-in-Some-clause-answer c = λ bytes checked.
+    sym c.in-Some.is
+    ∙ so_far_is (checker_in c.loop-rest.self) (bytes ++ c.args.piece.now)
+    (checked_stands (checker_in c.loop-rest.self) bytes c.args.piece.now c.loop-rest.invariant.read c.loop-rest.rest.now c.in-Some.verdict
+    c.loop-rest.self.sound.limit c.in-Some.is
+    c.loop-rest.invariant.parted (c.loop-rest.invariant.checked bytes checked))
+    ∙ ap (λ m. own_text_verdict_so_far m (bytes ++ c.args.piece.now)) c.loop-rest.invariant.limit
+
+pub returns-clause-checked : goal.returns-clause-checked
+returns-clause-checked c = λ bytes checked.
+    checked_all (checker_in c.loop-rest.self) bytes c.args.piece.now c.loop-rest.invariant.read c.loop-rest.rest.now
+    c.loop-rest.invariant.parted c.loop-rest-test.ensures (c.loop-rest.invariant.checked bytes checked)
+
+pub returns-clause-answer : goal.returns-clause-answer
+returns-clause-answer c = λ bytes checked.
+    so_far_is (checker_in c.loop-rest.self) (bytes ++ c.args.piece.now)
+    (checked_all (checker_in c.loop-rest.self) bytes c.args.piece.now c.loop-rest.invariant.read c.loop-rest.rest.now
+    c.loop-rest.invariant.parted c.loop-rest-test.ensures (c.loop-rest.invariant.checked bytes checked))
+    ∙ ap (λ m. own_text_verdict_so_far m (bytes ++ c.args.piece.now)) c.loop-rest.invariant.limit

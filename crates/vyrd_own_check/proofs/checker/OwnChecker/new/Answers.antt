@@ -1,0 +1,11 @@
+use Rattle.std.proofs.Common.{[], subst, sym}
+use Rattle.vyrd_own_check.specs.Checking.{IsLimit}
+use Rattle.vyrd_own_check.proofs.checker.OwnChecker.new.Goals as goal
+
+pub invariant_of-result : goal.invariant_of-result
+invariant_of-result c = record {
+  sound = record {
+    limit = subst IsLimit (sym c.new.ensures.limit) (record { low = c.requires.low; high = c.requires.high });
+    somewhere = λ works none. ∣ ([], c.new.ensures.undecided) ∣₁;
+  };
+}

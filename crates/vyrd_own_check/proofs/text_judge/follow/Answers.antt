@@ -1,0 +1,35 @@
+use Rattle.std.proofs.Common.{◌≡◌, Some, None, ◌++◌, ap, sym, ◌∙◌}
+use Rattle.std.specs.Option.{option_or}
+use Rattle.std.specs.Prelude.{if◌then◌else◌}
+use Rattle.vyrd_base.specs.Rules.{rules_by}
+use Rattle.vyrd_base.specs.Verdicts.{verdict_so_far, end_verdict}
+use Rattle.vyrd_own_check.specs.Checking.{IsJudging, untold_in}
+use Rattle.vyrd_own_check.proofs.EndFacts.{where_same, where_none}
+use Rattle.vyrd_own_check.proofs.PieceLaws.{wrong_by, judging_on}
+use Rattle.vyrd_own_check.proofs.text_judge.follow.Goals as goal
+
+pub returns-then-ended-clause-answer : goal.returns-then-ended-clause-answer
+returns-then-ended-clause-answer c = λ read log ready.
+    let log' = log ++ c.args.entries.now in
+    let h = rules_by c.args.judge.now.kept.charter in
+    let h' = rules_by c.follow.new.self.kept.charter in
+    let followed = ready.before.followed in
+    let none : verdict_so_far h read.starting log' ≡ None = sym (c.in_ok-verdict.ensures.answer read.starting log followed) ∙ c.in_default.is in
+    let none' : verdict_so_far h' read.starting log' ≡ None = ap (λ l. verdict_so_far (rules_by l) read.starting log') c.in_ok-verdict.ensures.charter ∙ none in
+    let whole : end_verdict h' read.starting log' ≡ untold_in read =
+    ap (λ l. end_verdict (rules_by l) read.starting log') c.in_ok-verdict.ensures.charter
+    ∙ sym (λ i. option_or (none i) (if (c.if-ended.true i) then end_verdict h read.starting log' else None))
+    ∙ sym (wrong_by c.args.judge.now read log c.args.entries.now c.args.ended ready) in
+    where_same (end_verdict h' read.starting log') (untold_in read) whole c.open_call.result
+    (c.open_call.ensures read.starting log' (c.in_ok-verdict.ensures.followed read.starting log followed) none')
+
+pub returns-then-ended-clause-judging : goal.returns-then-ended-clause-judging
+returns-then-ended-clause-judging c = λ read log ready.
+    where_none c.open_call.result (IsJudging (Some c.follow.new.self) read)
+    (judging_on c.args.judge.now c.follow.new.self read log c.args.entries.now c.args.ended ready c.in_ok-verdict.ensures.charter
+    (c.in_ok-verdict.ensures.followed read.starting log ready.before.followed) (c.in_ok-verdict.ensures.so_far ∙ c.in_default.is))
+
+pub returns-else-ended-clause-judging : goal.returns-else-ended-clause-judging
+returns-else-ended-clause-judging c = λ read log ready none.
+    judging_on c.args.judge.now c.follow.new.self read log c.args.entries.now c.args.ended ready c.in_ok-verdict.ensures.charter
+    (c.in_ok-verdict.ensures.followed read.starting log ready.before.followed) (c.in_ok-verdict.ensures.so_far ∙ c.in_default.is)

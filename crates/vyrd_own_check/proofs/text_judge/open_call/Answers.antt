@@ -1,0 +1,19 @@
+use Rattle.vyrd_base.specs.Rules.{rules_by}
+use Rattle.std.proofs.Common.{ap, sym, ◌∙◌}
+use Rattle.vyrd_own_check.proofs.EndFacts.{unless_accepted, open_at_end}
+use Rattle.vyrd_own_check.proofs.text_judge.open_call.Goals as goal
+
+pub returns-in-Accepted : goal.returns-in-Accepted
+returns-in-Accepted c = λ starting log f none.
+    ap unless_accepted (sym c.in-Accepted.is)
+    ∙ open_at_end (rules_by c.args.judge.now.kept.charter) starting log c.in_ok-finish.field-0 none (c.in_ok-finish.ensures.verdict starting log f)
+
+pub returns-in-Violation : goal.returns-in-Violation
+returns-in-Violation c = λ starting log f none.
+    ap unless_accepted (sym c.in-Violation.is)
+    ∙ open_at_end (rules_by c.args.judge.now.kept.charter) starting log c.in_ok-finish.field-0 none (c.in_ok-finish.ensures.verdict starting log f)
+
+pub returns-in-Malformed : goal.returns-in-Malformed
+returns-in-Malformed c = λ starting log f none.
+    ap unless_accepted (sym c.in-Malformed.is)
+    ∙ open_at_end (rules_by c.args.judge.now.kept.charter) starting log c.in_ok-finish.field-0 none (c.in_ok-finish.ensures.verdict starting log f)

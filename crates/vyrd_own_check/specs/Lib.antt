@@ -1,0 +1,5 @@
+pub mod LogReadings
+pub mod Numbers
+pub mod Checking
+pub mod KeptView
+pub mod CheckerView

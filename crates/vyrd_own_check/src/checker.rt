@@ -1,0 +1,145 @@
+//! The checker of the bytes of a log of version 3.
+
+ghost use Rattle.std.specs.Prelude.{◌≡◌, ◌++◌, ◌≤◌, ℕ, List, [], None, true, false, IfOk, OnOk};
+ghost use Rattle.std.specs.Result.{is_err};
+ghost use Rattle.vyrd_base.specs.Own.LogVerdicts.{own_text_verdict, own_text_verdict_so_far};
+ghost use Rattle.vyrd_own_check.specs.Checking.{HasChecked, limit_of, most_lines, IsSound};
+ghost use Rattle.vyrd_own_check.specs.KeptView.{kept_in};
+
+use crate::text_judge::OwnTextJudge;
+use std::alloc::{AllocError, Global};
+use vyrd_base::Verdict;
+
+/// The most bytes that are read before their entries are judged.
+const LONGEST_PART: usize = 8_192;
+
+/// Follows the bytes of a log of version 3, which may come in pieces of any size, and knows the
+/// verdict as soon as there is one. A verdict names the lines of the text.
+///
+/// It keeps at most one unfinished line, the specification, the starting words, room for the
+/// entries of at most 8,192 bytes, and what [`Judge`](vyrd_judge::Judge) keeps. The time grows with
+/// the bytes. Once `feed` has found no memory, it and `finish` say so from then on.
+///
+/// Besides, it keeps on which lines the entries stand, since a verdict may name any of them: where
+/// each run of them begins that no note interrupts. So its memory grows with the notes between
+/// entries.
+pub struct OwnChecker {
+    text: OwnTextJudge,
+    so_far: Option<Verdict>,
+    has_failed: bool,
+    ghost sound: { IsSound
+        (record { kept = kept_in text; so_far = so_far; has_failed = has_failed }) },
+}
+
+impl Drop for OwnChecker {
+    /// By hand, so that dropping a checker is one call to prove, and not the drop of each of its
+    /// parts.
+    fn drop(self) {
+        let OwnChecker {
+            text,
+            so_far: _,
+            has_failed: _,
+        } = self;
+        drop(text);
+    }
+}
+
+impl OwnChecker {
+    ghost use Rattle.vyrd_own_check.specs.CheckerView.{checker_in};
+
+    /// A checker that has followed no byte. A log with more than `max_lines` lines is malformed;
+    /// `max_lines` is from 1 to 268,435,456. It takes no memory.
+    pub fn new(alloc: Global, max_lines: u64) -> OwnChecker
+        requires low { 1 ≤ max_lines }
+        requires high { max_lines ≤ most_lines }
+        ensures checked { HasChecked (checker_in result) [] }
+        ensures limit { limit_of (checker_in result).kept ≡ max_lines }
+        ensures so_far { (checker_in result).so_far ≡ None }
+        ensures has_failed { (checker_in result).has_failed ≡ false }
+    {
+        OwnChecker {
+            text: OwnTextJudge::new(alloc, max_lines),
+            so_far: None,
+            has_failed: false,
+        }
+    }
+
+    /// Follows the next piece. The answer is the verdict so far of all bytes: `None` if nothing
+    /// stands yet. Once there is a verdict it is answered again, and nothing more is read.
+    pub fn feed(&mut self, piece: &[u8]) -> Result<Option<Verdict>, AllocError>
+        ensures answer { (bytes : List ℕ) → HasChecked (checker_in self.old) bytes
+            → IfOk result
+            (λ v. v ≡ own_text_verdict_so_far (limit_of (checker_in self.old).kept) (bytes ++ piece.now)) }
+        ensures checked { (bytes : List ℕ) → HasChecked (checker_in self.old) bytes
+            → OnOk result (HasChecked (checker_in self.new) (bytes ++ piece.now)) }
+        ensures so_far { IfOk result (λ v. (checker_in self.new).so_far ≡ v) }
+        ensures has_failed { (checker_in self.new).has_failed ≡ is_err result }
+        ensures fails_again { (checker_in self.old).has_failed ≡ true → is_err result ≡ true }
+        ensures limit { limit_of (checker_in self.new).kept ≡ limit_of (checker_in self.old).kept }
+    {
+        if self.has_failed {
+            return Err(AllocError);
+        }
+        let mut rest = piece;
+        while !rest.is_empty() {
+            if let Some(verdict) = self.so_far {
+                return Ok(Some(verdict));
+            }
+            let (part, after) = rest.split_at(rest.len().min(LONGEST_PART));
+            self.feed_part(part)?;
+            rest = after;
+        }
+        Ok(self.so_far)
+    }
+
+    /// The verdict about all bytes, if the input ends here.
+    pub fn finish(&self) -> Result<Verdict, AllocError>
+        ensures verdict { (bytes : List ℕ) → HasChecked (checker_in self.now) bytes →
+            IfOk result (λ v. v ≡ own_text_verdict (limit_of (checker_in self.now).kept) bytes) }
+        ensures has_failed { (checker_in self.now).has_failed ≡ true → is_err result ≡ true }
+    {
+        if self.has_failed {
+            return Err(AllocError);
+        }
+        match self.so_far {
+            Some(verdict) => Ok(verdict),
+            None => self.text.end(),
+        }
+    }
+
+    /// Follows a part of a piece, while no verdict stands.
+    fn feed_part(&mut self, part: &[u8]) -> Result<(), AllocError>
+        requires works { (checker_in self.old).has_failed ≡ false }
+        requires undecided { (checker_in self.old).so_far ≡ None }
+        ensures checked { (bytes : List ℕ) → HasChecked (checker_in self.old) bytes
+            → OnOk result (HasChecked (checker_in self.new) (bytes ++ part.now)) }
+        ensures has_failed { (checker_in self.new).has_failed ≡ is_err result }
+        ensures limit { limit_of (checker_in self.new).kept ≡ limit_of (checker_in self.old).kept }
+    {
+        match self.text.take_in(part) {
+            Ok(verdict) => {
+                self.so_far = verdict;
+                Ok(())
+            }
+            Err(error) => {
+                self.has_failed = true;
+                Err(error)
+            }
+        }
+    }
+}
+
+/// The verdict about these bytes as a whole input of at most `max_lines` lines, from 1 to
+/// 268,435,456.
+///
+/// The bytes are read where they lie. Time and memory are those of a [`OwnChecker`]. The only error is
+/// out of memory, and then nothing is known of the log.
+pub fn own_verdict_of(alloc: Global, max_lines: u64, bytes: &[u8]) -> Result<Verdict, AllocError>
+    requires low { 1 ≤ max_lines }
+    requires high { max_lines ≤ most_lines }
+    ensures { IfOk result (λ v. v ≡ own_text_verdict max_lines bytes.now) }
+{
+    let mut checker = OwnChecker::new(alloc, max_lines);
+    checker.feed(bytes)?;
+    checker.finish()
+}

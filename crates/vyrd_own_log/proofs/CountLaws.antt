@@ -1,0 +1,166 @@
+-- What whole lines bring, counted.
+use Rattle.std.proofs.Common.{◌≡◌, ℕ, ◌+◌, ◌≤◌, Bool, true, false, cond, List, [], ◌∷◌, ◌++◌, length, Option, Some, None, refl, ap, sym, ◌∙◌, subst, arith, length-append}
+use Rattle.std.specs.Prelude.{nat_lt, is_some}
+use Rattle.std.specs.Str.{bytes_eq}
+use Rattle.vyrd_base.specs.declared.header.Header as headers
+use Rattle.vyrd_base.specs.declared.own.line.SpecificationLine.{SpecificationLine}
+use Rattle.vyrd_base.specs.declared.own.line.SpecificationLine.TheVariants as told
+use Rattle.vyrd_base.specs.declared.log.Entry.{Entry}
+use Rattle.vyrd_base.specs.declared.log.StartWord.{StartWord}
+use Rattle.vyrd_base.specs.declared.verdict.Rule.{Rule}
+use Rattle.vyrd_base.specs.declared.verdict.Rule.TheVariants as rules
+use Rattle.vyrd_base.specs.Spelling.{end_line}
+use Rattle.vyrd_base.specs.Starts.{start_rule}
+use Rattle.vyrd_base.specs.Lines.{start_in}
+use Rattle.vyrd_base.specs.Reading.{has_any}
+use Rattle.vyrd_base.specs.Own.Reader.{SoFar, read_next}
+use Rattle.vyrd_base.specs.Own.Entries.{own_entry_in}
+use Rattle.vyrd_base.specs.Own.Log.{is_note, own_header_in}
+use Rattle.vyrd_own_log.specs.declared.stage.Stage.{Stage}
+use Rattle.vyrd_own_log.specs.declared.stage.Stage.TheVariants as stages
+use Rattle.vyrd_own_log.specs.declared.stage.Found.{Found}
+use Rattle.vyrd_own_log.specs.declared.stage.Found.TheVariants as found
+use Rattle.vyrd_own_log.specs.States.{LineState, has_ended}
+use Rattle.vyrd_own_log.specs.Steps.{next, broken, header_step, specification_step, spelled_step, entry_step, word_step, start_step, starts_step, stage_step, own_step, Brought, nothing_brought, brought_then, brought_by, starts_of, entries_of, numbers_of}
+use Rattle.vyrd_own_log.specs.Grown.{ends}
+use Rattle.vyrd_own_log.proofs.ReaderLaws.{and_nothing}
+
+-- whether no starting word comes any more
+abbrev pub is_past : Stage → Bool
+is_past stages.Header = false
+is_past (stages.Specification h) = false
+is_past (stages.Starts h last) = false
+is_past (stages.Entries h) = true
+is_past (stages.End h) = true
+
+-- what lines have brought to a reader
+pub record IsCounted (r : LineState) (b : Brought) : Type 0 where
+  pub past : has_any b.entries ≡ true → is_past r.stage ≡ true
+  pub numbered : length b.numbers ≡ length b.starting + length b.entries + ends (has_ended r.stage)
+  pub few : length b.numbers + 1 ≤ r.line
+
+-- what one line brings to a reader at this stage and on this line
+record Counts (st : Stage) (n : ℕ) (s : LineState × Found) : Type 0 where
+  past : is_past st ≡ true → is_past s.0.stage ≡ true
+  begun : has_any (entries_of s.1) ≡ true → is_past s.0.stage ≡ true
+  numbered : length (numbers_of n s.1) + ends (has_ended st)
+      ≡ length (starts_of s.1) + length (entries_of s.1) + ends (has_ended s.0.stage)
+  few : length (numbers_of n s.1) + n ≤ s.0.line
+
+-- nothing, where nothing moves
+left : (st : Stage) (n : ℕ) (t : LineState) → t.stage ≡ st → t.line ≡ n → Counts st n (t, found.Nothing)
+left st n t same here =
+    let all : ends (has_ended t.stage) ≡ ends (has_ended st) = ap (λ s. ends (has_ended s)) same in record {
+      past = λ e. ap is_past same ∙ e;
+      begun = λ e. cc;
+      numbered = omega (arith, all);
+      few = omega (arith, here);
+    }
+
+-- something, and the next line
+moved : (st to : Stage) (n : ℕ) (x : Found) (t : LineState) → t.stage ≡ to → t.line ≡ n + 1 → (is_past st ≡ true → is_past to ≡ true)
+    → (has_any (entries_of x) ≡ true → is_past to ≡ true)
+    → length (numbers_of n x) + ends (has_ended st) ≡ length (starts_of x) + length (entries_of x) + ends (has_ended to)
+    → length (numbers_of n x) ≤ 1 → Counts st n (t, x)
+moved st to n x t same here past begun numbered one = record {
+  past = λ e. ap is_past same ∙ past e;
+  begun = λ e. ap is_past same ∙ begun e;
+  numbered = numbered ∙ ap (λ s. length (starts_of x) + length (entries_of x) + ends (has_ended s)) (sym same);
+  few = omega (arith, here, one);
+}
+
+module _ (r : LineState) (line : List ℕ) where
+  broken_counts : (st : Stage) (rule : Rule) → r.stage ≡ st → Counts st r.line (broken r rule)
+  broken_counts st rule e = left st r.line (broken r rule).0 e refl
+
+  header_counts : (o : Option headers.Header) → r.stage ≡ stages.Header → Counts stages.Header r.line (header_step r o)
+  header_counts None e = broken_counts stages.Header rules.BadHeader e
+  header_counts (Some h) e = moved stages.Header (stages.Specification h) r.line found.Nothing (next r (stages.Specification h)) refl refl
+      (λ f. cc) (λ f. cc) refl (omega arith)
+
+  specification_counts : (h : headers.Header) (x : SpecificationLine) (t : SoFar) → r.stage ≡ stages.Specification h
+      → Counts (stages.Specification h) r.line (specification_step r h (x, t))
+  specification_counts h told.More t e =
+      moved (stages.Specification h) (stages.Specification h) r.line found.Specified (next (record r { said = t }) (stages.Specification h)) refl refl
+      (λ f. cc) (λ f. cc) refl (omega arith)
+  specification_counts h told.Log t e =
+      moved (stages.Specification h) (stages.Starts h None) r.line found.Nothing (next (record r { said = t }) (stages.Starts h None)) refl refl
+      (λ f. cc) (λ f. cc) refl (omega arith)
+  specification_counts h (told.Refused rule column) t e =
+      left (stages.Specification h) r.line (broken (record r { said = t }) (rules.Specification rule)).0 e refl
+
+  entry_counts : (st : Stage) (h : headers.Header) → r.stage ≡ st → has_ended st ≡ false → Counts st r.line (entry_step r h line)
+  entry_counts st h e open_yet = by_tests (is_note line) (bytes_eq line end_line) (own_entry_in r.said.specification line)
+    where
+      none : ends (has_ended st) ≡ 0
+      none = ap ends open_yet
+
+      by_tests : (note is_end : Bool) (o : Option Entry)
+          → Counts st r.line (cond note (next r (stages.Entries h), found.Nothing) (cond is_end (next r (stages.End h), found.End) (spelled_step r h o)))
+      by_tests true is_end o =
+          moved st (stages.Entries h) r.line found.Nothing (next r (stages.Entries h)) refl refl (λ f. refl) (λ f. refl) (omega (arith, none)) (omega arith)
+      by_tests false true o =
+          moved st (stages.End h) r.line found.End (next r (stages.End h)) refl refl (λ f. refl) (λ f. refl) (omega (arith, none)) (omega arith)
+      by_tests false false None = broken_counts st rules.BadEntry e
+      by_tests false false (Some x) =
+          moved st (stages.Entries h) r.line (found.Entry x) (next r (stages.Entries h)) refl refl (λ f. refl) (λ f. refl) (omega (arith, none)) (omega arith)
+
+  starts_count : (h : headers.Header) (last : Option StartWord) → r.stage ≡ stages.Starts h last
+      → Counts (stages.Starts h last) r.line (starts_step r h last line)
+  starts_count h last e = by_tests (is_note line) (start_in line)
+    where
+      by_rule : (s : StartWord) (o : Option Rule) → Counts (stages.Starts h last) r.line (word_step r h s o)
+      by_rule s None = moved (stages.Starts h last) (stages.Starts h (Some s)) r.line (found.Start s) (next r (stages.Starts h (Some s))) refl refl
+          (λ f. cc) (λ f. cc) refl (omega arith)
+      by_rule s (Some rule) = broken_counts (stages.Starts h last) rule e
+
+      by_tests : (note : Bool) (o : Option StartWord)
+          → Counts (stages.Starts h last) r.line (cond note (next r (stages.Starts h last), found.Nothing) (start_step r h last line o))
+      by_tests true o = moved (stages.Starts h last) (stages.Starts h last) r.line found.Nothing (next r (stages.Starts h last)) refl refl
+          (λ f. cc) (λ f. cc) refl (omega arith)
+      by_tests false None = entry_counts (stages.Starts h last) h e refl
+      by_tests false (Some s) = by_rule s (start_rule h last s)
+
+  stage_counts : (st : Stage) → r.stage ≡ st → Counts st r.line (stage_step r st line)
+  stage_counts stages.Header e = header_counts (own_header_in line) e
+  stage_counts (stages.Specification h) e = specification_counts h (read_next r.said line).0 (read_next r.said line).1 e
+  stage_counts (stages.Starts h last) e = starts_count h last e
+  stage_counts (stages.Entries h) e = entry_counts (stages.Entries h) h e refl
+  stage_counts (stages.End h) e = broken_counts (stages.End h) rules.AfterEnd e
+
+  step_counts : Counts r.stage r.line (own_step r line)
+  step_counts = by_tests (is_some r.fault) (nat_lt r.max_lines r.line)
+    where
+      by_tests : (faulty past : Bool)
+          → Counts r.stage r.line (cond faulty (r, found.Nothing) (cond past (broken r rules.TooManyLines) (stage_step r r.stage line)))
+      by_tests true past = left r.stage r.line r refl refl
+      by_tests false true = broken_counts r.stage rules.TooManyLines refl
+      by_tests false false = stage_counts r.stage refl
+
+  pub line_counted : (b : Brought) → IsCounted r b
+      → IsCounted (own_step r line).0 (brought_then b (brought_by r.line line (own_step r line).1))
+  line_counted b counted =
+      let x : Found = (own_step r line).1 in
+      let one : Counts r.stage r.line (own_step r line) = step_counts in
+      let numbers = length-append b.numbers (numbers_of r.line x) in
+      let starting = length-append b.starting (starts_of x) in
+      let entries = length-append b.entries (entries_of x) in record {
+        past = by_entries b.entries counted.past;
+        numbered = omega (arith, numbers, starting, entries, counted.numbered, one.numbered);
+        few = omega (arith, numbers, counted.few, one.few);
+      }
+    where
+      by_entries : (es : List Entry) → (has_any es ≡ true → is_past r.stage ≡ true)
+          → has_any (es ++ entries_of (own_step r line).1) ≡ true → is_past (own_step r line).0.stage ≡ true
+      by_entries [] past e = step_counts.begun e
+      by_entries (y ∷ es) past e = step_counts.past (past refl)
+
+-- bytes that bring nothing
+pub same_counted : (r n : LineState) (b : Brought) → n.stage ≡ r.stage → n.line ≡ r.line → IsCounted r b
+    → IsCounted n (brought_then b nothing_brought)
+same_counted r n b stage line counted =
+    subst (IsCounted n) (sym (and_nothing b)) (record {
+      past = λ e. ap is_past stage ∙ counted.past e;
+      numbered = counted.numbered ∙ ap (λ s. length b.starting + length b.entries + ends (has_ended s)) (sym stage);
+      few = omega (arith, counted.few, line);
+    })
