@@ -1,0 +1,170 @@
+-- Bytes that begin as a log with a specification in front does, and bytes that don't.
+use Rattle.std.proofs.Common.{◌≡◌, ℕ, ◌+◌, ◌-◌, ◌<◌, ◌≤◌, min, Bool, true, false, List, [], ◌++◌, length, take, drop, Option, Some, None, refl, ap, ◌∙◌, sym, arith, append_assoc, append-nil, take-append-drop}
+use Rattle.std.specs.Prelude.{◌≢◌, ◌==◌, nat_le}
+use Rattle.std.specs.Option.{option_eq}
+use Rattle.std.specs.Bool.{then_some}
+use Rattle.std.specs.Str.{bytes_eq}
+use Rattle.std.proofs.lemmas.Bool.Decides.{nat_tests}
+use Rattle.std.proofs.lemmas.Slice.Eq.{bytes_eq-Decides}
+use Rattle.std.proofs.lemmas.List.{length-take, length-take-le, take_all, take-take, take_at, take-append-le, drop_at, drop-take}
+use Rattle.std.proofs.Math.Seq.{take-add}
+use Rattle.vyrd_base.specs.LogVerdicts.{own_beginning, is_own_text}
+use Rattle.vyrd_log_check.specs.Beginnings.{Matches, matched_with}
+
+isnt : (b : Bool) → (b ≡ true → ⊥) → b ≡ false
+isnt b never = by_value b refl
+  where
+    by_value : (x : Bool) → b ≡ x → x ≡ false
+    by_value true e = absurd (never e)
+    by_value false e = refl
+
+both : (b : Bool) → b ≡ true → b ≡ false → ⊥
+both b e f = cc
+
+-- the bytes of the beginning, and that there are eleven
+pub begun : (bytes : List ℕ) → is_own_text bytes ≡ true → take 11 bytes ≡ own_beginning
+begun bytes is = (bytes_eq-Decides (take 11 bytes) own_beginning).0 is
+
+begins : (bytes : List ℕ) → take 11 bytes ≡ own_beginning → is_own_text bytes ≡ true
+begins bytes is = (bytes_eq-Decides (take 11 bytes) own_beginning).1 is
+
+long : (bytes : List ℕ) → is_own_text bytes ≡ true → 11 ≤ length bytes
+long bytes is =
+    let eleven : length (take 11 bytes) ≡ 11 = ap length (begun bytes is) in
+    omega (arith, eleven, length-take 11 bytes)
+
+pub begins_longer : (bytes more : List ℕ) → is_own_text bytes ≡ true
+    → is_own_text (bytes ++ more) ≡ true
+begins_longer bytes more is =
+    begins (bytes ++ more) (take-append-le 11 bytes more (long bytes is) ∙ begun bytes is)
+
+pub short_isnt : (bytes : List ℕ) → length bytes < 11 → is_own_text bytes ≡ false
+short_isnt bytes short = isnt (is_own_text bytes) (λ is. omega (arith, long bytes is))
+
+-- bytes that don't begin so, of which longer ones do
+pub part_of : (bytes more : List ℕ) → is_own_text bytes ≡ false
+    → is_own_text (bytes ++ more) ≡ true
+    → (length bytes < 11) × (bytes ≡ take (length bytes) own_beginning)
+part_of bytes more isnt_yet later = by_length (nat_le 11 (length bytes)) refl
+  where
+    by_length : (b : Bool) → nat_le 11 (length bytes) ≡ b
+        → (length bytes < 11) × (bytes ≡ take (length bytes) own_beginning)
+    by_length true e =
+        let enough : 11 ≤ length bytes = grind (arith, nat_tests) in
+        absurd (both (is_own_text bytes)
+        (begins bytes (sym (take-append-le 11 bytes more enough) ∙ begun (bytes ++ more) later))
+        isnt_yet)
+    by_length false e =
+        let short : length bytes < 11 = grind (arith, nat_tests) in (
+          short,
+          sym (take_at bytes more (length bytes) refl)
+              ∙ sym (take-take (length bytes) 11 (bytes ++ more) (omega (arith, short)))
+              ∙ ap (take (length bytes)) (begun (bytes ++ more) later),
+        )
+
+-- a part of the beginning, with a piece behind it
+module _ (n : ℕ) (bytes piece : List ℕ) (few : n < 11) (is : bytes ≡ take n own_beginning) where
+  abbrev part : ℕ
+  part = min (length piece) (11 - n)
+
+  count : length bytes ≡ n
+  count =
+      let eleven : length own_beginning ≡ 11 = refl in
+      ap length is ∙ length-take-le n own_beginning (omega (arith, few, eleven))
+
+  goes_on : (m : ℕ) → matched_with n piece ≡ Some m
+      → (m ≡ n + part) × (bytes ++ take part piece ≡ take m own_beginning)
+  goes_on m found = by_test (bytes_eq (take part piece) (take part (drop n own_beginning))) refl found
+    where
+      by_test : (b : Bool) → bytes_eq (take part piece) (take part (drop n own_beginning)) ≡ b
+          → then_some b (n + part) ≡ Some m
+          → (m ≡ n + part) × (bytes ++ take part piece ≡ take m own_beginning)
+      by_test true e f =
+          let same = (bytes_eq-Decides (take part piece) (take part (drop n own_beginning))).0 e in
+          let place : m ≡ n + part = cc in (
+            place,
+            (λ i. is i ++ same i) ∙ sym (take-add n part own_beginning)
+                ∙ ap (λ k. take k own_beginning) (sym place),
+          )
+      by_test false e f = cc
+
+  -- the beginning has come as a whole
+  pub whole_comes : matched_with n piece ≡ Some 11
+      → bytes ++ piece ≡ own_beginning ++ drop (11 - n) piece
+  whole_comes found =
+      let g = goes_on 11 found in
+      let size : part ≡ 11 - n = omega (arith, g.0, few) in
+      ap (λ xs. bytes ++ xs) (sym (take-append-drop part piece))
+      ∙ sym (append_assoc bytes (take part piece) (drop part piece))
+      ∙ (λ i. g.1 i ++ drop (size i) piece)
+
+  -- more of it has come
+  pub more_comes : (m : ℕ) → matched_with n piece ≡ Some m → m ≢ 11
+      → (m < 11) × (bytes ++ piece ≡ take m own_beginning)
+  more_comes m found other =
+      let g = goes_on m found in
+      let below : m < 11 = omega (arith, g.0, few, other) in
+      let all : length piece ≤ part = omega (arith, g.0, below) in
+      (below, ap (λ xs. bytes ++ xs) (sym (take_all part piece all)) ∙ g.1)
+
+  -- the piece differs from what comes next
+  pub other_comes : matched_with n piece ≡ None → (more : List ℕ)
+      → is_own_text ((bytes ++ piece) ++ more) ≡ false
+  other_comes none more = isnt (is_own_text ((bytes ++ piece) ++ more))
+      (λ so. by_test (bytes_eq (take part piece) (take part (drop n own_beginning))) refl none so)
+    where
+      next : is_own_text ((bytes ++ piece) ++ more) ≡ true
+          → take part piece ≡ take part (drop n own_beginning)
+      next so =
+          let all = (bytes ++ piece) ++ more in
+          let room : n + (11 - n) ≡ 11 = omega (arith, few) in
+          sym (take-append-le part piece more (omega arith))
+          ∙ sym (take-take part (11 - n) (piece ++ more) (omega arith))
+          ∙ ap (λ xs. take part (take (11 - n) xs))
+          (sym (drop_at bytes (piece ++ more) n count) ∙ ap (drop n) (sym (append_assoc bytes piece more)))
+          ∙ ap (take part) (sym (drop-take n (11 - n) all))
+          ∙ ap (λ k. take part (drop n (take k all))) room
+          ∙ ap (λ xs. take part (drop n xs)) (begun all so)
+
+      by_test : (b : Bool) → bytes_eq (take part piece) (take part (drop n own_beginning)) ≡ b
+          → then_some b (n + part) ≡ None → is_own_text ((bytes ++ piece) ++ more) ≡ true → ⊥
+      by_test true e f so = cc
+      by_test false e f so = both (bytes_eq (take part piece) (take part (drop n own_beginning)))
+          ((bytes_eq-Decides (take part piece) (take part (drop n own_beginning))).1 (next so)) e
+
+-- bytes that are known not to begin so
+pub matches_isnt : (matched : Option ℕ) (bytes : List ℕ) → Matches matched bytes
+    → is_own_text bytes ≡ false
+matches_isnt None bytes m = ap is_own_text (sym (append-nil bytes)) ∙ m []
+matches_isnt (Some n) bytes m =
+    let eleven : length own_beginning ≡ 11 = refl in
+    short_isnt bytes (omega (arith, ap length m.1, length-take-le n own_beginning (omega (arith, m.0, eleven)), m.0))
+
+-- longer ones
+pub other_longer : (bytes more : List ℕ) → Matches None bytes → Matches None (bytes ++ more)
+other_longer bytes more never = λ rest. ap is_own_text (append_assoc bytes more rest) ∙ never (more ++ rest)
+
+-- how far bytes match with a piece behind them, if the beginning hasn't come as a whole
+pub matches_on : (n : ℕ) (bytes piece : List ℕ) (now : Option ℕ) → Matches (Some n) bytes
+    → now ≡ matched_with n piece → (now ≡ Some 11 → ⊥) → Matches now (bytes ++ piece)
+matches_on n bytes piece None m is other = other_comes n bytes piece m.0 m.1 (sym is)
+matches_on n bytes piece (Some k) m is other =
+    more_comes n bytes piece m.0 m.1 k (sym is) (λ e. other (ap Some e))
+
+-- no more has come than there is
+pub within : (n : ℕ) (piece : List ℕ) (m : ℕ) → n < 11 → matched_with n piece ≡ Some m → m ≢ 11 → m < 11
+within n piece m few found other =
+    by_test (bytes_eq (take (min (length piece) (11 - n)) piece) (take (min (length piece) (11 - n)) (drop n own_beginning))) found
+  where
+    by_test : (b : Bool) → then_some b (n + min (length piece) (11 - n)) ≡ Some m → m < 11
+    by_test true f = let place : m ≡ n + min (length piece) (11 - n) = cc in omega (arith, place, few, other)
+    by_test false f = cc
+
+-- what a test of a place tells
+pub is_place : (o : Option ℕ) (n : ℕ) → true ≡ option_eq (λ x y. x == y) o (Some n) → o ≡ Some n
+is_place None n e = cc
+is_place (Some k) n e = let same : k ≡ n = grind (arith, nat_tests) in ap Some same
+
+pub isnt_place : (o : Option ℕ) (n : ℕ) → false ≡ option_eq (λ x y. x == y) o (Some n) → o ≡ Some n → ⊥
+isnt_place None n e f = cc
+isnt_place (Some k) n e f = let same : k ≡ n = cc in grind (arith, nat_tests)

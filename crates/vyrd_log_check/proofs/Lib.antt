@@ -1,0 +1,4 @@
+pub mod BeginningLaws
+pub mod SoFarLaws
+pub mod LogLasts
+pub mod CheckedLaws

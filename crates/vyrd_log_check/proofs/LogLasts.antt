@@ -1,0 +1,123 @@
+-- A verdict about the bytes of a log of any version that stands stands for all longer bytes.
+use Rattle.std.proofs.Common.{◌≡◌, ℕ, zero, suc, ◌<◌, ◌≤◌, Bool, true, false, cond, ◌&&◌, List, [], ◌∷◌, ◌++◌, length, take, Some, None, refl, ap, ◌∙◌, sym, arith}
+use Rattle.std.specs.Prelude.{◌==◌, nat_lt, not}
+use Rattle.std.proofs.lemmas.Bool.Decides.{nat_tests}
+use Rattle.std.proofs.lemmas.List.{length-take-le}
+use Rattle.std.proofs.Math.Bool.{and-false}
+use Rattle.vyrd_base.specs.declared.verdict.Verdict.{Verdict}
+use Rattle.vyrd_base.specs.declared.verdict.Rule.TheVariants.{TooManyLines, BadHeader, NoLineFeed, NoEnd}
+use Rattle.vyrd_base.specs.Shape.{◌breaks◌, first_broken}
+use Rattle.vyrd_base.specs.Reading.{has_any, stopped, text_read, reading}
+use Rattle.vyrd_base.specs.TextVerdicts.{known_verdict, text_verdict, text_verdict_so_far}
+use Rattle.vyrd_base.specs.Own.LogVerdicts.{own_text_verdict, own_text_verdict_so_far}
+use Rattle.vyrd_base.specs.LogVerdicts.{own_beginning, is_own_text, log_verdict, log_verdict_so_far}
+use Rattle.vyrd_base.proofs.TestLaws.{both_true, first_true, second_true}
+use Rattle.vyrd_base.proofs.SplitLaws.{lacks, split_whole}
+use Rattle.vyrd_base.proofs.TextLasts.{text_verdict_lasts, text_verdict_stands}
+use Rattle.vyrd_own_check.proofs.LastLaws.{own_verdict_lasts, own_verdict_stands}
+use Rattle.vyrd_log_check.proofs.BeginningLaws.{begins_longer, part_of}
+
+-- by whether the bytes begin as a log with a specification in front does
+pub own_so_far : (max : ℕ) (bytes : List ℕ) → is_own_text bytes ≡ true
+    → log_verdict_so_far max bytes ≡ own_text_verdict_so_far max bytes
+unfolding log_verdict_so_far
+own_so_far max bytes is =
+    ap (λ b. cond b (own_text_verdict_so_far max bytes) (text_verdict_so_far max bytes)) is
+
+pub first_so_far : (max : ℕ) (bytes : List ℕ) → is_own_text bytes ≡ false
+    → log_verdict_so_far max bytes ≡ text_verdict_so_far max bytes
+unfolding log_verdict_so_far
+first_so_far max bytes is =
+    ap (λ b. cond b (own_text_verdict_so_far max bytes) (text_verdict_so_far max bytes)) is
+
+pub own_whole : (max : ℕ) (bytes : List ℕ) → is_own_text bytes ≡ true
+    → log_verdict max bytes ≡ own_text_verdict max bytes
+unfolding log_verdict
+own_whole max bytes is = ap (λ b. cond b (own_text_verdict max bytes) (text_verdict max bytes)) is
+
+pub first_whole : (max : ℕ) (bytes : List ℕ) → is_own_text bytes ≡ false
+    → log_verdict max bytes ≡ text_verdict max bytes
+unfolding log_verdict
+first_whole max bytes is = ap (λ b. cond b (own_text_verdict max bytes) (text_verdict max bytes)) is
+
+-- no bytes have no verdict yet
+pub nothing_yet : (max : ℕ) → log_verdict_so_far max [] ≡ None
+unfolding log_verdict_so_far text_verdict_so_far reading
+nothing_yet max = refl
+
+-- a beginning of a line of at most 64 bytes has none either
+unfinished : (max : ℕ) (bytes : List ℕ) → 1 ≤ max → lacks 10 bytes ≡ true → length bytes ≤ 64
+    → text_verdict_so_far max bytes ≡ None
+unfolding text_verdict_so_far reading
+unfinished max bytes low one few =
+    let allowed : nat_lt max 1 ≡ false = grind (arith, nat_tests) in
+    let short : nat_lt 64 (length bytes) ≡ false = grind (arith, nat_tests) in
+    ap (λ lines. known_verdict (text_read (record { max_lines = max; is_whole = false }) lines))
+    (split_whole 10 bytes one)
+    ∙ (λ i. known_verdict (stopped 1 (first_broken (
+    (has_any bytes && allowed i breaks TooManyLines)
+    ∷ (short i breaks BadHeader) ∷ (has_any bytes && false breaks NoLineFeed)
+    ∷ (false breaks NoEnd) ∷ []))))
+    ∙ ap (λ b. known_verdict (stopped 1 (first_broken ((b breaks TooManyLines)
+    ∷ (false breaks BadHeader) ∷ (b breaks NoLineFeed) ∷ (false breaks NoEnd) ∷ [])))) (and-false (has_any bytes))
+
+lacks_take : (b n : ℕ) (xs : List ℕ) → lacks b xs ≡ true → lacks b (take n xs) ≡ true
+lacks_take b zero xs e = refl
+lacks_take b (suc n) [] e = refl
+lacks_take b (suc n) (x ∷ xs) e = both_true (not (x == b)) _ (first_true (not (x == b)) _ e)
+    (lacks_take b n xs (second_true (not (x == b)) _ e))
+
+-- nor has a part of the beginning
+part_has_none : (max n : ℕ) → 1 ≤ max → n < 11
+    → text_verdict_so_far max (take n own_beginning) ≡ None
+part_has_none max n low few =
+    let eleven : length own_beginning ≡ 11 = refl in
+    unfinished max (take n own_beginning) low (lacks_take 10 n own_beginning refl)
+    (omega (arith, few, eleven, length-take-le n own_beginning (omega (arith, few, eleven))))
+
+never : (max : ℕ) (bytes more : List ℕ) (v : Verdict) → 1 ≤ max → is_own_text bytes ≡ false
+    → is_own_text (bytes ++ more) ≡ true → text_verdict_so_far max bytes ≡ Some v → ⊥
+never max bytes more v low isnt later found =
+    let p = part_of bytes more isnt later in
+    none_is_some (sym (ap (text_verdict_so_far max) p.1
+    ∙ part_has_none max (length bytes) low p.0) ∙ found)
+  where
+    none_is_some : None ≡ Some v → ⊥
+    none_is_some e = cc
+
+-- a verdict about bytes that stands stands for all longer bytes
+pub log_verdict_lasts : (max : ℕ) (bytes more : List ℕ) (v : Verdict) → 1 ≤ max → max ≤ 268435456
+    → log_verdict_so_far max bytes ≡ Some v → log_verdict_so_far max (bytes ++ more) ≡ Some v
+log_verdict_lasts max bytes more v low high found =
+    by_kind (is_own_text bytes) (is_own_text (bytes ++ more)) refl refl
+  where
+    by_kind : (b c : Bool) → is_own_text bytes ≡ b → is_own_text (bytes ++ more) ≡ c
+        → log_verdict_so_far max (bytes ++ more) ≡ Some v
+    by_kind true c is later =
+        own_so_far max (bytes ++ more) (begins_longer bytes more is)
+        ∙ own_verdict_lasts max bytes more v (record { low = low; high = high })
+        (sym (own_so_far max bytes is) ∙ found)
+    by_kind false true is later = absurd (never max bytes more v low is later
+        (sym (first_so_far max bytes is) ∙ found))
+    by_kind false false is later =
+        first_so_far max (bytes ++ more) later
+        ∙ text_verdict_lasts max bytes more v low (sym (first_so_far max bytes is) ∙ found)
+
+pub log_verdict_stands : (max : ℕ) (bytes more : List ℕ) (v : Verdict) → 1 ≤ max → max ≤ 268435456
+    → log_verdict_so_far max bytes ≡ Some v → log_verdict max (bytes ++ more) ≡ v
+log_verdict_stands max bytes more v low high found =
+    by_kind (is_own_text bytes) (is_own_text (bytes ++ more)) refl refl
+  where
+    by_kind : (b c : Bool) → is_own_text bytes ≡ b → is_own_text (bytes ++ more) ≡ c
+        → log_verdict max (bytes ++ more) ≡ v
+    by_kind true c is later =
+        own_whole max (bytes ++ more) (begins_longer bytes more is)
+        ∙ own_verdict_stands max bytes more v (record { low = low; high = high })
+        (sym (own_so_far max bytes is) ∙ found)
+    by_kind false true is later = absurd (never max bytes more v low is later
+        (sym (first_so_far max bytes is) ∙ found))
+    by_kind false false is later =
+        first_whole max (bytes ++ more) later
+        ∙ text_verdict_stands max bytes more v low (sym (first_so_far max bytes is) ∙ found)
+
+pub ruleset lasting = (log_verdict_lasts, log_verdict_stands)
