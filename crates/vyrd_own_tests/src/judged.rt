@@ -6,6 +6,7 @@ use crate::specifications::{
 use std::alloc::{AllocError, Global};
 use std::process::Abort;
 use vyrd_base::{Rule, Verdict, Why};
+use vyrd_log_check::LogChecker;
 use vyrd_own_check::own_verdict_of;
 
 /// A specification, what stands behind it, and the verdict. Behind `COUNTER` line 15 comes, behind
@@ -354,5 +355,84 @@ fn are_judged(alloc: Global) -> Result<bool, AllocError> {
 #[test]
 fn logs_of_known_structures(rt: HostRuntime) -> Result<(), AllocError> {
     assert!(&rt; are_judged(rt.alloc())?);
+    Ok(())
+}
+
+/// Texts that begin as a log of some version does, and the verdict.
+const BEGINNINGS: &[(&str, Verdict)] = &[
+    (
+        "",
+        Verdict::Malformed {
+            line: 1,
+            rule: Rule::NoEnd,
+        },
+    ),
+    (
+        "vyrd 3 own ",
+        Verdict::Malformed {
+            line: 1,
+            rule: Rule::NoLineFeed,
+        },
+    ),
+    (
+        "vyrd 3 owl 1 1\nend\n",
+        Verdict::Malformed {
+            line: 1,
+            rule: Rule::BadHeader,
+        },
+    ),
+    (
+        "vyrd 3 multiset 1 1\nend\n",
+        Verdict::Malformed {
+            line: 1,
+            rule: Rule::UnknownVersion,
+        },
+    ),
+    (
+        "vyrd 1 multiset 1 1\n0 call lookup 5\n0 return 1\nend\n",
+        Verdict::Violation {
+            line: 3,
+            why: Why::Observer(1),
+        },
+    ),
+    (
+        "vyrd 3 own 0 1\nmethod m\n  answer 7\nlog\n0 call m\n0 return 1\nend\n",
+        Verdict::Violation {
+            line: 6,
+            why: Why::Observer(1),
+        },
+    ),
+];
+
+/// Whether the verdict about the text is this, if it comes in two pieces, of which the first has so
+/// many bytes.
+fn is_answered(
+    alloc: Global,
+    text: &[u8],
+    first: usize,
+    verdict: Verdict,
+) -> Result<bool, AllocError> {
+    let mut checker = LogChecker::new(alloc, 1000);
+    let (front, back) = text.split_at(first.min(text.len()));
+    checker.feed(front)?;
+    checker.feed(back)?;
+    Ok(checker.finish()? == verdict)
+}
+
+/// Whether each text has its verdict in any two pieces.
+fn are_answered(alloc: Global) -> Result<bool, AllocError> {
+    for (text, verdict) in BEGINNINGS {
+        for first in 0..=text.len() {
+            if !is_answered(alloc, text.as_bytes(), first, *verdict)? {
+                return Ok(false);
+            }
+        }
+    }
+    Ok(true)
+}
+
+#[test]
+fn logs_of_any_version_in_two_pieces(rt: HostRuntime) -> Result<(), AllocError> {
+    assert!(&rt; are_answered(rt.alloc())?);
     Ok(())
 }
