@@ -1,6 +1,5 @@
 pub mod WholeFacts
 pub mod ReadingFacts
-pub mod EndFacts
 pub mod PieceLaws
 pub mod FedLaws
 pub mod BuiltInLaws

@@ -1,4 +1,5 @@
 pub mod EndingLaws
+pub mod EndFacts
 pub mod AlikeLaws
 pub mod PartLaws
 pub mod HistoryLaws

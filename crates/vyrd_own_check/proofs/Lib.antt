@@ -1,7 +1,6 @@
 pub mod PlaceLaws
 pub mod LastLaws
 pub mod ReadingFacts
-pub mod EndFacts
 pub mod PieceLaws
 pub mod FedLaws
 pub mod CheckedLaws

@@ -31,8 +31,8 @@ pub record IsLimit (max : ℕ) : Type 0 where
 abbrev pub charter_in : OwnReading → Option Charter
 charter_in read = option_map (λ h. own h read.lines) read.header
 
--- what is wrong with what was read by the rules of that name, told as if starting words, entries and
--- `end` stood right behind the header
+-- what is wrong with what was read by the rules of that name, told as if starting words, entries
+-- and `end` stood right behind the header
 abbrev pub untold_by : OwnReading → Charter → Option Verdict
 untold_by read charter = option_or
     (verdict_so_far (rules_by charter) read.starting read.entries)

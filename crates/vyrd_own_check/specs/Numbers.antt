@@ -7,7 +7,8 @@ use Rattle.vyrd_own_check.specs.declared.run.Run.{Run}
 abbrev pub number_in : Run → ℕ → ℕ
 number_in run place = run.line + (place - run.place)
 
--- the number at a place, by the last run that begins up to there; `found` is that of the runs before
+-- the number at a place, by the last run that begins up to there; `found` is that of the runs
+-- before
 abbrev pub number_from : ℕ → List Run → ℕ → ℕ
 number_from found [] place = found
 number_from found (run ∷ runs) place =

@@ -68,8 +68,8 @@ impl OwnChecker {
     /// stands yet. Once there is a verdict it is answered again, and nothing more is read.
     pub fn feed(&mut self, piece: &[u8]) -> Result<Option<Verdict>, AllocError>
         ensures answer { (bytes : List ℕ) → HasChecked (checker_in self.old) bytes
-            → IfOk result
-            (λ v. v ≡ own_text_verdict_so_far (limit_of (checker_in self.old).kept) (bytes ++ piece.now)) }
+            → IfOk result (λ v. v ≡ own_text_verdict_so_far
+            (limit_of (checker_in self.old).kept) (bytes ++ piece.now)) }
         ensures checked { (bytes : List ℕ) → HasChecked (checker_in self.old) bytes
             → OnOk result (HasChecked (checker_in self.new) (bytes ++ piece.now)) }
         ensures so_far { IfOk result (λ v. (checker_in self.new).so_far ≡ v) }
@@ -132,8 +132,8 @@ impl OwnChecker {
 /// The verdict about these bytes as a whole input of at most `max_lines` lines, from 1 to
 /// 268,435,456.
 ///
-/// The bytes are read where they lie. Time and memory are those of a [`OwnChecker`]. The only error is
-/// out of memory, and then nothing is known of the log.
+/// The bytes are read where they lie. Time and memory are those of an [`OwnChecker`]. The only error
+/// is out of memory, and then nothing is known of the log.
 pub fn own_verdict_of(alloc: Global, max_lines: u64, bytes: &[u8]) -> Result<Verdict, AllocError>
     requires low { 1 ≤ max_lines }
     requires high { max_lines ≤ most_lines }

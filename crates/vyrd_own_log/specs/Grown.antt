@@ -16,8 +16,8 @@ input_of max is_whole = record { max_lines = max; is_whole = is_whole }
 abbrev pub to_go_on : ℕ → Input
 to_go_on max = input_of max false
 
--- whether an entry or `end` was read: then neither lines of the specification nor starting words come
--- any more
+-- whether an entry or `end` was read: then neither lines of the specification nor starting words
+-- come any more
 abbrev pub has_begun : OwnReading → Bool
 has_begun read = has_any read.entries || read.ended
 
@@ -39,7 +39,8 @@ abbrev pub ends : Bool → ℕ
 ends true = 1
 ends false = 0
 
--- Starting words, entries and `end` have their lines, which are no more than there may be, none comes without a header, and the starting words keep both rules.
+-- Starting words, entries and `end` have their lines, which are no more than there may be, none comes
+-- without a header, and the starting words keep both rules.
 pub record IsFormed (max : ℕ) (read : OwnReading) : Type 0 where
   pub numbered : length read.numbers
       ≡ length read.starting + length read.entries + ends read.ended

@@ -16,8 +16,8 @@ use vyrd_own::Program;
 use vyrd_text::TextFault;
 
 /// A reader of a log of version 3, whose text may come in pieces of any size. It keeps the
-/// specification and its lines, the starting words and at most one unfinished line. Once `feed` has found no
-/// memory, it and `finish` say so from then on.
+/// specification and its lines, the starting words and at most one unfinished line. Once `feed` has
+/// found no memory, it and `finish` say so from then on.
 #[derive(Drop)]
 pub struct OwnLogReader {
     kept: PieceReader,

@@ -8,8 +8,8 @@ use std::alloc::{AllocError, Global};
 use vyrd_base::{Header, StartWord};
 
 /// All plain words at the start: those that the log begins with have their values, and all others
-/// are 0. The starting words are in the header's ranges, and rise. It takes time and memory for each
-/// plain word and each starting word. The only error is that memory has run out.
+/// are 0. The starting words are in the header's ranges, and rise. It takes time and memory for
+/// each plain word and each starting word. The only error is that memory has run out.
 pub fn words_at_start(
     alloc: Global,
     header: Header,

@@ -4,7 +4,7 @@ use Rattle.std.specs.Prelude.{if◌then◌else◌}
 use Rattle.vyrd_base.specs.Rules.{rules_by}
 use Rattle.vyrd_base.specs.Verdicts.{verdict_so_far, end_verdict}
 use Rattle.vyrd_own_check.specs.Checking.{IsJudging, untold_in}
-use Rattle.vyrd_own_check.proofs.EndFacts.{where_same, where_none}
+use Rattle.vyrd_judge.proofs.EndFacts.{where_same, where_none}
 use Rattle.vyrd_own_check.proofs.PieceLaws.{wrong_by, judging_on}
 use Rattle.vyrd_own_check.proofs.text_judge.follow.Goals as goal
 

@@ -8,7 +8,7 @@ use Rattle.vyrd_check.specs.LogReadings.{read_so_far}
 use Rattle.vyrd_check.specs.Checking.{Kept, IsJudging, IsUndecided}
 use Rattle.vyrd_check.proofs.ReadingFacts.{whole_faulty, whole_accepted, not_ended}
 use Rattle.vyrd_check.proofs.PieceLaws.{header_of_charter}
-use Rattle.vyrd_check.proofs.EndFacts.{where_same}
+use Rattle.vyrd_judge.proofs.EndFacts.{where_same}
 use Rattle.vyrd_check.proofs.text_judge.TextJudge.end.Goals as goal
 
 pub returns-in-Err-Malformed : goal.returns-in-Err-Malformed

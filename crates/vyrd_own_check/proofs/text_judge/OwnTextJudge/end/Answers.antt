@@ -8,7 +8,7 @@ use Rattle.vyrd_own_check.specs.KeptView.{kept_in}
 use Rattle.vyrd_own_check.specs.LogReadings.{read_so_far}
 use Rattle.vyrd_own_check.specs.Checking.{limit_of, IsJudging}
 use Rattle.vyrd_own_check.proofs.ReadingFacts.{whole_faulty, whole_accepted, not_ended}
-use Rattle.vyrd_own_check.proofs.EndFacts.{where_same}
+use Rattle.vyrd_judge.proofs.EndFacts.{where_same}
 use Rattle.vyrd_own_check.proofs.text_judge.OwnTextJudge.end.Goals as goal
 
 pub returns-in-Err-Malformed : goal.returns-in-Err-Malformed
