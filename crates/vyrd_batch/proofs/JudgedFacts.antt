@@ -4,11 +4,11 @@ use Rattle.std.specs.Prelude.{Contains, MatchResult, flat_map}
 use Rattle.std.specs.List.{AllZip, AllByRecursion}
 use Rattle.std.proofs.lemmas.List.{map-append}
 use Rattle.vyrd_base.specs.declared.verdict.Verdict.{Verdict}
-use Rattle.vyrd_base.specs.TextVerdicts.{text_verdict}
+use Rattle.vyrd_base.specs.LogVerdicts.{log_verdict}
 use Rattle.vyrd_batch.specs.declared.span.Span.{Span}
 use Rattle.vyrd_batch.specs.Batches.{bytes_of}
 use Rattle.vyrd_batch.specs.BatchAnswers.{verdicts_of}
-use Rattle.vyrd_check.specs.Checking.{most_lines}
+use Rattle.vyrd_log_check.specs.Checking.{most_lines}
 
 -- where each answer shows what it should if it is one, and all are, they all show it
 all_right : {X Y Z : Type 0} (E : Type 0) (show : Y → Z) (f : X → Z) (xs : List X) (ys : List Y)
@@ -69,6 +69,6 @@ pub flat_verdicts : (bytes : List ℕ) (spans : List Span) (parts : List (Bor (L
     → flat_map (λ verdicts. verdicts.items) judged ≡ verdicts_of (map (bytes_of bytes) spans)
 flat_verdicts bytes spans parts judged all right =
     flat_same (λ (verdicts : Vec Verdict Global). verdicts.items) (λ (part : Bor (List Span)). verdicts_of (map (bytes_of bytes) part.now)) judged parts right
-    ∙ map_parts (text_verdict most_lines) (λ (part : Bor (List Span)). map (bytes_of bytes) part.now) parts
+    ∙ map_parts (log_verdict most_lines) (λ (part : Bor (List Span)). map (bytes_of bytes) part.now) parts
     ∙ ap verdicts_of (map_parts (bytes_of bytes) (λ (part : Bor (List Span)). part.now) parts)
     ∙ ap (λ spans. verdicts_of (map (bytes_of bytes) spans)) all

@@ -7,8 +7,8 @@ use Rattle.std.proofs.Math.Seq.{take-add, take-append-add, take-append_seam, dro
 use Rattle.std.proofs.lemmas.Slice.Eq.{bytes_eq-Decides}
 use Rattle.vyrd_base.specs.declared.verdict.Verdict.{Verdict}
 use Rattle.vyrd_base.specs.Spelling.{ended_line}
-use Rattle.vyrd_base.specs.TextVerdicts.{text_verdict}
-use Rattle.vyrd_check.specs.Checking.{most_lines}
+use Rattle.vyrd_base.specs.LogVerdicts.{log_verdict}
+use Rattle.vyrd_log_check.specs.Checking.{most_lines}
 use Rattle.vyrd_batch.specs.declared.span.Span.{Span}
 use Rattle.vyrd_batch.specs.Batches.{most_logs, most_bytes, logs_end_within, first_word, log_word, log_text, last_line, Cut, first_line, log_at, span_before, logs_from, batch_reading, bytes_of, logs_of, batch_logs, LiesWithin}
 use Rattle.vyrd_batch.specs.BatchAnswers.{verdicts_of}
@@ -223,7 +223,7 @@ judged_logs input bytes old new place taken spans j cut grown = record {
       ∙ sym (append_assoc j.front (take taken bytes) (drop taken bytes));
   place_is = moved_len j.front bytes place taken j.place_is cut.within;
   verdicts_are = grown ∙ ap (λ verdicts. verdicts ++ verdicts_of here) j.verdicts_are
-      ∙ sym (map-append (λ log. text_verdict most_lines log) j.logs here);
+      ∙ sym (map-append (λ log. log_verdict most_lines log) j.logs here);
   goes_on = λ more.
       let next = take taken bytes ++ more in
       let whole = j.front ++ next in
@@ -241,7 +241,7 @@ judged_logs input bytes old new place taken spans j cut grown = record {
     logs = j.logs ++ here
 
     count : length old ≡ length j.logs
-    count = ap length j.verdicts_are ∙ length-map j.logs (λ log. text_verdict most_lines log)
+    count = ap length j.verdicts_are ∙ length-map j.logs (λ log. log_verdict most_lines log)
 
     all : length old + length spans ≡ length logs
     all = omega (arith, count, length-append j.logs here, length-map spans (bytes_of bytes))
@@ -272,7 +272,7 @@ judged_refused input rest verdicts place j apart why =
     ∙ ap Err (sym count)
   where
     count : length verdicts ≡ length j.logs
-    count = ap length j.verdicts_are ∙ length-map j.logs (λ log. text_verdict most_lines log)
+    count = ap length j.verdicts_are ∙ length-map j.logs (λ log. log_verdict most_lines log)
 
     no_more : IsNoLog (length verdicts) place rest → (most_logs - length j.logs ≡ zero) ⊎ (log_at place rest ≡ None)
     no_more (inl e) = inl (omega (arith, e, count))

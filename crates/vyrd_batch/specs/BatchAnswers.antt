@@ -6,13 +6,13 @@ use Rattle.std.specs.List.{list_any}
 use Rattle.vyrd_base.specs.declared.verdict.Verdict.{Verdict}
 use Rattle.vyrd_base.specs.declared.verdict.Verdict.TheVariants.{Violation, Malformed}
 use Rattle.vyrd_base.specs.Spelling.{ended_line}
-use Rattle.vyrd_base.specs.TextVerdicts.{text_verdict}
+use Rattle.vyrd_base.specs.LogVerdicts.{log_verdict}
 use Rattle.vyrd_base.specs.VerdictText.{verdict_text}
-use Rattle.vyrd_check.specs.Checking.{most_lines}
+use Rattle.vyrd_log_check.specs.Checking.{most_lines}
 
 -- the verdicts about logs, each as a whole input
 abbrev pub verdicts_of : List (List ℕ) → List Verdict
-verdicts_of logs = map (λ log. text_verdict most_lines log) logs
+verdicts_of logs = map (λ log. log_verdict most_lines log) logs
 
 -- the line of a log's verdict
 abbrev pub log_line : ℕ → Verdict → List ℕ

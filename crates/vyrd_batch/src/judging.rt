@@ -2,10 +2,10 @@
 
 ghost use Rattle.std.specs.Prelude.{◌≡◌, length, map, flat_map, IfOk};
 ghost use Rattle.std.specs.List.{AllByRecursion};
-ghost use Rattle.vyrd_base.specs.TextVerdicts.{text_verdict};
+ghost use Rattle.vyrd_base.specs.LogVerdicts.{log_verdict};
 ghost use Rattle.vyrd_batch.specs.Batches.{LiesWithin, bytes_of};
 ghost use Rattle.vyrd_batch.specs.BatchAnswers.{verdicts_of};
-ghost use Rattle.vyrd_check.specs.Checking.{most_lines};
+ghost use Rattle.vyrd_log_check.specs.Checking.{most_lines};
 
 use crate::parts::{part_weight, parts_of};
 use crate::span::Span;
@@ -14,7 +14,7 @@ use rayon::prelude::*;
 use std::alloc::{AllocError, Global};
 use std::thread::Threads;
 use vyrd_base::Verdict;
-use vyrd_check::verdict_of;
+use vyrd_log_check::log_verdict_of;
 
 /// How many lines a log may have.
 const MOST_LINES: u64 = 268_435_456;
@@ -84,9 +84,9 @@ fn judge_part(alloc: Global, bytes: &[u8], spans: &[Span]) -> Result<Vec<Verdict
 /// The verdict about the bytes of a span.
 fn judge_span(alloc: Global, bytes: &[u8], span: Span) -> Result<Verdict, AllocError>
     requires { LiesWithin (length bytes.now) span }
-    ensures { IfOk result (λ verdict. verdict ≡ text_verdict most_lines (bytes_of bytes.now span)) }
+    ensures { IfOk result (λ verdict. verdict ≡ log_verdict most_lines (bytes_of bytes.now span)) }
 {
-    verdict_of(alloc, MOST_LINES, &bytes[span.first..span.past])
+    log_verdict_of(alloc, MOST_LINES, &bytes[span.first..span.past])
 }
 
 /// The verdicts of all parts, in their order.

@@ -3,7 +3,7 @@ use Rattle.std.proofs.Common.{◌≡◌, ℕ, ◌≤◌, List, [], ◌++◌, Opt
 use Rattle.std.specs.Prelude.{◌⊎◌, IfSome}
 use Rattle.vyrd_base.specs.declared.verdict.Verdict.{Verdict}
 use Rattle.vyrd_base.specs.Devices.{SourceKnown, IsAtEnd}
-use Rattle.vyrd_base.specs.TextVerdicts.{text_verdict, text_verdict_so_far}
+use Rattle.vyrd_base.specs.LogVerdicts.{log_verdict, log_verdict_so_far}
 use Rattle.vyrd_base.proofs.TextLasts.{text_verdict_stands}
 use Rattle.vyrd_program.specs.Inputs.{IsTaken, IsVerdictOf}
 use Rattle.vyrd_program.specs.Outputs.{status_of}
@@ -17,14 +17,14 @@ same_bytes xs ys e = cc
 
 -- the verdict that was reached, of an input whose bytes are told
 verdict_of_told : (max : ℕ) (input taken left : List ℕ) (v : Verdict) → 1 ≤ max → input ≡ taken ++ left
-    → ((left ≡ []) × (v ≡ text_verdict max taken)) ⊎ (text_verdict_so_far max taken ≡ Some v) → v ≡ text_verdict max input
+    → ((left ≡ []) × (v ≡ log_verdict max taken)) ⊎ (log_verdict_so_far max taken ≡ Some v) → v ≡ log_verdict max input
 verdict_of_told max input taken left v low whole (inl ended) =
-    ended.1 ∙ ap (text_verdict max) (sym (whole ∙ ap (λ xs. taken ++ xs) ended.0 ∙ no_more_bytes taken))
-verdict_of_told max input taken left v low whole (inr there) = sym (ap (text_verdict max) whole ∙ text_verdict_stands max taken left v low there)
+    ended.1 ∙ ap (log_verdict max) (sym (whole ∙ ap (λ xs. taken ++ xs) ended.0 ∙ no_more_bytes taken))
+verdict_of_told max input taken left v low whole (inr there) = sym (ap (log_verdict max) whole ∙ text_verdict_stands max taken left v low there)
 
 -- the same, if they are told
 verdict_of_rest : (max : ℕ) (before after : Option (List ℕ)) (taken : List ℕ) (v : Verdict) → 1 ≤ max → IsTaken before taken after
-    → (IfSome after (λ left. left ≡ []) × (v ≡ text_verdict max taken)) ⊎ (text_verdict_so_far max taken ≡ Some v) → IsVerdictOf max before v
+    → (IfSome after (λ left. left ≡ []) × (v ≡ log_verdict max taken)) ⊎ (log_verdict_so_far max taken ≡ Some v) → IsVerdictOf max before v
 verdict_of_rest max None after taken v low told reached = tt
 verdict_of_rest max (Some input) None taken v low told reached = absurd (never told)
   where
@@ -36,21 +36,21 @@ verdict_of_rest max (Some input) (Some left) taken v low told reached =
 pub reached_judged : (max : ℕ) (before after : SourceKnown) (v : Verdict) → 1 ≤ max → IsReached max before after v → IsVerdictOf max before.rest v
 reached_judged max before after v low r = verdict_of_rest max before.rest after.rest r.taken v low r.told (by_end r.reached)
   where
-    by_end : (IsAtEnd after × (v ≡ text_verdict max r.taken)) ⊎ (text_verdict_so_far max r.taken ≡ Some v)
-        → (IfSome after.rest (λ left. left ≡ []) × (v ≡ text_verdict max r.taken)) ⊎ (text_verdict_so_far max r.taken ≡ Some v)
+    by_end : (IsAtEnd after × (v ≡ log_verdict max r.taken)) ⊎ (log_verdict_so_far max r.taken ≡ Some v)
+        → (IfSome after.rest (λ left. left ≡ []) × (v ≡ log_verdict max r.taken)) ⊎ (log_verdict_so_far max r.taken ≡ Some v)
     by_end (inl ended) = inl (ended.0.none, ended.1)
     by_end (inr there) = inr there
 
 pub reached_settled : (max : ℕ) (before after : SourceKnown) (v : Verdict) → 1 ≤ max → IsReached max before after v → IsSettled max before after
 reached_settled max before after v low r = record { taken = r.taken; told = r.told; enough = by_end r.reached }
   where
-    of_whole : (o : Option (List ℕ)) → IsVerdictOf max o v → text_verdict_so_far max r.taken ≡ Some v
-        → IfSome o (λ input. text_verdict_so_far max r.taken ≡ Some (text_verdict max input))
+    of_whole : (o : Option (List ℕ)) → IsVerdictOf max o v → log_verdict_so_far max r.taken ≡ Some v
+        → IfSome o (λ input. log_verdict_so_far max r.taken ≡ Some (log_verdict max input))
     of_whole None is there = tt
     of_whole (Some input) is there = there ∙ ap Some is
 
-    by_end : (IsAtEnd after × (v ≡ text_verdict max r.taken)) ⊎ (text_verdict_so_far max r.taken ≡ Some v)
-        → IsAtEnd after ⊎ IfSome before.rest (λ input. text_verdict_so_far max r.taken ≡ Some (text_verdict max input))
+    by_end : (IsAtEnd after × (v ≡ log_verdict max r.taken)) ⊎ (log_verdict_so_far max r.taken ≡ Some v)
+        → IsAtEnd after ⊎ IfSome before.rest (λ input. log_verdict_so_far max r.taken ≡ Some (log_verdict max input))
     by_end (inl ended) = inl ended.0
     by_end (inr there) = inr (of_whole before.rest (reached_judged max before after v low r) there)
 
@@ -58,6 +58,6 @@ reached_settled max before after v low r = record { taken = r.taken; told = r.to
 pub reached_accepted : (max : ℕ) (before after : SourceKnown) (v : Verdict) → status_of v ≡ 0 → IsReached max before after v → IsAtEnd after
 reached_accepted max before after v accepted r = by_end r.reached
   where
-    by_end : (IsAtEnd after × (v ≡ text_verdict max r.taken)) ⊎ (text_verdict_so_far max r.taken ≡ Some v) → IsAtEnd after
+    by_end : (IsAtEnd after × (v ≡ log_verdict max r.taken)) ⊎ (log_verdict_so_far max r.taken ≡ Some v) → IsAtEnd after
     by_end (inl ended) = ended.0
     by_end (inr there) = absurd (never_accepted max r.taken v there accepted)

@@ -6,9 +6,9 @@ use Rattle.std.proofs.lemmas.List.{length-take}
 use Rattle.vyrd_base.specs.declared.verdict.Verdict.{Verdict}
 use Rattle.vyrd_base.specs.Devices.{SourceKnown, Gives}
 use Rattle.vyrd_base.specs.Reading.{reading}
-use Rattle.vyrd_base.specs.TextVerdicts.{text_verdict, text_verdict_so_far}
+use Rattle.vyrd_base.specs.LogVerdicts.{log_verdict, log_verdict_so_far}
 use Rattle.vyrd_base.proofs.TextLasts.{text_verdict_lasts}
-use Rattle.vyrd_check.specs.Checking.{CheckerState, HasChecked}
+use Rattle.vyrd_log_check.specs.Checking.{LogCheckerState, HasChecked}
 use Rattle.vyrd_check.proofs.ReadingFacts.{text_right}
 use Rattle.vyrd_program.specs.Inputs.{longest_read, IsTaken}
 use Rattle.vyrd_program.specs.Checks.{has_verdict, IsReadNoFurther}
@@ -23,12 +23,12 @@ some_verdict (Some v) e = (v, refl)
 -- a verdict lasts
 verdict_there : (max : ℕ) (bytes more : List ℕ) → 1 ≤ max → has_verdict max bytes ≡ true → has_verdict max (bytes ++ more) ≡ true
 verdict_there max bytes more low e =
-    let v = some_verdict (text_verdict_so_far max bytes) e in
+    let v = some_verdict (log_verdict_so_far max bytes) e in
     ap is_some (text_verdict_lasts max bytes more v.0 low v.1)
 
 -- If bytes have no verdict and a piece follows, a beginning of all that has one is no shorter than
 -- they.
-begins_later : (max : ℕ) (taken piece first more : List ℕ) → 1 ≤ max → text_verdict_so_far max taken ≡ None
+begins_later : (max : ℕ) (taken piece first more : List ℕ) → 1 ≤ max → log_verdict_so_far max taken ≡ None
     → taken ++ piece ≡ first ++ more → has_verdict max first ≡ true → length taken ≤ length first
 begins_later max taken piece first more low nothing same there = by_length (nat_le (length taken) (length first)) refl
   where
@@ -45,9 +45,9 @@ begins_later max taken piece first more low nothing same there = by_length (nat_
         both e f = cc
 
 -- before the first read
-pub checking_starts : (max : ℕ) (before : SourceKnown) (checker : CheckerState) → checker.kept.reader.max_lines ≡ max
+pub checking_starts : (max : ℕ) (before : SourceKnown) (checker : LogCheckerState) → checker.max_lines ≡ max
     → HasChecked checker [] → before.ended ≡ false → IsChecking max before before checker 0
-unfolding text_verdict_so_far reading
+unfolding log_verdict_so_far reading
 checking_starts max before checker limit checked unended = record {
   taken = [];
   told = taken_nothing before.rest;
@@ -66,7 +66,7 @@ nothing_no_further max before = record {
   no_more = λ first more same there. omega arith;
 }
 
-pub same_no_further : (max : ℕ) (before now after : SourceKnown) (checker : CheckerState) (rounds : ℕ) → 1 ≤ max
+pub same_no_further : (max : ℕ) (before now after : SourceKnown) (checker : LogCheckerState) (rounds : ℕ) → 1 ≤ max
     → IsChecking max before now checker rounds → after.rest ≡ now.rest → IsReadNoFurther max before after
 same_no_further max before now after checker rounds low r kept = record {
   taken = r.taken;
@@ -79,7 +79,7 @@ length_piece : (n : ℕ) (buffer : List ℕ) → n ≤ length buffer → length 
 length_piece n buffer within = length-take n buffer ∙ omega arith
 
 -- one read after bytes without a verdict is no further than it may be
-pub read_no_further : (max : ℕ) (before now after : SourceKnown) (checker : CheckerState) (buffer : List ℕ) (n rounds : ℕ) → 1 ≤ max
+pub read_no_further : (max : ℕ) (before now after : SourceKnown) (checker : LogCheckerState) (buffer : List ℕ) (n rounds : ℕ) → 1 ≤ max
     → IsChecking max before now checker rounds → Gives now n buffer after → length buffer ≤ longest_read → IsReadNoFurther max before after
 read_no_further max before now after checker buffer n rounds low r gives short =
     let piece = take n buffer in
@@ -97,9 +97,9 @@ read_no_further max before now after checker buffer n rounds low r gives short =
     }
 
 -- without a verdict the checking goes on
-pub checking_goes_on : (max : ℕ) (before now after : SourceKnown) (old new : CheckerState) (buffer : List ℕ) (n rounds : ℕ)
-    → (r : IsChecking max before now old rounds) → Gives now n buffer after → 0 < n → new.kept.reader.max_lines ≡ old.kept.reader.max_lines
-    → HasChecked new (r.taken ++ take n buffer) → None ≡ text_verdict_so_far old.kept.reader.max_lines (r.taken ++ take n buffer)
+pub checking_goes_on : (max : ℕ) (before now after : SourceKnown) (old new : LogCheckerState) (buffer : List ℕ) (n rounds : ℕ)
+    → (r : IsChecking max before now old rounds) → Gives now n buffer after → 0 < n → new.max_lines ≡ old.max_lines
+    → HasChecked new (r.taken ++ take n buffer) → None ≡ log_verdict_so_far old.max_lines (r.taken ++ take n buffer)
     → IsChecking max before after new (rounds + 1)
 checking_goes_on max before now after old new buffer n rounds r gives some limit checked nothing =
     let piece = take n buffer in
@@ -109,49 +109,49 @@ checking_goes_on max before now after old new buffer n rounds r gives some limit
       unended = gives.goes_on some;
       checked = checked;
       limit = limit ∙ r.limit;
-      nothing = ap (λ m. text_verdict_so_far m (r.taken ++ piece)) (sym r.limit) ∙ sym nothing;
+      nothing = ap (λ m. log_verdict_so_far m (r.taken ++ piece)) (sym r.limit) ∙ sym nothing;
       rounds_taken = omega (arith, length-append r.taken piece, length_piece n buffer gives.within, r.rounds_taken, some);
     }
 
 -- with one it is reached
-pub verdict_reached : (max : ℕ) (before now after : SourceKnown) (old : CheckerState) (buffer : List ℕ) (n rounds : ℕ) (v : Verdict)
+pub verdict_reached : (max : ℕ) (before now after : SourceKnown) (old : LogCheckerState) (buffer : List ℕ) (n rounds : ℕ) (v : Verdict)
     → (r : IsChecking max before now old rounds) → Gives now n buffer after
-    → Some v ≡ text_verdict_so_far old.kept.reader.max_lines (r.taken ++ take n buffer) → IsReached max before after v
+    → Some v ≡ log_verdict_so_far old.max_lines (r.taken ++ take n buffer) → IsReached max before after v
 verdict_reached max before now after old buffer n rounds v r gives there =
     let piece = take n buffer in
     record {
       taken = r.taken ++ piece;
       told = taken_more before.rest now.rest after.rest r.taken piece r.told gives.bytes;
-      reached = inr (ap (λ m. text_verdict_so_far m (r.taken ++ piece)) (sym r.limit) ∙ sym there);
+      reached = inr (ap (λ m. log_verdict_so_far m (r.taken ++ piece)) (sym r.limit) ∙ sym there);
     }
 
 -- at the source's end it is reached too
-pub end_reached : (max : ℕ) (before now after : SourceKnown) (old : CheckerState) (buffer : List ℕ) (rounds : ℕ) (v : Verdict)
+pub end_reached : (max : ℕ) (before now after : SourceKnown) (old : LogCheckerState) (buffer : List ℕ) (rounds : ℕ) (v : Verdict)
     → (r : IsChecking max before now old rounds) → Gives now 0 buffer after
-    → v ≡ text_verdict old.kept.reader.max_lines r.taken → IsReached max before after v
+    → v ≡ log_verdict old.max_lines r.taken → IsReached max before after v
 end_reached max before now after old buffer rounds v r gives is = record {
   taken = r.taken;
   told = subst (λ bytes. IsTaken before.rest bytes after.rest) (no_more_bytes r.taken) (taken_more before.rest now.rest after.rest r.taken [] r.told gives.bytes);
-  reached = inl (gives.at_end refl, is ∙ ap (λ m. text_verdict m r.taken) r.limit);
+  reached = inl (gives.at_end refl, is ∙ ap (λ m. log_verdict m r.taken) r.limit);
 }
 
 -- that many rounds never come
-pub rounds_end : (max : ℕ) (before now : SourceKnown) (checker : CheckerState) (rounds : ℕ) → 1 ≤ max → max ≤ 268435456
+pub rounds_end : (max : ℕ) (before now : SourceKnown) (checker : LogCheckerState) (rounds : ℕ) → 1 ≤ max → max ≤ 268435456
     → IsChecking max before now checker rounds → rounds ≤ 65 * 268435456
 rounds_end max before now checker rounds low high r =
     omega (arith, high, bytes_short max r.taken low (text_right max r.taken r.nothing), r.rounds_taken)
 
 -- What a piece that was fed leads to.
-pub fed_goes_on : (max : ℕ) (before now after : SourceKnown) (old new : CheckerState) (buffer : List ℕ) (n rounds : ℕ) (o : Option Verdict)
-    → (r : IsChecking max before now old rounds) → Gives now n buffer after → 0 < n → new.kept.reader.max_lines ≡ old.kept.reader.max_lines
-    → HasChecked new (r.taken ++ take n buffer) → o ≡ text_verdict_so_far old.kept.reader.max_lines (r.taken ++ take n buffer)
+pub fed_goes_on : (max : ℕ) (before now after : SourceKnown) (old new : LogCheckerState) (buffer : List ℕ) (n rounds : ℕ) (o : Option Verdict)
+    → (r : IsChecking max before now old rounds) → Gives now n buffer after → 0 < n → new.max_lines ≡ old.max_lines
+    → HasChecked new (r.taken ++ take n buffer) → o ≡ log_verdict_so_far old.max_lines (r.taken ++ take n buffer)
     → IfNone o (IsChecking max before after new (rounds + 1))
 fed_goes_on max before now after old new buffer n rounds None r gives some limit checked is =
     checking_goes_on max before now after old new buffer n rounds r gives some limit checked is
 fed_goes_on max before now after old new buffer n rounds (Some v) r gives some limit checked is = tt
 
-pub fed_reached : (max : ℕ) (before now after : SourceKnown) (old : CheckerState) (buffer : List ℕ) (n rounds : ℕ) (o : Option Verdict)
+pub fed_reached : (max : ℕ) (before now after : SourceKnown) (old : LogCheckerState) (buffer : List ℕ) (n rounds : ℕ) (o : Option Verdict)
     → (r : IsChecking max before now old rounds) → Gives now n buffer after
-    → o ≡ text_verdict_so_far old.kept.reader.max_lines (r.taken ++ take n buffer) → IfSome o (IsReached max before after)
+    → o ≡ log_verdict_so_far old.max_lines (r.taken ++ take n buffer) → IfSome o (IsReached max before after)
 fed_reached max before now after old buffer n rounds None r gives is = tt
 fed_reached max before now after old buffer n rounds (Some v) r gives is = verdict_reached max before now after old buffer n rounds v r gives is

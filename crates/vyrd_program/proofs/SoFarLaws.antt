@@ -18,7 +18,7 @@ use Rattle.vyrd_base.specs.Faults.{fault_at}
 use Rattle.vyrd_base.specs.Front.{front, first_break}
 use Rattle.vyrd_base.specs.Reading.{Reading, TextFault}
 use Rattle.vyrd_base.specs.Verdicts.{line_of, violation_at, states_along, first_fault, shape_verdict, start_verdict, begun_verdict, verdict_so_far, is_call_open, end_verdict}
-use Rattle.vyrd_base.specs.TextVerdicts.{entries_verdict, known_verdict, text_verdict_so_far}
+use Rattle.vyrd_base.specs.LogVerdicts.{entries_verdict, known_verdict, log_verdict_so_far}
 use Rattle.vyrd_check.specs.LogReadings.{read_so_far}
 use Rattle.vyrd_program.specs.Outputs.{status_of}
 
@@ -92,11 +92,11 @@ known_bad read = or_bad (option_and_then (entries_verdict read) read.header) _ (
     by_header None = tt
     by_header (Some h) = entries_bad read h
 
-so_far_bad : (max : ℕ) (bytes : List ℕ) → IsBad (text_verdict_so_far max bytes)
-unfolding text_verdict_so_far
+so_far_bad : (max : ℕ) (bytes : List ℕ) → IsBad (log_verdict_so_far max bytes)
+unfolding log_verdict_so_far
 so_far_bad max bytes = known_bad (read_so_far max bytes)
 
-pub never_accepted : (max : ℕ) (bytes : List ℕ) (v : Verdict) → text_verdict_so_far max bytes ≡ Some v → status_of v ≡ 0 → ⊥
+pub never_accepted : (max : ℕ) (bytes : List ℕ) (v : Verdict) → log_verdict_so_far max bytes ≡ Some v → status_of v ≡ 0 → ⊥
 never_accepted max bytes v there zero_is = by_verdict v (subst IsBad there (so_far_bad max bytes)) zero_is
   where
     by_verdict : (v : Verdict) → IsBad (Some v) → status_of v ≡ 0 → ⊥

@@ -4,7 +4,7 @@ use Rattle.std.specs.Prelude.{None, is_some, IfSome}
 use Rattle.vyrd_base.specs.declared.verdict.Verdict.{Verdict}
 use Rattle.vyrd_base.specs.Devices.{SourceKnown, IsAtEnd}
 use Rattle.vyrd_base.specs.VerdictText.{verdict_text}
-use Rattle.vyrd_base.specs.TextVerdicts.{text_verdict, text_verdict_so_far}
+use Rattle.vyrd_base.specs.LogVerdicts.{log_verdict, log_verdict_so_far}
 use Rattle.vyrd_program.specs.Inputs.{IsTaken, IsVerdictOf, longest_read}
 use Rattle.vyrd_program.specs.Outputs.{status_of, Appends, AppendsFront}
 
@@ -21,17 +21,17 @@ pub record IsSettled (max : ℕ) (before after : SourceKnown) : Type 0 where
   pub taken : List ℕ
   pub told : IsTaken before.rest taken after.rest
   pub enough : IsAtEnd after
-      ⊎ IfSome before.rest (λ input. text_verdict_so_far max taken ≡ Some (text_verdict max input))
+      ⊎ IfSome before.rest (λ input. log_verdict_so_far max taken ≡ Some (log_verdict max input))
 
 -- what was taken of a source has no verdict yet
 pub record IsUnsettled (max : ℕ) (before after : SourceKnown) : Type 0 where
   pub taken : List ℕ
   pub told : IsTaken before.rest taken after.rest
-  pub nothing : text_verdict_so_far max taken ≡ None
+  pub nothing : log_verdict_so_far max taken ≡ None
 
 -- whether bytes have a verdict already, however they go on
 abbrev pub has_verdict : ℕ → List ℕ → Bool
-has_verdict max bytes = is_some (text_verdict_so_far max bytes)
+has_verdict max bytes = is_some (log_verdict_so_far max bytes)
 
 -- What was taken of a source is at most one read more than its shortest beginning that has a
 -- verdict.

@@ -3,7 +3,7 @@ use Rattle.std.specs.Prelude.{◌≡◌, ◌⊎◌, ℕ, ◌<◌, ◌≤◌, Boo
 use Rattle.std.specs.Prelude.{Option, option_map, Result, Ok, Err, IfSome}
 use Rattle.vyrd_base.specs.declared.verdict.Verdict.{Verdict}
 use Rattle.vyrd_base.specs.Devices.{SourceKnown, IsAtEnd}
-use Rattle.vyrd_base.specs.TextVerdicts.{text_verdict}
+use Rattle.vyrd_base.specs.LogVerdicts.{log_verdict}
 use Rattle.vyrd_program.specs.declared.read_log.ReadFault.{ReadFault}
 use Rattle.vyrd_program.specs.declared.read_log.ReadFault.TheVariants.{Failed, Memory}
 
@@ -52,4 +52,4 @@ IsFewTaken most before after =
 
 -- the verdict is that of the whole input, if its bytes are told
 abbrev pub IsVerdictOf : ℕ → Option (List ℕ) → Verdict → Type 0
-IsVerdictOf max input verdict = IfSome input (λ bytes. verdict ≡ text_verdict max bytes)
+IsVerdictOf max input verdict = IfSome input (λ bytes. verdict ≡ log_verdict max bytes)

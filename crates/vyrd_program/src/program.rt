@@ -3,7 +3,7 @@
 ghost use Rattle.std.specs.Prelude.{◌≡◌, ◌≢◌, ◌≤◌, ◌⊎◌, ◌==◌, false, ℕ, [], length};
 ghost use Rattle.std.specs.Prelude.{Some};
 ghost use Rattle.vyrd_base.specs.Devices.{IsAtEnd, AfterReads, AfterWrites};
-ghost use Rattle.vyrd_check.specs.Checking.{most_lines};
+ghost use Rattle.vyrd_log_check.specs.Checking.{most_lines};
 ghost use Rattle.vyrd_program.specs.declared.show.Show.{Show};
 ghost use Rattle.vyrd_program.specs.declared.form.Form.TheVariants.{Check, Step, Run, Gen};
 ghost use Rattle.vyrd_program.specs.Forms.{form_said};

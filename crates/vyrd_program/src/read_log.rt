@@ -3,7 +3,7 @@
 ghost use Rattle.std.specs.Prelude.{◌≡◌, ◌≤◌, ◌<◌, ◌+◌, ℕ, false, [], length, vec_len};
 ghost use Rattle.std.specs.Prelude.{IfOk, IfSome, IfNone, Err};
 ghost use Rattle.vyrd_base.specs.Devices.{SourceKnown, AfterReads};
-ghost use Rattle.vyrd_check.specs.Checking.{HasChecked, most_lines};
+ghost use Rattle.vyrd_log_check.specs.Checking.{HasChecked, most_lines};
 ghost use Rattle.vyrd_program.specs.Inputs.{longest_read, is_failed};
 ghost use Rattle.vyrd_program.specs.Checks.{IsReadNoFurther, IsUnsettled};
 ghost use Rattle.vyrd_program.specs.Progress.{IsChecking, IsReached};
@@ -11,7 +11,7 @@ ghost use Rattle.vyrd_program.specs.declared.read_log.ReadFault.TheVariants.{Fai
 
 use std::alloc::{AllocError, AllocFailed, Global};
 use vyrd_base::{Source, Verdict};
-use vyrd_check::Checker;
+use vyrd_log_check::LogChecker;
 
 /// How many bytes one read takes at most.
 pub(crate) const LONGEST_READ: usize = 65_536;
@@ -36,7 +36,7 @@ impl From<AllocError> for ReadFault {
 /// Reads a log of at most `max_lines` lines: until its verdict stands, or to the source's end.
 ///
 /// Each read takes at most 65,536 bytes. The bytes of a read are forgotten at the next, so the
-/// memory is that of a [`Checker`].
+/// memory is that of a [`LogChecker`].
 pub fn read_verdict<S: Source>(
     alloc: Global,
     max_lines: u64,
@@ -52,27 +52,27 @@ pub fn read_verdict<S: Source>(
     ensures source { AfterReads (is_failed result) (S.known source.old) (S.known source.new) }
 {
     let mut buffer = zeros(alloc, LONGEST_READ)?;
-    let mut checker = Checker::new(alloc, max_lines);
+    let mut checker = LogChecker::new(alloc, max_lines);
     read_on(&mut checker, &mut buffer, source)
 }
 
 /// Reads and checks until the verdict stands, or to the source's end.
 fn read_on<S: Source>(
-    checker: &mut Checker,
+    checker: &mut LogChecker,
     buffer: &mut [u8],
     source: &mut S,
 ) -> Result<Verdict, ReadFault>
     requires room { length buffer.old ≡ longest_read }
-    requires low { 1 ≤ checker.old.kept.reader.max_lines }
-    requires high { checker.old.kept.reader.max_lines ≤ most_lines }
+    requires low { 1 ≤ checker.old.max_lines }
+    requires high { checker.old.max_lines ≤ most_lines }
     requires fresh { HasChecked checker.old [] }
     requires unended { (S.known source.old).ended ≡ false }
     ensures reached { IfOk result
-        (IsReached checker.old.kept.reader.max_lines (S.known source.old) (S.known source.new)) }
-    ensures no_further { IsReadNoFurther checker.old.kept.reader.max_lines (S.known source.old)
+        (IsReached checker.old.max_lines (S.known source.old) (S.known source.new)) }
+    ensures no_further { IsReadNoFurther checker.old.max_lines (S.known source.old)
         (S.known source.new) }
     ensures unsettled { result ≡ Err Failed
-        → IsUnsettled checker.old.kept.reader.max_lines (S.known source.old) (S.known source.new) }
+        → IsUnsettled checker.old.max_lines (S.known source.old) (S.known source.new) }
     ensures source { AfterReads (is_failed result) (S.known source.old) (S.known source.new) }
 {
     for round in 0..u64::MAX {
@@ -93,7 +93,7 @@ fn zeros(alloc: Global, n: usize) -> Result<Vec<u8>, AllocError>
 /// Reads once, and checks what came. The answer is the verdict, if it stands now or the source has
 /// said its end.
 fn read_piece<S: Source>(
-    checker: &mut Checker,
+    checker: &mut LogChecker,
     buffer: &mut [u8],
     source: &mut S,
 ) -> Result<Option<Verdict>, ReadFault>

@@ -1,7 +1,7 @@
 -- What the call does under the form that the words have is what it does for the words.
 use Rattle.std.proofs.Common.{◌≡◌, ◌≤◌, ap, ◌∙◌, sym, subst, Some, false, inl, length}
 use Rattle.std.specs.Prelude.{◌==◌}
-use Rattle.vyrd_check.specs.Checking.{most_lines}
+use Rattle.vyrd_log_check.specs.Checking.{most_lines}
 use Rattle.vyrd_program.specs.Forms.{form_said}
 use Rattle.vyrd_program.specs.Outputs.{usage_line}
 use Rattle.vyrd_program.specs.Checks.{HasRoomForAnswer}

@@ -6,7 +6,7 @@ use Rattle.vyrd_program.proofs.read_log.read_on.Given as goal
 
 abbrev pub invariant-loop-round : goal.invariant-loop-round
 invariant-loop-round g l = record {
-  checking : IsChecking l.initial.checker.kept.reader.max_lines (g.S.Source.known l.initial.source) (g.S.Source.known l.source) l.checker l.round;
+  checking : IsChecking l.initial.checker.max_lines (g.S.Source.known l.initial.source) (g.S.Source.known l.source) l.checker l.round;
   buffer : length l.buffer ≡ longest_read;
   source : AfterReads false (g.S.Source.known l.initial.source) (g.S.Source.known l.source);
 }

@@ -1,6 +1,6 @@
 use Rattle.std.proofs.Common.{◌++◌, subst, arith}
 use Rattle.vyrd_base.specs.Devices.{Gives}
-use Rattle.vyrd_check.specs.Checking.{HasChecked}
+use Rattle.vyrd_log_check.specs.Checking.{HasChecked}
 use Rattle.vyrd_program.proofs.PieceLaws.{fed_goes_on, fed_reached, end_reached, read_no_further, same_no_further}
 use Rattle.vyrd_program.proofs.read_log.read_piece.Goals as goal
 
