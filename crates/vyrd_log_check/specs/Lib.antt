@@ -1,3 +1,4 @@
 pub mod Beginnings
 pub mod Checking
 pub mod CheckerView
+pub mod Worked

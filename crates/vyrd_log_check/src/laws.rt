@@ -1,7 +1,7 @@
 //! Laws of the verdict about the bytes of a log. Each function does nothing: its contract is the
 //! law.
 
-ghost use Rattle.std.specs.Prelude.{◌≡◌, ◌≢◌, ◌≤◌, ◌++◌, ℕ, List, [], Some, None};
+ghost use Rattle.std.specs.Prelude.{◌≡◌, ◌≢◌, ◌≤◌, ◌*◌, ◌++◌, ℕ, List, [], length, Some, None};
 ghost use Rattle.vyrd_base.specs.declared.verdict.Verdict.{Verdict};
 ghost use Rattle.vyrd_base.specs.declared.verdict.Verdict.TheVariants.{Accepted};
 ghost use Rattle.vyrd_base.specs.LogVerdicts.{log_verdict, log_verdict_so_far};
@@ -29,4 +29,11 @@ pub fn nothing_of_no_bytes()
 pub fn so_far_never_accepted()
     ensures { (max : ℕ) (bytes : List ℕ) (entries commits observers : ℕ)
         → log_verdict_so_far max bytes ≢ Some (Accepted entries commits observers) }
+{}
+
+/// Bytes that have no verdict yet are at most 201 for each line that there may be.
+#[tactic(auto, using(crate::proofs::LengthLaws::undecided_is_short))]
+pub fn undecided_is_short()
+    ensures { (max : ℕ) (bytes : List ℕ) → 1 ≤ max → log_verdict_so_far max bytes ≡ None
+        → length bytes ≤ 201 * max }
 {}

@@ -1,0 +1,116 @@
+-- How many bytes lines have, each with its line feed, if none has more than so many.
+use Rattle.std.proofs.Common.{◌≡◌, ℕ, suc, ◌+◌, ◌-◌, ◌*◌, ◌<◌, ◌≤◌, Bool, true, false, cond, ◌&&◌, List, [], ◌∷◌, length, Option, Some, None, ap, ◌∙◌, refl, arith}
+use Rattle.std.specs.Prelude.{◌==◌, nat_lt}
+use Rattle.std.specs.List.{slice_split, onto_first}
+use Rattle.std.proofs.Math.Nat.{mul-suc}
+use Rattle.vyrd_base.specs.declared.verdict.Rule.{Rule}
+use Rattle.vyrd_base.specs.declared.verdict.Rule.TheVariants.{TooManyLines, AfterEnd, NoLineFeed, NoEnd}
+use Rattle.vyrd_base.specs.Shape.{◌breaks◌, first_broken}
+use Rattle.vyrd_base.specs.Reading.{has_any, after_end_rule}
+use Rattle.vyrd_base.proofs.ReadingGrows.{so_far, some_parts}
+use Rattle.vyrd_base.proofs.TestLaws.{below_of, not_below_of}
+
+-- the bytes of some parts, each with one byte after it
+abbrev pub size_of : List (List ℕ) → ℕ
+size_of [] = 0
+size_of (p ∷ ps) = length p + 1 + size_of ps
+
+-- parts of a text have its bytes, and one more for the last
+pub size_of_split : (p : ℕ → Bool) (xs : List ℕ) → size_of (slice_split p xs) ≡ length xs + 1
+size_of_split p [] = omega arith
+size_of_split p (x ∷ xs) = by_test (size_of_split p xs) (p x)
+  where
+    onto : (parts : List (List ℕ)) → 0 < length parts → size_of parts ≡ length xs + 1
+        → size_of (onto_first x parts) ≡ length xs + 1 + 1
+    onto [] some e = absurd (omega arith)
+    onto (q ∷ qs) some e = omega arith
+
+    by_test : size_of (slice_split p xs) ≡ length xs + 1 → (b : Bool)
+        → size_of (cond b ([] ∷ slice_split p xs) (onto_first x (slice_split p xs)))
+        ≡ length (x ∷ xs) + 1
+    by_test e true = omega arith
+    by_test e false = onto (slice_split p xs) (some_parts p xs) e ∙ omega arith
+
+-- a line that can't be longer
+pub no_longer : (most : ℕ) (line : List ℕ) → (most < length line → ⊥) → length line ≤ most
+no_longer most line never = by_test (nat_lt most (length line)) refl
+  where
+    by_test : (b : Bool) → nat_lt most (length line) ≡ b → length line ≤ most
+    by_test false e = not_below_of most (length line) e
+    by_test true e = absurd (never (below_of most (length line) e))
+
+-- after `end` nothing stands
+pub nothing_after : (max n : ℕ) (next : List ℕ) (lines : List (List ℕ))
+    → after_end_rule (so_far max) n next lines ≡ None → size_of (next ∷ lines) ≡ 1
+nothing_after max n [] [] e = omega arith
+nothing_after max n (x ∷ xs) lines e = broken (nat_lt max n) e
+  where
+    broken : (b : Bool)
+        → first_broken (((true && b) breaks TooManyLines) ∷ (true breaks AfterEnd) ∷ []) ≡ None
+        → size_of ((x ∷ xs) ∷ lines) ≡ 1
+    broken true none = cc
+    broken false none = cc
+nothing_after max n [] (line ∷ lines) e = broken (nat_lt max n) e
+  where
+    broken : (b : Bool)
+        → first_broken (((true && b) breaks TooManyLines) ∷ (true breaks AfterEnd) ∷ []) ≡ None
+        → size_of ([] ∷ line ∷ lines) ≡ 1
+    broken true none = cc
+    broken false none = cc
+
+-- where there are at most `max` lines, and none has more than `most` bytes
+module _ (most max : ℕ) where
+  -- the bytes that there may be from line n on
+  pub room_from : ℕ → ℕ
+  room_from n = (most + 1) * (max + 1 - n)
+
+  -- one line fewer leaves less room
+  room_more : (n : ℕ) → n ≤ max → room_from n ≡ room_from (n + 1) + (most + 1)
+  unfolding room_from
+  room_more n low =
+      let fewer : max + 1 - n ≡ suc (max + 1 - (n + 1)) = omega (arith, low) in
+      ap (λ k. (most + 1) * k) fewer ∙ mul-suc (most + 1) (max + 1 - (n + 1))
+
+  -- whether lines from line n on have no more
+  abbrev pub AreShort : ℕ → List (List ℕ) → Type 0
+  AreShort n lines = size_of lines ≤ room_from n + 1
+
+  -- one line more
+  pub one_line : (n : ℕ) (line : List ℕ) (lines : List (List ℕ)) → n ≤ max
+      → length line ≤ most → AreShort (n + 1) lines → AreShort n (line ∷ lines)
+  one_line n line lines low short more = omega (arith, room_more n low, short, more)
+
+  -- a last line, after which nothing stands
+  pub one_more : (n : ℕ) (line : List ℕ) (lines : List (List ℕ)) → n ≤ max
+      → length line ≤ most → size_of lines ≡ 1 → AreShort n (line ∷ lines)
+  one_more n line lines low short none = one_line n line lines low short (omega (arith, none))
+
+  -- the bytes after the last line feed, if they aren't a fault
+  pub last_short : (n : ℕ) (bad : Rule) (rest : List ℕ)
+      → first_broken ((has_any rest && nat_lt max n breaks TooManyLines)
+      ∷ (nat_lt most (length rest) breaks bad) ∷ (has_any rest && false breaks NoLineFeed)
+      ∷ (false breaks NoEnd) ∷ []) ≡ None
+      → AreShort n (rest ∷ [])
+  last_short n bad [] none = omega arith
+  last_short n bad (x ∷ xs) none =
+      by_tests (nat_lt max n) (nat_lt most (length (x ∷ xs))) refl refl none
+    where
+      by_tests : (past long : Bool) → nat_lt max n ≡ past → nat_lt most (length (x ∷ xs)) ≡ long
+          → first_broken ((past breaks TooManyLines) ∷ (long breaks bad)
+          ∷ (false breaks NoLineFeed) ∷ (false breaks NoEnd) ∷ []) ≡ None
+          → AreShort n ((x ∷ xs) ∷ [])
+      by_tests true long p l e = cc
+      by_tests false true p l e = cc
+      by_tests false false p l e =
+          let low : n ≤ max = not_below_of max n p in
+          let short : length (x ∷ xs) ≤ most = not_below_of most (length (x ∷ xs)) l in
+          omega (arith, room_more n low, short)
+
+  -- the text that was cut into them
+  pub all_short : (bytes : List ℕ) → AreShort 1 (slice_split (λ b. b == 10) bytes)
+      → length bytes ≤ (most + 1) * max
+  unfolding room_from
+  all_short bytes short =
+      let lines : max + 1 - 1 ≡ max = omega arith in
+      let room : (most + 1) * (max + 1 - 1) ≡ (most + 1) * max = ap (λ k. (most + 1) * k) lines in
+      omega (arith, size_of_split (λ b. b == 10) bytes, short, room)
