@@ -15,3 +15,5 @@ mod refusals;
 mod specifications;
 #[cfg(test)]
 mod steps;
+#[cfg(test)]
+mod verdicts;

@@ -1,7 +1,5 @@
-pub mod LengthFacts
 pub mod TakenLaws
 pub mod PieceLaws
-pub mod SoFarLaws
 pub mod CheckLaws
 pub mod BehindLaws
 pub mod WriteLaws

@@ -1,60 +1,66 @@
 -- How the checking of an input goes on with a piece of it, and how it stops.
-use Rattle.std.proofs.Common.{◌≡◌, ℕ, ◌+◌, ◌-◌, ◌*◌, ◌<◌, ◌≤◌, Bool, true, false, List, [], ◌++◌, length, take, Option, Some, None, refl, ap, subst, ◌∙◌, sym, arith, inl, inr, length-append}
+use Rattle.std.proofs.Common.{◌≡◌, ℕ, ◌+◌, ◌-◌, ◌*◌, ◌<◌, ◌≤◌, Bool, true, false, List, []}
+use Rattle.std.proofs.Common.{◌++◌, length, take, Option, Some, None, refl, ap, subst, ◌∙◌, sym}
+use Rattle.std.proofs.Common.{arith, inl, inr, length-append}
 use Rattle.std.specs.Prelude.{is_some, nat_le, IfSome, IfNone}
 use Rattle.std.proofs.lemmas.Bool.Decides.{nat_tests}
 use Rattle.std.proofs.lemmas.List.{length-take}
 use Rattle.vyrd_base.specs.declared.verdict.Verdict.{Verdict}
 use Rattle.vyrd_base.specs.Devices.{SourceKnown, Gives}
-use Rattle.vyrd_base.specs.Reading.{reading}
 use Rattle.vyrd_base.specs.LogVerdicts.{log_verdict, log_verdict_so_far}
-use Rattle.vyrd_base.proofs.TextLasts.{text_verdict_lasts}
-use Rattle.vyrd_log_check.specs.Checking.{LogCheckerState, HasChecked}
-use Rattle.vyrd_check.proofs.ReadingFacts.{text_right}
+use Rattle.vyrd_log_check.specs.Checking.{LogCheckerState, HasChecked, IsLimit, most_lines}
+use Rattle.vyrd_log_check.proofs.LogLasts.{log_verdict_lasts, nothing_yet}
+use Rattle.vyrd_log_check.proofs.LengthLaws.{undecided_is_short}
 use Rattle.vyrd_program.specs.Inputs.{longest_read, IsTaken}
 use Rattle.vyrd_program.specs.Checks.{has_verdict, IsReadNoFurther}
 use Rattle.vyrd_program.specs.Progress.{IsChecking, IsReached}
 use Rattle.vyrd_program.proofs.TakenLaws.{no_more_bytes, taken_more, taken_nothing, begins_with}
-use Rattle.vyrd_program.proofs.LengthFacts.{bytes_short}
 
 some_verdict : (o : Option Verdict) → is_some o ≡ true → (v : Verdict) × (o ≡ Some v)
 some_verdict None e = cc
 some_verdict (Some v) e = (v, refl)
 
 -- a verdict lasts
-verdict_there : (max : ℕ) (bytes more : List ℕ) → 1 ≤ max → has_verdict max bytes ≡ true → has_verdict max (bytes ++ more) ≡ true
-verdict_there max bytes more low e =
+verdict_there : (max : ℕ) (bytes more : List ℕ) → IsLimit max → has_verdict max bytes ≡ true
+    → has_verdict max (bytes ++ more) ≡ true
+verdict_there max bytes more within e =
     let v = some_verdict (log_verdict_so_far max bytes) e in
-    ap is_some (text_verdict_lasts max bytes more v.0 low v.1)
+    ap is_some (log_verdict_lasts max bytes more v.0 within.low within.high v.1)
 
 -- If bytes have no verdict and a piece follows, a beginning of all that has one is no shorter than
 -- they.
-begins_later : (max : ℕ) (taken piece first more : List ℕ) → 1 ≤ max → log_verdict_so_far max taken ≡ None
-    → taken ++ piece ≡ first ++ more → has_verdict max first ≡ true → length taken ≤ length first
-begins_later max taken piece first more low nothing same there = by_length (nat_le (length taken) (length first)) refl
+begins_later : (max : ℕ) (taken piece first more : List ℕ) → IsLimit max
+    → log_verdict_so_far max taken ≡ None → taken ++ piece ≡ first ++ more
+    → has_verdict max first ≡ true → length taken ≤ length first
+begins_later max taken piece first more within nothing same there =
+    by_length (nat_le (length taken) (length first)) refl
   where
-    by_length : (b : Bool) → nat_le (length taken) (length first) ≡ b → length taken ≤ length first
+    both : has_verdict max taken ≡ true → has_verdict max taken ≡ false → ⊥
+    both e f = cc
+
+    by_length : (b : Bool) → nat_le (length taken) (length first) ≡ b
+        → length taken ≤ length first
     by_length true e = grind (arith, nat_tests)
     by_length false e =
         let shorter : length first < length taken = grind (arith, nat_tests) in
-        let begins : taken ≡ first ++ take (length taken - length first) more = begins_with taken piece first more (omega arith) same in
-        let here : has_verdict max taken ≡ true = ap (has_verdict max) begins
-        ∙ verdict_there max first (take (length taken - length first) more) low there in
+        let rest = take (length taken - length first) more in
+        let begins : taken ≡ first ++ rest
+            = begins_with taken piece first more (omega arith) same in
+        let here : has_verdict max taken ≡ true
+            = ap (has_verdict max) begins ∙ verdict_there max first rest within there in
         absurd (both here (ap is_some nothing))
-      where
-        both : has_verdict max taken ≡ true → has_verdict max taken ≡ false → ⊥
-        both e f = cc
 
 -- before the first read
-pub checking_starts : (max : ℕ) (before : SourceKnown) (checker : LogCheckerState) → checker.max_lines ≡ max
-    → HasChecked checker [] → before.ended ≡ false → IsChecking max before before checker 0
-unfolding log_verdict_so_far reading
+pub checking_starts : (max : ℕ) (before : SourceKnown) (checker : LogCheckerState)
+    → checker.max_lines ≡ max → HasChecked checker [] → before.ended ≡ false
+    → IsChecking max before before checker 0
 checking_starts max before checker limit checked unended = record {
   taken = [];
   told = taken_nothing before.rest;
   unended = unended;
   checked = checked;
   limit = limit;
-  nothing = refl;
+  nothing = nothing_yet max;
   rounds_taken = omega arith;
 }
 
@@ -66,22 +72,26 @@ nothing_no_further max before = record {
   no_more = λ first more same there. omega arith;
 }
 
-pub same_no_further : (max : ℕ) (before now after : SourceKnown) (checker : LogCheckerState) (rounds : ℕ) → 1 ≤ max
-    → IsChecking max before now checker rounds → after.rest ≡ now.rest → IsReadNoFurther max before after
-same_no_further max before now after checker rounds low r kept = record {
+pub same_no_further : (max : ℕ) (before now after : SourceKnown) (checker : LogCheckerState)
+    (rounds : ℕ) → IsLimit max → IsChecking max before now checker rounds
+    → after.rest ≡ now.rest → IsReadNoFurther max before after
+same_no_further max before now after checker rounds within r kept = record {
   taken = r.taken;
   told = subst (IsTaken before.rest r.taken) (sym kept) r.told;
   no_more = λ first more same there.
-      omega (arith, begins_later max r.taken [] first more low r.nothing (no_more_bytes r.taken ∙ same) there);
+      let later = begins_later max r.taken [] first more within r.nothing
+              (no_more_bytes r.taken ∙ same) there in
+      omega (arith, later);
 }
 
 length_piece : (n : ℕ) (buffer : List ℕ) → n ≤ length buffer → length (take n buffer) ≡ n
-length_piece n buffer within = length-take n buffer ∙ omega arith
+length_piece n buffer few = length-take n buffer ∙ omega arith
 
 -- one read after bytes without a verdict is no further than it may be
-pub read_no_further : (max : ℕ) (before now after : SourceKnown) (checker : LogCheckerState) (buffer : List ℕ) (n rounds : ℕ) → 1 ≤ max
-    → IsChecking max before now checker rounds → Gives now n buffer after → length buffer ≤ longest_read → IsReadNoFurther max before after
-read_no_further max before now after checker buffer n rounds low r gives short =
+pub read_no_further : (max : ℕ) (before now after : SourceKnown) (checker : LogCheckerState)
+    (buffer : List ℕ) (n rounds : ℕ) → IsLimit max → IsChecking max before now checker rounds
+    → Gives now n buffer after → length buffer ≤ longest_read → IsReadNoFurther max before after
+read_no_further max before now after checker buffer n rounds within r gives short =
     let piece = take n buffer in
     record {
       taken = r.taken ++ piece;
@@ -89,7 +99,7 @@ read_no_further max before now after checker buffer n rounds low r gives short =
       no_more = λ first more same there.
           omega (
             arith,
-            begins_later max r.taken piece first more low r.nothing same there,
+            begins_later max r.taken piece first more within r.nothing same there,
             length-append r.taken piece,
             length_piece n buffer gives.within,
             gives.within,
@@ -97,9 +107,11 @@ read_no_further max before now after checker buffer n rounds low r gives short =
     }
 
 -- without a verdict the checking goes on
-pub checking_goes_on : (max : ℕ) (before now after : SourceKnown) (old new : LogCheckerState) (buffer : List ℕ) (n rounds : ℕ)
-    → (r : IsChecking max before now old rounds) → Gives now n buffer after → 0 < n → new.max_lines ≡ old.max_lines
-    → HasChecked new (r.taken ++ take n buffer) → None ≡ log_verdict_so_far old.max_lines (r.taken ++ take n buffer)
+pub checking_goes_on : (max : ℕ) (before now after : SourceKnown) (old new : LogCheckerState)
+    (buffer : List ℕ) (n rounds : ℕ) → (r : IsChecking max before now old rounds)
+    → Gives now n buffer after → 0 < n → new.max_lines ≡ old.max_lines
+    → HasChecked new (r.taken ++ take n buffer)
+    → None ≡ log_verdict_so_far old.max_lines (r.taken ++ take n buffer)
     → IsChecking max before after new (rounds + 1)
 checking_goes_on max before now after old new buffer n rounds r gives some limit checked nothing =
     let piece = take n buffer in
@@ -110,13 +122,21 @@ checking_goes_on max before now after old new buffer n rounds r gives some limit
       checked = checked;
       limit = limit ∙ r.limit;
       nothing = ap (λ m. log_verdict_so_far m (r.taken ++ piece)) (sym r.limit) ∙ sym nothing;
-      rounds_taken = omega (arith, length-append r.taken piece, length_piece n buffer gives.within, r.rounds_taken, some);
+      rounds_taken = omega (
+        arith,
+        length-append r.taken piece,
+        length_piece n buffer gives.within,
+        r.rounds_taken,
+        some,
+      );
     }
 
 -- with one it is reached
-pub verdict_reached : (max : ℕ) (before now after : SourceKnown) (old : LogCheckerState) (buffer : List ℕ) (n rounds : ℕ) (v : Verdict)
-    → (r : IsChecking max before now old rounds) → Gives now n buffer after
-    → Some v ≡ log_verdict_so_far old.max_lines (r.taken ++ take n buffer) → IsReached max before after v
+pub verdict_reached : (max : ℕ) (before now after : SourceKnown) (old : LogCheckerState)
+    (buffer : List ℕ) (n rounds : ℕ) (v : Verdict) → (r : IsChecking max before now old rounds)
+    → Gives now n buffer after
+    → Some v ≡ log_verdict_so_far old.max_lines (r.taken ++ take n buffer)
+    → IsReached max before after v
 verdict_reached max before now after old buffer n rounds v r gives there =
     let piece = take n buffer in
     record {
@@ -126,32 +146,44 @@ verdict_reached max before now after old buffer n rounds v r gives there =
     }
 
 -- at the source's end it is reached too
-pub end_reached : (max : ℕ) (before now after : SourceKnown) (old : LogCheckerState) (buffer : List ℕ) (rounds : ℕ) (v : Verdict)
-    → (r : IsChecking max before now old rounds) → Gives now 0 buffer after
-    → v ≡ log_verdict old.max_lines r.taken → IsReached max before after v
+pub end_reached : (max : ℕ) (before now after : SourceKnown) (old : LogCheckerState)
+    (buffer : List ℕ) (rounds : ℕ) (v : Verdict) → (r : IsChecking max before now old rounds)
+    → Gives now 0 buffer after → v ≡ log_verdict old.max_lines r.taken
+    → IsReached max before after v
 end_reached max before now after old buffer rounds v r gives is = record {
   taken = r.taken;
-  told = subst (λ bytes. IsTaken before.rest bytes after.rest) (no_more_bytes r.taken) (taken_more before.rest now.rest after.rest r.taken [] r.told gives.bytes);
+  told = subst (λ bytes. IsTaken before.rest bytes after.rest) (no_more_bytes r.taken)
+      (taken_more before.rest now.rest after.rest r.taken [] r.told gives.bytes);
   reached = inl (gives.at_end refl, is ∙ ap (λ m. log_verdict m r.taken) r.limit);
 }
 
--- that many rounds never come
-pub rounds_end : (max : ℕ) (before now : SourceKnown) (checker : LogCheckerState) (rounds : ℕ) → 1 ≤ max → max ≤ 268435456
-    → IsChecking max before now checker rounds → rounds ≤ 65 * 268435456
-rounds_end max before now checker rounds low high r =
-    omega (arith, high, bytes_short max r.taken low (text_right max r.taken r.nothing), r.rounds_taken)
+-- more rounds than that never come
+pub rounds_end : (max : ℕ) (before now : SourceKnown) (checker : LogCheckerState) (rounds : ℕ)
+    → IsLimit max → IsChecking max before now checker rounds → rounds ≤ 201 * most_lines
+rounds_end max before now checker rounds within r =
+    omega (
+      arith,
+      within.high,
+      undecided_is_short max r.taken within.low r.nothing,
+      r.rounds_taken,
+    )
 
 -- What a piece that was fed leads to.
-pub fed_goes_on : (max : ℕ) (before now after : SourceKnown) (old new : LogCheckerState) (buffer : List ℕ) (n rounds : ℕ) (o : Option Verdict)
-    → (r : IsChecking max before now old rounds) → Gives now n buffer after → 0 < n → new.max_lines ≡ old.max_lines
-    → HasChecked new (r.taken ++ take n buffer) → o ≡ log_verdict_so_far old.max_lines (r.taken ++ take n buffer)
+pub fed_goes_on : (max : ℕ) (before now after : SourceKnown) (old new : LogCheckerState)
+    (buffer : List ℕ) (n rounds : ℕ) (o : Option Verdict)
+    → (r : IsChecking max before now old rounds) → Gives now n buffer after → 0 < n
+    → new.max_lines ≡ old.max_lines → HasChecked new (r.taken ++ take n buffer)
+    → o ≡ log_verdict_so_far old.max_lines (r.taken ++ take n buffer)
     → IfNone o (IsChecking max before after new (rounds + 1))
 fed_goes_on max before now after old new buffer n rounds None r gives some limit checked is =
     checking_goes_on max before now after old new buffer n rounds r gives some limit checked is
 fed_goes_on max before now after old new buffer n rounds (Some v) r gives some limit checked is = tt
 
-pub fed_reached : (max : ℕ) (before now after : SourceKnown) (old : LogCheckerState) (buffer : List ℕ) (n rounds : ℕ) (o : Option Verdict)
+pub fed_reached : (max : ℕ) (before now after : SourceKnown) (old : LogCheckerState)
+    (buffer : List ℕ) (n rounds : ℕ) (o : Option Verdict)
     → (r : IsChecking max before now old rounds) → Gives now n buffer after
-    → o ≡ log_verdict_so_far old.max_lines (r.taken ++ take n buffer) → IfSome o (IsReached max before after)
+    → o ≡ log_verdict_so_far old.max_lines (r.taken ++ take n buffer)
+    → IfSome o (IsReached max before after)
 fed_reached max before now after old buffer n rounds None r gives is = tt
-fed_reached max before now after old buffer n rounds (Some v) r gives is = verdict_reached max before now after old buffer n rounds v r gives is
+fed_reached max before now after old buffer n rounds (Some v) r gives is =
+    verdict_reached max before now after old buffer n rounds v r gives is

@@ -26,6 +26,8 @@ mod movers;
 #[cfg(test)]
 mod movers_tests;
 #[cfg(test)]
+mod own_tests;
+#[cfg(test)]
 mod play_tests;
 mod program;
 mod read_input;

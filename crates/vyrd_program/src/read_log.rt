@@ -3,7 +3,7 @@
 ghost use Rattle.std.specs.Prelude.{◌≡◌, ◌≤◌, ◌<◌, ◌+◌, ℕ, false, [], length, vec_len};
 ghost use Rattle.std.specs.Prelude.{IfOk, IfSome, IfNone, Err};
 ghost use Rattle.vyrd_base.specs.Devices.{SourceKnown, AfterReads};
-ghost use Rattle.vyrd_log_check.specs.Checking.{HasChecked, most_lines};
+ghost use Rattle.vyrd_log_check.specs.Checking.{HasChecked, IsLimit, most_lines};
 ghost use Rattle.vyrd_program.specs.Inputs.{longest_read, is_failed};
 ghost use Rattle.vyrd_program.specs.Checks.{IsReadNoFurther, IsUnsettled};
 ghost use Rattle.vyrd_program.specs.Progress.{IsChecking, IsReached};
@@ -63,8 +63,7 @@ fn read_on<S: Source>(
     source: &mut S,
 ) -> Result<Verdict, ReadFault>
     requires room { length buffer.old ≡ longest_read }
-    requires low { 1 ≤ checker.old.max_lines }
-    requires high { checker.old.max_lines ≤ most_lines }
+    requires limit { IsLimit checker.old.max_lines }
     requires fresh { HasChecked checker.old [] }
     requires unended { (S.known source.old).ended ≡ false }
     ensures reached { IfOk result
@@ -100,14 +99,14 @@ fn read_piece<S: Source>(
     requires room { 0 < length buffer.old }
     requires short { length buffer.old ≤ longest_read }
     requires unended { (S.known source.old).ended ≡ false }
-    ensures goes_on { (max : ℕ) (before : SourceKnown) (rounds : ℕ) → 1 ≤ max
+    ensures goes_on { (max : ℕ) (before : SourceKnown) (rounds : ℕ) → IsLimit max
         → IsChecking max before (S.known source.old) checker.old rounds
         → IfOk result (λ verdict. IfNone verdict
         (IsChecking max before (S.known source.new) checker.new (rounds + 1))) }
-    ensures reached { (max : ℕ) (before : SourceKnown) (rounds : ℕ) → 1 ≤ max
+    ensures reached { (max : ℕ) (before : SourceKnown) (rounds : ℕ) → IsLimit max
         → IsChecking max before (S.known source.old) checker.old rounds
         → IfOk result (λ verdict. IfSome verdict (IsReached max before (S.known source.new))) }
-    ensures no_further { (max : ℕ) (before : SourceKnown) (rounds : ℕ) → 1 ≤ max
+    ensures no_further { (max : ℕ) (before : SourceKnown) (rounds : ℕ) → IsLimit max
         → IsChecking max before (S.known source.old) checker.old rounds
         → IsReadNoFurther max before (S.known source.new) }
     ensures kept { result ≡ Err Failed → (S.known source.new).rest ≡ (S.known source.old).rest }

@@ -1,5 +1,6 @@
-use Rattle.std.proofs.Common.{◌≡◌, subst}
+use Rattle.std.proofs.Common.{◌≡◌, sym, subst}
 use Rattle.std.specs.Prelude.{IfOk, Err}
+use Rattle.vyrd_log_check.specs.Checking.{IsLimit}
 use Rattle.vyrd_program.specs.Progress.{IsReached}
 use Rattle.vyrd_program.specs.Checks.{IsReadNoFurther, IsUnsettled}
 use Rattle.vyrd_program.specs.declared.read_log.ReadFault.TheVariants.{Failed}
@@ -8,6 +9,11 @@ use Rattle.vyrd_program.proofs.read_log.read_verdict.Goals as goal
 
 pub returns-in_err-buffer-clause-no_further : goal.returns-in_err-buffer-clause-no_further
 returns-in_err-buffer-clause-no_further g c = nothing_no_further _ _
+
+pub read_on-requires-clause-limit : goal.read_on-requires-clause-limit
+read_on-requires-clause-limit g c =
+    subst IsLimit (sym c.new-checker.ensures.limit)
+    (record { low = c.requires.low; high = c.requires.high })
 
 pub returns-clause-reached : goal.returns-clause-reached
 returns-clause-reached g c =
