@@ -45,9 +45,9 @@ begins_later max taken piece first more within nothing same there =
         let shorter : length first < length taken = grind (arith, nat_tests) in
         let rest = take (length taken - length first) more in
         let begins : taken ≡ first ++ rest
-            = begins_with taken piece first more (omega arith) same in
+        = begins_with taken piece first more (omega arith) same in
         let here : has_verdict max taken ≡ true
-            = ap (has_verdict max) begins ∙ verdict_there max first rest within there in
+        = ap (has_verdict max) begins ∙ verdict_there max first rest within there in
         absurd (both here (ap is_some nothing))
 
 -- before the first read
@@ -80,7 +80,7 @@ same_no_further max before now after checker rounds within r kept = record {
   told = subst (IsTaken before.rest r.taken) (sym kept) r.told;
   no_more = λ first more same there.
       let later = begins_later max r.taken [] first more within r.nothing
-              (no_more_bytes r.taken ∙ same) there in
+      (no_more_bytes r.taken ∙ same) there in
       omega (arith, later);
 }
 
