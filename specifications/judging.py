@@ -24,12 +24,12 @@ def program():
     return found
 
 
-def asked(word, text):
+def asked(words, text):
     """The status and the output of the program. It reads from a file, so that it may end before it has read all."""
     with tempfile.TemporaryFile() as source:
         source.write(text.encode())
         source.seek(0)
-        ran = subprocess.run([program(), word], stdin=source, stdout=subprocess.PIPE, check=False)
+        ran = subprocess.run([program(), *words.split()], stdin=source, stdout=subprocess.PIPE, check=False)
     return ran.returncode, ran.stdout.decode("latin-1")
 
 

@@ -99,11 +99,13 @@ class All(ScriptTest):
         """A copy in which each script notes that it ran, and one of them fails."""
         for name in ("all", "common.sh"):
             self.file(f"examples/{name}", (EXAMPLES / name).read_bytes()).chmod(0o755)
-        scripts = ["examples/compare", "examples/unproved", "examples/own/check", "tools/check", "examples/caught"]
-        scripts += ["examples/documents", "tools/tests/run", "examples/many/check"]
+        scripts = ["examples/compare", "examples/unproved", "examples/own/check", "specifications/check"]
+        scripts += ["specifications/same_verdicts", "tools/check", "examples/caught", "examples/documents", "tools/tests/run"]
+        scripts += ["examples/many/check"]
         for script in scripts:
             self.program(script, f'echo {script} >>"{self.folder}/ran"', "exit 0")
-        (self.folder / "examples/tests").mkdir()
+        for tests in ("examples/tests", "specifications/tests"):
+            (self.folder / tests).mkdir()
         for failing, status in ((None, 0), (scripts[0], 1), (scripts[-1], 1)):
             if failing:
                 self.program(failing, f'echo {failing} >>"{self.folder}/ran"', "exit 3")
