@@ -43,18 +43,20 @@ struct vyrd_log;
 /// One caller of a log, for one thread at a time.
 struct vyrd_caller;
 
-/// A word that isn't 0 where a log of version 2 begins.
+/// A word that isn't 0 where a log of version 2 or 3 begins.
 struct vyrd_start {
     uint32_t word;
     uint64_t value;
 };
 
-/// The first lines of a log: what the three calls below give. What it points to has to be there
-/// until the log is opened, which also says what is wrong with it.
+/// The first lines of a log: what the calls below give. What it points to has to be there until the
+/// log is opened, which also says what is wrong with it.
 struct vyrd_header {
     unsigned version, size, callers;
     const char *subject;
     const char *lines; // not NULL: the lines as they are
+    const char *own;   // not NULL: a specification, or the path of one
+    bool own_is_path;
     const struct vyrd_start *start;
     size_t starts;
 };
@@ -72,6 +74,18 @@ struct vyrd_header vyrd_header_start(const char *subject, unsigned size, unsigne
 /// Lines for the log to begin with as they are, for a header that isn't known here. `callers` is
 /// how many handles the log hands out at a time, from 1 on.
 struct vyrd_header vyrd_header_text(const char *lines, unsigned callers);
+
+/// A log of version 3, with a specification of your own in front of it: the text of a file `.spec`,
+/// from the line `vyrd 3 own WORDS CALLERS` to the line `log`. There are up to 65,536 words, and
+/// from 1 to 256 callers. What stands between the two lines is for `vyrd check` to judge.
+struct vyrd_header vyrd_header_own(const char *specification);
+
+/// The same, with the file's path.
+struct vyrd_header vyrd_header_own_file(const char *path);
+
+/// The same header with the words that aren't 0 where the log begins, as above: for version 3.
+struct vyrd_header vyrd_header_with(struct vyrd_header header, const struct vyrd_start *start,
+                                    size_t count);
 
 /// What puts the steps in an order.
 enum vyrd_order {
@@ -147,7 +161,7 @@ void vyrd_end(struct vyrd_caller *caller);
 
 /// `call METHOD ARGUMENTS`: arguments are below 2^32. Outside a step it is a step of its own,
 /// before the method does anything. In the step of an action whose outcome says which method it
-/// was, call and return may stand side by side, and lines of several calls too.
+/// was, or its arguments, call and return may stand side by side, and lines of several calls too.
 #define vyrd_call(caller, ...)                                                                     \
     vyrd_call_of(caller, VYRD_FIRST(__VA_ARGS__, 0), VYRD_COUNT(__VA_ARGS__),                      \
                  VYRD_REST(__VA_ARGS__, 0))
@@ -157,8 +171,8 @@ void vyrd_end(struct vyrd_caller *caller);
 #define vyrd_observed(caller, reply, ...)                                                          \
     (vyrd_call(caller, __VA_ARGS__), vyrd_returns(caller, reply))
 
-/// `return REPLY`: a reply is below 2^64; `true` is 1. Outside a step it is a step of its own,
-/// after the method has done all.
+/// `return REPLY`: a reply is below 2^64, in version 3 below 2^64 - 1; `true` is 1. Outside a step
+/// it is a step of its own, after the method has done all.
 void vyrd_returns(struct vyrd_caller *caller, uint64_t reply);
 
 /// `commit`: the operation takes effect here. Outside a step it is a step of its own, for an
@@ -175,6 +189,12 @@ void vyrd_close_block(struct vyrd_caller *caller);
 /// `close commit`, in a step: they end, and the operation takes effect with them.
 void vyrd_close_commit(struct vyrd_caller *caller);
 
+/// `# WORDS`, in a step, in a log of version 3: it says nothing to `vyrd check`.
+void vyrd_note(struct vyrd_caller *caller, const char *words);
+
+/// A note of the place in the source where it stands, as `# queue.c:61`.
+#define vyrd_here(caller) vyrd_here_of(caller, __FILE__, __LINE__)
+
 /// An entry as it is, in a step, without the caller's number: for a form that isn't known here.
 void vyrd_entry(struct vyrd_caller *caller, const char *words);
 
@@ -186,6 +206,7 @@ void vyrd_helping(struct vyrd_caller *caller, unsigned number);
 // array.
 void vyrd_call_of(struct vyrd_caller *caller, const char *method, size_t count,
                   const uint64_t *arguments);
+void vyrd_here_of(struct vyrd_caller *caller, const char *file, unsigned line);
 #define VYRD_FIRST(...) VYRD_FIRST_OF(__VA_ARGS__, 0)
 #define VYRD_FIRST_OF(first, ...) first
 #define VYRD_REST(first, ...) ((const uint64_t[]){__VA_ARGS__})
@@ -215,6 +236,7 @@ void vyrd_call_of(struct vyrd_caller *caller, const char *method, size_t count,
 #endif
 
 enum { VYRD_LINE_BYTES = 64 };        // the most of a line, without its line feed
+enum { VYRD_OWN_LINE_BYTES = 200 };   // the same in version 3
 enum { VYRD_FULL = 1024 * 1024 };     // what a caller keeps before it merges all numbered steps
 enum { VYRD_TICK_NS = 20 * 1000000 }; // between two looks for what is kept
 enum { VYRD_PATIENCE_MS = 1000 };     // how long a thread with a fault waits for the logs
@@ -303,6 +325,7 @@ struct vyrd_log {
     pthread_cond_t all_here;
     unsigned waiting, callers;
     uint64_t meetings;
+    size_t line_bytes;
     struct vyrd_log *watched; // the next one in the list
     struct vyrd_caller caller[];
 };
@@ -536,6 +559,21 @@ struct vyrd_header vyrd_header_text(const char *lines, unsigned callers) {
     return (struct vyrd_header){.lines = lines, .callers = callers};
 }
 
+struct vyrd_header vyrd_header_own(const char *specification) {
+    return (struct vyrd_header){.version = 3, .own = specification};
+}
+
+struct vyrd_header vyrd_header_own_file(const char *path) {
+    return (struct vyrd_header){.version = 3, .own = path, .own_is_path = true};
+}
+
+struct vyrd_header vyrd_header_with(struct vyrd_header header, const struct vyrd_start *start,
+                                    size_t count) {
+    header.start = start;
+    header.starts = count;
+    return header;
+}
+
 static int vyrd_by_word(const void *one, const void *other) {
     uint32_t a = ((const struct vyrd_start *)one)->word;
     uint32_t b = ((const struct vyrd_start *)other)->word;
@@ -546,6 +584,10 @@ static int vyrd_by_word(const void *one, const void *other) {
 static bool vyrd_add_start(struct vyrd_text *lines, const struct vyrd_header *header) {
     size_t count = header->starts, bytes = count * sizeof *header->start;
     if (count == 0) return true;
+    if (header->version < 2) {
+        vyrd_say("words at the start are of versions 2 and 3");
+        return false;
+    }
     struct vyrd_start *start = memcpy(vyrd_room(NULL, bytes), header->start, bytes);
     qsort(start, count, sizeof *start, vyrd_by_word);
     bool once = true;
@@ -561,9 +603,50 @@ static bool vyrd_add_start(struct vyrd_text *lines, const struct vyrd_header *he
     return once;
 }
 
+// The bytes of a file. False if it can't be read.
+static bool vyrd_add_file(struct vyrd_text *text, const char *path) {
+    FILE *file = fopen(path, "rb");
+    bool read = file;
+    while (read && !feof(file)) {
+        char bytes[4096];
+        vyrd_add(text, bytes, fread(bytes, 1, sizeof bytes, file));
+        read = !ferror(file);
+    }
+    if (!read) vyrd_say("can't read %s: %s", path, strerror(errno));
+    if (file) fclose(file);
+    return read;
+}
+
+// The lines of a specification, and how many callers its first line has. False if it isn't one.
+static bool vyrd_add_own(struct vyrd_text *lines, struct vyrd_header *header) {
+    if (!header->own_is_path)
+        vyrd_add(lines, header->own, strlen(header->own));
+    else if (!vyrd_add_file(lines, header->own))
+        return false;
+    if (lines->size == 0 || lines->bytes[lines->size - 1] != '\n') vyrd_add(lines, "\n", 1);
+    vyrd_add(lines, "", 1);
+    lines->size--; // the text ends with a 0, which isn't part of it
+    unsigned words = 0, callers = 0;
+    char first[VYRD_LINE_BYTES];
+    sscanf(lines->bytes, "vyrd 3 own %u %u", &words, &callers);
+    // It is compared with its one spelling, so nothing else is taken for a header.
+    int size = snprintf(first, sizeof first, "vyrd 3 own %u %u\n", words, callers);
+    bool begins = strncmp(lines->bytes, first, (size_t)size) == 0;
+    if (!begins || words > 65536 || callers < 1 || callers > 256) {
+        vyrd_say("a specification begins with the line `vyrd 3 own WORDS CALLERS`, with up to "
+                 "65,536 words and from 1 to 256 callers");
+        return false;
+    }
+    header->callers = callers;
+    bool ends = strcmp(lines->bytes + lines->size - 5, "\nlog\n") == 0;
+    if (!ends) vyrd_say("a specification ends with the line `log`");
+    return ends && vyrd_add_start(lines, header);
+}
+
 // The lines of a header, each with its line feed. False if it isn't one.
-static bool vyrd_add_header(struct vyrd_text *lines, const struct vyrd_header *header) {
+static bool vyrd_add_header(struct vyrd_text *lines, struct vyrd_header *header) {
     static const char *const subjects[] = {"multiset", "cache", "tree", "buffers"};
+    if (header->own) return vyrd_add_own(lines, header);
     if (header->lines) {
         size_t size = strlen(header->lines);
         vyrd_add(lines, header->lines, size);
@@ -621,6 +704,7 @@ static struct vyrd_log *vyrd_made(const struct vyrd_header *header, struct vyrd_
     log->kept = lines;
     log->descriptor = descriptor;
     log->owned = owned;
+    log->line_bytes = header->own ? VYRD_OWN_LINE_BYTES : VYRD_LINE_BYTES;
     pthread_mutex_t *locks[] = {&log->order, &log->merging, &log->writing, &log->hands};
     for (size_t n = 0; n < sizeof locks / sizeof *locks; n++)
         pthread_mutex_init(locks[n], NULL);
@@ -632,8 +716,8 @@ static struct vyrd_log *vyrd_made(const struct vyrd_header *header, struct vyrd_
 }
 
 // A log to the file, or to the descriptor if there is no path.
-static struct vyrd_log *vyrd_opened(const struct vyrd_header *header, const char *path,
-                                    int descriptor, const struct vyrd_options *given) {
+static struct vyrd_log *vyrd_opened(struct vyrd_header *header, const char *path, int descriptor,
+                                    const struct vyrd_options *given) {
     struct vyrd_options options = given ? *given : (struct vyrd_options){0};
     struct vyrd_text lines = {0};
     if (options.buffer == 0) options.buffer = 64 * 1024;
@@ -762,6 +846,15 @@ void vyrd_end(struct vyrd_caller *caller) {
     }
 }
 
+// Ends a line of the step under way, which began there.
+static void vyrd_end_line(struct vyrd_caller *caller, size_t begin) {
+    size_t most = caller->log->line_bytes;
+    if (caller->text.size - begin > most)
+        vyrd_misused(most == VYRD_LINE_BYTES ? "a line of a log has more than 64 bytes"
+                                             : "a line of a log has more than 200 bytes");
+    vyrd_add(&caller->text, "\n", 1);
+}
+
 // A line of the step under way.
 static void vyrd_line(struct vyrd_caller *caller, const char *words, size_t count,
                       const uint64_t *numbers) {
@@ -775,9 +868,7 @@ static void vyrd_line(struct vyrd_caller *caller, const char *words, size_t coun
         vyrd_add(text, " ", 1);
         vyrd_digits(text, numbers[n]);
     }
-    if (text->size - begin > VYRD_LINE_BYTES)
-        vyrd_misused("a line of a log has more than 64 bytes");
-    vyrd_add(text, "\n", 1);
+    vyrd_end_line(caller, begin);
 }
 
 // The same, or a step of this line alone.
@@ -791,7 +882,7 @@ static void vyrd_line_or_step(struct vyrd_caller *caller, const char *words, siz
 
 void vyrd_call_of(struct vyrd_caller *caller, const char *method, size_t count,
                   const uint64_t *arguments) {
-    char words[VYRD_LINE_BYTES + 2]; // a longer one is cut to a line that is too long
+    char words[VYRD_OWN_LINE_BYTES + 2]; // a longer one is cut to a line that is too long
     snprintf(words, sizeof words, "call %s", method);
     vyrd_line_or_step(caller, words, count, arguments);
 }
@@ -816,6 +907,23 @@ void vyrd_close_block(struct vyrd_caller *caller) {
 }
 void vyrd_close_commit(struct vyrd_caller *caller) {
     vyrd_line(caller, "close commit", 0, NULL);
+}
+
+void vyrd_note(struct vyrd_caller *caller, const char *words) {
+    if (!caller->inside) vyrd_misused("a line outside a step");
+    if (caller->log->line_bytes != VYRD_OWN_LINE_BYTES) vyrd_misused("notes are of version 3");
+    if (strchr(words, '\n')) vyrd_misused("a note has one line");
+    size_t begin = caller->text.size;
+    vyrd_add(&caller->text, "# ", 2);
+    vyrd_add(&caller->text, words, strlen(words));
+    vyrd_end_line(caller, begin);
+}
+
+void vyrd_here_of(struct vyrd_caller *caller, const char *file, unsigned line) {
+    const char *name = strrchr(file, '/');
+    char words[VYRD_OWN_LINE_BYTES + 2];
+    snprintf(words, sizeof words, "%s:%u", name ? name + 1 : file, line);
+    vyrd_note(caller, words);
 }
 
 void vyrd_entry(struct vyrd_caller *caller, const char *words) {

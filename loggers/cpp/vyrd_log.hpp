@@ -24,6 +24,7 @@
 #include <condition_variable>
 #include <csignal>
 #include <cstdint>
+#include <cstdio>
 #include <cstdlib>
 #include <cstring>
 #include <memory>
@@ -53,6 +54,8 @@ public:
 
 /// The most bytes of a line, without its line feed.
 inline constexpr std::size_t LINE_BYTES = 64;
+/// The same in a log of version 3.
+inline constexpr std::size_t OWN_LINE_BYTES = 200;
 
 /// The first lines of a log.
 class Header {
@@ -67,8 +70,18 @@ public:
     /// Throws Error if there are no lines or no callers.
     static Header text(std::string lines, unsigned callers);
 
+    /// A log of version 3, with a specification of your own in front of it: the text of a file
+    /// `.spec`, from the line `vyrd 3 own WORDS CALLERS` to the line `log`. There are up to 65,536
+    /// words, and from 1 to 256 callers. Throws Error if the first line or the last one is another;
+    /// what stands between them is for `vyrd check` to judge.
+    static Header own(std::string specification);
+
+    /// The same, with the file's path. Throws Error if it can't be read, too.
+    static Header own_file(const std::string &path);
+
     /// Word `word` holds `value` where the log begins. Words may come in any order, and those that
-    /// hold 0 are left out. Throws Error if the version isn't 2, or if the word was given before.
+    /// hold 0 are left out. Throws Error if the version is neither 2 nor 3, or if the word was
+    /// given before.
     Header &start(std::uint32_t word, std::uint64_t value);
 
     /// How many callers there are: their numbers are below this.
@@ -78,7 +91,11 @@ public:
     std::string lines() const;
 
 private:
+    friend class Log;
     Header() = default;
+
+    // How many bytes a line of the log may have.
+    std::size_t line_bytes() const { return version_ == 3 ? OWN_LINE_BYTES : LINE_BYTES; }
 
     std::string first_;
     unsigned version_ = 0; // 0: of a text
@@ -412,6 +429,7 @@ struct State {
     std::atomic<bool> finished{false};
     std::unique_ptr<Output> output;
     bool watched = false;
+    std::size_t line_bytes = LINE_BYTES;
     std::optional<std::uint64_t> seed;
 
     std::mutex numbers; // guards what is below
@@ -429,13 +447,13 @@ struct State {
 } // namespace detail
 
 /// The lines of one step. They stand in the log one after the other. A line that would have more
-/// than 64 bytes throws Error and isn't written, and so does a negative number; all else is for
-/// `vyrd check` to judge.
+/// than 64 bytes, or in version 3 more than 200, throws Error and isn't written, and so does a
+/// negative number; all else is for `vyrd check` to judge.
 class Lines {
 public:
     /// `call METHOD ARGUMENTS`: arguments are below 2^32. In the step of an action whose outcome
-    /// says which method it was, call and return may stand side by side, and lines of several calls
-    /// too.
+    /// says which method it was, or its arguments, call and return may stand side by side, and
+    /// lines of several calls too.
     template <class... Numbers>
     void call(std::string_view method, Numbers... arguments) {
         begin("call ");
@@ -444,7 +462,7 @@ public:
         end();
     }
 
-    /// `return REPLY`: a reply is below 2^64; `true` is 1.
+    /// `return REPLY`: a reply is below 2^64, in version 3 below 2^64 - 1; `true` is 1.
     template <class Number>
     void returns(Number reply) {
         begin("return");
@@ -477,6 +495,23 @@ public:
         returns(reply);
     }
 
+    /// `# WORDS`, in a log of version 3: it says nothing to `vyrd check`. Throws Error in a log of
+    /// another version, and where the words have a line feed.
+    void note(std::string_view words) {
+        if (most_ != OWN_LINE_BYTES) throw Error("notes are of version 3");
+        if (words.find('\n') != words.npos) throw Error("a note has one line");
+        size_ = 0;
+        put("# ");
+        put(words);
+        end();
+    }
+
+    /// A note of the place in the source that calls it, as `# queue.cpp:61`.
+    void here(std::string_view file = __builtin_FILE(), unsigned line = __builtin_LINE()) {
+        file.remove_prefix(file.rfind('/') + 1); // the whole of it, if there is none
+        note(std::string(file) + ':' + std::to_string(line));
+    }
+
     /// An entry as it is, without the caller's number: for a form that this class doesn't know.
     void entry(std::string_view words) {
         begin(words);
@@ -498,7 +533,7 @@ public:
 
 private:
     friend class Caller;
-    explicit Lines(unsigned caller) : caller_(caller) { text_.reserve(512); }
+    Lines(unsigned caller, std::size_t most) : caller_(caller), most_(most) { text_.reserve(512); }
 
     void begin(std::string_view words) {
         size_ = 0;
@@ -515,26 +550,28 @@ private:
 
     // Both keep what a line may have, and leave the rest out: `size_` is then above that.
     void put(std::string_view words) {
-        if (size_ + words.size() <= LINE_BYTES) words.copy(line_ + size_, words.size());
+        if (size_ + words.size() <= most_) words.copy(line_ + size_, words.size());
         size_ += words.size();
     }
 
     void digits(std::uint64_t value) {
-        if (size_ > LINE_BYTES) return;
-        auto [last, fault] = std::to_chars(line_ + size_, line_ + LINE_BYTES, value);
-        size_ = fault == std::errc() ? static_cast<std::size_t>(last - line_) : LINE_BYTES + 1;
+        if (size_ > most_) return;
+        auto [last, fault] = std::to_chars(line_ + size_, line_ + most_, value);
+        size_ = fault == std::errc() ? static_cast<std::size_t>(last - line_) : most_ + 1;
     }
 
     void end() {
-        if (size_ > LINE_BYTES) throw Error("a line of a log has more than 64 bytes");
+        if (size_ > most_)
+            throw Error("a line of a log has more than " + std::to_string(most_) + " bytes");
         line_[size_++] = '\n';
         text_.append(line_, size_);
     }
 
     std::string text_;
-    char line_[LINE_BYTES + 1]; // the line under way
+    char line_[OWN_LINE_BYTES + 1]; // the line under way
     std::size_t size_ = 0;
     unsigned caller_;
+    std::size_t most_; // bytes of a line
 };
 
 /// One caller of a log, for one thread at a time. Its number is given back with the handle, and may
@@ -608,7 +645,7 @@ private:
     };
 
     Caller(std::shared_ptr<detail::State> state, unsigned number)
-        : state_(std::move(state)), number_(number), lines_(number) {
+        : state_(std::move(state)), number_(number), lines_(number, state_->line_bytes) {
         // Two multiples of odd numbers: never 0 together, as seeds and numbers go.
         if (state_->seed) draw_ = *state_->seed * 0x9e3779b97f4a7c15 + number * 2 + 1;
     }
@@ -695,6 +732,7 @@ private:
         state_->output = std::make_unique<detail::Output>(descriptor, owned, options.buffer,
                                                           header.callers(), options.order);
         state_->taken.resize(header.callers());
+        state_->line_bytes = header.line_bytes();
         state_->seed = options.seed ? options.seed : seed_outside();
         state_->output->put(header.lines());
         if (options.watched) {
@@ -744,8 +782,38 @@ inline Header Header::text(std::string lines, unsigned callers) {
     return header;
 }
 
+inline Header Header::own(std::string specification) {
+    std::string first = specification.substr(0, specification.find('\n'));
+    unsigned words = 0, callers = 0;
+    std::sscanf(first.c_str(), "vyrd 3 own %u %u", &words, &callers);
+    // It is compared with its one spelling, so nothing else is taken for a header.
+    if (first != "vyrd 3 own " + std::to_string(words) + ' ' + std::to_string(callers) ||
+        words > 65'536 || callers < 1 || callers > 256)
+        throw Error("a specification begins with the line `vyrd 3 own WORDS CALLERS`, with up to "
+                    "65,536 words and from 1 to 256 callers");
+    constexpr std::string_view LAST = "\nlog\n";
+    if (specification.back() != '\n') specification += '\n';
+    if (specification.compare(specification.size() - LAST.size(), LAST.size(), LAST) != 0)
+        throw Error("a specification ends with the line `log`");
+    Header header = Header::text(std::move(specification), callers);
+    header.version_ = 3;
+    return header;
+}
+
+inline Header Header::own_file(const std::string &path) {
+    using File = std::unique_ptr<std::FILE, int (*)(std::FILE *)>;
+    File file(std::fopen(path.c_str(), "rb"), std::fclose);
+    std::string text;
+    char bytes[4096];
+    while (file && !std::feof(file.get()) && !std::ferror(file.get()))
+        text.append(bytes, std::fread(bytes, 1, sizeof bytes, file.get()));
+    if (!file || std::ferror(file.get()))
+        throw Error("can't read " + path + ": " + strerror(errno));
+    return own(std::move(text));
+}
+
 inline Header &Header::start(std::uint32_t word, std::uint64_t value) {
-    if (version_ != 2) throw Error("words at the start are of version 2");
+    if (version_ < 2) throw Error("words at the start are of versions 2 and 3");
     auto at = std::lower_bound(start_.begin(), start_.end(), word,
                                [](const auto &one, std::uint32_t of) { return one.first < of; });
     if (at != start_.end() && at->first == word)

@@ -3,6 +3,7 @@ package vyrdlog
 import (
 	"errors"
 	"fmt"
+	"os"
 	"sort"
 	"strings"
 )
@@ -16,6 +17,7 @@ type Header struct {
 	start   map[uint32]uint64
 	text    string
 	isText  bool
+	err     error // of reading a specification
 }
 
 // NewHeader is `vyrd VERSION SUBJECT SIZE CALLERS`: the version is 1 or 2, the subject `multiset`,
@@ -36,6 +38,45 @@ func TextHeader(lines string, callers int) Header {
 	return Header{text: lines, isText: true, callers: callers}
 }
 
+// OwnHeader is a header of version 3: a specification of your own, which stands in front of the log.
+// It is the text of a file `.spec`, from the line `vyrd 3 own WORDS CALLERS` to the line `log`. There
+// are up to 65,536 words, and from 1 to 256 callers. What stands between the two lines is for `vyrd
+// check` to judge.
+func OwnHeader(specification string) Header {
+	text := strings.TrimSuffix(specification, "\n") + "\n"
+	first, _, _ := strings.Cut(text, "\n")
+	words, callers := 0, 0
+	fmt.Sscanf(first, "vyrd 3 own %d %d", &words, &callers) // what is no header differs from the next
+	header := Header{version: 3, size: words, callers: callers, text: text}
+	if first != fmt.Sprintf("vyrd 3 own %d %d", words, callers) ||
+		words < 0 || words > 65536 || callers < 1 || callers > 256 {
+		header.err = errors.New("a specification begins with the line `vyrd 3 own WORDS CALLERS`, " +
+			"with up to 65,536 words and from 1 to 256 callers")
+	} else if !strings.HasSuffix(text, "\nlog\n") {
+		header.err = errors.New("a specification ends with the line `log`")
+	}
+	return header
+}
+
+// OwnHeaderFile is the same, with the file's path.
+func OwnHeaderFile(path string) Header {
+	specification, err := os.ReadFile(path)
+	if err != nil {
+		return Header{version: 3, err: err}
+	}
+	return OwnHeader(string(specification))
+}
+
+// WithStart is the same header with the words that aren't 0 where the log begins, as [StartHeader]
+// has them: for version 3.
+func (h Header) WithStart(start map[uint32]uint64) Header {
+	if h.version < 2 {
+		h.err = errors.New("words at the start are of versions 2 and 3")
+	}
+	h.start = start
+	return h
+}
+
 // Callers is how many callers there are: their numbers are below this.
 func (h Header) Callers() int { return h.callers }
 
@@ -45,6 +86,10 @@ func (h Header) Lines() (string, error) {
 		return h.asText()
 	}
 	switch {
+	case h.err != nil:
+		return "", h.err
+	case h.version == 3 && h.text != "":
+		return h.text + h.starting(), nil
 	case h.version != 1 && h.version != 2:
 		return "", errors.New("the version of a log is 1 or 2")
 	case !isSubject(h.subject):
@@ -66,6 +111,14 @@ func (h Header) asText() (string, error) {
 		return "", errors.New("the callers of a log are from 1 on")
 	}
 	return strings.TrimSuffix(h.text, "\n") + "\n", nil
+}
+
+// lineBytes is how many bytes a line of the log may have.
+func (h Header) lineBytes() int {
+	if h.version == 3 {
+		return ownLineBytes
+	}
+	return lineBytes
 }
 
 func (h Header) starting() string {

@@ -1,21 +1,34 @@
 package vyrdlog
 
-import "strconv"
+import (
+	"fmt"
+	"path/filepath"
+	"runtime"
+	"strconv"
+	"strings"
+)
 
-const lineBytes = 64 // the most of a line, without its line feed
+const (
+	lineBytes    = 64  // the most of a line, without its line feed
+	ownLineBytes = 200 // the same in a log of version 3
+)
 
 // Lines is the lines of one step. They stand in the log one after the other. A line that would have
-// more than 64 bytes panics and isn't written. All else is for `vyrd check` to judge.
+// more than 64 bytes, or in version 3 more than 200, panics and isn't written. All else is for `vyrd
+// check` to judge.
 type Lines struct {
 	text   []byte
 	caller int
+	most   int // bytes of a line
 }
 
 // Call is `call METHOD ARGUMENTS`: arguments are below 2^32. In the step of an action whose outcome
-// says which method it was, call and return may stand side by side, and lines of several calls too.
+// says which method it was, or its arguments, call and return may stand side by side, and lines of
+// several calls too.
 func (l *Lines) Call(method string, arguments ...uint64) { l.line("call "+method, arguments...) }
 
-// Returns is `return REPLY`. For a reply that is a bool there is [Bool].
+// Returns is `return REPLY`: in version 3 a reply is below 2^64 - 1. For one that is a bool there is
+// [Bool].
 func (l *Lines) Returns(reply uint64) { l.line("return", reply) }
 
 // Write is `write WORD VALUE`: the word is one of the subject's, and the value below 2^63.
@@ -40,6 +53,26 @@ func (l *Lines) Observed(reply uint64, method string, arguments ...uint64) {
 	l.Returns(reply)
 }
 
+// Note is `# WORDS`, in a log of version 3: it says nothing to `vyrd check`. It panics in a log of
+// another version, and where the words have a line feed.
+func (l *Lines) Note(words string) {
+	if l.most != ownLineBytes {
+		panic("notes are of version 3")
+	}
+	if strings.Contains(words, "\n") {
+		panic("a note has one line")
+	}
+	begin := len(l.text)
+	l.text = append(l.text, "# "+words...)
+	l.endLine(begin)
+}
+
+// Here is a note of the place in the source that calls it, as `# queue.go:61`.
+func (l *Lines) Here() {
+	_, file, line, _ := runtime.Caller(1)
+	l.Note(filepath.Base(file) + ":" + strconv.Itoa(line))
+}
+
 // Entry is an entry as it is, without the caller's number: for a form that this package doesn't
 // know.
 func (l *Lines) Entry(words string) { l.line(words) }
@@ -62,10 +95,14 @@ func (l *Lines) line(words string, numbers ...uint64) {
 		l.text = append(l.text, ' ')
 		l.text = strconv.AppendUint(l.text, number, 10)
 	}
-	if len(l.text)-begin > lineBytes {
+	l.endLine(begin)
+}
+
+func (l *Lines) endLine(begin int) {
+	if len(l.text)-begin > l.most {
 		line := string(l.text[begin:])
 		l.text = l.text[:begin]
-		panic("a line of a log has more than 64 bytes: " + line)
+		panic(fmt.Sprintf("a line of a log has more than %d bytes: %s", l.most, line))
 	}
 	l.text = append(l.text, '\n')
 }

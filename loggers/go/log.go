@@ -48,6 +48,7 @@ type Log struct {
 	seeded bool
 	seed   uint64
 	file   *os.File // the log's own, or nil
+	most   int      // bytes of a line
 
 	step     sync.Mutex // held for a step, where this is what orders them
 	finished atomic.Bool
@@ -97,7 +98,7 @@ func New(header Header, to io.Writer, options Options) (*Log, error) {
 		out.numbers = &numbers{kept: make([]kept, header.callers)}
 	}
 	out.append([]byte(lines))
-	log := &Log{output: out, seeded: options.Seeded, seed: options.Seed}
+	log := &Log{output: out, seeded: options.Seeded, seed: options.Seed, most: header.lineBytes()}
 	log.taken = make([]bool, header.callers)
 	log.allHere = sync.NewCond(&log.hands)
 	if !options.Unwatched {
@@ -195,7 +196,7 @@ type Caller struct {
 }
 
 func newCaller(log *Log, number int) *Caller {
-	c := &Caller{log: log, number: number, lines: Lines{caller: number}}
+	c := &Caller{log: log, number: number, lines: Lines{caller: number, most: log.most}}
 	if log.seeded {
 		// Two multiples of odd numbers: never 0 together, as seeds and numbers go.
 		c.draw = log.seed*0x9e3779b97f4a7c15 + uint64(number)*2 + 1

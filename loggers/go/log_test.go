@@ -4,6 +4,9 @@ import (
 	"bytes"
 	"errors"
 	"fmt"
+	"os"
+	"path/filepath"
+	"runtime"
 	"strings"
 	"sync"
 	"testing"
@@ -122,6 +125,78 @@ func TestHeaders(t *testing.T) {
 		_, err := New(refused.header, &written{}, Options{})
 		same(t, fmt.Sprint(err), refused.sentence)
 	}
+}
+
+const specification = "vyrd 3 own 2 200\nlist all\nmethod take x\n  answer 0\n" +
+	"  allow (reply == 1)\n    drop first all\nlog\n"
+
+func refuses(t *testing.T, sentence string, header Header) {
+	t.Helper()
+	_, err := New(header, &written{}, Options{})
+	if err == nil || !strings.HasPrefix(err.Error(), sentence) {
+		t.Errorf("got: %v\nwanted: %s", err, sentence)
+	}
+}
+
+func TestOwnHeaders(t *testing.T) {
+	path := filepath.Join(t.TempDir(), "unit.spec")
+	refuses(t, "open "+path+": ", OwnHeaderFile(path))
+	if err := os.WriteFile(path, []byte(specification), 0o666); err != nil {
+		t.Fatal(err)
+	}
+	cut := OwnHeader(strings.TrimSuffix(specification, "\n"))
+	for _, header := range []Header{OwnHeader(specification), cut, OwnHeaderFile(path)} {
+		same(t, header.Callers(), 200)
+		lines, err := header.WithStart(map[uint32]uint64{1: 7, 0: 5, 2: 0}).Lines()
+		same(t, lines, specification+"start 0 5\nstart 1 7\n")
+		same(t, err, nil)
+	}
+	header := NewHeader(1, "tree", 1, 1).WithStart(map[uint32]uint64{1: 7})
+	refuses(t, "words at the start are of versions 2 and 3", header)
+	for _, first := range []string{
+		"", "vyrd 2 own 0 1", "vyrd 3 own 0", "vyrd 3 own 0 0", "vyrd 3 own 0 257",
+		"vyrd 3 own 65537 1", "vyrd 3 own 00 1", "vyrd 3 own 0 1 ", "vyrd 3 own -1 1",
+		"vyrd 3 own 99999999999999999999 1", "\nvyrd 3 own 0 1",
+	} {
+		refuses(t, "a specification begins with the line `vyrd 3 own WORDS CALLERS`, with up to "+
+			"65,536 words and from 1 to 256 callers", OwnHeader(first+"\nlog\n"))
+	}
+	for _, rest := range []string{
+		"", "\nmethod x", "\nlog\r\n", "\nlog\n\n", "\n log", "\nlog\nend",
+	} {
+		header := OwnHeader("vyrd 3 own 65536 256" + rest)
+		refuses(t, "a specification ends with the line `log`", header)
+	}
+}
+
+// Lines of 200 bytes, notes, a call in the step that decides it, and one that commits nothing.
+func TestOwnLines(t *testing.T) {
+	log, to := newLog(t, OwnHeader(specification), Options{Unwatched: true})
+	caller := callerOf(t, log)
+	most, name, place := strings.Repeat("x", 198), strings.Repeat("x", 41), 0
+	caller.Step(func(lines *Lines) {
+		lines.Note("all at once")
+		_, _, place, _ = runtime.Caller(0)
+		lines.Here()
+		lines.Note(most)
+		lines.Call("take", 5)
+		lines.Commit()
+	})
+	caller.Returns(1)
+	caller.Call(name, 4294967295, 4294967295, 4294967295)
+	caller.Returns(0)
+	caller.Step(func(lines *Lines) {
+		panics(t, "a line of a log has more than 200 bytes: # "+most+"x", func() { lines.Note(most + "x") })
+		panics(t, "a note has one line", func() { lines.Note("two\nlines") })
+	})
+	if err := log.Finish(); err != nil {
+		t.Fatal(err)
+	}
+	same(t, to.String(), specification+fmt.Sprintf("# all at once\n# log_test.go:%d\n# %s\n", place+1, most)+
+		"0 call take 5\n0 commit\n0 return 1\n0 call "+name+" 4294967295 4294967295 4294967295\n"+
+		"0 return 0\nend\n")
+	log, _ = newLog(t, NewHeader(2, "tree", 1, 1), Options{Unwatched: true})
+	panics(t, "notes are of version 3", func() { callerOf(t, log).Step((*Lines).Here) })
 }
 
 func TestANumberIsHandedOutAndGivenBack(t *testing.T) {

@@ -15,6 +15,8 @@ import java.util.concurrent.locks.LockSupport;
 import java.util.concurrent.locks.ReentrantLock;
 import java.util.function.Consumer;
 import java.util.function.Function;
+import java.util.regex.Matcher;
+import java.util.regex.Pattern;
 
 /**
  * Writes the log of a concurrent program, which {@code vyrd check} judges. Copy this class; it needs Java 11.
@@ -42,6 +44,7 @@ import java.util.function.Function;
  */
 public final class VyrdLog implements Closeable {
     private static final int LINE_BYTES = 64; // the most of a line, without its line feed
+    private static final int OWN_LINE_BYTES = 200; // the same in a log of version 3
 
     private final Sink sink;
     private final OptionalLong seed;
@@ -50,12 +53,14 @@ public final class VyrdLog implements Closeable {
     private final Object hands = new Object(); // guards what is below
     private final BitSet taken = new BitSet();
     private final int callers;
+    private final int lineBytes;
     private int waiting;
     private long meetings;
 
     private VyrdLog(Header header, OutputStream to, boolean owned, Options options) {
         seed = options.seed.isPresent() ? options.seed : seedOutside();
         callers = header.callers;
+        lineBytes = header.version == 3 ? OWN_LINE_BYTES : LINE_BYTES;
         sink = new Sink(to, owned, options);
         byte[] first = header.lines().getBytes(StandardCharsets.UTF_8);
         sink.append(first, first.length);
@@ -181,12 +186,16 @@ public final class VyrdLog implements Closeable {
     public static final class Header {
         private static final Set<String> SUBJECTS = Set.of("multiset", "cache", "tree", "buffers");
 
+        private static final Pattern OWN = Pattern.compile("vyrd 3 own (0|[1-9][0-9]{0,4}) ([1-9][0-9]{0,2})");
+
         private final String lines;
         private final int callers;
+        private final int version; // 0: of a text
 
-        private Header(String lines, int callers) {
+        private Header(String lines, int callers, int version) {
             this.lines = lines;
             this.callers = callers;
+            this.version = version;
         }
 
         /**
@@ -203,7 +212,7 @@ public final class VyrdLog implements Closeable {
             check(SUBJECTS.contains(subject), "no subject of a log: " + subject);
             check(size >= 1 && size <= 1024, "the size of a log is from 1 to 1,024");
             check(callers >= 1 && callers <= 64, "the callers of a log are from 1 to 64");
-            return new Header("vyrd " + version + " " + subject + " " + size + " " + callers + "\n", callers);
+            return new Header("vyrd " + version + " " + subject + " " + size + " " + callers + "\n", callers, version);
         }
 
         /**
@@ -213,13 +222,50 @@ public final class VyrdLog implements Closeable {
          * @throws IllegalArgumentException as {@link #of}
          */
         public static Header withStart(String subject, int size, int callers, Map<Integer, Long> start) {
-            StringBuilder lines = new StringBuilder(of(2, subject, size, callers).lines);
+            return of(2, subject, size, callers).andStart(start);
+        }
+
+        /**
+         * A header of version 3: a specification of your own, which stands in front of the log. It is the text of a file
+         * {@code .spec}, from the line {@code vyrd 3 own WORDS CALLERS} to the line {@code log}. There are up to 65,536 words,
+         * and from 1 to 256 callers. What stands between the two lines is for {@code vyrd check} to judge.
+         *
+         * @throws IllegalArgumentException where the first line or the last one is another
+         */
+        public static Header own(String specification) {
+            String text = specification.endsWith("\n") ? specification : specification + "\n";
+            Matcher first = OWN.matcher(text.substring(0, text.indexOf('\n')));
+            check(first.matches() && Integer.parseInt(first.group(1)) <= 65_536 && Integer.parseInt(first.group(2)) <= 256,
+                    "a specification begins with the line `vyrd 3 own WORDS CALLERS`, with up to 65,536 words and from 1 to 256 "
+                            + "callers");
+            check(text.endsWith("\nlog\n"), "a specification ends with the line `log`");
+            return new Header(text, Integer.parseInt(first.group(2)), 3);
+        }
+
+        /**
+         * As {@link #own}, with the file's path.
+         *
+         * @throws IOException where the file can't be read
+         */
+        public static Header ownFile(Path path) throws IOException {
+            return own(Files.readString(path));
+        }
+
+        /**
+         * The same header with the values of the words that aren't 0 where the log begins, as {@link #withStart} has them: for
+         * version 3.
+         *
+         * @throws IllegalArgumentException where the version is neither 2 nor 3
+         */
+        public Header andStart(Map<Integer, Long> start) {
+            check(version >= 2, "words at the start are of versions 2 and 3");
+            StringBuilder text = new StringBuilder(lines);
             new TreeMap<>(start).forEach((word, value) -> {
                 if (value != 0) {
-                    lines.append("start ").append(word).append(' ').append(value).append('\n');
+                    text.append("start ").append(word).append(' ').append(value).append('\n');
                 }
             });
-            return new Header(lines.toString(), callers);
+            return new Header(text.toString(), callers, version);
         }
 
         /**
@@ -231,7 +277,7 @@ public final class VyrdLog implements Closeable {
         public static Header text(String lines, int callers) {
             check(!lines.isEmpty(), "a log has a header");
             check(callers >= 1, "the callers of a log are from 1 on");
-            return new Header(lines.endsWith("\n") ? lines : lines + "\n", callers);
+            return new Header(lines.endsWith("\n") ? lines : lines + "\n", callers, 0);
         }
 
         /** The lines, each with its line feed. */
@@ -291,7 +337,7 @@ public final class VyrdLog implements Closeable {
         private Caller(VyrdLog log, int number) {
             this.log = log;
             this.number = number;
-            lines = new Lines(number);
+            lines = new Lines(number, log.lineBytes);
             if (log.seed.isPresent()) {
                 draw = log.seed.getAsLong() * 0x9e3779b97f4a7c15L ^ (2L * number + 1);
                 draw = draw == 0 ? 1 : draw;
@@ -388,22 +434,24 @@ public final class VyrdLog implements Closeable {
     }
 
     /**
-     * The lines of one step. They stand in the log one after the other. A line that would have more than 64 bytes throws
-     * IllegalArgumentException and isn't written. All else is for {@code vyrd check} to judge.
+     * The lines of one step. They stand in the log one after the other. A line that would have more than 64 bytes, or in version
+     * 3 more than 200, throws IllegalArgumentException and isn't written. All else is for {@code vyrd check} to judge.
      */
     public static final class Lines {
         private byte[] text = new byte[512];
         private int size;
         private int begin; // where the line under way begins
         private int caller;
+        private final int most; // bytes of a line
 
-        private Lines(int caller) {
+        private Lines(int caller, int most) {
             this.caller = caller;
+            this.most = most;
         }
 
         /**
-         * {@code call METHOD ARGUMENTS}. In the step of an action whose outcome says which method it was, call and return may
-         * stand side by side, and lines of several calls too.
+         * {@code call METHOD ARGUMENTS}. In the step of an action whose outcome says which method it was, or its arguments, call
+         * and return may stand side by side, and lines of several calls too.
          *
          * @param arguments from 0 to below 2^32
          */
@@ -419,7 +467,7 @@ public final class VyrdLog implements Closeable {
         /**
          * {@code return REPLY}.
          *
-         * @param reply below 2^64: it is read without a sign
+         * @param reply below 2^64, in version 3 below 2^64 - 1: it is read without a sign
          */
         public void returns(long reply) {
             start("return");
@@ -471,6 +519,28 @@ public final class VyrdLog implements Closeable {
             returns(reply);
         }
 
+        /**
+         * {@code # WORDS}, in a log of version 3: it says nothing to {@code vyrd check}.
+         *
+         * @throws IllegalArgumentException in a log of another version, and where the words have a line feed
+         */
+        public void note(String words) {
+            Header.check(most == OWN_LINE_BYTES, "notes are of version 3");
+            Header.check(words.indexOf('\n') < 0, "a note has one line");
+            begin = size;
+            add("# ");
+            for (byte part : words.getBytes(StandardCharsets.UTF_8)) {
+                put(part);
+            }
+            end();
+        }
+
+        /** A note of the place in the source that calls it, as {@code # Queue.java:61}. */
+        public void here() {
+            StackWalker.StackFrame place = StackWalker.getInstance().walk(frames -> frames.skip(1).findFirst()).orElseThrow();
+            note(place.getFileName() + ":" + place.getLineNumber());
+        }
+
         /** An entry as it is, without the caller's number: for a form that this class doesn't know. */
         public void entry(String words) {
             start(words);
@@ -501,10 +571,10 @@ public final class VyrdLog implements Closeable {
         }
 
         private void end() {
-            if (size - begin > LINE_BYTES) {
-                String line = new String(text, begin, size - begin, StandardCharsets.ISO_8859_1);
+            if (size - begin > most) {
+                String line = new String(text, begin, size - begin, StandardCharsets.UTF_8);
                 size = begin;
-                throw new IllegalArgumentException("a line of a log has more than 64 bytes: " + line);
+                throw new IllegalArgumentException("a line of a log has more than " + most + " bytes: " + line);
             }
             put('\n');
         }
@@ -538,7 +608,7 @@ public final class VyrdLog implements Closeable {
             size += count;
         }
 
-        private void put(char c) {
+        private void put(int c) {
             room(1);
             text[size++] = (byte) c;
         }

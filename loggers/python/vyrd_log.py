@@ -21,7 +21,9 @@ import atexit
 import collections
 import os
 import random
+import re
 import signal
+import sys
 import threading
 import time
 import weakref
@@ -29,6 +31,7 @@ import weakref
 __all__ = ["Caller", "Header", "Lines", "Log", "LogError"]
 
 LINE_BYTES = 64  # the most of a line, without its line feed
+OWN_LINE_BYTES = 200  # the same in a log of version 3
 SUBJECTS = ("multiset", "cache", "tree", "buffers")
 TICK = 0.02  # seconds between two looks for what is kept
 
@@ -56,10 +59,7 @@ class Header:
             raise LogError("the callers of a log are from 1 to 64")
         if start and version != 2:
             raise LogError("words at the start are of version 2")
-        words = sorted((start or {}).items())
-        lines = [f"vyrd {version} {subject} {size} {callers}\n"]
-        lines += [f"start {word} {value}\n" for word, value in words if value != 0]
-        self._set("".join(lines), callers)
+        self._set(f"vyrd {version} {subject} {size} {callers}\n" + _starting(start), callers)
 
     @classmethod
     def text(cls, lines, callers):
@@ -76,9 +76,39 @@ class Header:
         header._set(lines if lines.endswith("\n") else lines + "\n", callers)
         return header
 
-    def _set(self, lines, callers):
+    @classmethod
+    def own(cls, specification, start=None):
+        """A log of version 3, with a specification of your own in front of it.
+
+        It is the text of a file `.spec`, from the line `vyrd 3 own WORDS CALLERS` to the line `log`. There are up to 65,536
+        words, and from 1 to 256 callers. `start` is as above. Raises LogError where the first line or the last one is another;
+        what stands between them is for `vyrd check` to judge.
+        """
+        text = specification if specification.endswith("\n") else specification + "\n"
+        first = re.fullmatch("vyrd 3 own (0|[1-9][0-9]{0,4}) ([1-9][0-9]{0,2})", text.partition("\n")[0])
+        if not first or int(first[1]) > 65536 or int(first[2]) > 256:
+            begin = "a specification begins with the line `vyrd 3 own WORDS CALLERS`"
+            raise LogError(begin + ", with up to 65,536 words and from 1 to 256 callers")
+        if not text.endswith("\nlog\n"):
+            raise LogError("a specification ends with the line `log`")
+        header = cls.__new__(cls)
+        header._set(text + _starting(start), int(first[2]), OWN_LINE_BYTES)
+        return header
+
+    @classmethod
+    def own_file(cls, path, start=None):
+        """The same, with the file's path. Raises OSError where it can't be read, and LogError where it isn't UTF-8."""
+        with open(path, encoding="utf-8", newline="") as file:
+            try:
+                specification = file.read()
+            except UnicodeDecodeError:
+                raise LogError(f"can't read {path}: it isn't UTF-8") from None
+        return cls.own(specification, start)
+
+    def _set(self, lines, callers, line_bytes=LINE_BYTES):
         self.lines = lines
         self.callers = callers
+        self._line_bytes = line_bytes
 
 
 class Log:
@@ -99,6 +129,7 @@ class Log:
         self._owner = None  # the thread whose step it is
         self._finished = False
         self._hands = threading.Condition()
+        self._line_bytes = header._line_bytes
         self._taken = [False] * header.callers
         self._waiting = 0
         self._meetings = 0
@@ -172,7 +203,7 @@ class Caller:
 
     def __init__(self, log, number):
         self._log = log
-        self._lines = Lines(number)
+        self._lines = Lines(number, log._line_bytes)
         self._step = _Step(log, number, self._lines)
         self.number = number  # from 0 on, and below the header's callers
 
@@ -219,23 +250,24 @@ class Lines:
     """The lines of one step. They stand in the log one after the other.
 
     Numbers are integers from 0 on, and True is 1. A negative one raises LogError, and so does a line that would have more
-    than 64 bytes; that line isn't written. All else is for `vyrd check` to judge.
+    than 64 bytes, or in version 3 more than 200; that line isn't written. All else is for `vyrd check` to judge.
     """
 
-    def __init__(self, caller):
+    def __init__(self, caller, line_bytes=LINE_BYTES):
         self._begin = f"{caller} "
+        self._most = line_bytes
         self._text = []
 
     def call(self, method, *arguments):
         """`call METHOD ARGUMENTS`: arguments are below 2^32.
 
-        In the step of an action whose outcome says which method it was, call and return may stand side by side, and lines of
-        several calls too.
+        In the step of an action whose outcome says which method it was, or its arguments, call and return may stand side by
+        side, and lines of several calls too.
         """
         self.entry(" ".join(["call", method, *map(_number, arguments)]))
 
     def returns(self, reply):
-        """`return REPLY`: a reply is below 2^64."""
+        """`return REPLY`: a reply is below 2^64, in version 3 below 2^64 - 1."""
         self.entry("return " + _number(reply))
 
     def write(self, word, value):
@@ -265,18 +297,36 @@ class Lines:
         self.call(method, *arguments)
         self.returns(reply)
 
+    def note(self, words):
+        """`# WORDS`, in a log of version 3: it says nothing to `vyrd check`.
+
+        Raises LogError in a log of another version, and where the words have a line feed.
+        """
+        if self._most != OWN_LINE_BYTES:
+            raise LogError("notes are of version 3")
+        if "\n" in words:
+            raise LogError("a note has one line")
+        self._add(f"# {words}")
+
+    def here(self):
+        """A note of the place in the source that calls it, as `# queue.py:61`."""
+        frame = sys._getframe(1)
+        self.note(f"{os.path.basename(frame.f_code.co_filename)}:{frame.f_lineno}")
+
     def entry(self, words):
         """An entry as it is, without the caller's number: for a form that this class doesn't know."""
-        line = f"{self._begin}{words}\n"
-        if len(line) > LINE_BYTES + 1:
-            raise LogError(f"a line of a log has more than 64 bytes: {line[:-1]}")
-        self._text.append(line)
+        self._add(self._begin + words)
 
     def helping(self, caller):
         """The lines of another caller, whose operation this step completes. `caller` is its number."""
-        lines = Lines(caller)
+        lines = Lines(caller, self._most)
         lines._text = self._text
         return lines
+
+    def _add(self, line):
+        if (len(line) if line.isascii() else len(line.encode())) > self._most:
+            raise LogError(f"a line of a log has more than {self._most} bytes: {line}")
+        self._text.append(line + "\n")
 
 
 class _Step:
@@ -422,6 +472,11 @@ def _flush_all():
         sinks = list(_SINKS)
     for sink in sinks:
         sink.flush()
+
+
+def _starting(start):
+    words = sorted((start or {}).items())
+    return "".join(f"start {word} {value}\n" for word, value in words if value != 0)
 
 
 def _number(value):

@@ -84,6 +84,8 @@ static void headers(void) {
     vyrd_close(made(vyrd_header_text("vyrd 3 own 0 100\nlog", 100)));
     starts(written(), "vyrd 3 own 0 100\nlog\n");
     refuses(vyrd_header_start("multiset", 1, 1, start, 4), "two values of word 1 at the start");
+    refuses(vyrd_header_with(vyrd_header(1, "multiset", 1, 1), start, 1),
+            "words at the start are of versions 2 and 3");
     refuses(vyrd_header(3, "multiset", 1, 1), "the version of a log is 1 or 2");
     refuses(vyrd_header(1, "queue", 1, 1), "no subject of a log: queue");
     refuses(vyrd_header(1, "tree", 0, 1), "the size of a log is from 1 to 1,024");
@@ -92,6 +94,88 @@ static void headers(void) {
     refuses(vyrd_header(1, "tree", 1, 65), "the callers of a log are from 1 to 64");
     refuses(vyrd_header_text("", 1), "a log has a header");
     refuses(vyrd_header_text("vyrd 3 own 0 0", 0), "the callers of a log are from 1 on");
+}
+
+static const char *const specification = "vyrd 3 own 2 200\nlist all\nmethod take x\n  answer 0\n"
+                                         "  allow (reply == 1)\n    drop first all\nlog\n";
+
+// Whether a log begins so, with a specification and words at the start.
+static void begins(struct vyrd_header header, const char *what) {
+    const struct vyrd_start start[] = {{1, 7}, {0, 5}};
+    vyrd_close(made(vyrd_header_with(header, start, 2)));
+    char wanted[200];
+    snprintf(wanted, sizeof wanted, "%sstart 0 5\nstart 1 7\n", specification);
+    expect(strcmp(written(), wanted) == 0, what);
+}
+
+static void own_headers(void) {
+    char text[200];
+    begins(vyrd_header_own(specification), "a specification");
+    snprintf(text, sizeof text, "%.*s", (int)strlen(specification) - 1, specification);
+    begins(vyrd_header_own(text), "a specification without its last line feed");
+    FILE *file = fopen("unit.spec", "wb");
+    fputs(specification, file);
+    fclose(file);
+    begins(vyrd_header_own_file("unit.spec"), "a specification in a file");
+    remove("unit.spec");
+    refuses(vyrd_header_own_file("unit.spec"), "can't read unit.spec: ");
+    refuses(vyrd_header_own_file("."), "can't read .: ");
+    const char *const firsts[] = {"",
+                                  "vyrd 2 own 0 1",
+                                  "vyrd 3 own 0",
+                                  "vyrd 3 own 0 0",
+                                  "vyrd 3 own 0 257",
+                                  "vyrd 3 own 65537 1",
+                                  "vyrd 3 own 00 1",
+                                  "vyrd 3 own 0 1 ",
+                                  "vyrd 3 own -1 1",
+                                  "vyrd 3 own 4294967296 1",
+                                  "\nvyrd 3 own 0 1"};
+    for (size_t n = 0; n < sizeof firsts / sizeof *firsts; n++) {
+        snprintf(text, sizeof text, "%s\nlog\n", firsts[n]);
+        refuses(vyrd_header_own(text), "a specification begins with the line `vyrd 3 own WORDS");
+    }
+    const char *const rests[] = {"",          "\nmethod x", "\nlog\r\n",
+                                 "\nlog\n\n", "\n log",     "\nlog\nend"};
+    for (size_t n = 0; n < sizeof rests / sizeof *rests; n++) {
+        snprintf(text, sizeof text, "vyrd 3 own 65536 256%s", rests[n]);
+        refuses(vyrd_header_own(text), "a specification ends with the line `log`");
+    }
+}
+
+// `size` times an x.
+static const char *many(size_t size) {
+    static char text[300];
+    memset(text, 'x', size);
+    text[size] = '\0';
+    return text;
+}
+
+// Lines of 200 bytes, notes, a call in the step that decides it, and one that commits nothing.
+static void own_lines(void) {
+    struct vyrd_log *log = made(vyrd_header_own(specification));
+    struct vyrd_caller *caller = vyrd_caller(log);
+    vyrd_begin(caller);
+    vyrd_note(caller, "all at once");
+    unsigned place = __LINE__ + 1;
+    vyrd_here(caller);
+    vyrd_note(caller, many(198));
+    vyrd_call(caller, "take", 5);
+    vyrd_commit(caller);
+    vyrd_end(caller);
+    vyrd_returns(caller, 1);
+    vyrd_call(caller, many(41), 4294967295, 4294967295, 4294967295);
+    vyrd_returns(caller, 0);
+    expect(vyrd_finish(log) == 0, "a log of version 3");
+    vyrd_close(log);
+    char wanted[1000];
+    int size = snprintf(wanted, sizeof wanted, "%s# all at once\n# unit.c:%u\n# %s\n",
+                        specification, place, many(198));
+    snprintf(wanted + size, sizeof wanted - (size_t)size,
+             "0 call take 5\n0 commit\n0 return 1\n0 call %s 4294967295 4294967295 4294967295\n"
+             "0 return 0\nend\n",
+             many(41));
+    expect(strcmp(written(), wanted) == 0, "each line of version 3");
 }
 
 static void handles(void) {
@@ -147,6 +231,33 @@ static void too_long(struct vyrd_log *log, struct vyrd_caller *caller) {
     vyrd_call(caller, longest, 1);
 }
 
+static void note_of_version_1(struct vyrd_log *log, struct vyrd_caller *caller) {
+    (void)log;
+    vyrd_begin(caller);
+    vyrd_note(caller, "here");
+}
+
+static void note_outside(struct vyrd_log *log, struct vyrd_caller *caller) {
+    (void)log;
+    vyrd_here(caller);
+}
+
+static void in_version_3(const char *words) {
+    struct vyrd_caller *caller = vyrd_caller(made(vyrd_header_own(specification)));
+    vyrd_begin(caller);
+    vyrd_note(caller, words);
+}
+
+static void note_of_two_lines(struct vyrd_log *log, struct vyrd_caller *caller) {
+    (void)log, (void)caller;
+    in_version_3("two\nlines");
+}
+
+static void long_note(struct vyrd_log *log, struct vyrd_caller *caller) {
+    (void)log, (void)caller;
+    in_version_3(many(199));
+}
+
 // Ends the process, and what it says is the sentence.
 static void aborts(void (*body)(struct vyrd_log *, struct vyrd_caller *), const char *sentence) {
     FILE *said = tmpfile();
@@ -174,6 +285,10 @@ static void misuses(void) {
     aborts(helping_outside, "vyrd_log: a line outside a step\n");
     aborts(late, "vyrd_log: a step of a log that is finished\n");
     aborts(twice, "vyrd_log: a log is finished twice\n");
+    aborts(note_of_version_1, "vyrd_log: notes are of version 3\n");
+    aborts(note_outside, "vyrd_log: a line outside a step\n");
+    aborts(note_of_two_lines, "vyrd_log: a note has one line\n");
+    aborts(long_note, "vyrd_log: a line of a log has more than 200 bytes\n");
     aborts(too_long, "vyrd_log: a line of a log has more than 64 bytes\n");
     char wanted[100] = "vyrd 1 multiset 1 2\n0 call ";
     memset(wanted + strlen(wanted), 'x', 66 - sizeof "0 call " - 1);
@@ -266,6 +381,8 @@ static void numbers(void) {
 int main(void) {
     each_line();
     headers();
+    own_headers();
+    own_lines();
     handles();
     misuses();
     failures();

@@ -92,6 +92,67 @@ void headers() {
     expect(own.lines() == "vyrd 3 own 0 100\nlog\n" && own.callers() == 100, "a header as text");
 }
 
+const std::string SPECIFICATION = "vyrd 3 own 2 200\nlist all\nmethod take x\n  answer 0\n"
+                                  "  allow (reply == 1)\n    drop first all\nlog\n";
+
+void own_headers() {
+    constexpr const char *PATH = "unit.spec";
+    expect(vyrd::Header::own(SPECIFICATION).lines() == SPECIFICATION, "a specification");
+    std::string cut = SPECIFICATION.substr(0, SPECIFICATION.size() - 1);
+    vyrd::Header header = vyrd::Header::own(cut);
+    header.start(1, 7).start(0, 5);
+    expect(header.lines() == SPECIFICATION + "start 0 5\nstart 1 7\n" && header.callers() == 200,
+           "a specification with words at the start");
+    std::ofstream(PATH) << SPECIFICATION;
+    expect(vyrd::Header::own_file(PATH).lines() == SPECIFICATION, "a specification in a file");
+    std::remove(PATH);
+    refuses("can't read unit.spec: ", [] { vyrd::Header::own_file("unit.spec"); });
+    refuses("can't read .: ", [] { vyrd::Header::own_file("."); });
+    for (const char *first :
+         {"", "vyrd 2 own 0 1", "vyrd 3 own 0", "vyrd 3 own 0 0", "vyrd 3 own 0 257",
+          "vyrd 3 own 65537 1", "vyrd 3 own 00 1", "vyrd 3 own 0 1 ", "vyrd 3 own -1 1",
+          "vyrd 3 own 4294967296 1", "\nvyrd 3 own 0 1"})
+        refuses("a specification begins with the line `vyrd 3 own WORDS CALLERS`",
+                [&] { vyrd::Header::own(first + std::string("\nlog\n")); });
+    for (const char *rest : {"", "\nmethod x", "\nlog\r\n", "\nlog\n\n", "\n log", "\nlog\nend"})
+        refuses("a specification ends with the line `log`",
+                [&] { vyrd::Header::own(std::string("vyrd 3 own 65536 256") + rest); });
+}
+
+// Lines of 200 bytes, notes, a call in the step that decides it, and one that commits nothing.
+void own_lines() {
+    unsigned place = 0;
+    std::string text = written(vyrd::Header::own(SPECIFICATION), [&](vyrd::Log &log) {
+        vyrd::Caller caller = log.caller();
+        caller.step([&](vyrd::Lines &lines) {
+            lines.note("all at once");
+            lines.here(), place = __LINE__;
+            lines.note(std::string(198, 'x'));
+            lines.call("take", 5);
+            lines.commit();
+        });
+        caller.returns(1);
+        caller.call(std::string(41, 'x'), 4294967295, 4294967295, 4294967295);
+        caller.returns(0);
+        caller.step([](vyrd::Lines &lines) {
+            refuses("a line of a log has more than 200 bytes",
+                    [&] { lines.note(std::string(199, 'x')); });
+            refuses("a note has one line", [&] { lines.note("two\nlines"); });
+        });
+        log.finish();
+    });
+    expect(text == SPECIFICATION + "# all at once\n# unit.cpp:" + std::to_string(place) + "\n# " +
+                       std::string(198, 'x') + "\n0 call take 5\n0 commit\n0 return 1\n0 call " +
+                       std::string(41, 'x') +
+                       " 4294967295 4294967295 4294967295\n0 return 0\nend\n",
+           "a log of version 3: " + text);
+    written(vyrd::Header(2, "multiset", 1, 1), [](vyrd::Log &log) {
+        log.caller().step([](vyrd::Lines &lines) {
+            refuses("notes are of version 3", [&] { lines.note("here"); });
+        });
+    });
+}
+
 void handles() {
     written(vyrd::Header(1, "multiset", 1, 2), [](vyrd::Log &log) {
         std::optional<vyrd::Caller> first(log.caller());
@@ -198,6 +259,8 @@ void numbers() {
 int main() {
     each_line();
     headers();
+    own_headers();
+    own_lines();
     handles();
     refused_steps();
     threads(vyrd::Order::lock);

@@ -1,3 +1,4 @@
+import java.nio.file.Path;
 import java.util.ArrayList;
 import java.util.List;
 import java.util.Random;
@@ -191,12 +192,11 @@ public final class Multiset {
         }
     }
 
-    private static void run(boolean correct) throws Exception {
+    private static void run(boolean correct, VyrdLog.Header header) throws Exception {
         VyrdLog.Options options = correct ? new VyrdLog.Options().seed(7) : new VyrdLog.Options();
-        int callers = correct ? 4 : 2;
-        try (VyrdLog log = VyrdLog.to(System.out, VyrdLog.Header.of(1, "multiset", 1, callers), options)) {
+        try (VyrdLog log = VyrdLog.to(System.out, header, options)) {
             if (correct) {
-                together(log, callers, 7);
+                together(log, 4, 7);
             } else {
                 interrupted(log);
             }
@@ -205,11 +205,12 @@ public final class Multiset {
     }
 
     public static void main(String[] words) throws Exception {
-        String word = words.length == 1 ? words[0] : "";
+        String word = words.length == 1 || words.length == 2 ? words[0] : "";
         if (!word.equals("correct") && !word.equals("broken")) {
-            System.err.println("usage: Multiset correct | broken");
+            System.err.println("usage: Multiset correct | broken [SPECIFICATION]");
             System.exit(64);
         }
-        run(word.equals("correct"));
+        run(word.equals("correct"),
+                words.length == 2 ? VyrdLog.Header.ownFile(Path.of(words[1])) : VyrdLog.Header.of(1, "multiset", 1, 4));
     }
 }

@@ -2,6 +2,7 @@ import java.io.ByteArrayOutputStream;
 import java.io.IOException;
 import java.io.OutputStream;
 import java.nio.charset.StandardCharsets;
+import java.nio.file.Files;
 import java.nio.file.Path;
 import java.util.ArrayList;
 import java.util.List;
@@ -85,6 +86,61 @@ public final class UnitTests {
         refuses("the callers of a log are from 1 on", () -> VyrdLog.Header.text("vyrd 3 own 0 0", 0));
     }
 
+    private static final String SPECIFICATION = "vyrd 3 own 2 200\nlist all\nmethod take x\n  answer 0\n"
+            + "  allow (reply == 1)\n    drop first all\nlog\n";
+
+    private static void ownHeaders() throws IOException {
+        Path path = Files.createTempFile("vyrd_log", ".spec");
+        Files.writeString(path, SPECIFICATION);
+        Map<Integer, Long> start = Map.of(1, 7L, 0, 5L, 2, 0L);
+        String cut = SPECIFICATION.substring(0, SPECIFICATION.length() - 1);
+        for (VyrdLog.Header header : List.of(VyrdLog.Header.own(cut), VyrdLog.Header.ownFile(path))) {
+            same(header.lines(), SPECIFICATION);
+            same(header.andStart(start).lines(), SPECIFICATION + "start 0 5\nstart 1 7\n");
+        }
+        Files.delete(path);
+        refuses(path.toString(), () -> VyrdLog.Header.ownFile(path));
+        refuses("words at the start are of versions 2 and 3", () -> VyrdLog.Header.of(1, "tree", 1, 1).andStart(start));
+        for (String first : List.of("", "vyrd 2 own 0 1", "vyrd 3 own 0", "vyrd 3 own 0 0", "vyrd 3 own 0 257",
+                "vyrd 3 own 65537 1", "vyrd 3 own 00 1", "vyrd 3 own 0 1 ", "vyrd 3 own -1 1", "vyrd 3 own 4294967296 1",
+                "\nvyrd 3 own 0 1")) {
+            refuses("a specification begins with the line `vyrd 3 own WORDS CALLERS`, with up to 65,536 words and from 1 to 256 "
+                    + "callers", () -> VyrdLog.Header.own(first + "\nlog\n"));
+        }
+        for (String rest : List.of("", "\nmethod x", "\nlog\r\n", "\nlog\n\n", "\n log", "\nlog\nend")) {
+            refuses("a specification ends with the line `log`", () -> VyrdLog.Header.own("vyrd 3 own 65536 256" + rest));
+        }
+    }
+
+    /** Lines of 200 bytes, notes, a call in the step that decides it, and one that commits nothing. */
+    private static void ownLines() throws IOException {
+        ByteArrayOutputStream written = new ByteArrayOutputStream();
+        VyrdLog log = VyrdLog.to(written, VyrdLog.Header.own(SPECIFICATION), new VyrdLog.Options().watched(false));
+        VyrdLog.Caller caller = log.caller();
+        String most = "x".repeat(196) + "\u00e4";
+        int place = caller.stepGiving(lines -> {
+            lines.note("all at once");
+            int line = new Throwable().getStackTrace()[0].getLineNumber() + 1;
+            lines.here();
+            lines.note(most);
+            lines.call("take", 5);
+            lines.commit();
+            return line;
+        });
+        caller.returns(1);
+        caller.call("x".repeat(41), 4294967295L, 4294967295L, 4294967295L);
+        caller.returns(0);
+        caller.step(lines -> {
+            refuses("a line of a log has more than 200 bytes: # " + most + "x", () -> lines.note(most + "x"));
+            refuses("a note has one line", () -> lines.note("two\nlines"));
+        });
+        log.finish();
+        same(written.toString(StandardCharsets.UTF_8), SPECIFICATION + "# all at once\n# UnitTests.java:" + place + "\n# " + most
+                + "\n0 call take 5\n0 commit\n0 return 1\n0 call " + "x".repeat(41) + " 4294967295 4294967295 4294967295\n"
+                + "0 return 0\nend\n");
+        log(new ByteArrayOutputStream(), 1).caller().step(lines -> refuses("notes are of version 3", lines::here));
+    }
+
     private static void handles() {
         VyrdLog log = log(new ByteArrayOutputStream(), 2);
         VyrdLog.Caller first = log.caller();
@@ -163,6 +219,8 @@ public final class UnitTests {
     public static void main(String[] words) throws Exception {
         eachLine();
         headers();
+        ownHeaders();
+        ownLines();
         handles();
         refusedSteps();
         failures();

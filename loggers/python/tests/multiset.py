@@ -129,19 +129,18 @@ def interrupted(log):
     other.join()
 
 
-def run_correct():
-    callers = 4
-    with Log(Header(1, "multiset", 1, callers), sys.stdout.buffer, seed=7) as log:
-        together(log, Multiset(), callers, 7)
+def run_correct(header):
+    with Log(header, sys.stdout.buffer, seed=7) as log:
+        together(log, Multiset(), 4, 7)
 
 
-def run_broken():
-    with Log(Header(1, "multiset", 1, 2), sys.stdout.buffer) as log:
+def run_broken(header):
+    with Log(header, sys.stdout.buffer) as log:
         interrupted(log)
 
 
 if __name__ == "__main__":
     runs = {"correct": run_correct, "broken": run_broken}
-    if len(sys.argv) != 2 or sys.argv[1] not in runs:
-        sys.exit("usage: multiset.py correct | broken")
-    runs[sys.argv[1]]()
+    if len(sys.argv) not in (2, 3) or sys.argv[1] not in runs:
+        sys.exit("usage: multiset.py correct | broken [SPECIFICATION]")
+    runs[sys.argv[1]](Header.own_file(sys.argv[2]) if len(sys.argv) == 3 else Header(1, "multiset", 1, 4))

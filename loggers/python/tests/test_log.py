@@ -2,12 +2,23 @@
 
 import io
 import sys
+import tempfile
 import threading
 import unittest
 from pathlib import Path
 
 sys.path.insert(0, str(Path(__file__).resolve().parent.parent))
 from vyrd_log import Header, Log, LogError  # noqa: E402
+
+
+SPECIFICATION = """vyrd 3 own 2 200
+list all
+method take x
+  answer 0
+  allow (reply == 1)
+    drop first all
+log
+"""
 
 
 class Full(io.RawIOBase):
@@ -69,6 +80,61 @@ class Tests(unittest.TestCase):
         ]
         for make, sentence in refused:
             self.refuses(make, sentence)
+
+    def test_own_headers(self):
+        with tempfile.TemporaryDirectory() as folder:
+            path = Path(folder, "unit.spec")
+            path.write_bytes(SPECIFICATION.encode())
+            starting = SPECIFICATION + "start 0 5\nstart 1 7\n"
+            for header in (
+                Header.own(SPECIFICATION, {1: 7, 0: 5, 2: 0}),
+                Header.own(SPECIFICATION.rstrip(), {1: 7, 0: 5}),
+                Header.own_file(path, {1: 7, 0: 5}),
+            ):
+                self.assertEqual((header.lines, header.callers), (starting, 200))
+            path.write_bytes(b"\xff")
+            self.refuses(lambda: Header.own_file(path), f"can't read {path}: it isn't UTF-8")
+            path.unlink()
+            with self.assertRaises(FileNotFoundError):
+                Header.own_file(path)
+        sentence = "a specification begins with the line `vyrd 3 own WORDS CALLERS`"
+        for first in (
+            *("", "vyrd 2 own 0 1", "vyrd 3 own 0", "vyrd 3 own 0 0", "vyrd 3 own 0 257", "vyrd 3 own 65537 1"),
+            *("vyrd 3 own 00 1", "vyrd 3 own 0 1 ", "vyrd 3 own -1 1", "vyrd 3 own 4294967296 1", "\nvyrd 3 own 0 1"),
+        ):
+            refused = sentence + ", with up to 65,536 words and from 1 to 256 callers"
+            self.refuses(lambda: Header.own(first + "\nlog\n"), refused)  # noqa: B023
+        for rest in ("", "\nmethod x", "\nlog\r\n", "\nlog\n\n", "\n log", "\nlog\nend"):
+            refused = "a specification ends with the line `log`"
+            self.refuses(lambda: Header.own("vyrd 3 own 65536 256" + rest), refused)  # noqa: B023
+
+    def test_own_lines(self):
+        """Lines of 200 bytes, notes, a call in the step that decides it, and one that commits nothing."""
+        file = io.BytesIO()
+        log = Log(Header.own(SPECIFICATION), file, watched=False)
+        caller = log.caller()
+        most, name = "x" * 196 + "\u00e4", "x" * 41
+        with caller.step() as lines:
+            lines.note("all at once")
+            lines.here()
+            place = sys._getframe().f_lineno - 1
+            lines.note(most)
+            lines.call("take", 5)
+            lines.commit()
+        caller.returns(1)
+        caller.call(name, 4294967295, 4294967295, 4294967295)
+        caller.returns(0)
+        with caller.step() as lines:
+            self.refuses(lambda: lines.note(most + "x"), f"a line of a log has more than 200 bytes: # {most}x")
+            self.refuses(lambda: lines.note("two\nlines"), "a note has one line")
+        log.finish()
+        wanted = (
+            f"{SPECIFICATION}# all at once\n# test_log.py:{place}\n# {most}\n0 call take 5\n0 commit\n0 return 1\n"
+            f"0 call {name} 4294967295 4294967295 4294967295\n0 return 0\nend\n"
+        )
+        self.assertEqual(file.getvalue().decode(), wanted)
+        with Log(Header(2, "tree", 1, 1), io.BytesIO(), watched=False).caller().step() as lines:
+            self.refuses(lines.here, "notes are of version 3")
 
     def test_handles(self):
         log = Log(Header(1, "tree", 1, 2), io.BytesIO(), watched=False)

@@ -1,27 +1,32 @@
+use std::panic::Location;
+
 /// The most bytes of a line, without its line feed.
-const LINE_BYTES: usize = 64;
+pub(crate) const LINE_BYTES: usize = 64;
+/// The same in a log of version 3.
+pub(crate) const OWN_LINE_BYTES: usize = 200;
 
 /// The lines of one step. They stand in the log one after the other.
 ///
 /// # Panics
 ///
-/// A line that would have more than 64 bytes panics and isn't written. All else is for `vyrd check`
-/// to judge.
+/// A line that would have more than 64 bytes, or in version 3 more than 200, panics and isn't
+/// written. All else is for `vyrd check` to judge.
 #[derive(Debug)]
 pub struct Lines {
     text: Vec<u8>,
     caller: usize,
+    most: usize, // bytes of a line
 }
 
 impl Lines {
-    pub(crate) fn new(caller: usize) -> Self {
-        Lines { text: Vec::with_capacity(512), caller }
+    pub(crate) fn new(caller: usize, most: usize) -> Self {
+        Lines { text: Vec::with_capacity(512), caller, most }
     }
 
     /// `call METHOD ARGUMENTS`: arguments are below 2^32.
     ///
-    /// In the step of an action whose outcome says which method it was, call and return may stand
-    /// side by side, and lines of several calls too.
+    /// In the step of an action whose outcome says which method it was, or its arguments, call and
+    /// return may stand side by side, and lines of several calls too.
     pub fn call(&mut self, method: &str, arguments: &[u64]) {
         self.line(|text| {
             text.extend_from_slice(b"call ");
@@ -30,7 +35,8 @@ impl Lines {
         });
     }
 
-    /// `return REPLY`: a reply is any number, and `u64::from(true)` is 1.
+    /// `return REPLY`: a reply is any number, in version 3 below `u64::MAX`, and `u64::from(true)`
+    /// is 1.
     pub fn returns(&mut self, reply: u64) {
         self.line(|text| {
             text.extend_from_slice(b"return");
@@ -73,6 +79,32 @@ impl Lines {
         self.returns(reply);
     }
 
+    /// `# WORDS`, in a log of version 3: it says nothing to `vyrd check`.
+    ///
+    /// # Panics
+    ///
+    /// In a log of another version, and where the words have a line feed.
+    pub fn note(&mut self, words: &str) {
+        assert!(self.most == OWN_LINE_BYTES, "notes are of version 3");
+        assert!(!words.contains('\n'), "a note has one line");
+        let begin = self.text.len();
+        self.text.extend_from_slice(b"# ");
+        self.text.extend_from_slice(words.as_bytes());
+        self.end_line(begin);
+    }
+
+    /// A note of the place in the source that calls it, as `# queue.rs:61`.
+    ///
+    /// # Panics
+    ///
+    /// As [`Lines::note`].
+    #[track_caller]
+    pub fn here(&mut self) {
+        let place = Location::caller();
+        let file = place.file().rsplit(['/', '\\']).next().unwrap_or_default();
+        self.note(&format!("{file}:{}", place.line()));
+    }
+
     /// An entry as it is, without the caller's number: for a form that this crate doesn't know.
     pub fn entry(&mut self, words: &str) {
         self.line(|text| text.extend_from_slice(words.as_bytes()));
@@ -101,10 +133,14 @@ impl Lines {
         digits(&mut self.text, self.caller as u64);
         self.text.push(b' ');
         words(&mut self.text);
-        if self.text.len() - begin > LINE_BYTES {
+        self.end_line(begin);
+    }
+
+    fn end_line(&mut self, begin: usize) {
+        if self.text.len() - begin > self.most {
             let line = String::from_utf8_lossy(&self.text[begin..]).into_owned();
             self.text.truncate(begin);
-            panic!("a line of a log has more than 64 bytes: {line}");
+            panic!("a line of a log has more than {} bytes: {line}", self.most);
         }
         self.text.push(b'\n');
     }

@@ -59,6 +59,7 @@ struct State {
     step: Mutex<()>, // held for a step, where this is what orders them
     finished: AtomicBool,
     output: Arc<Output>,
+    line_bytes: usize,
     seed: Option<u64>,
     hands: Mutex<Hands>,
     all_here: Condvar,
@@ -115,6 +116,7 @@ impl Log {
             step: Mutex::new(()),
             finished: AtomicBool::new(false),
             output,
+            line_bytes: header.line_bytes(),
             seed,
             hands: Mutex::new(hands),
             all_here: Condvar::new(),
@@ -240,7 +242,8 @@ impl Caller {
     fn new(state: Arc<State>, number: usize) -> Self {
         let spread = |seed: u64| seed.wrapping_mul(0x9e37_79b9_7f4a_7c15) ^ (2 * number as u64 + 1);
         let draw = state.seed.map_or(0, |seed| spread(seed).max(1));
-        Caller { state, number, lines: Lines::new(number), draw }
+        let lines = Lines::new(number, state.line_bytes);
+        Caller { state, number, lines, draw }
     }
 
     /// Its number, from 0 on and below the header's callers.

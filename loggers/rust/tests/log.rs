@@ -109,6 +109,92 @@ fn headers() {
     }
 }
 
+const SPECIFICATION: &str = "vyrd 3 own 2 200\nlist all\nmethod take x\n  answer 0\n  \
+    allow (reply == 1)\n    drop first all\nlog\n";
+
+#[test]
+fn own_headers() {
+    let header = Header::own(SPECIFICATION.trim_end()).unwrap();
+    assert_eq!((header.lines().as_str(), header.callers()), (SPECIFICATION, 200));
+    let header = header.and_start([(1, 7), (0, 5)]).unwrap();
+    assert_eq!(header.lines(), format!("{SPECIFICATION}start 0 5\nstart 1 7\n"));
+    assert_eq!(why(header.and_start([(1, 8)])), "two values of word 1 at the start");
+    let refused = Header::new(1, "tree", 1, 1).unwrap().and_start([(1, 8)]);
+    assert_eq!(why(refused), "words at the start are of versions 2 and 3");
+    let path = std::env::temp_dir().join(format!("vyrd_log_{}.spec", std::process::id()));
+    std::fs::write(&path, SPECIFICATION).unwrap();
+    assert_eq!(Header::own_file(&path).unwrap().lines(), SPECIFICATION);
+    std::fs::remove_file(&path).unwrap();
+    assert!(why(Header::own_file(&path)).starts_with(&format!("can't read {}: ", path.display())));
+    assert!(why(Header::own_file(".")).starts_with("can't read .: "));
+    for first in [
+        "",
+        "vyrd 2 own 0 1",
+        "vyrd 3 own 0",
+        "vyrd 3 own 0 0",
+        "vyrd 3 own 0 257",
+        "vyrd 3 own 65537 1",
+        "vyrd 3 own 00 1",
+        "vyrd 3 own 0 1 ",
+        "vyrd 3 own +1 1",
+        "vyrd 3 own 4294967296 1",
+        "\nvyrd 3 own 0 1",
+    ] {
+        let sentence = "a specification begins with the line `vyrd 3 own WORDS CALLERS`, \
+            with up to 65,536 words and from 1 to 256 callers";
+        assert_eq!(why(Header::own(&format!("{first}\nlog\n"))), sentence);
+    }
+    for rest in ["", "\nmethod x", "\nlog\r\n", "\nlog\n\n", "\n log", "\nlog\nend"] {
+        let refused = Header::own(&format!("vyrd 3 own 65536 256{rest}"));
+        assert_eq!(why(refused), "a specification ends with the line `log`");
+    }
+}
+
+/// What it panics with.
+fn panics(action: impl FnOnce()) -> String {
+    let panicked = catch_unwind(AssertUnwindSafe(action)).expect_err("no panic");
+    let text = panicked.downcast_ref::<String>().cloned();
+    text.unwrap_or_else(|| panicked.downcast_ref::<&str>().unwrap().to_string())
+}
+
+/// Lines of 200 bytes, notes, a call in the step that decides it, and one that commits nothing.
+#[test]
+fn own_lines() {
+    let written = Written::default();
+    let header = Header::own(SPECIFICATION).unwrap();
+    let log = Log::new(header, written.clone(), unwatched()).unwrap();
+    let mut caller = log.caller().unwrap();
+    let (most, mut place) = ("x".repeat(198), 0);
+    caller.step(|lines| {
+        lines.note("all at once");
+        place = line!() + 1;
+        lines.here();
+        lines.note(&most);
+        lines.call("take", &[5]);
+        lines.commit();
+    });
+    caller.returns(1);
+    let name = "x".repeat(41);
+    caller.call(&name, &[4_294_967_295; 3]);
+    caller.returns(0);
+    let mut note = |words: &str| panics(|| caller.step(|lines| lines.note(words)));
+    let sentences = [note(&format!("{most}x")), note("two\nlines")];
+    assert!(sentences[0].starts_with("a line of a log has more than 200 bytes: # x"));
+    assert_eq!(sentences[1], "a note has one line");
+    log.finish().unwrap();
+    let lines = format!(
+        "# all at once\n# log.rs:{place}\n# {most}\n0 call take 5\n0 commit\n0 return 1\n\
+        0 call {name} 4294967295 4294967295 4294967295\n0 return 0\nend\n"
+    );
+    assert_eq!(written.text(), format!("{SPECIFICATION}{lines}"));
+}
+
+#[test]
+fn notes_are_of_version_3() {
+    let mut caller = log(1).0.caller().unwrap();
+    assert_eq!(panics(|| caller.step(|lines| lines.here())), "notes are of version 3");
+}
+
 #[test]
 fn a_number_is_handed_out_and_given_back() {
     let (log, _) = log(2);

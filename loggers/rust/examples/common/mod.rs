@@ -71,6 +71,12 @@ pub fn interrupted(
     });
 }
 
+/// The path of a specification after the program's word, if there is one.
+#[allow(dead_code)] // not every example takes one
+pub fn specification() -> Option<String> {
+    env::args().nth(2).filter(|word| word.ends_with(".spec"))
+}
+
 /// Does what the program's words ask for, with its log on standard output: a run of four callers, or
 /// a broken one of two whose order is forced.
 pub fn run_by_word(
@@ -79,7 +85,7 @@ pub fn run_by_word(
     play: impl Fn(&Log, usize, Run),
     broken: impl Fn(&Log),
 ) -> Result<(), Error> {
-    let words: Vec<String> = env::args().skip(1).collect();
+    let words: Vec<String> = env::args().skip(1).filter(|word| !word.ends_with(".spec")).collect();
     let number = |place: usize| words.get(place).map(|word| word.parse().expect("a number"));
     let (order, callers) = match words.first().map_or("", String::as_str) {
         "correct" | "racing" => (Order::Lock, 4),
