@@ -1,6 +1,6 @@
 -- The expressions of nodes, one after the other.
 use Rattle.std.proofs.Common.{◌≡◌, ℕ, List, [], ◌∷◌, ◌++◌, length, refl, ap, ◌∙◌, sym, suc, zero}
-use Rattle.std.proofs.Common.{arith, take, ◌<◌, ◌+◌, length-append}
+use Rattle.std.proofs.Common.{arith, take, get_or, ◌<◌, ◌+◌, length-append}
 use Rattle.std.specs.Prelude.{◌-◌, ◌≤◌, drop}
 use Rattle.std.proofs.lemmas.List.{take-append-drop, length-take-le}
 use Rattle.vyrd_own.specs.declared.node.Node.{Node}
@@ -75,6 +75,24 @@ earlier_is front upto i low is =
 
     below : i < length (exprs_from [] (take (i + 1) front))
     below = omega (arith, count)
+
+-- the first nodes up to one of them
+take_to : (front : List Node) (i : ℕ) (other node : Node) → i < length front
+    → get_or front i other ≡ node → take (suc i) front ≡ take i front ++ node ∷ []
+take_to [] i other node low is = absurd (omega arith)
+take_to (n ∷ front) zero other node low is = ap (λ x. x ∷ []) is
+take_to (n ∷ front) (suc i) other node low is =
+    ap (λ ns. n ∷ ns) (take_to front i other node (omega arith) is)
+
+-- an earlier expression is that of its node
+pub earlier_at : (front : List Node) (i : ℕ) (other node : Node) → i < length front
+    → get_or front i other ≡ node
+    → earlier (exprs_of front) i ≡ expr_at (exprs_of (take i front)) node
+earlier_at front i other node low is =
+    let next : i + 1 ≡ suc i = omega arith in
+    sym (earlier_is front (take (i + 1) front) i low refl)
+    ∙ expr_last (take i front) (take (i + 1) front) node
+    (ap (λ k. take k front) next ∙ take_to front i other node low is)
 
 -- past the nodes there is no expression
 pub earlier_none : (front : List Node) (i : ℕ) → length front ≤ i → earlier (exprs_of front) i ≡ number 0

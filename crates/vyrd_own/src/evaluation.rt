@@ -59,7 +59,11 @@ fn earlier(front: &[Node], i: usize, state: &StateOf, values: &[u64]) -> u64
     ensures { result ≡ value state.now values.now (earlier (exprs_of front.now) i) }
 {
     if i < front.len() {
-        return evaluate(&front[..i + 1], state, values);
+        return match front[i] {
+            Node::Number(n) => n,
+            Node::At(j) => at(values, j),
+            _ => evaluate(&front[..i + 1], state, values),
+        };
     }
     0
 }

@@ -56,9 +56,8 @@ pub(crate) fn put_few(values: &mut Few, more: &[u64])
     ensures items { values.new.items ≡ values.old.items ++ more.now }
     ensures len { array_vec_len values.new ≡ array_vec_len values.old + length more.now }
 {
-    match values.try_extend_from_slice(more) {
-        Ok(()) => {}
-        Err(_) => unreachable!(),
+    for value in more {
+        values.push(*value);
     }
 }
 

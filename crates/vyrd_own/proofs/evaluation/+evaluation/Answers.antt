@@ -1,12 +1,24 @@
 use Rattle.std.proofs.Common.{refl, ap, sym, ◌∙◌}
 use Rattle.vyrd_base.specs.Own.Expressions.{value}
-use Rattle.vyrd_own.proofs.NodeLaws.{expr_last, expr_none, earlier_is, earlier_none, length_zero}
+use Rattle.vyrd_own.proofs.NodeLaws.{expr_last, expr_none, earlier_is, earlier_at, earlier_none, length_zero}
 use Rattle.vyrd_own.proofs.evaluation.+evaluation.Goals as goal
 
-pub earlier-returns-then-i-front : goal.earlier-returns-then-i-front
-earlier-returns-then-i-front t c =
+pub earlier-returns-in-Number : goal.earlier-returns-in-Number
+earlier-returns-in-Number t c =
+    sym (ap (value c.args.state.now c.args.values.now)
+    (earlier_at c.args.front.now c.args.i _ _ c.if-i-front.true c.in-Number.is))
+
+pub earlier-returns-in-At : goal.earlier-returns-in-At
+earlier-returns-in-At t c =
+    c.at.ensures
+    ∙ sym (ap (value c.args.state.now c.args.values.now)
+    (earlier_at c.args.front.now c.args.i _ _ c.if-i-front.true c.in-At.is))
+
+pub earlier-returns-in_default : goal.earlier-returns-in_default
+earlier-returns-in_default t c =
     c.evaluate.ensures
-    ∙ ap (value c.args.state.now c.args.values.now) (earlier_is c.args.front.now _ c.args.i c.if-i-front.true refl)
+    ∙ ap (value c.args.state.now c.args.values.now)
+    (earlier_is c.args.front.now _ c.args.i c.if-i-front.true refl)
 
 pub earlier-returns : goal.earlier-returns
 earlier-returns t c = sym (ap (value c.args.state.now c.args.values.now) (earlier_none c.args.front.now c.args.i c.if-i-front.false))
