@@ -13,7 +13,7 @@ from logtext import OBSERVERS
 from steps import State as OwnState
 from steps import View, answer_of, step_of
 from walk import Walk
-from words import PART_WORDS, State, Words, after, allowed, answer, keys_of
+from words import PART_WORDS, State, Words, allowed, answer, keys_of
 
 
 class Evidence(NamedTuple):

@@ -55,7 +55,7 @@ OF_AMOUNTS, OF_LISTS = ("least", "greatest"), ("first", "last", "length")
 
 
 class Refused(Exception):
-    """What a line is refused with: the rule that it breaks, the place in it, from 0 on, where that was seen, and what it wants there."""
+    """What a line is refused with: the rule that it breaks, the place in it where that was seen, from 0 on, and what is wanted."""
 
     def __init__(self, rule, place, wanted=None):
         super().__init__(rule)

@@ -1,10 +1,7 @@
 """What a log of version 3 has that a violation has to do with, by its specification: gathered on walks along the log."""
 
-from typing import NamedTuple
-
 from answers import other_log
-from findings import Last, OwnWrite, sound_entries
-from logtext import Entry
+from findings import Change, Last, OwnWrite, sound_entries
 from steps import State, View, answer_of, step_of
 from walk import Walk
 
@@ -72,20 +69,13 @@ class Changing(Run):
     def at_step(self, execution, step):
         effects = [effect for effect in step.effects if self._is_one(effect.cell)]
         if effects:
-            self.changing.add((execution, [(effect, self._before(effect)) for effect in effects]))
+            self.changing.add((execution, [(effect, before_of(self.state, effect)) for effect in effects]))
 
     def _is_one(self, cell):
         kind, target = cell
         if kind == "shown" and (target is None or ("shown", None) in self.cells):
             return any(other == "shown" for other, _ in self.cells)
         return cell in self.cells
-
-    def _before(self, effect):
-        """What a register or an amount was before, and None of a list and where all is cleared."""
-        kind, target = effect.cell
-        if kind == "register":
-            return self.state.registers[target]
-        return self.state.amounts(kind)[target] if kind in ("shown", "hidden") and target is not None else None
 
 
 class Window(Run):
@@ -133,16 +123,6 @@ class Window(Run):
         self.last_line = execution.commit_line
 
 
-class ChangeOfView(NamedTuple):
-    """A write that changed what the words show at a key, with the entry at which it took effect, and before and after."""
-
-    write: Entry
-    at: Entry
-    before: int
-    amount: int
-    shown: int
-
-
 class Shown(Run):
     """What the words show at a key: by which parts, who wrote to these last, and the changes since the commit before."""
 
@@ -180,9 +160,17 @@ class Shown(Run):
             self._compare(part)
             if effect.at.line > self.last_commit and self.amount != amount:
                 self.first = amount if self.first is None else self.first
-                self.changes.add(ChangeOfView(write, effect.at, before, amount, self.amount))
+                self.changes.add(Change(write, effect.at, before, amount, self.amount))
             if effect.at.line > self.execution.line and part in self.parts:
                 self.own.add(OwnWrite(write, effect.at, before, value))
+
+
+def before_of(state, effect):
+    """What a register or an amount is before an effect, and None of a list and where all is cleared."""
+    kind, target = effect.cell
+    if kind == "register":
+        return state.registers[target]
+    return state.amounts(kind)[target] if kind in ("shown", "hidden") and target is not None else None
 
 
 def notes_near(log, lines):

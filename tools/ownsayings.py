@@ -6,8 +6,8 @@ from answers import other_log
 from expressions import NONE
 from findings import Last
 from logtext import shown
-from ownfindings import Changing, Run, Shown, Window, notes_near
-from reasons import candidates, cells, failing, said, worth
+from ownfindings import Changing, Run, Shown, Window, before_of, notes_near
+from reasons import candidates, cells, failing, said, values, worth
 from sayings import some_of, taking_effect
 from specification import CASES, CHANGES, CONSTANTS, LINES, LISTS, LONGEST, METHODS, NAMES, PARAMETERS, REGISTERS, SHOWS
 from steps import View, names_in, step_of, why_no_start
@@ -22,8 +22,8 @@ RULES_OF_OWN = {
     "line out of place": "such a line can't stand here; tools/lint says where it can",
     "name taken": "something else has that name; tools/lint says what",
     "unknown name": "nothing has that name here; tools/lint says what may be meant",
-    "too many": f"there are at most {LINES:,} lines, {CONSTANTS} constants, {REGISTERS} registers, {LISTS} lists, {METHODS} methods,"
-    f" {SHOWS} `shows`, {PARAMETERS} parameters and {NAMES} names a method, {CASES} cases a method and {CHANGES} changes a case",
+    "too many": f"there are at most {LINES:,} lines, {CONSTANTS} constants, {REGISTERS} registers, {LISTS} lists, {SHOWS} `shows`,"
+    f" {METHODS} methods, {PARAMETERS} parameters, {NAMES} names and {CASES} cases a method, and {CHANGES} changes a case",
     "too deep": "expressions stand at most 32 deep one within the other",
     "state is read here": "`shows` sees the words of a part, and not the state",
     "method without a case": "each method has an answer or a case",
@@ -60,24 +60,47 @@ def say_notes(log, lines):
         print(f"  line {line}: {shown(text, length)}")
 
 
-def explain_own(log, marked):
-    """What there is to be said of a violation."""
-    execution = marked.execution
-    say_notes(log, (execution.line, log.marked_line, execution.return_line))
+def findings_of(log, marked):
+    """What there is to be said of a violation. Where the answer can't be about the log, the script ends and says so."""
     view = re.search("view differs at key ([0-9]+)", log.answer)
     if view:
-        explain_view(log, marked, int(view[1]))
+        run = Shown(log, marked, int(view[1]))
+        step = run.step(marked.execution)
+        is_about = step and run.state.shown[run.key] == run.before and amount_after(run, step) != run.amount
     elif "observer" in log.answer:
-        explain_observer(log, marked)
+        run = Window(log, marked)
+        is_about = run.method.answer and marked.execution.reply not in run.answers
     else:
-        explain_reply(log, marked)
-
-
-def explain_reply(log, marked):
-    """The state before the commit, why each case doesn't allow the reply there, and what changed what they read."""
-    run, execution = Run(log, marked), marked.execution
-    if run.step(execution):
+        run = Run(log, marked)
+        is_about = not run.step(marked.execution)
+    if not is_about:
         raise other_log()
+    return run
+
+
+def amount_after(run, step):
+    """What a call makes of the amount at the key, by the specification."""
+    amount = run.state.shown[run.key]
+    for effect in step.effects:
+        if effect.cell[0] == "shown" and effect.target in (None, run.key):
+            amount = effect.value or 0
+    return amount
+
+
+def explain_own(log, marked, run):
+    """Says what was found of a violation."""
+    execution = marked.execution
+    say_notes(log, (execution.line, log.marked_line, execution.return_line))
+    if isinstance(run, Shown):
+        explain_view(log, run)
+    elif isinstance(run, Window):
+        explain_observer(log, marked, run)
+    else:
+        explain_reply(log, marked, run)
+
+
+def explain_reply(log, marked, run):
+    """The state before the commit, why each case doesn't allow the reply there, and what changed what they read."""
     names = names_of(run, with_reply=True)
     read = cells_read(run, names)
     say_state(run, read, f"The state before line {log.marked_line}")
@@ -116,8 +139,9 @@ def say_state(run, read, title):
     state = run.state
     said_of = [f"register {name} = {worth(value)}" for name, value in state.registers.items()]
     said_of += [f"list {name}: {elements(items)}" for name, items in state.lists.items()]
-    said_of += [said_amount(state, *cell) for cell in sorted(read, key=order_of) if cell[0] in ("shown", "hidden")]
-    print(f"\n{title}" + ("" if said_of else ": nothing of it is read"))
+    amounts = (cell for cell in read if cell[0] in ("shown", "hidden"))
+    said_of += [said_amount(state, *cell) for cell in sorted(amounts, key=order_of)]
+    print(f"\n{title}" + ("" if said_of else ": it has no register and no list, and no amount is read"))
     for each in said_of:
         print(f"  {each}")
 
@@ -153,16 +177,25 @@ def say_method(run, names):
     print(f"\n`{method.name}` in that state")
     say_lets(run, names)
     if method.answer:
-        value = method.answer.value.value(run.state, names)
-        none = ", so that it has to commit" if value == NONE else ", if it doesn't commit"
-        print(f"  line {method.answer.line}: answer {said(method.answer.value, run.state, names)}{none}")
+        is_none = method.answer.value.value(run.state, names) == NONE
+        say_answer(run, names, ", so that it has to commit" if is_none else ", if it doesn't commit")
     for case in method.cases:
         print(f"  line {case.line}: allow {case.allow} = {worth(case.allow.value(run.state, names))}")
         for test in failing(case.allow, run.state, names):
             print(f"    {test}")
 
 
+def say_answer(run, names, more=""):
+    """The answer of a method, with what it is worth."""
+    answer = run.method.answer
+    print(f"  line {answer.line}: answer {answer.value} = {worth(answer.value.value(run.state, names))}{more}")
+    parts = values(answer.value, run.state, names)
+    if parts:
+        print(f"    {parts}")
+
+
 def say_lets(run, names):
+    """The names of a method, with what they are worth."""
     for let in run.method.lets:
         print(f"  line {let.line}: let {let.name} {said(let.value, run.state, names)}")
 
@@ -189,18 +222,13 @@ def said_effect(effect, before):
     return f"{name} {worth(before)} -> {worth(effect.value)}"
 
 
-def explain_observer(log, marked):
+def explain_observer(log, marked, run):
     """The answers of an execution without a commit in the states from its call to its return."""
-    run, execution = Window(log, marked), marked.execution
-    if execution.reply in run.answers:
-        raise other_log()
-    names = names_of(run, with_reply=False)
+    execution, names = marked.execution, names_of(run, with_reply=False)
     print("\nIt has no commit, so its reply has to be its answer in a state from its call to its return")
     print(f"  at its call: {worth(run.at_call)}")
     for other, answer in some_of(run.within):
-        print(
-            f"  after line {other.commit_line}, caller {other.caller}, `{other}` with reply {other.reply}: {worth(answer)}"
-        )
+        print(f"  after line {other.commit_line}, caller {other.caller}, `{other}` with reply {other.reply}: {worth(answer)}")
     if run.right_until:
         since = f"after line {run.right_since}" if run.right_since else "from the start"
         print(f"  Before its call the answer was {execution.reply} last {since}, up to line {run.right_until}.")
@@ -208,25 +236,20 @@ def explain_observer(log, marked):
     say_state(run, read, "The state at its return")
     print(f"\n`{run.method.name}` in that state")
     say_lets(run, names)
-    print(f"  line {run.method.answer.line}: answer {said(run.method.answer.value, run.state, names)}")
+    say_answer(run, names)
     step = run.step(execution)
     if step:
         print(f"  line {step.case.line}: this case would allow {execution.reply} there, if it had committed")
     say_changing(log, marked, read)
 
 
-def explain_view(log, marked, key):
+def explain_view(log, run):
     """What the call does to the key, which parts give it, and what was written since both views were equal."""
-    run = Shown(log, marked, key)
-    before, step = run.state.shown[key], run.step(marked.execution)
-    if not step or before != run.before:
-        raise other_log()
+    step = run.step(run.execution)
     say_step(run, step)
     at_last = f"on line {run.last_commit}, at the commit before" if run.last_commit else "at the start"
-    print(f"\nKey {key}\n  {at_last}, both views show {before}")
-    for effect in step.effects:
-        run.state.do(effect)
-    print(f"  this call makes that {run.state.shown[key]}; the words show {run.amount}")
+    print(f"\nKey {run.key}\n  {at_last}, both views show {run.before}")
+    print(f"  this call makes that {amount_after(run, step)}; the words show {run.amount}")
     say_parts(log, run)
     say_changes(log, run)
     say_own_writes(log, run)
@@ -234,18 +257,12 @@ def explain_view(log, marked, key):
 
 def say_step(run, step):
     """The case that allows the reply, and what its lines do."""
-    names = {**names_of(run, with_reply=True)}
+    names = names_of(run, with_reply=True)
     print("\nWhat it does by the specification")
     say_lets(run, names)
     print(f"  line {step.case.line}: allow {step.case.allow}")
     for effect in step.effects:
-        kind, target = effect.cell
-        before = None
-        if kind == "register":
-            before = run.state.registers[target]
-        elif kind in ("shown", "hidden") and target is not None:
-            before = run.state.amounts(kind)[target]
-        print(f"    line {effect.change.line}: {said_effect(effect, before)}")
+        print(f"    line {effect.change.line}: {said_effect(effect, before_of(run.state, effect))}")
 
 
 def say_parts(log, run):

@@ -24,11 +24,16 @@ def inner(expression, state, names):
         yield from inner(part, state, names)
 
 
+def values(expression, state, names):
+    """The parts of an expression with their values, each once."""
+    parts = {str(part): worth(part.value(state, names)) for part in inner(expression, state, names)}
+    return ", ".join(f"{text} = {value}" for text, value in parts.items())
+
+
 def said(expression, state, names):
     """An expression with its value, and the values of its parts."""
-    parts = {str(part): worth(part.value(state, names)) for part in inner(expression, state, names)}
-    values = ", ".join(f"{text} = {value}" for text, value in parts.items())
-    return f"{expression} = {worth(expression.value(state, names))}" + (f": {values}" if values else "")
+    parts = values(expression, state, names)
+    return f"{expression} = {worth(expression.value(state, names))}" + (f": {parts}" if parts else "")
 
 
 def failing(expression, state, names):

@@ -127,7 +127,8 @@ class Slips:
         if name == "reply":
             return "`reply` is known in a method's `allow` and below it"
         if name in ("part", *OF_PARTS):
-            known = f"a part has the words w0 to w{said.part - 1}" if kind == "  shows " else "the words of a part are known in `shows`"
+            is_in_part = kind == "  shows "
+            known = f"a part has the words w0 to w{said.part - 1}" if is_in_part else "the words of a part are known in `shows`"
             return f"there is no `{name}` here: {known}"
         if kind == "  shows ":
             return f"`{name}` is no constant, and `shows` sees none but constants, `part` and the part's words"

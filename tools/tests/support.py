@@ -80,7 +80,7 @@ class ScriptTest(unittest.TestCase):
         self.assertEqual((said.out, said.error, said.status), ("", sentence + "\n", status))
 
 
-# A queue in slots, by a specification of its own, and a run of it: the log of docs/OWN-STRUCTURE.md's kind that is judged by version 3.
+# A queue in slots with a specification of its own, up to the line `log`, and a run of it.
 QUEUE = """vyrd 3 own 8 2
 # slot i has its state in word 2i and its element in word 2i + 1
 part 2

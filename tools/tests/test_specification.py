@@ -40,7 +40,8 @@ class Lines(unittest.TestCase):
 
     def test_a_queue_is_read(self):
         said = read(QUEUE.splitlines()[1:])
-        self.assertEqual((said.is_whole, said.part, list(said.lists), list(said.by_name)), (True, 2, ["waiting"], ["enqueue", "dequeue"]))
+        self.assertEqual((said.is_whole, said.part), (True, 2))
+        self.assertEqual((list(said.lists), list(said.by_name)), (["waiting"], ["enqueue", "dequeue"]))
         changes = [(change.line, change.kind) for change in said.by_name["dequeue"].cases[0].changes]
         self.assertEqual(changes, [(14, "drop first"), (15, "shown")])
 
@@ -150,7 +151,10 @@ class Lines(unittest.TestCase):
         self.assertIsNone(refusal("#" * 200))
         self.assert_rules("line too long", ("#" * 201, 201))
         self.assert_rules(
-            "state is read here", ("part 1", "  shows [0] 1", 9), ("part 1", "  shows (w0 + count) 1", 15), ("part 1", "  shows 0 (least 1)", 12)
+            "state is read here",
+            ("part 1", "  shows [0] 1", 9),
+            ("part 1", "  shows (w0 + count) 1", 15),
+            ("part 1", "  shows 0 (least 1)", 12),
         )
 
     def test_the_end(self):
