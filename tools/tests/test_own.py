@@ -72,6 +72,8 @@ class Lint(ScriptTest):
     def test_headers_and_ends(self):
         self.assert_said(LOG.replace("own 8 2", "own 65537 257"), "line 1: WORDS is 65537; it is from 0 to 65,536",
             "line 1: CALLERS is 257; it is from 1 to 256")
+        five = "line 1: a header has five fields, `vyrd VERSION SUBJECT SIZE CALLERS`, and this has 4"
+        self.assert_said(LOG.replace("own 8 2", "own 8"), five)
         self.assert_said("vyrd 2 own 8 2\nend\n", "line 1: the subject own is of version 3")
         self.assert_said(QUEUE, "line 17: the log ends without the line `end`")
         cut = "line 9: the log ends in its specification, without the lines `log` and `end`"
