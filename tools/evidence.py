@@ -10,8 +10,10 @@ from typing import NamedTuple
 from amounts import watched
 from answers import other_log
 from logtext import OBSERVERS
+from steps import State as OwnState
+from steps import View, answer_of, step_of
 from walk import Walk
-from words import PART_WORDS, State, Words, after, allowed, answer, keys_of
+from words import PART_WORDS, State, Words, allowed, answer, keys_of
 
 
 class Evidence(NamedTuple):
@@ -35,7 +37,8 @@ def evidence(parts, less):
     if parts.verdict != "violation":
         return Evidence()
     view = re.search("view differs at key ([0-9]+)", parts.fault)
-    walker = Views(parts, less, int(view[1])) if view else Reply(parts, less)
+    views, reply = (OwnViews, OwnReply) if parts.log.specification else (Views, Reply)
+    walker = views(parts, less, int(view[1])) if view else reply(parts, less)
     walker.walk()
     return walker.evidence()
 
@@ -47,9 +50,13 @@ class Walker:
         self.log, self.line, self.entries = parts.log, parts.line, parts.entries(less)
         self.own = {parts.lines[place] for place in parts.units[parts.marked].places}
         start = {word: value for word, (value, _) in less.start.items()}
+        self.begin(start, keys)
+        self.stored, self.over = dict(start), []  # each write counts here where it stands, inside a block too
+
+    def begin(self, start, keys):
+        """The words and the state at the start."""
         self.words = Words(self.log.subject, self.log.size, start)
         self.state = State(self.words, keys)
-        self.stored, self.over = dict(start), []  # each write counts here where it stands, inside a block too
 
     def walk(self):
         """Takes the commits and the effects up to the fault, each in their order."""
@@ -76,7 +83,6 @@ class Walker:
         while execution := walk.next_commit():
             if execution.commit_line <= self.line and execution.return_line:
                 self.at_commit(execution)
-
 
     def at_write(self, word, value):
         """What a write tells where it stands. Nothing here."""
@@ -139,6 +145,63 @@ class Reply(Walker):
 
     def evidence(self):
         return Evidence(tuple(self.over), self.by_states, self.by_words)
+
+
+class OwnWalker(Walker):
+    """A walk of a log of version 3, by its specification."""
+
+    def begin(self, start, _):
+        self.said = self.log.specification
+        self.words = View(self.said, start)
+        self.state = OwnState(self.said, self.words.amounts())
+
+    def at_commit(self, execution):
+        step = self.step(execution)
+        for effect in step.effects if step else ():
+            self.state.do(effect)
+
+    def step(self, execution):
+        """What an execution does in the state, or None where its reply isn't allowed."""
+        method = self.said.by_name[execution.method]
+        return step_of(self.said, method, self.state, execution.arguments, execution.reply)
+
+
+class OwnViews(OwnWalker):
+    """Where two views differ at a key: how far."""
+
+    def __init__(self, parts, less, key):
+        super().__init__(parts, less, ())
+        self.key = key
+
+    def at_effect(self, word, value):
+        self.words[word] = value
+
+    def evidence(self):
+        return Evidence(tuple(self.over), views=(self.words.amounts().get(self.key, 0) - self.state.shown[self.key],))
+
+
+class OwnReply(OwnWalker):
+    """Where a reply is wrong: whether it would have been right in a state before."""
+
+    def __init__(self, parts, less):
+        self.execution = marked_execution(parts)
+        super().__init__(parts, less, ())
+        self.method = self.said.by_name[self.execution.method]
+        self.by_states = self._is_right()
+
+    def at_commit(self, execution):
+        if execution.commit_line < self.line:
+            super().at_commit(execution)
+            self.by_states = self.by_states or self._is_right()
+
+    def _is_right(self):
+        call = self.execution
+        if call.commit_line:
+            return self.step(call) is not None
+        return answer_of(self.said, self.method, self.state, call.arguments) == call.reply
+
+    def evidence(self):
+        return Evidence(tuple(self.over), self.by_states)
 
 
 def marked_execution(parts):

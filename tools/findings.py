@@ -6,7 +6,7 @@ from typing import NamedTuple
 
 from amounts import watched
 from answers import other_log
-from logtext import METHODS, MOST_WORD, OBSERVERS, Entry, entry_of
+from logtext import METHODS, MOST_WORD, OBSERVERS, Entry
 from walk import Execution, Walk
 from words import NO_CHARACTER, PART_WORDS, State, Words, answer, keys_of
 
@@ -61,6 +61,9 @@ def sound_entries(log):
 
 def is_sound(log, call):
     """Whether a call is one of the subject, with arguments that it may have."""
+    if log.specification:
+        method = log.specification.by_name.get(call.method)
+        return method is not None and len(call.numbers) == len(method.parameters) and max(call.numbers, default=0) <= MOST_WORD
     execution, count = Execution(call), METHODS[log.subject].get(call.method)
     if len(call.numbers) != count or max(call.numbers) > MOST_WORD:
         return False
@@ -76,7 +79,7 @@ def marked_in(log):
     caller, call_line, last_commit = place_of_call(log)
     walk, execution, words, begin = Walk(), None, set(), f"{caller} "
     for line, text, _, _ in log.lines():
-        entry = entry_of(line, text) if line >= call_line and text.startswith(begin) else None
+        entry = log.entry(line, text) if line >= call_line and text.startswith(begin) else None
         if not entry:
             continue
         if entry.kind == "call" and not is_sound(log, entry):
@@ -99,7 +102,7 @@ def place_of_call(log):
         is_named = line == log.marked_line
         if line == 1 or not (is_named or " call " in text or text.endswith(" commit")):
             continue
-        entry = entry_of(line, text)
+        entry = log.entry(line, text)
         if is_named:
             if not entry or entry.caller not in calls:
                 break
@@ -122,12 +125,15 @@ def is_about(log, execution):
     if not execution.return_line:
         return False
     number = int(re.search("(?:reply|key) ([0-9]+)", log.answer)[1])
+    has_only_looked = execution.commit_line is None if log.specification else execution.method in OBSERVERS
     if "observer" in log.answer:
-        return execution.return_line == log.marked_line and execution.method in OBSERVERS and execution.reply == number
-    if execution.commit_line != log.marked_line or execution.method in OBSERVERS:
+        return execution.return_line == log.marked_line and has_only_looked and execution.reply == number
+    if execution.commit_line != log.marked_line or has_only_looked:
         return False
     if "reply" in log.answer:
         return execution.reply == number
+    if log.specification:
+        return bool(log.specification.part and log.size)
     return log.subject in ("multiset", "tree") or number < 2 * log.size
 
 

@@ -2,7 +2,9 @@
 
 import re
 
+import specification
 from command import unread
+from expressions import Refused
 
 LONGEST = 64  # bytes of a line, without its line feed
 KEPT = 256  # bytes that are read of a longer one; the others are counted
@@ -18,8 +20,11 @@ METHODS = {
 }
 OBSERVERS = {"lookup", "read", "length"}
 
+# The subject of version 3, whose methods stand in the specification in front of the log. Its size is how many words it has.
+OWN = "own"
+
 # How many words a structure has for each unit of its size, and beside them.
-WORDS = {"multiset": (8, 0), "cache": (5, 0), "tree": (12, 2), "buffers": (8, 0)}
+WORDS = {"multiset": (8, 0), "cache": (5, 0), "tree": (12, 2), "buffers": (8, 0), OWN: (1, 0)}
 
 HEADER = re.compile(rf"vyrd ([12]) ({'|'.join(METHODS)}) ([1-9][0-9]{{0,3}}) ([1-9][0-9]?)")
 START = re.compile("start ([0-9]+) ([0-9]+)")
@@ -53,13 +58,39 @@ class Entry:
 
 
 class Log:
-    """A log in a file that can be read again and again, and the answer about it. `subject` is None without a sound header."""
+    """A log in a file that can be read again and again, and the answer about it. `subject` is None without a sound header.
+
+    In version 3 it is None without a sound specification too, and what isn't a log's own text stands up to the line `front`.
+    """
 
     def __init__(self, file, name, answer):
         self.file, self.name, self.answer = file, name, answer
-        header = HEADER.fullmatch(next((text for _, text, _, _ in self.lines()), ""))
+        self.specification, self.front, self.longest = None, 1, LONGEST
+        first = next((text for _, text, _, _ in self.lines()), "")
+        header = HEADER.fullmatch(first)
         is_sound = header and int(header[3]) <= 1024 and int(header[4]) <= 64
         self.version, self.subject, self.size = (header[1], header[2], int(header[3])) if is_sound else (None, None, 0)
+        if sizes := specification.sizes_in(first):
+            self.version, self.size, self.longest = "3", sizes[0], specification.LONGEST
+            self._read_specification()
+
+    def _read_specification(self):
+        """Reads the specification up to its line `log`, also where a line of it is refused before that."""
+        said, is_refused = specification.Specification(), False
+        self.front = float("inf")
+        for line, text, length, is_ended in self.lines():
+            if line == 1:
+                continue
+            try:
+                said.take(line, text, length)
+            except Refused:
+                is_refused = True
+            if text == "log" and is_ended:
+                self.front = line
+            if self.front == line or line > specification.LINES + 2:
+                break
+        if said.is_whole and not is_refused:
+            self.subject, self.specification = OWN, said
 
     @property
     def marked_line(self):
@@ -72,20 +103,30 @@ class Log:
         self.file.seek(0)
         return lines_of(open(self.file.fileno(), "rb", closefd=False), self.name)
 
+    def entry(self, line, text):
+        """The entry on a line, or None where it has none."""
+        return entry_of(line, text, self.longest) if line > self.front else None
+
+    def is_note(self, line, text, length):
+        """Whether a line says nothing, as one may in version 3 where entries stand."""
+        return self.version == "3" and line > self.front and specification.is_note(text, length)
+
     def entries(self):
-        """The lines after the header that can be read as entries."""
+        """The lines after the header, and after the specification, that can be read as entries."""
         for line, text, _, _ in self.lines():
-            if line > 1 and (entry := entry_of(line, text)):
+            if entry := self.entry(line, text):
                 yield entry
 
     def starting(self):
         """The words and values of the starting lines, of those words that the structure has."""
         words = {}
-        for line, text, _, _ in self.lines() if self.version == "2" else ():
+        for line, text, length, _ in self.lines() if self.subject and self.version != "1" else ():
+            if line <= self.front or self.is_note(line, text, length):
+                continue
             start = START.fullmatch(text)
-            if line > 1 and (not start or len(text) > LONGEST):
+            if not start or len(text) > LONGEST:
                 break
-            if line > 1 and int(start[1]) < words_in(self.subject, self.size):
+            if int(start[1]) < words_in(self.subject, self.size):
                 words[int(start[1])] = int(start[2])
         return words
 
@@ -118,10 +159,10 @@ def rest_of_line(file):
     return length, False
 
 
-def entry_of(line, text):
-    """The entry on a line, or None where it hasn't the form of one."""
+def entry_of(line, text, longest=LONGEST):
+    """The entry on a line of at most so many bytes, or None where it hasn't the form of one."""
     found = ENTRY.fullmatch(text)
-    if not found or len(text) > LONGEST:
+    if not found or len(text) > longest:
         return None
     caller, write, word, value, returns, reply, call, method, arguments, mark = found.groups()
     if write:

@@ -2,12 +2,13 @@
 it can be left out. Of the log no more is kept than what the fault can need."""
 
 from array import array
+from bisect import bisect_left
 from typing import NamedTuple
 
 from answers import other_log
 from command import MISUSE, Ended
 from findings import is_sound
-from logtext import HEADER, START, entry_of
+from logtext import HEADER, START
 from walk import Walk
 
 END = "end\n"
@@ -44,12 +45,15 @@ class Less(NamedTuple):
 
 
 class Parts:
-    """The header, the starting lines and the units of a log, up to the fault and what is still open there."""
+    """The header, the specification, the starting lines and the units of a log, up to the fault and what is still open there.
+
+    Notes go. Where a specification has the fault, all is kept up to there, and nothing of what comes after.
+    """
 
     def __init__(self, log):
         self.log, self.line, self.fault = log, log.marked_line, log.answer.split(": ", 1)[1]
         self.verdict = log.answer.split(" ", 1)[0]
-        self.header, self.starts, self.ending = "", [], END
+        self.header, self.front, self.starts, self.ending = "", [], [], END
         self.texts, self.lines, self.owners = [], array("Q"), array("I")
         self.units, self.marked, self.marked_place = [], None, None
         self._open, self._walk = {}, Walk()
@@ -61,11 +65,18 @@ class Parts:
     def _read(self):
         """Takes the lines apart, up to the last one that the fault can need."""
         may_start = False
-        for line, text, _, is_ended in self.log.lines():
+        for line, text, length, is_ended in self.log.lines():
             if line == 1:
-                self.header, may_start = text, self.log.version == "2"
+                self.header, may_start = text, self.log.version in ("2", "3")
                 if self.fault in OF_HEADER:
                     break
+                continue
+            if line <= self.log.front and line <= self.line:
+                self.front.append(text)
+                continue
+            if not self._is_fault_behind_front():
+                break
+            if self.log.is_note(line, text, length):
                 continue
             may_start = may_start and START.fullmatch(text) is not None
             if may_start:
@@ -73,6 +84,10 @@ class Parts:
             elif self.fault in OF_START or not self._take(line, text, is_ended):
                 break
         self._end()
+
+    def _is_fault_behind_front(self):
+        """Whether the fault isn't one of a specification."""
+        return self.log.version != "3" or self.log.specification is not None
 
     def _take(self, line, text, is_ended):
         """Takes a line, and says whether one after it can be needed."""
@@ -84,7 +99,7 @@ class Parts:
         if line <= self.line:
             self._keep(line, text)
             return line < self.line or (self.verdict == "violation" and self._open != {})
-        entry = entry_of(line, text)
+        entry = self.log.entry(line, text)
         if entry and entry.caller in self._open:
             if entry.kind == "call":
                 return False
@@ -94,7 +109,7 @@ class Parts:
     def _keep(self, line, text):
         """Puts a line to its unit. One whose text is at fault is in none."""
         is_text = line == self.line and self.fault in ("bad entry", "no line feed")
-        entry = None if is_text else entry_of(line, text)
+        entry = None if is_text else self.log.entry(line, text)
         number = self._open.get(entry.caller) if entry else None
         if number is None:
             number = len(self.units)
@@ -128,15 +143,14 @@ class Parts:
                 self.units[owner].writes.append(Write((effect.at.line, write.line), *write.numbers))
 
     def _place_of(self, line):
-        """The place of a line that was kept. All up to the fault are, so that only behind it one has to be looked for."""
-        place = line - self.lines[0]
-        return place if place < len(self.lines) and self.lines[place] == line else self.lines.index(line)
+        """The place of a line that was kept."""
+        return bisect_left(self.lines, line)
 
     def _end(self):
         """What stands behind the entries, where that is the fault."""
         if self.fault == "too many lines":
             raise Ended("a log with fewer lines can't have too many", MISUSE)
-        if self.fault in ("no end", "no line feed") or self.fault in OF_HEADER:
+        if self.fault in ("no end", "no line feed") or self.fault in OF_HEADER or not self._is_fault_behind_front():
             self.ending = ""
 
     def _sort(self):
@@ -165,7 +179,7 @@ class Parts:
     def entries(self, less):
         """The entries that are left, with the lines that they have in the whole log."""
         for place in self.places(less):
-            entry = entry_of(self.lines[place], self.texts[place])
+            entry = self.log.entry(self.lines[place], self.texts[place])
             if entry:
                 yield entry
 
@@ -179,17 +193,17 @@ class Parts:
     def text(self, less, callers=None):
         """The log that is left, its callers numbered anew where that is asked for, and the answer that it has to have."""
         if not self.log.subject:
-            return self._answered([self.header], 1)
+            return self._answered([self.header, *self.front], self.line if self.front else 1)
         starts = [f"start {word} {value}" for word, (value, _) in sorted(less.start.items()) if value]
         return self._lines(starts, less, callers)
 
     def text_of_starts(self, starts):
         """The log of these starting lines alone."""
-        return "\n".join([self.header, *starts, END])
+        return "\n".join([self.header, *self.front, *starts, END])
 
     def _lines(self, starts, less, callers):
         places = self.places(less)
-        lines = [self._header(bool(starts), callers), *starts]
+        lines = [self._header(bool(starts), callers), *self.front, *starts]
         if callers is None:
             lines += [self.texts[place] for place in places]
         else:
@@ -198,10 +212,13 @@ class Parts:
                 lines.append(callers.get(caller, caller) + space + rest)
         if self.marked is None:
             return self._answered(lines, len(lines) + 1 + (self.fault == "text after end"))
-        return self._answered(lines, 2 + len(starts) + places.index(self.marked_place))
+        return self._answered(lines, 2 + len(self.front) + len(starts) + places.index(self.marked_place))
 
     def _header(self, has_starts, callers):
         """The header: of version 2 where it has to be, and with as many callers as there are."""
+        if self.log.version == "3":
+            front, _, count = self.header.rpartition(" ")
+            return f"{front} {count if callers is None else max(1, len(callers))}"
         found = HEADER.fullmatch(self.header)
         version = "2" if has_starts else found[1]
         count = found[4] if callers is None else str(max(1, len(callers)))

@@ -12,9 +12,12 @@ def present(start):
     return [word for word, (value, _) in sorted(start.items()) if value]
 
 
-def parts_of(subject, size, start):
-    """The words that can go together: those of a slot, a chunk or a buffer, or the entries of one of a tree's leaves."""
-    each, parts = PART_WORDS[subject], {}
+def parts_of(subject, size, start, part=0):
+    """The words that can go together: those of a slot, a chunk, a buffer or a part, or the entries of one of a tree's leaves.
+
+    A part of a log of version 3 has as many words as its specification says.
+    """
+    each, parts = PART_WORDS.get(subject, part or 1), {}
     for word in present(start):
         if subject != "tree" or (word < each * size and word % each in ENTRIES):
             parts.setdefault(word // each, []).append(word)
@@ -23,7 +26,7 @@ def parts_of(subject, size, start):
 
 def words_of(subject, size, start):
     """The words that can go by themselves. Of a tree's leaf they are the values: what else goes would leave no tree."""
-    each = PART_WORDS[subject]
+    each = PART_WORDS.get(subject)
     return [word for word in present(start) if subject != "tree" or (word < each * size and word % each in VALUES)]
 
 

@@ -78,3 +78,35 @@ class ScriptTest(unittest.TestCase):
     def assert_refused(self, said, sentence, status=64):
         """One sentence on standard error, nothing on standard output, and the status."""
         self.assertEqual((said.out, said.error, said.status), ("", sentence + "\n", status))
+
+
+# A queue in slots with a specification of its own, up to the line `log`, and a run of it.
+QUEUE = """vyrd 3 own 8 2
+# slot i has its state in word 2i and its element in word 2i + 1
+part 2
+  shows w1 (if (w0 == 1) then 1 else 0)
+list waiting
+method enqueue x
+  allow (reply == 1)
+    append waiting x
+    set [x] ([x] + 1)
+method dequeue
+  let front (first waiting)
+  answer (if ((length waiting) == 0) then 0 else none)
+  allow (((length waiting) > 0) and (reply == (front + 1)))
+    drop first waiting
+    set [front] ([front] - 1)
+log
+"""
+QUEUE_RUN = """0 call enqueue 5
+0 write 1 5
+0 write 0 1
+0 commit
+0 return 1
+1 call dequeue
+# Main.java:61
+1 write 0 0
+1 commit
+1 return 6
+end
+"""

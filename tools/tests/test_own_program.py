@@ -1,0 +1,100 @@
+"""Specifications and logs of version 3 that chance makes up: the scripts' reading of them, lint, explain and the program agree.
+
+The program is the one that VYRD names, or the one that is built in this repository. Where there is none, its test is skipped.
+"""
+
+import contextlib
+import io
+import os
+import random
+import subprocess
+import tempfile
+import unittest
+from importlib.machinery import SourceFileLoader
+from importlib.util import module_from_spec, spec_from_loader
+
+import command
+from logtext import Log
+from own_judge import Text, answer_to
+from own_samples import sample, spoilt
+from support import SECONDS, TOOLS
+
+BUILT = ("crates/vyrd_program/out/vyrd_program", "out/vyrd_not_proved")
+WITH_PROGRAM, ALONE = 100, 400  # how many samples there are; each is taken as it is and spoilt
+
+
+def program():
+    """The program, or None."""
+    named = [os.environ["VYRD"]] if os.environ.get("VYRD") else [str(TOOLS.parent / path) for path in BUILT]
+    return next((path for path in named if os.access(path, os.X_OK)), None)
+
+
+def script(name):
+    """A script of tools/ as a module, which isn't run."""
+    loader = SourceFileLoader(f"script_{name}", str(TOOLS / name))
+    module, runs = module_from_spec(spec_from_loader(loader.name, loader)), command.run
+    command.run = lambda main: None
+    try:
+        loader.exec_module(module)
+    finally:
+        command.run = runs
+    return module
+
+
+def texts(seed, count):
+    """Right and spoilt logs of version 3."""
+    chance = random.Random(seed)
+    for _ in range(count):
+        text = sample(chance)
+        yield text
+        text = spoilt(chance, text)
+        if text.startswith("vyrd 3 own "):
+            yield text
+
+
+class Program(unittest.TestCase):
+    @unittest.skipUnless(program(), "no program is built")
+    def test_the_program_says_of_each_log_what_the_definitions_say(self):
+        logs = [text.encode("latin-1") for text in texts(1, WITH_PROGRAM)]
+        batch = b"batch\n" + b"".join(b"log %d\n%s" % (len(log), log) for log in logs) + b"end\n"
+        ran = subprocess.run([program(), "batch"], input=batch, capture_output=True, timeout=SECONDS, check=False)
+        answers = [line.partition(": ")[2] for line in ran.stdout.decode().splitlines()[:-1]]
+        self.assertEqual(len(answers), len(logs))
+        for log, answer in zip(logs, answers):
+            self.assertEqual(answer, answer_to(log), log.decode("latin-1"))
+
+
+class Lint(unittest.TestCase):
+    def test_it_finds_the_first_fault_of_a_text_and_none_in_others(self):
+        lint = script("lint")
+        for text in texts(2, ALONE):
+            data = text.encode("latin-1")
+            found = list(lint.faults_of(io.BufferedReader(io.BytesIO(data)), "a sample"))
+            starts = [line for line, fault in found if str(fault).startswith("start stands for no state")]
+            lines = [line for line, fault in found if not str(fault).startswith("start stands for no state")]
+            fault, answer = Text(text).fault, answer_to(data)
+            self.assertEqual(min(lines, default=None), fault and fault[0], text)
+            if answer.endswith("start stands for no state"):
+                self.assertEqual(answer, f"malformed at line {starts[0]}: start stands for no state", text)
+            elif not fault:
+                self.assertEqual(found, [], text)
+
+
+class Explain(unittest.TestCase):
+    def test_it_and_lanes_have_something_to_say_of_each_log(self):
+        explain, lanes = script("explain"), script("lanes")
+        for text in texts(3, ALONE):
+            data = text.encode("latin-1")
+            with tempfile.TemporaryFile(buffering=0) as file, contextlib.redirect_stdout(io.StringIO()) as said:
+                file.write(data)
+                log = Log(file, "a sample", answer_to(data))
+                if log.answer.startswith("violation"):
+                    explain.explain_violation(log)
+                elif log.answer.startswith("malformed"):
+                    explain.explain_malformed(log)
+                lanes.draw_text(log, lanes.Drawing(log, None))
+                self.assertIn(log.answer, said.getvalue(), text)
+
+
+if __name__ == "__main__":
+    unittest.main()
