@@ -118,7 +118,7 @@ class RealStructures(ScriptTest):
         ran = self.check([f"echo '{VIOLATION}'", "exit 1"], "--runs", "2", "go")
         self.assertEqual(ran.returncode, 1)
         self.assertIn(f"failed: go/queue correct, seed 1: '{VIOLATION}'\n".encode(), ran.stdout)
-        self.assertIn(f"go/queue aside           2 of 2, as {VIOLATION}\n".encode(), ran.stdout)
+        self.assertIn(f"go/queue aside                 2 of 2, as {VIOLATION}\n".encode(), ran.stdout)
         self.assertIn(b"real structures: 3 passed, 6 failed, 0 skipped\n", ran.stdout)
 
     def test_run_that_fails_is_a_failure(self):
