@@ -6,14 +6,14 @@ import unittest
 from scripts import EXAMPLES, ScriptTest
 
 WITHOUT_WORDS = ["all", "compare", "caught", "own/check", "no_memory/try"]
-ASKING = ["compare", "caught", "own/check", "no_memory/try", "documents", "measure"]
+ASKING = ["compare", "caught", "own/check", "real/check", "no_memory/try", "documents", "measure"]
 USAGE = "usage: vyrd check | step [--log|--history] | run [--log|--history] | gen N | movers | batch"
 VIOLATION = "violation at line 7: reply 1 not allowed"
 
 
 class Words(ScriptTest):
     def test_help(self):
-        for script in [*WITHOUT_WORDS, "documents", "measure", "batch_of", "rows_of"]:
+        for script in [*WITHOUT_WORDS, "real/check", "documents", "measure", "batch_of", "rows_of"]:
             ran = self.run_script(script, "--help")
             self.assert_ended(ran, 0, ran.stdout, [])
             self.assertIn(script.split("/")[-1].encode(), ran.stdout)
@@ -22,6 +22,10 @@ class Words(ScriptTest):
     def test_misuse(self):
         for script in WITHOUT_WORDS:
             self.assert_ended(self.run_script(script, "-x"), 64, b"", ["'-x'"])
+        for words in (["ada"], ["-x"], ["cpp", ""]):
+            self.assert_ended(self.run_script("real/check", *words), 64, b"", [f"'{words[-1]}'"])
+        for words in ([], ["0"], ["1x"], ["10000"]):
+            self.assert_ended(self.run_script("real/check", "--runs", *words), 64, b"", ["--runs wants a number"])
         self.assert_ended(self.run_script("measure", "tree", "queue"), 64, b"", ["'queue' is no structure"])
         self.assert_ended(self.run_script("documents", "missing.md"), 64, b"", ["missing.md"])
 
@@ -84,6 +88,43 @@ class OwnStructures(ScriptTest):
         ran = self.run_script("own/check", vyrd=accepts, PATH=str(self.folder / "tools"))
         self.assertEqual(ran.returncode, 1)
         self.assertIn(b"own structures: 21 passed, 13 failed, 2 skipped\n", ran.stdout)
+
+
+class RealStructures(ScriptTest):
+    def check(self, checker, *words, **others):
+        """Runs it with few tools, of which `go` makes programs that write an empty log, and nothing else can build any."""
+        tools = self.folder / "tools"
+        for tool in "bash dirname mktemp rm cat sed env timeout mkdir chmod".split():
+            (tools / tool).parent.mkdir(exist_ok=True)
+            (tools / tool).symlink_to(shutil.which(tool))
+        build = 'mkdir "$3" && for name in queue dictionary; do printf "#!/bin/sh\\n%s\\n" "$RUN" >"$3$name"; done'
+        self.program("tools/go", "[ $1 = build ] || exit 0", build, 'chmod +x "$3"*')
+        accepts = self.program("checker", "cat >/dev/null", *checker)
+        return self.run_script("real/check", *words, vyrd=accepts, PATH=str(tools), **{"RUN": "echo end", **others})
+
+    def test_what_is_not_installed_is_skipped_by_name(self):
+        ran = self.check(["exit 1"], "cpp", "rust", "java")
+        said = b"skipped: cpp, since there is no C++ compiler\nskipped: rust, since there is no cargo or no rustc\n"
+        said += b"skipped: java, since there is no javac, java or jar\nreal structures: 0 passed, 0 failed, 3 skipped\n"
+        self.assert_ended(ran, 0, said, [])
+
+    def test_broken_structure_that_is_accepted_is_a_failure(self):
+        ran = self.check(["echo 'accepted: 0 entries, 0 commits, 0 observers'"], "go")
+        self.assertEqual(ran.returncode, 1)
+        self.assertIn(b"failed: go/queue aside: 0 runs of 3 are 'violation at line ..'\n", ran.stdout)
+        self.assertIn(b"real structures: 2 passed, 3 failed, 0 skipped\n", ran.stdout)
+
+    def test_correct_structure_that_is_not_accepted_is_a_failure(self):
+        ran = self.check([f"echo '{VIOLATION}'", "exit 1"], "--runs", "2", "go")
+        self.assertEqual(ran.returncode, 1)
+        self.assertIn(f"failed: go/queue correct, seed 1: '{VIOLATION}'\n".encode(), ran.stdout)
+        self.assertIn(f"go/queue aside                 2 of 2, as {VIOLATION}\n".encode(), ran.stdout)
+        self.assertIn(b"real structures: 3 passed, 6 failed, 0 skipped\n", ran.stdout)
+
+    def test_run_that_fails_is_a_failure(self):
+        ran = self.check(["echo 'accepted: 0 entries, 0 commits, 0 observers'"], "--runs", "1", "go", RUN="exit 3")
+        self.assertEqual(ran.returncode, 1)
+        self.assertIn(b"failed: go/queue correct, seed 1: 'its status isn't 0, or it took longer than 300 seconds'\n", ran.stdout)
 
 
 @unittest.skipUnless(shutil.which("/usr/bin/time"), "GNU time isn't here")
