@@ -1,6 +1,7 @@
 //! The line of an entry: a method is called by the name that its specification gives it.
 
 ghost use Rattle.std.specs.Prelude.{◌≡◌, ◌≤◌, ◌∷◌, ◌++◌, true, map, length, codes, option_map};
+ghost use Rattle.std.specs.Prelude.{ℕ, List, MatchOption};
 ghost use Rattle.std.specs.List.{list_all};
 ghost use Rattle.vyrd_base.specs.Own.Entries.{own_commits, own_method, named_from, own_entry_in};
 ghost use Rattle.vyrd_base.specs.Own.Programs.{Written};
@@ -11,10 +12,11 @@ ghost use Rattle.vyrd_own_log.specs.Spelled.{AreOwnArgsRead, IsOwnKindRead, IsFi
 use memchr::memchr;
 use vyrd_base::{Args, Commits, Entry, Kind, OwnMethod};
 use vyrd_own::{Method, Program};
-use vyrd_text::{after, is_word, read_args, read_u32_and_space, read_u64};
+use vyrd_text::{is_word, read_args, read_u32_and_space, read_u64};
 
 /// The entry that the bytes spell by the specification, without the line feed. `None` exactly when
 /// they spell none. It takes no memory.
+#[inline(always)]
 pub fn read_entry(program: &Program, line: &[u8]) -> Option<Entry>
     requires { are_callable (written program.now).methods ≡ true }
     ensures { result ≡ own_entry_in (written program.now) line.now }
@@ -25,17 +27,18 @@ pub fn read_entry(program: &Program, line: &[u8]) -> Option<Entry>
 }
 
 /// What the text after the caller and a space says.
+#[inline(always)]
 fn read_kind(program: &Program, text: &[u8]) -> Option<Kind>
     requires { are_callable (written program.now).methods ≡ true }
     ensures { IsOwnKindRead (written program.now) text.now result }
 {
-    if let Some(rest) = after(text, b"write ") {
+    if let Some(rest) = after_write(text) {
         return read_write(rest);
     }
-    if let Some(rest) = after(text, b"call ") {
+    if let Some(rest) = after_call(text) {
         return read_called(program, rest);
     }
-    if let Some(rest) = after(text, b"return ") {
+    if let Some(rest) = after_return(text) {
         return read_return(rest);
     }
     if is_word(text, b"commit") {
@@ -53,7 +56,45 @@ fn read_kind(program: &Program, text: &[u8]) -> Option<Kind>
     None
 }
 
+/// What stands after `write` and a space. A pattern tells most other texts by their first byte,
+/// without a call.
+#[inline(always)]
+fn after_write(text: &[u8]) -> Option<&[u8]>
+    ensures { MatchOption result ((rest : List ℕ) → text.now ≡ codes "write " ++ rest → ⊥)
+        (λ rest. text.now ≡ codes "write " ++ rest.now) }
+{
+    match text {
+        [b'w', b'r', b'i', b't', b'e', b' ', rest @ ..] => Some(rest),
+        _ => None,
+    }
+}
+
+/// What stands after `call` and a space.
+#[inline(always)]
+fn after_call(text: &[u8]) -> Option<&[u8]>
+    ensures { MatchOption result ((rest : List ℕ) → text.now ≡ codes "call " ++ rest → ⊥)
+        (λ rest. text.now ≡ codes "call " ++ rest.now) }
+{
+    match text {
+        [b'c', b'a', b'l', b'l', b' ', rest @ ..] => Some(rest),
+        _ => None,
+    }
+}
+
+/// What stands after `return` and a space.
+#[inline(always)]
+fn after_return(text: &[u8]) -> Option<&[u8]>
+    ensures { MatchOption result ((rest : List ℕ) → text.now ≡ codes "return " ++ rest → ⊥)
+        (λ rest. text.now ≡ codes "return " ++ rest.now) }
+{
+    match text {
+        [b'r', b'e', b't', b'u', b'r', b'n', b' ', rest @ ..] => Some(rest),
+        _ => None,
+    }
+}
+
 /// The word and the value of a write.
+#[inline(always)]
 fn read_write(text: &[u8]) -> Option<Kind>
     ensures { (w : Written) → IsOwnKindRead w (codes "write " ++ text.now) result }
 {
@@ -63,6 +104,7 @@ fn read_write(text: &[u8]) -> Option<Kind>
 }
 
 /// The reply of a return, below 2^64 - 1.
+#[inline(always)]
 fn read_return(text: &[u8]) -> Option<Kind>
     ensures { (w : Written) → IsOwnKindRead w (codes "return " ++ text.now) result }
 {

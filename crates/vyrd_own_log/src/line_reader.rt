@@ -3,6 +3,7 @@
 ghost use Rattle.std.specs.Prelude.{◌≡◌, ◌≤◌, ◌+◌, None, IfOk, true, is_some};
 ghost use Rattle.std.specs.Str.{bytes_eq};
 ghost use Rattle.vyrd_base.specs.Own.Log.{is_note, own_header_in};
+ghost use Rattle.vyrd_base.specs.Spelling.{end_line};
 ghost use Rattle.vyrd_base.specs.Own.Reader.{nothing_read, read_next};
 ghost use Rattle.vyrd_own_text.specs.Meaning.{so_far};
 ghost use Rattle.vyrd_text.specs.Answered.{IsAnswer};
@@ -131,6 +132,7 @@ impl LineReader {
 
     /// Reads a whole line, which is given without its line feed. If memory runs out, what was read
     /// of the specification is gone.
+    #[inline(always)]
     pub(crate) fn take_line(&mut self, line: &[u8]) -> Result<Found, AllocError>
         requires { IsSteady (state_of self.old) }
         ensures step { IfOk result (λ found. (state_of self.new, found)
@@ -225,6 +227,7 @@ impl LineReader {
     }
 
     /// Reads a line where entries stand.
+    #[inline(always)]
     fn take_entry(&mut self, header: Header, line: &[u8]) -> Found
         requires few { self.old.line ≤ 268435456 }
         requires callable { can_call self.old ≡ true }
@@ -236,7 +239,7 @@ impl LineReader {
             self.go_on(Stage::Entries(header));
             return Found::Nothing;
         }
-        if is_same(line, b"end") {
+        if is_end(line) {
             self.go_on(Stage::End(header));
             return Found::End;
         }
@@ -250,6 +253,7 @@ impl LineReader {
     }
 
     /// Goes to the next line.
+    #[inline(always)]
     fn go_on(&mut self, stage: Stage)
         requires { self.old.line ≤ 268435456 }
         ensures { state_of self.new ≡ next (state_of self.old) stage }
@@ -271,6 +275,7 @@ impl LineReader {
 }
 
 /// Whether a line says nothing.
+#[inline(always)]
 fn is_note(line: &[u8]) -> bool
     ensures { result ≡ is_note line.now }
 {
@@ -280,9 +285,13 @@ fn is_note(line: &[u8]) -> bool
     }
 }
 
-/// Whether two texts are the same.
-fn is_same(a: &[u8], b: &[u8]) -> bool
-    ensures { result ≡ bytes_eq a.now b.now }
+/// Whether a line ends the log. A pattern tells most lines by their length, without a call.
+#[inline(always)]
+fn is_end(line: &[u8]) -> bool
+    ensures { result ≡ bytes_eq line.now end_line }
 {
-    a == b
+    match line {
+        [b'e', b'n', b'd'] => true,
+        _ => false,
+    }
 }

@@ -107,6 +107,7 @@ impl PieceReader {
     }
 
     /// Takes in a line that lies whole in a piece, and its line feed.
+    #[inline(always)]
     fn end_line(
         &mut self,
         line: &[u8],
@@ -181,6 +182,7 @@ impl PieceReader {
 }
 
 /// Keeps the line if it is one of the specification.
+#[inline(always)]
 fn keep(
     alloc: Global,
     line: &[u8],
@@ -204,6 +206,7 @@ fn keep(
 }
 
 /// Appends what a line brings that has this number.
+#[inline(always)]
 fn put(
     number: u64,
     found: Found,
