@@ -111,7 +111,7 @@ class RealStructures(ScriptTest):
     def test_broken_structure_that_is_accepted_is_a_failure(self):
         ran = self.check(["echo 'accepted: 0 entries, 0 commits, 0 observers'"], "go")
         self.assertEqual(ran.returncode, 1)
-        self.assertIn(b"failed: go/queue aside: 0 runs of 3 are 'violation at line ..'\n", ran.stdout)
+        self.assertIn(b"failed: go/queue aside: 0 runs of 30 are 'violation at line ..'\n", ran.stdout)
         self.assertIn(b"real structures: 2 passed, 3 failed, 0 skipped\n", ran.stdout)
 
     def test_correct_structure_that_is_not_accepted_is_a_failure(self):
@@ -140,7 +140,7 @@ class All(ScriptTest):
         """A copy in which each script notes that it ran, and one of them fails."""
         for name in ("all", "common.sh"):
             self.file(f"examples/{name}", (EXAMPLES / name).read_bytes()).chmod(0o755)
-        scripts = ["examples/compare", "examples/unproved", "examples/own/check", "specifications/check"]
+        scripts = ["examples/compare", "examples/unproved", "examples/own/check", "examples/real/check", "specifications/check"]
         scripts += ["specifications/same_verdicts", "tools/check", "examples/caught", "examples/documents", "tools/tests/run"]
         scripts += ["examples/many/check"]
         for script in scripts:
