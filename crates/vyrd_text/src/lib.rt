@@ -7,7 +7,8 @@
 //! and reads a line that lies whole in a piece where it lies.
 //!
 //! The parts of lines are there for texts that share them: `read_call`, `read_subject` and the
-//! numbers to read, `LineBuffer` and `push_call` to write.
+//! numbers to read, `LineBuffer` and `push_call` to write. `quick` has those that are read where they
+//! lie, up to a line feed.
 #![tactic(auto)]
 
 mod fault;
@@ -18,7 +19,7 @@ mod line_buffer;
 mod line_reader;
 mod lines;
 mod number;
-mod quick;
+pub mod quick;
 mod reader;
 mod start;
 mod verdict;

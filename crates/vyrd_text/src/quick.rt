@@ -68,7 +68,7 @@ fn few_digits(text: &[u8]) -> Option<(u64, usize)>
 
 /// The number at the front before the byte, and what stands after that byte.
 #[inline(always)]
-fn number_before(text: &[u8], byte: u8) -> Option<(u64, &[u8])>
+pub fn number_before(text: &[u8], byte: u8) -> Option<(u64, &[u8])>
     ensures { IfSome result (λ r. text.now ≡ decimal r.0 ++ byte ∷ r.1.now) }
 {
     if let Some(read) = digit_before(text, byte) {
@@ -99,7 +99,7 @@ fn digit_before(text: &[u8], byte: u8) -> Option<(u64, &[u8])>
 /// The caller's number before a space, and what stands after that space. There are at most 64
 /// callers.
 #[inline(always)]
-fn caller_before_space(text: &[u8]) -> Option<(u32, &[u8])>
+pub fn caller_before_space(text: &[u8]) -> Option<(u32, &[u8])>
     ensures { IfSome result (λ r. text.now ≡ decimal r.0 ++ 32 ∷ r.1.now) }
 {
     if let Some((digit, rest)) = digit_before(text, b' ') {
@@ -114,7 +114,7 @@ fn caller_before_space(text: &[u8]) -> Option<(u32, &[u8])>
 
 /// The number below 2^32 at the front before the byte, and what stands after that byte.
 #[inline(always)]
-fn short_before(text: &[u8], byte: u8) -> Option<(u32, &[u8])>
+pub fn short_before(text: &[u8], byte: u8) -> Option<(u32, &[u8])>
     ensures { IfSome result (λ r. text.now ≡ decimal r.0 ++ byte ∷ r.1.now) }
 {
     let (number, rest) = number_before(text, byte)?;
@@ -157,7 +157,7 @@ fn read_kind(subject: Subject, text: &[u8]) -> Option<(Kind, &[u8])>
 
 /// A write, with its word and its value.
 #[inline(always)]
-fn read_write(text: &[u8]) -> Option<(Kind, &[u8])>
+pub fn read_write(text: &[u8]) -> Option<(Kind, &[u8])>
     ensures { (subject : Subject)
         → IfSome result (λ r. IsKindAtFront subject text.now r.0 r.1.now) }
 {
@@ -171,7 +171,7 @@ fn read_write(text: &[u8]) -> Option<(Kind, &[u8])>
 
 /// A return, with its reply.
 #[inline(always)]
-fn read_return(text: &[u8]) -> Option<(Kind, &[u8])>
+pub fn read_return(text: &[u8]) -> Option<(Kind, &[u8])>
     ensures { (subject : Subject)
         → IfSome result (λ r. IsKindAtFront subject text.now r.0 r.1.now) }
 {
@@ -197,7 +197,7 @@ fn read_called(subject: Subject, text: &[u8]) -> Option<(Kind, &[u8])>
 
 /// The beginning of a block.
 #[inline(always)]
-fn read_open(text: &[u8]) -> Option<(Kind, &[u8])>
+pub fn read_open(text: &[u8]) -> Option<(Kind, &[u8])>
     ensures { (subject : Subject)
         → IfSome result (λ r. IsKindAtFront subject text.now r.0 r.1.now) }
 {
@@ -209,7 +209,7 @@ fn read_open(text: &[u8]) -> Option<(Kind, &[u8])>
 
 /// A lone commit.
 #[inline(always)]
-fn read_commit(text: &[u8]) -> Option<(Kind, &[u8])>
+pub fn read_commit(text: &[u8]) -> Option<(Kind, &[u8])>
     ensures { (subject : Subject)
         → IfSome result (λ r. IsKindAtFront subject text.now r.0 r.1.now) }
 {
@@ -221,7 +221,7 @@ fn read_commit(text: &[u8]) -> Option<(Kind, &[u8])>
 
 /// The end of a block.
 #[inline(always)]
-fn read_close(text: &[u8]) -> Option<(Kind, &[u8])>
+pub fn read_close(text: &[u8]) -> Option<(Kind, &[u8])>
     ensures { (subject : Subject)
         → IfSome result (λ r. IsKindAtFront subject text.now r.0 r.1.now) }
 {
@@ -391,7 +391,7 @@ fn read_buffers_method(text: &[u8]) -> Option<(Method, &[u8])>
 
 /// The arguments of a method that has `arity` of them, and what stands after their line feed.
 #[inline(always)]
-fn read_args(arity: u32, text: &[u8]) -> Option<(Args, &[u8])>
+pub fn read_args(arity: u32, text: &[u8]) -> Option<(Args, &[u8])>
     requires { (1 ≤ arity) × (arity ≤ 3) }
     ensures { IfSome result (λ r. AreArgsAtFront arity text.now r.0 r.1.now) }
 {
