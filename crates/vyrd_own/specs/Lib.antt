@@ -4,3 +4,4 @@ pub mod Queues
 pub mod Apart
 pub mod Sets
 pub mod Samples
+pub mod Marks

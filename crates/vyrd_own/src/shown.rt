@@ -9,8 +9,9 @@ use std::alloc::{AllocError, Global};
 use std::marker::Model;
 use vyrd_base::{AmountTable, View};
 
-/// Amounts by key, to be looked up in constant time, and to be changed and asked for the nearest
-/// key in logarithmic time.
+/// Amounts by key, to be looked up in constant time, and to be asked for the nearest key in
+/// logarithmic time. A change takes logarithmic time where a key comes or goes, and constant time
+/// otherwise.
 #[derive(Drop)]
 pub struct ShownAmounts {
     table: AmountTable,
@@ -20,12 +21,13 @@ pub struct ShownAmounts {
 impl Model for ShownAmounts {
     ghost use Rattle.std.specs.Prelude.{◌≡◌};
     ghost use Rattle.vyrd_base.specs.Amounts.{Amounts, IsAmounts};
+    ghost use Rattle.vyrd_own.specs.Marks.{marked};
 
     ghost Value = { Amounts };
 
     ghost view = { λ s. s.table };
 
-    ghost invariant = { λ s. (s.keys ≡ s.table) × IsAmounts s.table };
+    ghost invariant = { λ s. (s.keys ≡ marked s.table) × IsAmounts s.table };
 }
 
 impl ShownAmounts {
@@ -55,8 +57,12 @@ impl ShownAmounts {
         ensures err { OnErr result (self.new ≡ self.old) }
         ensures absent { OnErr result (amount_of self.old key ≡ 0) }
     {
+        let before = self.table.amount(key);
         self.table.set(key, amount)?;
-        match self.keys.set(key, amount) {
+        if before != 0 && amount != 0 {
+            return Ok(());
+        }
+        match self.keys.set(key, amount.min(1)) {
             Ok(()) => Ok(()),
             Err(error) => {
                 self.table.remove(key);
