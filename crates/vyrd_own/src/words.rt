@@ -6,7 +6,7 @@ ghost use Rattle.std.specs.List.{list_all};
 ghost use Rattle.vyrd_own.specs.Layout.{written, show_of};
 ghost use Rattle.vyrd_base.specs.Own.Steps.{blank, given_by, part_gives};
 
-use crate::few::{Few, put_few};
+use crate::few::{MOST, USUAL, put_few};
 use crate::program::{Program, Show};
 use crate::state::StateOf;
 use crate::steps::{Room, value_of};
@@ -73,25 +73,37 @@ pub fn part_pairs(program: &Program, i: u64, words: &[u64], nothing: &StateOf) -
     ensures { (j : ℕ) → slice_index_or result j (0, 0)
         ≡ slice_index_or (part_gives (written program.now) i words.now) j (0, 0) }
 {
-    let mut pairs = [(0, 0); 4];
     if are_all_0(words) {
-        return pairs;
+        return [(0, 0); 4];
     }
-    let values = part_values(&program.constants, i, words);
-    put_pairs(&mut pairs, &program.shows, nothing, values.as_slice());
-    pairs
+    if program.constants.len() + 1 + words.len() <= USUAL {
+        return pairs_in(&mut [0; USUAL], program, i, words, nothing);
+    }
+    pairs_in(&mut [0; MOST], program, i, words, nothing)
 }
 
-/// What has a name in a part: the constants, the number of the part and its words.
-fn part_values(constants: &[u64], i: u64, words: &[u64]) -> Few
-    requires { length constants.now + 1 + length words.now ≤ 128 }
-    ensures { result.items ≡ constants.now ++ i ∷ words.now }
+/// What the lines `shows` give for these words, whatever they are. `room` has a place for each value
+/// that has a name in a part: the constants, the number of the part and its words.
+fn pairs_in(
+    room: &mut [u64],
+    program: &Program,
+    i: u64,
+    words: &[u64],
+    nothing: &StateOf,
+) -> [(u64, u64); 4]
+    requires blank { nothing.now ≡ blank }
+    requires shows { length program.now.shows.items ≤ 4 }
+    requires few { length program.now.constants.items + 1 + length words.now ≤ length room.old }
+    ensures { (j : ℕ) → slice_index_or result j (0, 0)
+        ≡ slice_index_or (map (given_by (program.now.constants.items ++ i ∷ words.now))
+        (map show_of program.now.shows.items)) j (0, 0) }
 {
-    let mut values = Few::new();
-    put_few(&mut values, constants);
-    values.push(i);
-    put_few(&mut values, words);
-    values
+    let constants = put_few(room, 0, &program.constants);
+    room[constants] = i;
+    let count = put_few(room, constants + 1, words);
+    let mut pairs = [(0, 0); 4];
+    put_pairs(&mut pairs, &program.shows, nothing, &room[..count]);
+    pairs
 }
 
 /// Puts what the lines `shows` give into the first places.

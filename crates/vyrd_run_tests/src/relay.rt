@@ -63,6 +63,60 @@ fn relay_and_reorder(rt: HostRuntime) -> Result<(), Fail> {
     Ok(())
 }
 
+/// An event of that caller.
+fn event_of(caller: u32, number: u64) -> Stamped
+    ensures { result.caller ≡ caller }
+{
+    Stamped {
+        number,
+        caller,
+        did: Did::Read(1, number),
+    }
+}
+
+/// A relay with two senders, the first caller's first.
+fn two(alloc: Global, capacity: u64) -> Result<(Relay, Sender, Sender, Receiver), AllocError>
+    requires { (1 ≤ capacity) × (capacity ≤ 65536) }
+    ensures first { IfOk result
+        (λ r. r.1 ≡ record { queue = r.0.queue; senders = 2; caller = 0; sent = [] }) }
+    ensures second { IfOk result
+        (λ r. r.2 ≡ record { queue = r.0.queue; senders = 2; caller = 1; sent = [] }) }
+    ensures receiver { IfOk result (λ r. r.3.queue ≡ r.0.queue) }
+{
+    let (relay, mut senders, receiver) = Relay::new(alloc, capacity, 2)?;
+    let Some(second) = senders.pop() else {
+        return Err(AllocError);
+    };
+    let Some(first) = senders.pop() else {
+        return Err(AllocError);
+    };
+    Ok((relay, first, second, receiver))
+}
+
+/// What no clause can say where there is more than one sender: a push finds no room only when as
+/// many events are queued as there may be, whoever sent them.
+#[test]
+fn two_senders_fill_the_relay(rt: HostRuntime) -> Result<(), Fail> {
+    let (relay, mut first, mut second, mut receiver) = two(rt.alloc(), 2)?;
+    let one = relay.push_next(&rt, &mut first, event_of(0, 5));
+    let other = relay.push_next(&rt, &mut second, event_of(1, 6));
+    assert!(rt; one == Ok(()) && other == Ok(()));
+    let of_first = relay.push_next(&rt, &mut first, event_of(0, 7));
+    let of_second = relay.push_next(&rt, &mut second, event_of(1, 8));
+    assert!(rt; of_first == Err(Full) && of_second == Err(Full));
+
+    let popped = relay.pop(&rt, &mut receiver);
+    let again = relay.push_next(&rt, &mut second, event_of(1, 8));
+    let full = relay.push_next(&rt, &mut first, event_of(0, 7));
+    assert!(rt; popped == Some(event_of(0, 5)) && again == Ok(()) && full == Err(Full));
+
+    let next = relay.pop(&rt, &mut receiver);
+    let last = relay.pop(&rt, &mut receiver);
+    let none = relay.pop(&rt, &mut receiver);
+    assert!(rt; next == Some(event_of(1, 6)) && last == Some(event_of(1, 8)) && none == None);
+    Ok(())
+}
+
 /// Sends that many events, waiting for room.
 fn send_all<R: Wait>(rt: &R, relay: &Relay, sender: Sender, count: u64) -> Sender
     requires sender { (sender.queue ≡ relay.now.queue) × (sender.caller ≡ 0) × (sender.sent ≡ []) }
