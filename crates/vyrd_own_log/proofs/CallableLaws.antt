@@ -33,19 +33,23 @@ some_is x t r k e = cc
 not_space : (b : ℕ) → is_word_byte b ≡ true → not (b == 32) ≡ true
 not_space b e = grind (arith, nat_tests)
 
--- a word has no space
-word_lacks : (text : List ℕ) → lacks 32 (word_of text) ≡ true
-word_lacks [] = refl
-word_lacks (b ∷ text) = by_test (word_lacks text) (is_word_byte b) refl
+not_line_feed : (b : ℕ) → is_word_byte b ≡ true → not (b == 10) ≡ true
+not_line_feed b e = grind (arith, nat_tests)
+
+-- a word has neither
+word_lacks : (c : ℕ) → ((b : ℕ) → is_word_byte b ≡ true → not (b == c) ≡ true) → (text : List ℕ) → lacks c (word_of text) ≡ true
+word_lacks c other [] = refl
+word_lacks c other (b ∷ text) = by_test (word_lacks c other text) (is_word_byte b) refl
   where
-    by_test : lacks 32 (word_of text) ≡ true → (t : Bool) → is_word_byte b ≡ t → lacks 32 (cond t (b ∷ word_of text) []) ≡ true
-    by_test more true e = both_true _ _ (not_space b e) more
+    by_test : lacks c (word_of text) ≡ true → (t : Bool) → is_word_byte b ≡ t → lacks c (cond t (b ∷ word_of text) []) ≡ true
+    by_test more true e = both_true _ _ (other b e) more
     by_test more false e = refl
 
 -- a new name
 pub record IsShortName (name : List ℕ) : Type 0 where
   pub short : nat_le (length name) 32 ≡ true
   pub one_word : lacks 32 name ≡ true
+  pub one_line : lacks 10 name ≡ true
 
 new_name_short : (taken : Bool) (text name rest : List ℕ) → new_name taken text ≡ Ok (name, rest) → IsShortName name
 unfolding is_name
@@ -59,7 +63,8 @@ new_name_short taken text name rest h = by_name (is_name (word_of text)) refl h
         let same : word_of text ≡ name = ap (λ (x : List ℕ × List ℕ). x.0) p in
         subst IsShortName same (record {
           short = second_true _ _ (first_true _ _ (first_true _ _ e));
-          one_word = word_lacks text;
+          one_word = word_lacks 32 not_space text;
+          one_line = word_lacks 10 not_line_feed text;
         })
 
     by_name : (t : Bool) → is_name (word_of text) ≡ t
@@ -223,7 +228,8 @@ line_callable w below line (lines.method name parameters) h all =
     (is_at_most (length (w.methods ++ m ∷ [])) 64 (let room = is.room in omega (arith, room, length-append w.methods (m ∷ []))))
     (list_all-append is_callable w.methods (m ∷ [])
     ∙ both_true _ _ (second_true (nat_le (length w.methods) 64) _ all)
-    (both_true _ _ (both_true _ _ (both_true _ _ (is_at_most (length parameters) 3 is.few) is.called.short) is.called.one_word) refl))
+    (both_true _ _ (both_true _ _ (both_true _ _ (both_true _ _ (is_at_most (length parameters) 3 is.few) is.called.short) is.called.one_word)
+    is.called.one_line) refl))
 
 -- and so those of what is read next
 pub next_callable : (s : SoFar) (line : List ℕ) → are_callable s.specification.methods ≡ true

@@ -3,6 +3,7 @@ use Rattle.std.proofs.Common.{◌≡◌, ℕ, suc, zero, ◌<◌, ◌≤◌, ◌
 use Rattle.std.specs.Prelude.{◌==◌, nat_lt, codes, decimal, option_map}
 use Rattle.std.specs.Option.{option_and_then}
 use Rattle.std.specs.List.{list_all}
+use Rattle.std.specs.Char.{digit_value}
 use Rattle.std.specs.Str.{bytes_eq}
 use Rattle.std.proofs.lemmas.List.{append-nil, append_cancel_left}
 use Rattle.std.proofs.lemmas.Slice.Eq.{bytes_eq-Decides}
@@ -21,7 +22,7 @@ use Rattle.vyrd_base.specs.Own.Expressions.{most}
 use Rattle.vyrd_base.specs.Own.Programs.{Written}
 use Rattle.vyrd_base.specs.Own.OwnRules.{own_arity}
 use Rattle.vyrd_base.specs.Own.Entries.{own_name, named_from, call_fields, takes_args, own_fields, own_entry_line, is_own_kind, is_own_entry, guessed_own_kind, guessed_own_entry, own_entry_in}
-use Rattle.vyrd_base.proofs.SplitLaws.{lacks, all_lack, split-join, decimal_lacks, no_space, number_of_decimal, bytes_same}
+use Rattle.vyrd_base.proofs.SplitLaws.{lacks, all_lack, split-join, lacks-join, decimal_lacks, no_space, no_line_feed, number_of_decimal, bytes_same}
 use Rattle.vyrd_base.proofs.TestLaws.{both_true, first_true, second_true, same_of, below_of, is_below}
 use Rattle.vyrd_text.specs.Fields.{after_field}
 use Rattle.vyrd_text.proofs.PartLaws.{one_before_space}
@@ -154,7 +155,7 @@ module _ (w : Written) (all : AllCallable w) (method : Method) (of : IsCalled w 
       ap (takes_args w args) called_number
       ∙ ap (λ n. are_padded n args && nat_lt args.a (2 ^ 32) && nat_lt args.b (2 ^ 32) && nat_lt args.c (2 ^ 32)) called_arity
 
-below_64 : (n : ℕ) → n < 2 ^ 32 → n < 2 ^ 64
+pub below_64 : (n : ℕ) → n < 2 ^ 32 → n < 2 ^ 64
 below_64 n low = omega arith
 
 -- as many arguments as there are, read from their fields
@@ -218,32 +219,76 @@ kind_guess w BlockOpen all e of other = refl
 kind_guess w BlockClose all e of other = refl
 kind_guess w BlockCommit all e of other = refl
 
--- no field has a space
-lack_number : (n : ℕ) → n < 2 ^ 64 → lacks 32 (decimal n) ≡ true
-lack_number n small = decimal_lacks 32 n no_space small
+-- a byte that is no digit, and in no word and no method's name: so it is in no field
+record IsNoField (b : ℕ) (w : Written) : Type 0 where
+  digits : ¬ (digit_value b < 10)
+  called : lacks b (codes "call") ≡ true
+  returned : lacks b (codes "return") ≡ true
+  written : lacks b (codes "write") ≡ true
+  committed : lacks b (codes "commit") ≡ true
+  opened : lacks b (codes "open") ≡ true
+  closed : lacks b (codes "close") ≡ true
+  names : (name : List ℕ) (m : OwnMethod) → named_from 0 w.methods name ≡ Some m → lacks b name ≡ true
 
-lack_take : (n : ℕ) (numbers : List ℕ) → all_lack 32 (map decimal numbers) ≡ true → all_lack 32 (map decimal (take n numbers)) ≡ true
-lack_take zero numbers e = refl
-lack_take (suc n) [] e = refl
-lack_take (suc n) (x ∷ numbers) e = both_true _ _ (first_true _ _ e) (lack_take n numbers (second_true (lacks 32 (decimal x)) _ e))
+space_no_field : (w : Written) → AllCallable w → IsNoField 32 w
+space_no_field w all = record {
+  digits = no_space;
+  called = refl;
+  returned = refl;
+  written = refl;
+  committed = refl;
+  opened = refl;
+  closed = refl;
+  names = λ name m found. (named_is 0 w.methods name m all found).one_word;
+}
 
-lack_kind : (w : Written) (kind : Kind) → AllCallable w → is_own_kind w kind ≡ true → IsOf w kind → all_lack 32 (own_fields w kind) ≡ true
-lack_kind w (Call method args) all e of =
-    let m = of.named in
-    let n = named_is 0 w.methods (own_name w m.number) m all of.found in
-    let small = are_small (are_padded m.arity args) args (sym (called_test w all method of args) ∙ e) in
-    ap (all_lack 32) (called_fields w all method of args)
-    ∙ both_true _ _ n.one_word (lack_take m.arity (args.a ∷ args.b ∷ args.c ∷ [])
-    (both_true _ _ (lack_number args.a (below_64 args.a small.a)) (both_true _ _ (lack_number args.b (below_64 args.b small.b))
-    (both_true _ _ (lack_number args.c (below_64 args.c small.c)) refl))))
-lack_kind w (Return reply) all e of = both_true _ _ (lack_number reply (below_most reply e)) refl
-lack_kind w (Write word value) all e of =
-    both_true _ _ (lack_number word (below_64 word (below_of word (2 ^ 32) (first_true _ _ e))))
-    (both_true _ _ (lack_number value (below_of value (2 ^ 64) (second_true (nat_lt word (2 ^ 32)) _ e))) refl)
-lack_kind w Commit all e of = refl
-lack_kind w BlockOpen all e of = refl
-lack_kind w BlockClose all e of = refl
-lack_kind w BlockCommit all e of = refl
+line_feed_no_field : (w : Written) → AllCallable w → IsNoField 10 w
+line_feed_no_field w all = record {
+  digits = no_line_feed;
+  called = refl;
+  returned = refl;
+  written = refl;
+  committed = refl;
+  opened = refl;
+  closed = refl;
+  names = λ name m found. (named_is 0 w.methods name m all found).one_line;
+}
+
+module _ (b : ℕ) (w : Written) (all : AllCallable w) (out : IsNoField b w) where
+  lack_number : (n : ℕ) → n < 2 ^ 64 → lacks b (decimal n) ≡ true
+  lack_number n small = decimal_lacks b n out.digits small
+
+  lack_take : (n : ℕ) (numbers : List ℕ) → all_lack b (map decimal numbers) ≡ true → all_lack b (map decimal (take n numbers)) ≡ true
+  lack_take zero numbers e = refl
+  lack_take (suc n) [] e = refl
+  lack_take (suc n) (x ∷ numbers) e = both_true _ _ (first_true _ _ e) (lack_take n numbers (second_true (lacks b (decimal x)) _ e))
+
+  lack_kind : (kind : Kind) → is_own_kind w kind ≡ true → IsOf w kind → all_lack b (own_fields w kind) ≡ true
+  lack_kind (Call method args) e of =
+      let m = of.named in
+      let small = are_small (are_padded m.arity args) args (sym (called_test w all method of args) ∙ e) in
+      ap (all_lack b) (called_fields w all method of args)
+      ∙ both_true _ _ out.called (both_true _ _ (out.names (own_name w m.number) m of.found) (lack_take m.arity (args.a ∷ args.b ∷ args.c ∷ [])
+      (both_true _ _ (lack_number args.a (below_64 args.a small.a)) (both_true _ _ (lack_number args.b (below_64 args.b small.b))
+      (both_true _ _ (lack_number args.c (below_64 args.c small.c)) refl)))))
+  lack_kind (Return reply) e of = both_true _ _ out.returned (both_true _ _ (lack_number reply (below_most reply e)) refl)
+  lack_kind (Write word value) e of =
+      both_true _ _ out.written (both_true _ _ (lack_number word (below_64 word (below_of word (2 ^ 32) (first_true _ _ e))))
+      (both_true _ _ (lack_number value (below_of value (2 ^ 64) (second_true (nat_lt word (2 ^ 32)) _ e))) refl))
+  lack_kind Commit e of = both_true _ _ out.committed refl
+  lack_kind BlockOpen e of = both_true _ _ out.opened refl
+  lack_kind BlockClose e of = both_true _ _ out.closed refl
+  lack_kind BlockCommit e of = both_true _ _ out.closed (both_true _ _ out.committed refl)
+
+  lack_fields : (e : Entry) → is_own_entry w e ≡ true → IsOf w e.kind → all_lack b (decimal e.caller ∷ own_fields w e.kind) ≡ true
+  lack_fields e ranged of =
+      let low : e.caller < 2 ^ 32 = below_of e.caller (2 ^ 32) (first_true _ _ ranged) in
+      both_true _ _ (lack_number e.caller (below_64 e.caller low)) (lack_kind e.kind (second_true (nat_lt e.caller (2 ^ 32)) _ ranged) of)
+
+-- an entry's line has no line feed
+pub entry_one_line : (w : Written) (e : Entry) → AllCallable w → is_own_entry w e ≡ true → IsOf w e.kind → lacks 10 (own_entry_line w e) ≡ true
+entry_one_line w e all ranged of =
+    lacks-join 10 32 (decimal e.caller) (own_fields w e.kind) refl (lack_fields 10 w all (line_feed_no_field w all) e ranged of)
 
 -- a spelled entry is read back
 pub entry_complete : (w : Written) (e : Entry) → AllCallable w → is_own_entry w e ≡ true → IsOf w e.kind → HasNoOther w e.kind
@@ -251,7 +296,7 @@ pub entry_complete : (w : Written) (e : Entry) → AllCallable w → is_own_entr
 unfolding own_entry_in
 entry_complete w e all ranged of other =
     ap (λ fields. option_and_then (λ x. cond (is_own_entry w x && bytes_eq (own_entry_line w x) (own_entry_line w e)) (Some x) None) (guessed_own_entry w fields))
-    (split-join 32 (decimal e.caller) (own_fields w e.kind) (both_true _ _ (lack_number e.caller (below_64 e.caller low)) (lack_kind w e.kind all kind of)))
+    (split-join 32 (decimal e.caller) (own_fields w e.kind) (lack_fields 32 w all (space_no_field w all) e ranged of))
     ∙ ap (option_and_then (λ x. cond (is_own_entry w x && bytes_eq (own_entry_line w x) (own_entry_line w e)) (Some x) None)) guess
     ∙ ap (λ b. cond b (Some e) None) (both_true _ _ ranged (bytes_same (own_entry_line w e)))
   where

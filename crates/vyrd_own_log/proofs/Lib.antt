@@ -1,5 +1,6 @@
 pub mod NameLaws
 pub mod EntryLaws
+pub mod QuickLaws
 pub mod HeaderLaws
 pub mod StepLaws
 pub mod CallableLaws
@@ -8,6 +9,7 @@ pub mod RestLaws
 pub mod SteadyLaws
 pub mod ReaderLaws
 pub mod ReadLaws
+pub mod FrontLaws
 pub mod CountLaws
 pub mod FollowLaws
 pub mod GrownLaws

@@ -32,6 +32,7 @@ pub record IsNamed (i : ℕ) (methods : List Method) (name : List ℕ) (m : OwnM
   pub few : m.arity ≤ 3
   pub short : length name ≤ 32
   pub one_word : lacks 32 name ≡ true
+  pub one_line : lacks 10 name ≡ true
 
 pub named_is : (i : ℕ) (methods : List Method) (name : List ℕ) (m : OwnMethod) → list_all is_callable methods ≡ true
     → named_from i methods name ≡ Some m → IsNamed i methods name m
@@ -47,8 +48,8 @@ named_is i (first ∷ methods) name m all e =
     by_test rest true is f =
         let same : own_method i first ≡ m = cc in
         let called : first.name ≡ name = (bytes_eq-Decides first.name name).0 is in
-        let short : length first.name ≤ 32 = at_most_of (length first.name) 32 (second_true (nat_le first.arity 3) _ (first_true _ _ ok)) in
-        let few : first.arity ≤ 3 = at_most_of first.arity 3 (first_true _ _ (first_true _ _ ok)) in
+        let short : length first.name ≤ 32 = at_most_of (length first.name) 32 (second_true (nat_le first.arity 3) _ (first_true _ _ (first_true _ _ ok))) in
+        let few : first.arity ≤ 3 = at_most_of first.arity 3 (first_true _ _ (first_true _ _ (first_true _ _ ok))) in
         record {
           place = 0;
           within = omega arith;
@@ -57,7 +58,9 @@ named_is i (first ∷ methods) name m all e =
           arity = ap (λ o. o.arity) same;
           few = let arity : first.arity ≡ m.arity = ap (λ o. o.arity) same in omega (arith, arity, few);
           short = omega (arith, ap length called, short);
-          one_word = ap (lacks 32) (sym called) ∙ second_true (nat_le first.arity 3 && nat_le (length first.name) 32) _ ok;
+          one_word = ap (lacks 32) (sym called) ∙ second_true (nat_le first.arity 3 && nat_le (length first.name) 32) _ (first_true _ _ ok);
+          one_line = ap (lacks 10) (sym called)
+              ∙ second_true (nat_le first.arity 3 && nat_le (length first.name) 32 && lacks 32 first.name) _ ok;
         }
     by_test rest false is f =
         let more = rest f in
@@ -70,6 +73,7 @@ named_is i (first ∷ methods) name m all e =
           few = more.few;
           short = more.short;
           one_word = more.one_word;
+          one_line = more.one_line;
         }
 
 -- what stands between spaces, behind a field

@@ -1,5 +1,6 @@
 pub mod Callable
 pub mod Spelled
+pub mod Quick
 pub mod States
 pub mod Steps
 pub mod StateView

@@ -1,8 +1,6 @@
 //! The line of an entry: a method is called by the name that its specification gives it.
 
-ghost use Rattle.std.specs.Prelude.{◌≡◌, ◌≤◌, ◌∷◌, ◌++◌, true, map, length, codes, option_map};
-ghost use Rattle.std.specs.Prelude.{ℕ, List, MatchOption};
-ghost use Rattle.std.specs.List.{list_all};
+ghost use Rattle.std.specs.Prelude.{◌≡◌, ◌≤◌, ◌++◌, true, map, codes, option_map};
 ghost use Rattle.vyrd_base.specs.Own.Entries.{own_commits, own_method, named_from, own_entry_in};
 ghost use Rattle.vyrd_base.specs.Own.Programs.{Written};
 ghost use Rattle.vyrd_own.specs.Layout.{method_of, written};
@@ -12,7 +10,7 @@ ghost use Rattle.vyrd_own_log.specs.Spelled.{AreOwnArgsRead, IsOwnKindRead, IsFi
 use memchr::memchr;
 use vyrd_base::{Args, Commits, Entry, Kind, OwnMethod};
 use vyrd_own::{Method, Program};
-use vyrd_text::{is_word, read_args, read_u32_and_space, read_u64};
+use vyrd_text::{after, is_word, read_args, read_u32_and_space, read_u64};
 
 /// The entry that the bytes spell by the specification, without the line feed. `None` exactly when
 /// they spell none. It takes no memory.
@@ -32,13 +30,13 @@ fn read_kind(program: &Program, text: &[u8]) -> Option<Kind>
     requires { are_callable (written program.now).methods ≡ true }
     ensures { IsOwnKindRead (written program.now) text.now result }
 {
-    if let Some(rest) = after_write(text) {
+    if let Some(rest) = after(text, b"write ") {
         return read_write(rest);
     }
-    if let Some(rest) = after_call(text) {
+    if let Some(rest) = after(text, b"call ") {
         return read_called(program, rest);
     }
-    if let Some(rest) = after_return(text) {
+    if let Some(rest) = after(text, b"return ") {
         return read_return(rest);
     }
     if is_word(text, b"commit") {
@@ -54,43 +52,6 @@ fn read_kind(program: &Program, text: &[u8]) -> Option<Kind>
         return Some(Kind::BlockClose);
     }
     None
-}
-
-/// What stands after `write` and a space. A pattern tells most other texts by their first byte,
-/// without a call.
-#[inline(always)]
-fn after_write(text: &[u8]) -> Option<&[u8]>
-    ensures { MatchOption result ((rest : List ℕ) → text.now ≡ codes "write " ++ rest → ⊥)
-        (λ rest. text.now ≡ codes "write " ++ rest.now) }
-{
-    match text {
-        [b'w', b'r', b'i', b't', b'e', b' ', rest @ ..] => Some(rest),
-        _ => None,
-    }
-}
-
-/// What stands after `call` and a space.
-#[inline(always)]
-fn after_call(text: &[u8]) -> Option<&[u8]>
-    ensures { MatchOption result ((rest : List ℕ) → text.now ≡ codes "call " ++ rest → ⊥)
-        (λ rest. text.now ≡ codes "call " ++ rest.now) }
-{
-    match text {
-        [b'c', b'a', b'l', b'l', b' ', rest @ ..] => Some(rest),
-        _ => None,
-    }
-}
-
-/// What stands after `return` and a space.
-#[inline(always)]
-fn after_return(text: &[u8]) -> Option<&[u8]>
-    ensures { MatchOption result ((rest : List ℕ) → text.now ≡ codes "return " ++ rest → ⊥)
-        (λ rest. text.now ≡ codes "return " ++ rest.now) }
-{
-    match text {
-        [b'r', b'e', b't', b'u', b'r', b'n', b' ', rest @ ..] => Some(rest),
-        _ => None,
-    }
 }
 
 /// The word and the value of a write.
@@ -150,7 +111,8 @@ fn find_method(methods: &[Method], name: &[u8]) -> Option<OwnMethod>
 }
 
 /// The method as an entry calls it, where it has this number.
-fn numbered(number: u8, method: &Method) -> OwnMethod
+#[inline(always)]
+pub(crate) fn numbered(number: u8, method: &Method) -> OwnMethod
     requires { is_callable (method_of method.now) ≡ true }
     ensures { result ≡ own_method number (method_of method.now) }
 {
@@ -162,6 +124,7 @@ fn numbered(number: u8, method: &Method) -> OwnMethod
 }
 
 /// How often an execution of the method commits.
+#[inline(always)]
 fn commits(method: &Method) -> Commits
     ensures { result ≡ own_commits (method_of method.now) }
 {

@@ -9,7 +9,8 @@
 //!
 //! It has two layers. One reads whole lines, and what it does with a line is a definition
 //! (`own_step`, in `specs/Steps`), which is shown to be what `own_reading` makes of that line. The
-//! other cuts pieces at their line feeds. `read_entry` and `read_own_header` read a line alone.
+//! other cuts pieces at their line feeds, and reads entries that lie whole in a piece where they lie,
+//! in one scan. `read_entry` and `read_own_header` read a line alone.
 #![tactic(auto)]
 
 mod entry;
@@ -18,6 +19,7 @@ mod header;
 pub mod laws;
 mod line_reader;
 mod piece_reader;
+mod quick;
 mod reader;
 mod stage;
 

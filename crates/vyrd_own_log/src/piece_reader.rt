@@ -1,17 +1,18 @@
 //! What takes in the pieces of a log's text, and keeps the unfinished line.
 
-ghost use Rattle.std.specs.Prelude.{◌≡◌, ◌∷◌, ◌++◌, [], true, IfOk, OnOk};
+ghost use Rattle.std.specs.Prelude.{◌≡◌, ◌≤◌, ◌∷◌, ◌++◌, [], true, length, IfOk, OnOk};
 ghost use Rattle.vyrd_own.specs.Layout.{texts};
 ghost use Rattle.vyrd_text.specs.Answered.{IsAnswer};
 ghost use Rattle.vyrd_own_log.specs.KeptView.{kept_of};
 ghost use Rattle.vyrd_own_log.specs.Readers.{fresh_kept, is_one_line, IsSafe, IsSound};
-ghost use Rattle.vyrd_own_log.specs.Readers.{IsTaken, IsFed};
+ghost use Rattle.vyrd_own_log.specs.Readers.{IsTaken, IsFed, IsFedFront};
 ghost use Rattle.vyrd_own_log.specs.Rests.{fault_at_end};
 ghost use Rattle.vyrd_own_log.specs.Steps.{nothing_brought, starts_of, entries_of, numbers_of};
 ghost use Rattle.vyrd_own_log.specs.Steps.{lines_of};
 
 use crate::line_reader::{LONGEST, LineReader};
-use crate::stage::Found;
+use crate::quick::read_entry;
+use crate::stage::{Found, Stage};
 use std::alloc::{AllocError, Global};
 use vyrd_base::{Entry, Rule, StartWord};
 use vyrd_text::{TextFault, split_line};
@@ -75,12 +76,50 @@ impl PieceReader {
         ensures safe { IsSafe (kept_of self.new) }
         ensures limit { self.new.lines.max_lines ≡ self.old.lines.max_lines }
     {
-        let mut rest = piece;
+        let mut rest = self.take_entries(piece, out, numbers)?;
         while let Some((line, after)) = split_line(rest) {
             self.take_line(line, out, numbers)?;
-            rest = after;
+            rest = self.take_entries(after, out, numbers)?;
         }
         self.take_unfinished(rest)
+    }
+
+    /// Takes in the entries that lie whole at the front of the piece, each with its line feed, appends
+    /// them and the numbers of their lines, and answers what stands after them. Any other line is left
+    /// to `take_line`, which knows the rules.
+    fn take_entries<'a>(
+        &mut self,
+        piece: &'a [u8],
+        out: &mut Vec<Entry>,
+        numbers: &mut Vec<u64>,
+    ) -> Result<&'a [u8], AllocError>
+        requires { IsSafe (kept_of self.old) }
+        ensures fed { IfOk result (λ rest. IsSound (kept_of self.old)
+            → IsFedFront (kept_of self.old) piece.now rest.now out.old.items out.new.items
+            numbers.old.items numbers.new.items (kept_of self.new)) }
+        ensures shorter { IfOk result (λ rest. length rest.now ≤ length piece.now) }
+        ensures safe { IsSafe (kept_of self.new) }
+        ensures limit { self.new.lines.max_lines ≡ self.old.lines.max_lines }
+    {
+        if !self.unfinished.is_empty() || self.lines.fault.is_some() {
+            return Ok(piece);
+        }
+        let Stage::Entries(_) = self.lines.stage else {
+            return Ok(piece);
+        };
+        let mut rest = piece;
+        let mut line = self.lines.line;
+        while line <= self.lines.max_lines {
+            let Some((entry, after)) = read_entry(&self.lines.specification.program, rest) else {
+                break;
+            };
+            out.push(entry)?;
+            numbers.push(line)?;
+            rest = after;
+            line += 1;
+        }
+        self.lines.line = line;
+        Ok(rest)
     }
 
     /// Takes in the bytes before a line feed and that line feed, and appends what the line brings.

@@ -1,0 +1,15 @@
+use Rattle.std.proofs.Common.{◌≡◌, ℕ, List, ◌++◌, true, drop}
+use Rattle.std.specs.Prelude.{map}
+use Rattle.std.specs.List.{list_all}
+use Rattle.vyrd_base.specs.Own.Entries.{named_from}
+use Rattle.vyrd_own.specs.Layout.{method_of}
+use Rattle.vyrd_own_log.specs.Callable.{is_callable}
+use Rattle.vyrd_own_log.specs.Quick.{ends_name}
+use Rattle.vyrd_own_log.proofs.quick.front_method.Given as goal
+
+abbrev pub invariant-loop-i : goal.invariant-loop-i
+invariant-loop-i l = record {
+  found : (name rest : List ℕ) → ends_name rest ≡ true → l.text ≡ name ++ rest
+      → named_from l.i (map method_of (drop l.i l.methods)) name ≡ named_from 0 (map method_of l.methods) name;
+  callable : list_all is_callable (map method_of (drop l.i l.methods)) ≡ true;
+}
