@@ -1,6 +1,6 @@
 //! Events that come in any order, and are shown to a sink in theirs.
 
-ghost use Rattle.std.specs.Prelude.{◌≡◌, ◌≢◌, ℕ, ◌+◌, ◌<◌, ◌^◌, true, false, List, []};
+ghost use Rattle.std.specs.Prelude.{◌≡◌, ◌≢◌, ℕ, ◌+◌, ◌<◌, ◌≤◌, ◌⊎◌, ◌^◌, true, false, List, []};
 ghost use Rattle.std.specs.Prelude.{◌∷◌, ◌++◌, None, is_some, Ok, IfOk, OnOk, OnErr};
 ghost use Rattle.std.specs.Result.{is_err};
 ghost use Rattle.vyrd_base.specs.declared.history.Stamped.{Stamped};
@@ -88,7 +88,8 @@ impl<S: EventSink + Drop> Sequencer<S> {
     }
 
     /// Takes in an event if that may be done, and answers whether it was taken in. It wasn't if the
-    /// number is 2^62 or more, or was taken in before, or if there is no memory.
+    /// number is 2^62 or more, or was taken in before, and then all is as it was; or if there is no
+    /// memory.
     pub fn try_take_in(&mut self, item: Stamped) -> bool
         ensures taken { (taken : List Stamped) → HasTakenIn S.has_taken self.old taken
             → result ≡ true
@@ -97,6 +98,8 @@ impl<S: EventSink + Drop> Sequencer<S> {
             → result ≡ false
             → HasTakenIn S.has_taken self.new taken }
         ensures cause { result ≡ false → MayRefuse self.old self.new item.number }
+        ensures unchanged { (2 ^ 62 ≤ item.number) ⊎ (has_number self.old item.number ≡ true)
+            → self.new ≡ self.old }
         ensures new { result ≡ true
             → (item.number < 2 ^ 62) × (has_number self.old item.number ≡ false) }
         ensures going { result ≡ true → has_failed self.new ≡ false }
