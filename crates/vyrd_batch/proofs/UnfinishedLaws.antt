@@ -1,8 +1,9 @@
 -- What may still become of bytes that hold no whole log.
 use Rattle.std.proofs.Common.{◌≡◌, ℕ, ◌+◌, ◌<◌, ◌≤◌, Bool, true, false, cond, ◌&&◌, Bor, List, [], ◌∷◌, ◌++◌, length, drop, Option, Some, None, refl, ap, ◌∙◌, sym, arith, append_assoc, length-append, inl, inr}
-use Rattle.std.specs.Prelude.{◌⊎◌, nat_le, decimal, codes, is_some, MatchOption}
+use Rattle.std.specs.Prelude.{◌⊎◌, nat_le, decimal, codes, is_some, replicate, MatchOption}
 use Rattle.std.specs.Str.{bytes_eq}
 use Rattle.std.proofs.lemmas.Fmt.{length-decimal-le}
+use Rattle.std.proofs.lemmas.List.{length-replicate}
 use Rattle.std.proofs.lemmas.Option.{same_Some}
 use Rattle.std.proofs.lemmas.Slice.Eq.{bytes_eq-Decides}
 use Rattle.vyrd_base.specs.Lines.{number_of}
@@ -11,7 +12,7 @@ use Rattle.vyrd_base.specs.Spelling.{ended_line}
 use Rattle.vyrd_text.specs.Steps.{is_one_line}
 use Rattle.vyrd_batch.specs.declared.span.Span.{Span}
 use Rattle.vyrd_batch.specs.Batches.{most_bytes, logs_end_within, first_word, log_word, Cut, first_line, size_in, span_of, log_at}
-use Rattle.vyrd_batch.specs.Rounds.{IsNothingMore, IsNothingEver, most_left}
+use Rattle.vyrd_batch.specs.Rounds.{IsNothingMore, IsNothingEver, most_left, longest_line}
 use Rattle.vyrd_batch.proofs.LineFacts.{no_line, no_size, too_far, is_log}
 use Rattle.vyrd_batch.proofs.SettledLaws.{IsLonger, first_longer}
 
@@ -42,14 +43,10 @@ never_first log bytes None apart e nothing = λ more rest same. elim (one_begins
 never_first log bytes (Some rest) front e nothing = cc
 
 -- a beginning of a word is short
-pub short_front : (word bytes : List ℕ) (o : Option (Bor (List ℕ))) → length word ≤ most_left → TellsFront word bytes o → is_some o ≡ true
-    → length bytes ≤ most_left
-short_front word bytes None small apart e = cc
-short_front word bytes (Some rest) small front e = omega (arith, small, ap length front, length-append bytes rest.now)
-
--- how many bytes the longest line before a log has, `log 16777216`, without its line feed
-abbrev pub longest_line : ℕ
-longest_line = 12
+pub short_front : (most : ℕ) (word bytes : List ℕ) (o : Option (Bor (List ℕ))) → length word ≤ most → TellsFront word bytes o → is_some o ≡ true
+    → length bytes ≤ most
+short_front most word bytes None small apart e = cc
+short_front most word bytes (Some rest) small front e = omega (arith, small, ap length front, length-append bytes rest.now)
 
 -- what a line that says a size is like
 record SaysFew (line : List ℕ) (size : ℕ) : Type 0 where
@@ -121,3 +118,14 @@ short_of_whole place size bytes line rest e is some near none = by_fit (nat_le s
         let x : ◌≡◌ {A = Option Span} None (Some (record { first = place + length line + 1; past = place + length line + 1 + size })) = sym none ∙ found in
         cc
     by_fit false apart = omega (arith, says.few, says.short, ap length is, length-append line (10 ∷ rest), above_of size (length rest) apart)
+
+-- and one may come of it, if its line says a size within the limit
+pub may_come : (place size : ℕ) (bytes line rest : List ℕ) → is_one_line line ≡ true → bytes ≡ line ++ 10 ∷ rest → Some size ≡ size_in line
+    → place + length line + 1 + size ≤ logs_end_within → ((more : List ℕ) → log_at place (bytes ++ more) ≡ None) → length bytes ≤ longest_line
+may_come place size bytes line rest e is some near never =
+    let more : List ℕ = replicate size 0 in
+    let fits : size ≤ length (rest ++ more) = omega (arith, length-append rest more, length-replicate {A = ℕ} size 0) in
+    let found = is_log place size (bytes ++ more) line (rest ++ more) e (longer_is bytes line rest more is) some fits near in
+    let x : ◌≡◌ {A = Option Span} None (Some (record { first = place + length line + 1; past = place + length line + 1 + size })) =
+    sym (never more) ∙ found in
+    cc

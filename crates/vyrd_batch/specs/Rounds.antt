@@ -95,10 +95,16 @@ IsNothingEver (Some place) log rest =
 abbrev pub most_left : ℕ
 most_left = 16777228
 
+-- How many bytes the longest line before a log has, without its line feed.
+abbrev pub longest_line : ℕ
+longest_line = 12
+
 -- Nothing more can be judged in what is left, which is at most one log that isn't whole. Of what is
--- refused nothing is left.
+-- refused nothing is left. If it is refused however it goes on, and an unfinished line hides that,
+-- no more is left than such a line.
 abbrev pub IsSpentBy : (refused : Bool) → Option ℕ → (log : ℕ) → List ℕ → Type 0
 IsSpentBy false place log rest = IsNothingMore place log rest × (length rest ≤ most_left)
+    × (IsNothingEver place log rest → length rest ≤ longest_line)
 IsSpentBy true place log rest = rest ≡ []
 
 -- nothing more can be judged in what is left

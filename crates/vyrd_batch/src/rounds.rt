@@ -20,8 +20,8 @@ const FIRST_LINE: usize = 6;
 /// The bytes that aren't judged yet stay with the caller. Each call judges the logs that are whole
 /// in them, and takes their bytes away, so that the caller can append further bytes to what is
 /// left: less than one log and its line. Once the batch is refused, however it goes on, a call
-/// takes all bytes away. The memory is that of the verdicts, and during a call that of the logs
-/// that are judged at one time.
+/// takes all bytes away, or leaves up to 12 of an unfinished line. The memory is that of the
+/// verdicts, and during a call that of the logs that are judged at one time.
 pub struct BatchJudge {
     alloc: Global,
     verdicts: Vec<Verdict>,
@@ -90,8 +90,9 @@ impl BatchJudge {
     /// Judges the logs that are whole in `bytes`, side by side, and takes their bytes away.
     ///
     /// `bytes` are those after the logs that were judged, as far as they have come. A batch that is
-    /// refused, however it goes on, leaves none of them, and a call after that looks at none. The
-    /// only error is out of memory, and then nothing is known of `bytes` and of this.
+    /// refused, however it goes on, leaves none of them, and a call after that looks at none; only
+    /// of a line whose line feed is still to come it may leave up to 12. The only error is out of
+    /// memory, and then nothing is known of `bytes` and of this.
     pub fn judge<R: Threads + Sync>(
         &mut self,
         rt: &R,

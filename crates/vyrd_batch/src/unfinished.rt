@@ -2,7 +2,7 @@
 
 ghost use Rattle.std.specs.Prelude.{◌≡◌, ◌≤◌, ◌++◌, List, ℕ, length, true, false, None, IfSome};
 ghost use Rattle.vyrd_batch.specs.Batches.{log_at, logs_end_within, most_logs};
-ghost use Rattle.vyrd_batch.specs.Rounds.{IsNothingMore, IsNothingEver, most_left};
+ghost use Rattle.vyrd_batch.specs.Rounds.{IsNothingMore, IsNothingEver, most_left, longest_line};
 
 use crate::reader::{LOGS_END_WITHIN, MOST_LOGS, size_in};
 use vyrd_text::{after, split_line};
@@ -22,6 +22,8 @@ pub(crate) fn may_go_on(place: Option<usize>, log: usize, bytes: &[u8]) -> bool
     requires nothing { IsNothingMore place log bytes.now }
     ensures never { result ≡ false → IsNothingEver place log bytes.now }
     ensures short { result ≡ true → length bytes.now ≤ most_left }
+    ensures ever { result ≡ true → IsNothingEver place log bytes.now
+        → length bytes.now ≤ longest_line }
 {
     let Some(place) = place else {
         return after(b"batch\n", bytes).is_some();
@@ -39,6 +41,8 @@ fn may_be_log(place: usize, bytes: &[u8]) -> bool
     requires nothing { log_at place bytes.now ≡ None }
     ensures never { result ≡ false → (more : List ℕ) → log_at place (bytes.now ++ more) ≡ None }
     ensures short { result ≡ true → length bytes.now ≤ most_left }
+    ensures ever { result ≡ true → ((more : List ℕ) → log_at place (bytes.now ++ more) ≡ None)
+        → length bytes.now ≤ longest_line }
 {
     let Some((line, _)) = split_line(bytes) else {
         return bytes.len() <= LONGEST_LINE;

@@ -1,5 +1,5 @@
 use Rattle.vyrd_base.proofs.TestLaws.{at_most_of, above_of}
-use Rattle.vyrd_batch.proofs.UnfinishedLaws.{never_a_line, never_a_size, never_near, short_of_whole}
+use Rattle.vyrd_batch.proofs.UnfinishedLaws.{never_a_line, never_a_size, never_near, short_of_whole, may_come}
 use Rattle.vyrd_batch.proofs.unfinished.may_be_log.Goals as goal
 
 pub returns-in_default-clause-never : goal.returns-in_default-clause-never
@@ -22,3 +22,9 @@ returns-clause-short c = λ e.
     let is = c.in-Some.ensures in
     short_of_whole c.args.place c.in-Some-size_in.size c.args.bytes.now c.in-Some.line.now c.in-Some.field-0-1.now is.0 is.1
     c.in-Some-size_in.ensures (at_most_of _ _ e) c.requires.nothing
+
+pub returns-clause-ever : goal.returns-clause-ever
+returns-clause-ever c = λ e never.
+    let is = c.in-Some.ensures in
+    may_come c.args.place c.in-Some-size_in.size c.args.bytes.now c.in-Some.line.now c.in-Some.field-0-1.now is.0 is.1
+    c.in-Some-size_in.ensures (at_most_of _ _ e) never

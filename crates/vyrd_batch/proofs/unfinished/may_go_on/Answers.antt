@@ -1,7 +1,7 @@
 use Rattle.std.proofs.Common.{sym, subst, ◌∙◌, arith}
 use Rattle.vyrd_base.specs.Spelling.{ended_line}
 use Rattle.vyrd_batch.specs.Batches.{first_word, last_line}
-use Rattle.vyrd_batch.specs.Rounds.{IsNothingMore, IsNothingEver}
+use Rattle.vyrd_batch.specs.Rounds.{IsNothingMore, IsNothingEver, most_left, longest_line}
 use Rattle.vyrd_batch.proofs.UnfinishedLaws.{never_first, short_front}
 use Rattle.vyrd_batch.proofs.unfinished.may_go_on.Goals as goal
 
@@ -15,8 +15,16 @@ returns-in_default-clause-never c = λ e.
 
 pub returns-in_default-clause-short : goal.returns-in_default-clause-short
 returns-in_default-clause-short c = λ e.
-    short_front (ended_line first_word) c.args.bytes.now c.after.result (omega arith) c.after.ensures (sym c.is_some.ensures ∙ e)
+    short_front most_left (ended_line first_word) c.args.bytes.now c.after.result (omega arith) c.after.ensures (sym c.is_some.ensures ∙ e)
 
 pub returns-then-is_some-clause-short : goal.returns-then-is_some-clause-short
 returns-then-is_some-clause-short c = λ e.
-    short_front last_line c.args.bytes.now c.after-2.result (omega arith) c.after-2.ensures (sym c.is_some-2.ensures ∙ c.if-is_some.true)
+    short_front most_left last_line c.args.bytes.now c.after-2.result (omega arith) c.after-2.ensures (sym c.is_some-2.ensures ∙ c.if-is_some.true)
+
+pub returns-in_default-clause-ever : goal.returns-in_default-clause-ever
+returns-in_default-clause-ever c = λ e never.
+    short_front longest_line (ended_line first_word) c.args.bytes.now c.after.result (omega arith) c.after.ensures (sym c.is_some.ensures ∙ e)
+
+pub returns-then-is_some-clause-ever : goal.returns-then-is_some-clause-ever
+returns-then-is_some-clause-ever c = λ e never.
+    short_front longest_line last_line c.args.bytes.now c.after-2.result (omega arith) c.after-2.ensures (sym c.is_some-2.ensures ∙ c.if-is_some.true)
