@@ -308,19 +308,28 @@ impl io::Write for FirstFails {
     }
 }
 
+/// Kinds of errors that aren't a signal's.
+const ERRORS: [io::ErrorKind; 4] = [
+    io::ErrorKind::BrokenPipe,
+    io::ErrorKind::ConnectionReset,
+    io::ErrorKind::TimedOut,
+    io::ErrorKind::WouldBlock,
+];
+
 /// A stream's failed call is the device's, and isn't made again.
 #[test]
 fn first_call_that_fails(rt: HostRuntime) -> Result<(), Fail> {
-    let kind = io::ErrorKind::BrokenPipe;
-    let mut source = StdSource::new(FirstFails { kind, calls: 0 });
-    assert_eq!(rt; source.read(&mut [0; 4]), Err(Failed));
-    assert_eq!(rt; source.inner.calls, 1);
-    assert_eq!(rt; source.read(&mut [0; 4]), Ok(1));
+    for kind in ERRORS {
+        let mut source = StdSource::new(FirstFails { kind, calls: 0 });
+        assert_eq!(rt; source.read(&mut [0; 4]), Err(Failed));
+        assert_eq!(rt; source.inner.calls, 1);
+        assert_eq!(rt; source.read(&mut [0; 4]), Ok(1));
 
-    let mut sink = StdSink::new(FirstFails { kind, calls: 0 });
-    assert_eq!(rt; sink.write(&[1, 2]), Err(Failed));
-    assert_eq!(rt; sink.inner.calls, 1);
-    assert_eq!(rt; sink.write(&[1, 2]), Ok(1));
+        let mut sink = StdSink::new(FirstFails { kind, calls: 0 });
+        assert_eq!(rt; sink.write(&[1, 2]), Err(Failed));
+        assert_eq!(rt; sink.inner.calls, 1);
+        assert_eq!(rt; sink.write(&[1, 2]), Ok(1));
+    }
     Ok(())
 }
 

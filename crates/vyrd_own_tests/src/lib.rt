@@ -6,6 +6,8 @@
 #![tactic(auto)]
 
 #[cfg(test)]
+mod costs;
+#[cfg(test)]
 mod judged;
 #[cfg(test)]
 mod logs;
