@@ -31,6 +31,8 @@ pub struct OwnSpec {
     room: Room,
     made: u64,
     touched: Vec<u64>,
+    // Whether the last step did anything.
+    changes: bool,
     ghost subject: { header.subject ≡ Own },
     ghost whole: { IsWhole header.size (written_in (arc_value specification)) },
     ghost registers: { length state.registers ≤ 16 },
@@ -72,6 +74,7 @@ impl OwnSpec {
             room: Room::new(alloc),
             made: 0,
             touched: Vec::new(alloc),
+            changes: false,
         }))
     }
 }
@@ -88,7 +91,7 @@ impl Spec for OwnSpec {
 
     ghost touched = { λ s. s.touched.items };
 
-    ghost affects = { λ s method args. true };
+    ghost affects = { λ s method args. s.changes };
 
     type Compared = OwnCompared;
 
@@ -108,6 +111,7 @@ impl Spec for OwnSpec {
         )?;
         if allowed {
             self.made += 1;
+            self.changes = !self.room.effects.is_empty();
         }
         Ok(allowed)
     }
@@ -128,7 +132,7 @@ impl Spec for OwnSpec {
     }
 
     fn affects(&self, _method: Method, _args: Args) -> bool {
-        true
+        self.changes
     }
 
     fn view(&self, alloc: Global) -> Result<View, AllocError> {

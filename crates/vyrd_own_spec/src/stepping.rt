@@ -42,6 +42,7 @@ pub(crate) fn step(
         → touched.new.items ≡ touches (written_in specification.now) state.old method args reply }
     ensures changed { result ≡ Ok true
         → with_touched touched.new.items state.new.shown state.old.shown ≡ state.new.shown }
+    ensures idle { result ≡ Ok true → room.new.effects.items ≡ [] → state.new ≡ state.old }
     ensures registers { length state.new.registers ≡ length state.old.registers }
 {
     if !plan(specification.program(), method, args, reply, state, room)? {
