@@ -1,12 +1,13 @@
 """Tests of what all scripts here do with their words, and of those that compare, with checkers that answer right and wrong."""
 
 import shutil
+import sys
 import unittest
 
 from scripts import EXAMPLES, ScriptTest
 
-WITHOUT_WORDS = ["all", "compare", "caught", "own/check", "no_memory/try"]
-ASKING = ["compare", "caught", "own/check", "real/check", "no_memory/try", "documents", "measure"]
+WITHOUT_WORDS = ["all", "compare", "caught", "flat", "own/check", "no_memory/try"]
+ASKING = ["compare", "caught", "flat", "own/check", "real/check", "no_memory/try", "documents", "measure"]
 USAGE = "usage: vyrd check | step [--log|--history] | run [--log|--history] | gen N | movers | batch"
 VIOLATION = "violation at line 7: reply 1 not allowed"
 
@@ -76,6 +77,25 @@ class Caught(ScriptTest):
             self.assertEqual(self.caught(hunt, again).returncode, 1)
 
 
+class Flat(ScriptTest):
+    RIGHT = "accepted: 6000000 entries, 800000 commits, 1200000 observers"
+
+    def flat(self, *answer):
+        return self.run_script("flat", vyrd=self.program("checker", "cat >/dev/null", *answer))
+
+    def test_each_answer_has_its_numbers(self):
+        self.assert_ended(self.flat(f"echo '{self.RIGHT}'"), 0, b"flat: 3 passed, 0 failed\n", [])
+        for wrong in ("echo 'accepted: 5999999 entries, 800000 commits, 1200000 observers'", "exit 6"):
+            ran = self.flat(wrong)
+            self.assertEqual(ran.returncode, 1)
+            self.assertIn(b"flat: 0 passed, 3 failed\n", ran.stdout)
+
+    def test_memory_is_limited(self):
+        for size, passed in (1000, 3), (40000000, 0):
+            ran = self.flat(f"{sys.executable} -c 'x = bytes({size}); print(\"{self.RIGHT}\")'")
+            self.assertIn(f"flat: {passed} passed, {3 - passed} failed\n".encode(), ran.stdout)
+
+
 class OwnStructures(ScriptTest):
     def test_answer_of_every_run_counts(self):
         """A checker that accepts all: the runs of the broken variants are those that fail."""
@@ -141,8 +161,8 @@ class All(ScriptTest):
         for name in ("all", "common.sh"):
             self.file(f"examples/{name}", (EXAMPLES / name).read_bytes()).chmod(0o755)
         scripts = ["examples/compare", "examples/unproved", "examples/own/check", "examples/real/check", "specifications/check"]
-        scripts += ["specifications/same_verdicts", "tools/check", "examples/caught", "examples/documents", "tools/tests/run"]
-        scripts += ["examples/many/check"]
+        scripts += ["specifications/same_verdicts", "tools/check", "examples/caught", "examples/flat"]
+        scripts += ["examples/documents", "tools/tests/run", "examples/many/check"]
         for script in scripts:
             self.program(script, f'echo {script} >>"{self.folder}/ran"', "exit 0")
         for tests in ("examples/tests", "specifications/tests"):
