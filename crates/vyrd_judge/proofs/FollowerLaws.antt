@@ -38,13 +38,15 @@ use Rattle.vyrd_words.specs.Cuts.{first_with}
 use Rattle.vyrd_words.specs.Effects.{parts_behind}
 use Rattle.vyrd_judge.specs.Waiting.{replied, event_of, waiting_of, waiting_at}
 use Rattle.vyrd_observers.specs.Watching.{AreCurrent}
-use Rattle.vyrd_judge.specs.Queued.{HasQueued, HasTakenUp, MayQueue}
+use Rattle.vyrd_judge.specs.Queued.{HasQueued, HasTakenUp, MayQueue, AwaitsReturn, lets_judge}
 use Rattle.vyrd_judge.specs.Judged.{Judged, MayJudge}
 use Rattle.vyrd_judge.specs.declared.outcome.Advance.TheVariants.{Stops}
 use Rattle.vyrd_judge.specs.Following.{Kept, HasTakenIn, IsFaultless, IsSomewhere, MayCatchUp, AdvanceGives}
 use Rattle.vyrd_base.proofs.FrontLaws.{kept-push, front_at_break, break_at_break, nothing_broken}
 use Rattle.vyrd_base.proofs.VerdictParts.{sound_start, so_far_kept, so_far_break, at_end_open, at_end_accepted}
 use Rattle.vyrd_judge.proofs.JudgedLaws.{judged_more, judged_head, judged_all}
+use Rattle.vyrd_judge.proofs.JudgingLaws.{judged_waits}
+use Rattle.vyrd_judge.proofs.QueueLaws.{still_awaits}
 
 -- before the first entry
 pub judged_nothing : (r : Rules) (starting : List StartWord) (state : State) (watches : List Seen) (first : List ℕ)
@@ -318,10 +320,11 @@ pub stops_answer : (r : Rules) (starting : List StartWord) (log : List Entry) (k
 stops_answer r starting log k None gives = sym gives.0
 stops_answer r starting log k (Some v) gives = sym gives
 
-pub stops_none : (r : Rules) (starting : List StartWord) (log : List Entry) (k : Kept) (o : Option Verdict) → o ≡ None
-    → AdvanceGives r starting log k (Stops o) → HasTakenIn k starting log
-stops_none r starting log k None is gives = gives.1
-stops_none r starting log k (Some v) is gives = cc
+pub stops_none : (r : Rules) (starting : List StartWord) (log : List Entry) (k : Kept) (o : Option Verdict) → rules_by k.charter ≡ r → o ≡ None
+    → AdvanceGives r starting log k (Stops o) → IsFaultless k starting log
+stops_none r starting log k None same is gives =
+    record { taken_in = gives.1; faultless = ap (λ q. first_fault q starting log) same ∙ gives.0; awaits = gives.2 }
+stops_none r starting log k (Some v) same is gives = cc
 
 pub may_catch_up_on : {k n : Kept} → MayCatchUp k
     → ((starting : List StartWord) (log : List Entry) → HasTakenIn k starting log → HasTakenIn n starting log) → MayCatchUp n
@@ -333,6 +336,11 @@ ok_of A E a = Ok a
 
 pub ok_value : {A E : Type 0} {a b : A} → ok_of A E a ≡ ok_of A E b → a ≡ b
 ok_value e = cc
+
+-- One more entry was taken in, and what waits has gone on with it.
+pub record TakesIn (k n : Kept) (e : Entry) (starting : List StartWord) (log : List Entry) : Type 0 where
+  pub taken_in : HasTakenIn n starting (log ++ e ∷ [])
+  pub waiting : n.waiting ≡ map (replied e) k.waiting ++ cons_option (waiting_at (place_of e (newest_first log) [])) []
 
 -- the whole of one more entry that keeps the rules, by what each part does
 pub taken_all : (k n : Kept) (e : Entry) (queue_header : Header) (commits_here observes : Bool)
@@ -350,15 +358,16 @@ pub taken_all : (k n : Kept) (e : Entry) (queue_header : Header) (commits_here o
     → observes ≡ (is_return e.kind && not (has_committed e.caller earlier)))
     → n.observers ≡ k.observers + cond observes 1 0 → n.entries ≡ k.entries + 1
     → (n.views.specified ≡ k.views.specified) × (n.views.refused ≡ false)
-    → (starting : List StartWord) (log : List Entry) → HasTakenIn k starting log → HasTakenIn n starting (log ++ e ∷ [])
-taken_all k n e queue_header commits_here observes shape_is shadow_is queue_is shape shape_header words shadow_header views_header queued header started state made watches commits_is commits_more observes_is observers entries known starting log t =
-    taken_more k n starting log e t keeps (shape (newest_first log) t.shape).1 shape_header
-    (words starting (newest_first log) t.words (keeps_at shadow_is) (t.commits ∙ sym (commits_same log))) shadow_header
-    (views_header ∙ t.views_header ∙ sym t.shadow_header ∙ sym shadow_header)
-    (subst (λ h. HasTakenUp h k.waiting n.waiting n.taken n.callers e (newest_first log)) queue_is
-    (queued (newest_first log) queue (keeps_at queue_is) (reversed log t.entries)))
-    header started state made watches entries (commits_more ∙ ap (λ b. k.commits + cond b 1 0) commits_is)
-    (observers ∙ ap (λ b. k.observers + cond b 1 0) (observes_is (newest_first log) queue (keeps_at queue_is))) known
+    → (starting : List StartWord) (log : List Entry) → HasTakenIn k starting log → TakesIn k n e starting log
+taken_all k n e queue_header commits_here observes shape_is shadow_is queue_is shape shape_header words shadow_header views_header queued header started state made watches commits_is commits_more observes_is observers entries known starting log t = record {
+  taken_in = taken_more k n starting log e t keeps (shape (newest_first log) t.shape).1 shape_header
+      (words starting (newest_first log) t.words (keeps_at shadow_is) (t.commits ∙ sym (commits_same log))) shadow_header
+      (views_header ∙ t.views_header ∙ sym t.shadow_header ∙ sym shadow_header)
+      (subst (λ h. HasTakenUp h k.waiting n.waiting n.taken n.callers e (newest_first log)) queue_is up)
+      header started state made watches entries (commits_more ∙ ap (λ b. k.commits + cond b 1 0) commits_is)
+      (observers ∙ ap (λ b. k.observers + cond b 1 0) (observes_is (newest_first log) queue (keeps_at queue_is))) known;
+  waiting = up.waiting;
+}
   where
     keeps : Keeps (rules_by k.charter).header (newest_first log) e
     keeps = record { rules = ap (λ h. broken_rule h (newest_first log) e) (sym shape_is) ∙ (shape (newest_first log) t.shape).0 }
@@ -372,11 +381,30 @@ taken_all k n e queue_header commits_here observes shape_is shadow_is queue_is s
     reversed : (es : List Entry) → k.entries ≡ length es → k.entries ≡ length (newest_first es)
     reversed es is = omega (arith, is, length-newest_first_onto [] es)
 
+    up : HasTakenUp queue_header k.waiting n.waiting n.taken n.callers e (newest_first log)
+    up = queued (newest_first log) queue (keeps_at queue_is) (reversed log t.entries)
+
 pub may_catch_up : (k n : Kept) (e : Entry) → k.entries < 2 ^ 62 → IsSomewhere k
-    → ((starting : List StartWord) (log : List Entry) → HasTakenIn k starting log → HasTakenIn n starting (log ++ e ∷ [])) → MayCatchUp n
+    → ((starting : List StartWord) (log : List Entry) → HasTakenIn k starting log → TakesIn k n e starting log) → MayCatchUp n
 may_catch_up k n e few somewhere on = ∥∥₁_map somewhere (λ s.
     let short : length (s.1 ++ e ∷ []) ≤ 2 ^ 62 = omega (arith, few, s.2.taken_in.entries, length_push s.1 e) in
-    (s.0, s.1 ++ e ∷ [], on s.0 s.1 s.2.taken_in, short))
+    (s.0, s.1 ++ e ∷ [], (on s.0 s.1 s.2.taken_in).taken_in, short))
+
+-- where nothing that waits can be judged there is no fault so far
+awaits_faultless : {k : Kept} {starting : List StartWord} {log : List Entry} → HasTakenIn k starting log → AwaitsReturn k.waiting
+    → first_fault (rules_by k.charter) starting log ≡ None
+awaits_faultless {k} {starting} {log} t awaits = by_first k.waiting refl awaits
+  where
+    by_first : (ws : List Waiting) → k.waiting ≡ ws → AwaitsReturn ws → first_fault (rules_by k.charter) starting log ≡ None
+    by_first [] is a = none_waits t is
+    by_first (x ∷ xs) is a = (judged_waits a.2 (first_judged x xs t is)).0
+
+-- one more entry that lets nothing be judged
+pub still_faultless : {k n : Kept} {starting : List StartWord} {log : List Entry} (e : Entry) → lets_judge e.kind ≡ false
+    → IsFaultless k starting log → TakesIn k n e starting log → IsFaultless n starting (log ++ e ∷ [])
+still_faultless {k} {n} {starting} {log} e quiet f took =
+    let awaits = still_awaits e (newest_first log) k.waiting n.waiting quiet took.waiting f.awaits in
+    record { taken_in = took.taken_in; faultless = awaits_faultless took.taken_in awaits; awaits = awaits }
 
 -- an entry that keeps the rules by one name of the header keeps them by another
 pub keeps_by : {k : Kept} {n : ShapeKept} (e : Entry) (h : Header) → k.shape.header ≡ (rules_by k.charter).header → h ≡ (rules_by k.charter).header
@@ -390,6 +418,11 @@ keeps_by {k} {n} e h shape_is is shape starting log f = record {
 pub answer_with : {k : Kept} {starting : List StartWord} {log : List Entry} (v : Option Verdict) → HasTakenIn k starting log → v ≡ first_fault (rules_by k.charter) starting log → v ≡ verdict_so_far (rules_by k.charter) starting log
 answer_with v t is = is ∙ sym (so_far_is t)
 
+-- nothing stands where nothing is wrong
+pub nothing_stands : {k : Kept} {starting : List StartWord} {log : List Entry} → IsFaultless k starting log
+    → verdict_so_far (rules_by k.charter) starting log ≡ None
+nothing_stands f = so_far_is f.taken_in ∙ f.faultless
+
 -- the verdict if `end` stands after the entries
 pub end_open : {k : Kept} {starting : List StartWord} {log : List Entry} → IsFaultless k starting log
     → is_call_open k.shape.header (newest_first log) ≡ true
@@ -397,7 +430,7 @@ pub end_open : {k : Kept} {starting : List StartWord} {log : List Entry} → IsF
 unfolding verdict_at
 end_open {k} {starting} {log} f is_open =
     (λ i. Malformed (f.taken_in.started i + f.taken_in.entries i + 2) CallOpen)
-    ∙ at_end_open (rules_by k.charter) starting log f.taken_in.begun (so_far_is f.taken_in ∙ f.faultless)
+    ∙ at_end_open (rules_by k.charter) starting log f.taken_in.begun (nothing_stands f)
     (ap (λ h. is_call_open h (newest_first log)) (sym f.taken_in.shape_header) ∙ is_open)
 
 pub end_accepted : {k : Kept} {starting : List StartWord} {log : List Entry} → IsFaultless k starting log
@@ -406,7 +439,7 @@ pub end_accepted : {k : Kept} {starting : List StartWord} {log : List Entry} →
 unfolding verdict_at accepted
 end_accepted {k} {starting} {log} f closed =
     (λ i. Accepted (f.taken_in.entries i) (f.taken_in.commits i) (f.taken_in.observers i))
-    ∙ at_end_accepted (rules_by k.charter) starting log f.taken_in.begun (so_far_is f.taken_in ∙ f.faultless)
+    ∙ at_end_accepted (rules_by k.charter) starting log f.taken_in.begun (nothing_stands f)
     (ap (λ h. is_call_open h (newest_first log)) (sym f.taken_in.shape_header) ∙ closed)
 
 -- whether a test of a result fails

@@ -24,6 +24,7 @@ use Rattle.vyrd_judge.specs.declared.waiting.Waiting.{Waiting}
 use Rattle.vyrd_base.specs.Entries.{has_method}
 use Rattle.vyrd_observers.specs.Watching.{Seen, unwatched, has_answer}
 use Rattle.vyrd_observers.specs.Watching.{AreCurrent}
+use Rattle.vyrd_judge.specs.Queued.{AwaitsReturn}
 use Rattle.vyrd_judge.specs.Judged.{Judged, HeadGives, MayJudge, CommitLeads}
 use Rattle.vyrd_base.proofs.ListLaws.{slice_get-set_same, slice_get-set_other}
 use Rattle.vyrd_judge.proofs.Reaching.{OthersStay}
@@ -202,8 +203,8 @@ judged_unanswered seen event here unanswered j =
 -- a commit that hasn't returned
 pub judged_waits : {r : Rules} {starting : List StartWord} {log : List Entry} {state : State} {made : ℕ} {watches : List Seen} {x : Waiting} {xs : List Waiting}
     {first : List ℕ} {since : List (List (ℕ × ℕ))} {method : Method} {args : Args} → x.event ≡ Commits method args None → Judged r starting log state made watches (x ∷ xs) first since
-    → (first_fault r starting log ≡ None) × Judged r starting log state made watches (x ∷ xs) first since
-judged_waits event j = let found = commits_at event j in (head_waits found.0 found.1, j)
+    → (first_fault r starting log ≡ None) × Judged r starting log state made watches (x ∷ xs) first since × AwaitsReturn (x ∷ xs)
+judged_waits {method = method} {args = args} event j = let found = commits_at event j in (head_waits found.0 found.1, j, (method, args, event))
 
 -- a commit that has, by what it leads to
 pub judged_commits : {E : Type 0} {r : Rules} {starting : List StartWord} {log : List Entry} {state : State} {made : ℕ} {watches : List Seen} {x : Waiting}

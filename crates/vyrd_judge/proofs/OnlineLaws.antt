@@ -1,5 +1,5 @@
 -- What the online judge answers, by what it keeps.
-use Rattle.std.proofs.Common.{◌≡◌, false, List, [], ◌++◌, Option, Some, None, Result, Ok, Err, refl, subst, ◌∙◌, sym}
+use Rattle.std.proofs.Common.{◌≡◌, ◌≤◌, ◌+◌, false, List, [], ◌∷◌, ◌++◌, length, Option, Some, None, Result, Ok, Err, refl, subst, ◌∙◌, sym, arith}
 use Rattle.std.specs.Prelude.{OnErr}
 use Rattle.vyrd_base.specs.Rules.{rules_by}
 use Rattle.vyrd_base.specs.declared.log.Entry.{Entry}
@@ -8,6 +8,8 @@ use Rattle.vyrd_base.specs.declared.verdict.Verdict.{Verdict}
 use Rattle.vyrd_base.specs.declared.verdict.Stop.TheVariants.{End}
 use Rattle.vyrd_base.specs.Verdicts.{verdict_so_far, verdict_at, verdict}
 use Rattle.vyrd_base.proofs.VerdictLaws.{verdict_lasts}
+use Rattle.vyrd_judge.specs.declared.waiting.Waiting.{Waiting}
+use Rattle.vyrd_judge.specs.Queued.{AwaitsReturn}
 use Rattle.vyrd_judge.specs.Following.{Kept, JudgeView, FollowsBy, HasFollowed, IsFaultless, HasTakenIn}
 use Rattle.vyrd_base.proofs.VerdictParts.{no_first_fault, so_far_kept, verdict_standing}
 
@@ -52,8 +54,15 @@ none_stands {j} {starting} {log} is f =
 -- before the first entry
 pub faultless_first : {k : Kept} {starting : List StartWord}
     → HasTakenIn k starting [] → IsFaultless k starting []
-faultless_first {k} {starting} t =
-    record { taken_in = t; faultless = no_first_fault (rules_by k.charter) starting }
+faultless_first {k} {starting} t = record {
+  taken_in = t;
+  faultless = no_first_fault (rules_by k.charter) starting;
+  awaits = let few : k.taken + length k.waiting ≤ 0 = t.queued.count in nothing k.waiting (omega (arith, few));
+}
+  where
+    nothing : (ws : List Waiting) → length ws ≤ 0 → AwaitsReturn ws
+    nothing [] none = tt
+    nothing (x ∷ xs) none = absurd (omega (arith, none))
 
 -- what stands is known
 pub so_far_is_known : {j : JudgeView} {starting : List StartWord} {log : List Entry}

@@ -15,7 +15,7 @@ use Rattle.vyrd_base.specs.declared.subject.Args.{Args}
 use Rattle.vyrd_base.specs.declared.log.Kind.{Kind}
 use Rattle.vyrd_base.specs.declared.log.Kind.TheVariants.{Call, Return, Write, Commit, BlockOpen, BlockClose, BlockCommit}
 use Rattle.vyrd_base.specs.declared.log.Entry.{Entry}
-use Rattle.vyrd_base.specs.Places.{first_answer}
+use Rattle.vyrd_base.specs.Places.{Place, first_answer}
 use Rattle.vyrd_base.specs.Callers.{Called, by_caller, open_call, call_or_return, has_committed, commit_or_call}
 use Rattle.vyrd_base.specs.Subjects.{is_observer, must_commit}
 use Rattle.vyrd_base.specs.Shape.{checks_at}
@@ -31,8 +31,8 @@ use Rattle.vyrd_judge.specs.declared.waiting.Event.TheVariants.{Begins, Commits,
 use Rattle.vyrd_judge.specs.declared.waiting.Waiting.{Waiting}
 use Rattle.vyrd_words.specs.HasWords.{Keeps}
 use Rattle.vyrd_base.specs.Entries.{place_of}
-use Rattle.vyrd_judge.specs.Queued.{IsCaller, IsPending, IsUnreturned, HasQueued, HasTakenUp, MayQueue, CanLeave}
-use Rattle.vyrd_judge.specs.Waiting.{commit_of, waiting_of, waiting_at, replied_event, replied}
+use Rattle.vyrd_judge.specs.Queued.{IsCaller, IsPending, IsUnreturned, HasQueued, HasTakenUp, MayQueue, CanLeave, AwaitsReturn, lets_judge}
+use Rattle.vyrd_judge.specs.Waiting.{commit_of, event_of, waiting_of, waiting_at, replied_event, replied}
 use Rattle.vyrd_base.proofs.StateLaws.{open_call-other}
 use Rattle.vyrd_base.proofs.CommitLaws.{Commits as Committing, alone, with_block, commits_called, commits_inside, commits_unreturned}
 use Rattle.vyrd_base.proofs.KeptLaws.{commit_kept, block_commit_runs, return_kept}
@@ -581,6 +581,42 @@ queue_left {h} {waiting} {taken} {callers} {earlier} x xs is can q = record {
           caller_is = p.caller_is;
           event = p.event;
         }
+
+-- with an entry that lets nothing be judged, what waits first still awaits its return
+pub still_awaits : (e : Entry) (earlier : List Entry) (old new : List Waiting) → lets_judge e.kind ≡ false
+    → new ≡ map (replied e) old ++ cons_option (waiting_at (place_of e earlier [])) [] → AwaitsReturn old → AwaitsReturn new
+still_awaits e earlier old new quiet is awaits =
+    subst AwaitsReturn (sym (is ∙ ap (λ ws. ws ++ cons_option (waiting_at place) []) (unreplied e (no_return e.kind quiet) old))) (before old awaits)
+  where
+    place : Place Entry
+    place = place_of e earlier []
+
+    no_return : (kind : Kind) → lets_judge kind ≡ false → returned kind ≡ None
+    no_return (Call method args) q = refl
+    no_return (Return reply) q = absurd (apart (sym q))
+    no_return (Write word value) q = refl
+    no_return Commit q = refl
+    no_return BlockOpen q = refl
+    no_return BlockClose q = refl
+    no_return BlockCommit q = refl
+
+    at_commit : (o : Option Called) → AwaitsReturn (cons_option (option_map (waiting_of place) (option_map (commit_of None) o)) [])
+    at_commit None = tt
+    at_commit (Some called) = (called.method, called.args, refl)
+
+    own : (kind : Kind) → lets_judge kind ≡ false → AwaitsReturn (cons_option (option_map (waiting_of place) (event_of place kind)) [])
+    own (Call method args) q =
+        subst (λ b. AwaitsReturn (cons_option (option_map (waiting_of place) (then_some b (Begins method args))) [])) (sym q) tt
+    own (Return reply) q = absurd (apart (sym q))
+    own (Write word value) q = tt
+    own Commit q = at_commit (open_call e.caller earlier)
+    own BlockOpen q = tt
+    own BlockClose q = tt
+    own BlockCommit q = at_commit (open_call e.caller earlier)
+
+    before : (ws : List Waiting) → AwaitsReturn ws → AwaitsReturn (ws ++ cons_option (waiting_at place) [])
+    before [] a = own e.kind quiet
+    before (x ∷ xs) a = a
 
 -- what may follow: its caller, how many entries wait, and where a reply goes
 pub queue_caller : {h : Header} {waiting : List Waiting} {taken : ℕ} {callers : List Caller} {e : Entry} {position : ℕ}

@@ -17,7 +17,7 @@ use Rattle.vyrd_judge.specs.declared.waiting.Waiting.{Waiting}
 use Rattle.vyrd_words.specs.Cuts.{Cuts}
 use Rattle.vyrd_words.specs.HasWords.{HasWords}
 use Rattle.vyrd_observers.specs.Watching.{Seen}
-use Rattle.vyrd_judge.specs.Queued.{HasQueued}
+use Rattle.vyrd_judge.specs.Queued.{HasQueued, AwaitsReturn}
 use Rattle.vyrd_judge.specs.Judged.{Judged}
 use Rattle.vyrd_base.specs.Rules.{Rules, Charter, rules_by}
 
@@ -60,10 +60,11 @@ pub record HasTakenIn (k : Kept) (starting : List StartWord) (log : List Entry) 
   pub commits : k.commits ≡ commit_count log
   pub observers : k.observers ≡ observer_count log
 
--- the same, and nothing is wrong with the log so far
+-- the same, nothing is wrong with the log so far, and all that can be judged is
 pub record IsFaultless (k : Kept) (starting : List StartWord) (log : List Entry) : Type 0 where
   pub taken_in : HasTakenIn k starting log
   pub faultless : first_fault (rules_by k.charter) starting log ≡ None
+  pub awaits : AwaitsReturn k.waiting
 
 -- what is kept stands for some log
 abbrev pub IsSomewhere : Kept → Type 0
@@ -94,5 +95,5 @@ pub record HasFollowed (j : JudgeView) (starting : List StartWord) (log : List E
 abbrev pub AdvanceGives : Rules → List StartWord → List Entry → Kept → Advance → Type 0
 AdvanceGives r starting log k Goes = HasTakenIn k starting log
 AdvanceGives r starting log k (Stops None) =
-    (first_fault r starting log ≡ None) × HasTakenIn k starting log
+    (first_fault r starting log ≡ None) × HasTakenIn k starting log × AwaitsReturn k.waiting
 AdvanceGives r starting log k (Stops (Some v)) = first_fault r starting log ≡ Some v

@@ -20,6 +20,7 @@ use Rattle.vyrd_words.specs.Cuts.{Cuts}
 use Rattle.vyrd_words.specs.Effects.{effect_parts, HasParts, is_ended}
 use Rattle.vyrd_observers.specs.Watching.{Seen, unwatched}
 use Rattle.vyrd_judge.specs.Waiting.{waiting_after}
+use Rattle.vyrd_judge.specs.Queued.{AwaitsReturn}
 use Rattle.vyrd_judge.specs.Reached.{Reached}
 use Rattle.vyrd_observers.specs.Watching.{AreCurrent, AllSee}
 use Rattle.vyrd_base.specs.Rules.{Rules}
@@ -52,7 +53,8 @@ pub record Judged (r : Rules) (starting : List StartWord) (log : List Entry) (st
   pub current : AreCurrent (r.answer state) watches
 
 -- What the entry that waits first leads to: it is judged and no fault; or it is this fault, the
--- first of the log; or nothing can be judged yet, and the log has no fault so far.
+-- first of the log; or it is a commit that hasn't returned, nothing can be judged yet, and the log
+-- has no fault so far.
 abbrev pub HeadGives : Rules → List StartWord → List Entry → State → ℕ → List Seen → Waiting
     → List Waiting → List ℕ → List (List (ℕ × ℕ)) → Outcome → Type 0
 HeadGives r starting log state made watches x xs first since Goes =
@@ -61,7 +63,7 @@ HeadGives r starting log state made watches x xs first since (Faults why) =
     first_fault r starting log ≡ Some (Violation (line_of starting x.position) why)
 HeadGives r starting log state made watches x xs first since Ends =
     (first_fault r starting log ≡ None)
-    × Judged r starting log state made watches (x ∷ xs) first since
+    × Judged r starting log state made watches (x ∷ xs) first since × AwaitsReturn (x ∷ xs)
 
 -- the entry waits first in some log
 abbrev pub MayJudge : Rules → State → ℕ → List Seen → Waiting → List ℕ → List (List (ℕ × ℕ))

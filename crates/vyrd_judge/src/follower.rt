@@ -11,6 +11,7 @@ ghost use Rattle.vyrd_base.specs.Commits.{is_commit};
 ghost use Rattle.vyrd_base.specs.Verdicts.{first_fault, verdict, verdict_so_far};
 ghost use Rattle.vyrd_judge.specs.Following.{Kept, HasTakenIn, IsFaultless, IsSomewhere};
 ghost use Rattle.vyrd_judge.specs.Following.{MayCatchUp, AdvanceGives};
+ghost use Rattle.vyrd_judge.specs.Queued.{lets_judge};
 ghost use Rattle.vyrd_judge.specs.declared.outcome.Advance.TheVariants.{Goes};
 
 use crate::outcome::{Advance, Outcome};
@@ -108,8 +109,9 @@ impl<S: Spec> Follower<S> {
         })
     }
 
-    /// Takes in one more entry, and judges what can be judged then. The answer is the verdict that
-    /// stands with it. After a verdict nothing is known of what is kept, and nothing after memory
+    /// Takes in one more entry, and judges what can be judged then. Most kinds of entries let nothing
+    /// be judged: before each entry nothing waits, or a commit waits first whose execution hasn't
+    /// returned. The answer is the verdict that stands with it. After a verdict nothing is known of what is kept, and nothing after memory
     /// has run out.
     #[inline(always)]
     pub fn take_in(&mut self, entry: Entry) -> Result<Option<Verdict>, AllocError>
@@ -186,6 +188,9 @@ impl<S: Spec> Follower<S> {
         self.commits = counted(self.commits, is_commit(entry.kind));
         self.observers = counted(self.observers, observes);
         self.entries += 1;
+        if !lets_judge(entry.kind) {
+            return Ok(None);
+        }
         self.catch_up()
     }
 
@@ -215,9 +220,9 @@ impl<S: Spec> Follower<S> {
         ensures answer { (starting : List StartWord) (log : List Entry)
             → HasTakenIn self.old starting log
             → IfOk result (λ v. v ≡ first_fault (rules_by self.old.charter) starting log) }
-        ensures stays { (starting : List StartWord) (log : List Entry)
+        ensures follows { (starting : List StartWord) (log : List Entry)
             → HasTakenIn self.old starting log → result ≡ Ok None
-            → HasTakenIn self.new starting log }
+            → IsFaultless self.new starting log }
         ensures entries { self.new.entries ≡ self.old.entries }
         ensures charter { self.new.charter ≡ self.old.charter }
     {
@@ -263,6 +268,17 @@ fn counted(count: u64, more: bool) -> u64
     ensures { result ≡ count + (if more then 1 else 0) }
 {
     if more { count + 1 } else { count }
+}
+
+/// Whether an entry of this kind may let something be judged that waits.
+fn lets_judge(kind: Kind) -> bool
+    ensures { result ≡ lets_judge kind }
+{
+    match kind {
+        Kind::Call(method, _) => !method.must_commit(),
+        Kind::Return(_) => true,
+        _ => false,
+    }
 }
 
 /// Whether an entry of this kind commits.

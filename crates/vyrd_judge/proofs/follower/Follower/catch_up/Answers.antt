@@ -24,8 +24,8 @@ returns-in-Stops-clause-answer g c = λ starting log t.
     (c.in_ok-judge_first.ensures.gives starting log (c.loop-verdict.invariant.taken_in starting log t)))
     ∙ ap (λ g. first_fault (rules_by g) starting log) c.loop-verdict.invariant.header
 
-pub returns-in-Stops-clause-stays : goal.returns-in-Stops-clause-stays
-returns-in-Stops-clause-stays g c = λ starting log t none.
-    stops_none (rules_by c.loop-verdict.self.charter) starting log c.judge_first.new.self c.in-Stops.verdict (ok_value none)
+pub returns-in-Stops-clause-follows : goal.returns-in-Stops-clause-follows
+returns-in-Stops-clause-follows g c = λ starting log t none.
+    stops_none (rules_by c.loop-verdict.self.charter) starting log c.judge_first.new.self c.in-Stops.verdict (ap rules_by c.judge_first.ensures.charter) (ok_value none)
     (subst (AdvanceGives (rules_by c.loop-verdict.self.charter) starting log c.judge_first.new.self) c.in-Stops.is
     (c.in_ok-judge_first.ensures.gives starting log (c.loop-verdict.invariant.taken_in starting log t)))

@@ -4,14 +4,15 @@ use Rattle.vyrd_base.specs.declared.verdict.Verdict.TheVariants.{Violation}
 use Rattle.vyrd_base.specs.Places.{newest_first}
 use Rattle.vyrd_base.specs.Verdicts.{first_fault}
 use Rattle.vyrd_judge.specs.Judged.{HeadGives, KnowsState}
-use Rattle.vyrd_judge.specs.Queued.{HasQueued}
+use Rattle.vyrd_judge.specs.Queued.{HasQueued, AwaitsReturn}
 use Rattle.vyrd_judge.specs.Following.{Kept, HasTakenIn, MayCatchUp}
 use Rattle.vyrd_judge.proofs.FollowerLaws.{none_waits, first_judged, may_judge, few_taken, few_position, taken_on, sound_up}
 use Rattle.vyrd_judge.proofs.follower.Follower.judge_first.Goals as goal
 
 pub returns-in_default-clause-gives : goal.returns-in_default-clause-gives
 returns-in_default-clause-gives g c = λ starting log t.
-    (none_waits t (ap (λ (k : Kept). k.waiting) (sym c.self.view_is) ∙ c.first.ensures.none c.in_default.is), t)
+    let none = ap (λ (k : Kept). k.waiting) (sym c.self.view_is) ∙ c.first.ensures.none c.in_default.is in
+    (none_waits t none, t, subst AwaitsReturn (sym none) tt)
 
 pub judge-requires-clause-may : goal.judge-requires-clause-may
 judge-requires-clause-may g c =
@@ -76,4 +77,5 @@ returns-in-Ends-clause-gives g c = λ starting log t.
           (subst (λ q. HasQueued (rules_by (g.S.Spec.charter i.replay.spec)).header q i.queue.taken i.queue.callers.items (newest_first log)) rest.1 was.queued)
           rest.1 c.judge.ensures.charter refl refl c.judge.ensures.shadow c.judge.ensures.inner c.judge.ensures.views_header
           (subst (KnowsState (rules_by (g.S.Spec.charter i.replay.spec)) c.judge.new.words.views (g.S.Spec.state c.judge.new.self.spec)) c.in-Ends.is (c.in_ok-judge.ensures.known was.specified)) refl refl refl,
+      subst AwaitsReturn (sym rest.1) ends.2,
     )

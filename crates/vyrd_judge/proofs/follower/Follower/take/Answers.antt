@@ -1,11 +1,10 @@
 use Rattle.std.proofs.Common.{◌≡◌, ◌<◌, ◌^◌, ◌∷◌, ◌++◌, [], refl, ap, subst, sym, ◌∙◌}
-use Rattle.std.specs.Result.{IfOk}
 use Rattle.vyrd_base.specs.Rules.{rules_by}
 use Rattle.vyrd_base.specs.Verdicts.{first_fault, verdict_so_far}
 use Rattle.vyrd_judge.specs.Queued.{MayQueue}
 use Rattle.vyrd_judge.specs.Following.{Kept, IsFaultless, IsSomewhere}
 use Rattle.std.proofs.lemmas.Result.{IfOk-weaker}
-use Rattle.vyrd_judge.proofs.FollowerLaws.{broken_so_far, may_take, may_queue, low_commits, few_commits, few_observers, low_caller_of, taken_all, may_catch_up, keeps_by, answer_with, sound_of}
+use Rattle.vyrd_judge.proofs.FollowerLaws.{broken_so_far, may_take, may_queue, low_commits, few_commits, few_observers, low_caller_of, taken_all, may_catch_up, keeps_by, answer_with, still_faultless, nothing_stands, sound_of}
 use Rattle.vyrd_judge.proofs.follower.Follower.take.Goals as goal
 
 pub returns-in-Err-clause-answer : goal.returns-in-Err-clause-answer
@@ -57,35 +56,44 @@ catch_up-requires g c =
     c.in_ok-follow-2.ensures.taken_up refl refl refl refl refl c.is_commit.ensures c.counted-self-inside.ensures c.observer_returns-observes.ensures
     c.counted-self-inside-2.ensures refl (c.in_ok-follow.ensures.specified, c.in_ok-follow.ensures.sound))
 
+-- the entry lets nothing be judged
+pub returns-then-not-lets_judge-clause-answer : goal.returns-then-not-lets_judge-clause-answer
+returns-then-not-lets_judge-clause-answer g c = λ starting log f.
+    let was = subst (λ k. IsFaultless k starting log) (sym c.self.view_is) f in
+    sym (nothing_stands (still_faultless c.args.entry (sym c.lets_judge.ensures ∙ c.if-not-lets_judge.true) was
+    (taken_all _ _ c.args.entry c.self.inside.queue.header c.is_commit.result c.observer_returns-observes.result
+    c.self.invariant.0 c.self.invariant.1 c.self.invariant.2 c.in_default.ensures.ok c.step.ensures.header c.in_ok-follow.ensures.taken c.follow.ensures.header c.follow.ensures.views_header
+    c.in_ok-follow-2.ensures.taken_up refl refl refl refl refl c.is_commit.ensures c.counted-self-inside.ensures c.observer_returns-observes.ensures
+    c.counted-self-inside-2.ensures refl (c.in_ok-follow.ensures.specified, c.in_ok-follow.ensures.sound) starting log was.taken_in)))
+    ∙ ap (λ (k : Kept). verdict_so_far (rules_by k.charter) starting (log ++ c.args.entry ∷ [])) c.self.view_is
+
+pub returns-then-not-lets_judge-clause-follows : goal.returns-then-not-lets_judge-clause-follows
+returns-then-not-lets_judge-clause-follows g c = λ starting log f none.
+    let was = subst (λ k. IsFaultless k starting log) (sym c.self.view_is) f in
+    still_faultless c.args.entry (sym c.lets_judge.ensures ∙ c.if-not-lets_judge.true) was
+    (taken_all _ _ c.args.entry c.self.inside.queue.header c.is_commit.result c.observer_returns-observes.result
+    c.self.invariant.0 c.self.invariant.1 c.self.invariant.2 c.in_default.ensures.ok c.step.ensures.header c.in_ok-follow.ensures.taken c.follow.ensures.header c.follow.ensures.views_header
+    c.in_ok-follow-2.ensures.taken_up refl refl refl refl refl c.is_commit.ensures c.counted-self-inside.ensures c.observer_returns-observes.ensures
+    c.counted-self-inside-2.ensures refl (c.in_ok-follow.ensures.specified, c.in_ok-follow.ensures.sound) starting log was.taken_in)
+
 pub returns-clause-answer : goal.returns-clause-answer
 returns-clause-answer g c = λ starting log f.
     let h = rules_by (g.S.Spec.charter c.self.inside.replay.spec) in
     let was = subst (λ k. IsFaultless k starting log) (sym c.self.view_is) f in
     let more = log ++ c.args.entry ∷ [] in
     let same = ap (λ (k : Kept). verdict_so_far (rules_by k.charter) starting more) c.self.view_is in
+    let took = taken_all _ _ c.args.entry c.self.inside.queue.header c.is_commit.result c.observer_returns-observes.result
+    c.self.invariant.0 c.self.invariant.1 c.self.invariant.2 c.in_default.ensures.ok c.step.ensures.header c.in_ok-follow.ensures.taken c.follow.ensures.header c.follow.ensures.views_header
+    c.in_ok-follow-2.ensures.taken_up refl refl refl refl refl c.is_commit.ensures c.counted-self-inside.ensures c.observer_returns-observes.ensures
+    c.counted-self-inside-2.ensures refl (c.in_ok-follow.ensures.specified, c.in_ok-follow.ensures.sound) starting log was.taken_in in
     IfOk-weaker c.catch_up.result (λ v. v ≡ first_fault h starting more) (λ v. v ≡ verdict_so_far (rules_by c.args.self.now.charter) starting more)
-    (λ v is. answer_with v (taken_all _ _ c.args.entry c.self.inside.queue.header c.is_commit.result c.observer_returns-observes.result
-    c.self.invariant.0 c.self.invariant.1 c.self.invariant.2 c.in_default.ensures.ok c.step.ensures.header c.in_ok-follow.ensures.taken c.follow.ensures.header c.follow.ensures.views_header
-    c.in_ok-follow-2.ensures.taken_up refl refl refl refl refl c.is_commit.ensures c.counted-self-inside.ensures c.observer_returns-observes.ensures
-    c.counted-self-inside-2.ensures refl (c.in_ok-follow.ensures.specified, c.in_ok-follow.ensures.sound) starting log was.taken_in) is ∙ same)
-    (c.catch_up.ensures.answer starting more (taken_all _ _ c.args.entry c.self.inside.queue.header c.is_commit.result c.observer_returns-observes.result
-    c.self.invariant.0 c.self.invariant.1 c.self.invariant.2 c.in_default.ensures.ok c.step.ensures.header c.in_ok-follow.ensures.taken c.follow.ensures.header c.follow.ensures.views_header
-    c.in_ok-follow-2.ensures.taken_up refl refl refl refl refl c.is_commit.ensures c.counted-self-inside.ensures c.observer_returns-observes.ensures
-    c.counted-self-inside-2.ensures refl (c.in_ok-follow.ensures.specified, c.in_ok-follow.ensures.sound) starting log was.taken_in))
+    (λ v is. answer_with v took.taken_in is ∙ same)
+    (c.catch_up.ensures.answer starting more took.taken_in)
 
 pub returns-clause-follows : goal.returns-clause-follows
 returns-clause-follows g c = λ starting log f is.
-    let h = rules_by (g.S.Spec.charter c.self.inside.replay.spec) in
     let was = subst (λ k. IsFaultless k starting log) (sym c.self.view_is) f in
-    let more = log ++ c.args.entry ∷ [] in
-    record {
-      taken_in = c.catch_up.ensures.stays starting more (taken_all _ _ c.args.entry c.self.inside.queue.header c.is_commit.result c.observer_returns-observes.result
-          c.self.invariant.0 c.self.invariant.1 c.self.invariant.2 c.in_default.ensures.ok c.step.ensures.header c.in_ok-follow.ensures.taken c.follow.ensures.header c.follow.ensures.views_header
-          c.in_ok-follow-2.ensures.taken_up refl refl refl refl refl c.is_commit.ensures c.counted-self-inside.ensures c.observer_returns-observes.ensures
-          c.counted-self-inside-2.ensures refl (c.in_ok-follow.ensures.specified, c.in_ok-follow.ensures.sound) starting log was.taken_in) is;
-      faultless = ap (λ l. first_fault (rules_by l) starting more) c.catch_up.ensures.charter
-          ∙ sym (subst (λ r. IfOk r (λ v. v ≡ first_fault h starting more)) is (c.catch_up.ensures.answer starting more (taken_all _ _ c.args.entry c.self.inside.queue.header c.is_commit.result c.observer_returns-observes.result
-          c.self.invariant.0 c.self.invariant.1 c.self.invariant.2 c.in_default.ensures.ok c.step.ensures.header c.in_ok-follow.ensures.taken c.follow.ensures.header c.follow.ensures.views_header
-          c.in_ok-follow-2.ensures.taken_up refl refl refl refl refl c.is_commit.ensures c.counted-self-inside.ensures c.observer_returns-observes.ensures
-          c.counted-self-inside-2.ensures refl (c.in_ok-follow.ensures.specified, c.in_ok-follow.ensures.sound) starting log was.taken_in)));
-    }
+    c.catch_up.ensures.follows starting (log ++ c.args.entry ∷ []) (taken_all _ _ c.args.entry c.self.inside.queue.header c.is_commit.result c.observer_returns-observes.result
+    c.self.invariant.0 c.self.invariant.1 c.self.invariant.2 c.in_default.ensures.ok c.step.ensures.header c.in_ok-follow.ensures.taken c.follow.ensures.header c.follow.ensures.views_header
+    c.in_ok-follow-2.ensures.taken_up refl refl refl refl refl c.is_commit.ensures c.counted-self-inside.ensures c.observer_returns-observes.ensures
+    c.counted-self-inside-2.ensures refl (c.in_ok-follow.ensures.specified, c.in_ok-follow.ensures.sound) starting log was.taken_in).taken_in is
