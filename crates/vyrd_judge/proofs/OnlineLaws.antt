@@ -1,5 +1,5 @@
 -- What the online judge answers, by what it keeps.
-use Rattle.std.proofs.Common.{◌≡◌, ◌≤◌, ◌+◌, false, List, [], ◌∷◌, ◌++◌, length, Option, Some, None, Result, Ok, Err, refl, subst, ◌∙◌, sym, arith}
+use Rattle.std.proofs.Common.{◌≡◌, ◌≤◌, ◌+◌, List, [], ◌∷◌, ◌++◌, length, Option, Some, None, Result, Ok, Err, refl, ap, subst, ◌∙◌, sym, arith, append_assoc}
 use Rattle.std.specs.Prelude.{OnErr}
 use Rattle.vyrd_base.specs.Rules.{rules_by}
 use Rattle.vyrd_base.specs.declared.log.Entry.{Entry}
@@ -74,29 +74,12 @@ so_far_is_known {j} {starting} {log} f = known j.so_far refl
     known None is = is ∙ sym (none_stands is f)
     known (Some v) is = is ∙ sym (standing is f)
 
--- what stood before stands now
-abbrev pub StandsStill : JudgeView → JudgeView → Type 0
-StandsStill before now = (v : Verdict) → before.so_far ≡ Some v → now.so_far ≡ Some v
-
--- a verdict that stands is the answer again
-abbrev pub AnswersAgain : {E : Type 0} → JudgeView → Result (Option Verdict) E → Type 0
-AnswersAgain j result = (v : Verdict) → j.so_far ≡ Some v → j.has_failed ≡ false → result ≡ Ok (Some v)
-
--- so it stands after one entry more
-pub still_stands : {E : Type 0} (before old new : JudgeView) (v : Option Verdict) → StandsStill before old → old.has_failed ≡ false
-    → AnswersAgain {E = E} old (Ok v) → new.so_far ≡ v → StandsStill before new
-still_stands before old new v known works again is = λ w stood. let same : Ok v ≡ Ok (Some w) = again w (known w stood) works in cc
-
--- and where the entry was refused, nothing has changed
-pub refused_stays : {E : Type 0} (before old new : JudgeView) (e : E) → StandsStill before old → old.has_failed ≡ false
-    → AnswersAgain old (Err e) → new.so_far ≡ old.so_far → new.so_far ≡ before.so_far
-refused_stays before old new e known works again stays = stays ∙ nothing before.so_far old.so_far refl refl
-  where
-    nothing : (b o : Option Verdict) → before.so_far ≡ b → old.so_far ≡ o → old.so_far ≡ before.so_far
-    nothing None None was is = is ∙ sym was
-    nothing None (Some w) was is = let never : Err e ≡ Ok (Some w) = again w is works in cc
-    nothing (Some v) None was is = let kept : old.so_far ≡ Some v = known v was in cc
-    nothing (Some v) (Some w) was is = let never : Err e ≡ Ok (Some w) = again w is works in cc
+-- a verdict that stands after some entries stands with those after them
+pub decided : {j : JudgeView} {starting : List StartWord} {whole : List Entry} {v : Verdict} (log part rest : List Entry)
+    → part ++ rest ≡ whole → j.so_far ≡ Some v → HasFollowed j starting (log ++ part)
+    → HasFollowed j starting (log ++ whole)
+decided {j} {starting} log part rest same is f =
+    subst (HasFollowed j starting) (append_assoc log part rest ∙ ap (λ es. log ++ es) same) (followed_on rest is f)
 
 -- what holds anyway holds on an error
 pub on_error : {A E : Type 0} {P : Type 0} (r : Result A E) → P → OnErr r P

@@ -4,6 +4,7 @@ ghost use Rattle.std.specs.Prelude.{◌≡◌, length, ◌<◌, ◌≤◌, ◌+�
 ghost use Rattle.std.specs.Prelude.{List, [], Option, Some, None, Ok, IfOk, OnOk, OnErr, unwrap_or};
 ghost use Rattle.std.specs.Prelude.{is_none, IfSome};
 ghost use Rattle.std.specs.Result.{is_err};
+ghost use Rattle.std.specs.List.{cons_option};
 ghost use Rattle.vyrd_base.specs.declared.log.Entry.{Entry};
 ghost use Rattle.vyrd_base.specs.declared.log.StartWord.{StartWord};
 ghost use Rattle.vyrd_base.specs.Starts.{may_start, do_follow, words_at_start, state_at_start};
@@ -11,7 +12,7 @@ ghost use Rattle.vyrd_base.specs.declared.verdict.Verdict.{Verdict};
 ghost use Rattle.vyrd_base.specs.declared.verdict.Verdict.TheVariants.{Malformed};
 ghost use Rattle.vyrd_base.specs.declared.header.Header.{Header};
 ghost use Rattle.vyrd_base.specs.Rules.{built_in, rules_of, rules_by};
-ghost use Rattle.vyrd_base.specs.Histories.{log_of};
+ghost use Rattle.vyrd_base.specs.Histories.{logged, log_of};
 ghost use Rattle.vyrd_base.specs.Verdicts.{verdict, verdict_so_far};
 ghost use Rattle.vyrd_judge.specs.Following.{HasFollowed};
 
@@ -174,6 +175,29 @@ impl<S: Spec> Judge<S> {
         if let Some(verdict) = self.so_far {
             return Ok(Some(verdict));
         }
+        self.take(entry)
+    }
+
+    /// Follows one more entry, as `feed` does, where no verdict stands and memory hasn't run out.
+    #[inline(always)]
+    fn take(&mut self, entry: Entry) -> Result<Option<Verdict>, AllocError>
+        requires few { self.old.kept.entries < 2 ^ 62 }
+        requires works { self.old.has_failed ≡ false }
+        requires undecided { self.old.so_far ≡ None }
+        ensures answer { (starting : List StartWord) (log : List Entry)
+            → HasFollowed self.old starting log
+            → IfOk result
+            (λ v. v
+            ≡ verdict_so_far (rules_by self.old.kept.charter) starting (log ++ entry ∷ [])) }
+        ensures followed { (starting : List StartWord) (log : List Entry)
+            → HasFollowed self.old starting log
+            → OnOk result (HasFollowed self.new starting (log ++ entry ∷ [])) }
+        ensures so_far { IfOk result (λ v. self.new.so_far ≡ v) }
+        ensures stays { OnErr result (self.new.so_far ≡ None) }
+        ensures has_failed { self.new.has_failed ≡ is_err result }
+        ensures counted { self.new.kept.entries ≤ self.old.kept.entries + 1 }
+        ensures charter { self.new.kept.charter ≡ self.old.kept.charter }
+    {
         match self.follower.take_in(entry) {
             Ok(None) => Ok(None),
             Ok(Some(verdict)) => {
@@ -210,10 +234,15 @@ impl<S: Spec> Judge<S> {
         if self.has_failed {
             return Err(AllocError);
         }
-        for entry in entries {
-            self.feed(*entry)?;
+        if let Some(verdict) = self.so_far {
+            return Ok(Some(verdict));
         }
-        Ok(self.so_far)
+        for entry in entries {
+            if let Some(verdict) = self.take(*entry)? {
+                return Ok(Some(verdict));
+            }
+        }
+        Ok(None)
     }
 
     /// Follows the log of a history: its marks and its writes, in their order. The answer is the
@@ -241,12 +270,37 @@ impl<S: Spec> Judge<S> {
         if self.has_failed {
             return Err(AllocError);
         }
+        if let Some(verdict) = self.so_far {
+            return Ok(Some(verdict));
+        }
         for event in history {
-            if let Some(entry) = entry_of(*event) {
-                self.feed(entry)?;
+            if let Some(verdict) = self.take_event(*event)? {
+                return Ok(Some(verdict));
             }
         }
-        Ok(self.so_far)
+        Ok(None)
+    }
+
+    /// Follows one more event of a history, as `take` does its entry, if it has one.
+    #[inline(always)]
+    fn take_event(&mut self, event: Stamped) -> Result<Option<Verdict>, AllocError>
+        requires few { self.old.kept.entries < 2 ^ 62 }
+        requires works { self.old.has_failed ≡ false }
+        requires undecided { self.old.so_far ≡ None }
+        ensures followed { (starting : List StartWord) (log : List Entry)
+            → HasFollowed self.old starting log
+            → OnOk result (HasFollowed self.new starting
+            (log ++ cons_option (logged event.caller event.did) [])) }
+        ensures so_far { IfOk result (λ v. self.new.so_far ≡ v) }
+        ensures stays { OnErr result (self.new.so_far ≡ None) }
+        ensures has_failed { self.new.has_failed ≡ is_err result }
+        ensures counted { self.new.kept.entries ≤ self.old.kept.entries + 1 }
+        ensures charter { self.new.kept.charter ≡ self.old.kept.charter }
+    {
+        match entry_of(event) {
+            Some(entry) => self.take(entry),
+            None => Ok(None),
+        }
     }
 
     /// The verdict so far, as the last call that wasn't refused has answered it.

@@ -1,26 +1,47 @@
-use Rattle.std.proofs.Common.{◌++◌, take, ap, sym, subst, ◌∙◌, arith, append_assoc}
-use Rattle.std.proofs.lemmas.List.{take_more}
+use Rattle.std.proofs.Common.{◌+◌, ◌++◌, take, drop, ap, sym, subst, ◌∙◌, arith, append_assoc}
+use Rattle.std.proofs.lemmas.List.{take_more, take-append-drop}
 use Rattle.vyrd_base.specs.Rules.{rules_by}
 use Rattle.vyrd_base.specs.Verdicts.{verdict_so_far}
 use Rattle.vyrd_judge.specs.Following.{JudgeView, HasFollowed}
 use Rattle.vyrd_base.proofs.FrontLaws.{take_past}
-use Rattle.vyrd_judge.proofs.OnlineLaws.{so_far_is_known, still_stands, refused_stays, on_error}
+use Rattle.vyrd_judge.proofs.OnlineLaws.{stands_on, followed_on, decided, none_stands, so_far_is_known}
 use Rattle.vyrd_judge.proofs.online.Judge.follow.Goals as goal
+
+pub returns-in-Some-clause-answer : goal.returns-in-Some-clause-answer
+returns-in-Some-clause-answer g c = λ starting log f. stands_on c.args.entries.now (ap (λ (j : JudgeView). j.so_far) (sym c.self.view_is) ∙ c.in-Some.is) f
+
+pub returns-in-Some-clause-followed : goal.returns-in-Some-clause-followed
+returns-in-Some-clause-followed g c = λ starting log f. followed_on c.args.entries.now (ap (λ (j : JudgeView). j.so_far) (sym c.self.view_is) ∙ c.in-Some.is) f
 
 pub loop-entry-preserved : goal.loop-entry-preserved
 loop-entry-preserved g c =
     let es = c.args.entries.now in
     let i = c.loop-entry.entry-index in
     record {
-      followed = λ starting log f. subst (HasFollowed c.feed.new.self starting)
+      followed = λ starting log f. subst (HasFollowed c.take.new.self starting)
           (append_assoc log (take i es) _ ∙ ap (λ xs. log ++ xs) (sym (take_more es i _ c.loop-entry-test.true)))
-          (c.in_ok-feed.ensures.followed starting (log ++ take i es) (c.loop-entry.invariant.followed starting log f));
-      header = c.feed.ensures.charter ∙ c.loop-entry.invariant.header;
-      counted = omega (arith, c.feed.ensures.counted, c.loop-entry.invariant.counted);
-      works = c.in_ok-feed.ensures.has_failed;
-      stands = still_stands c.args.self.now c.loop-entry.self c.feed.new.self c.in_ok-feed.field-0 c.loop-entry.invariant.stands c.loop-entry.invariant.works
-          c.in_ok-feed.ensures.stands c.in_ok-feed.ensures.so_far;
+          (c.in_ok-verdict.ensures.followed starting (log ++ take i es) (c.loop-entry.invariant.followed starting log f));
+      header = c.take.ensures.charter ∙ c.loop-entry.invariant.header;
+      counted = omega (arith, c.take.ensures.counted, c.loop-entry.invariant.counted);
+      works = c.in_ok-verdict.ensures.has_failed;
+      undecided = c.in_ok-verdict.ensures.so_far ∙ c.in_default-2.is;
     }
+
+-- a verdict stands with this entry, and with those after it
+pub returns-in-Some-2-clause-followed : goal.returns-in-Some-2-clause-followed
+returns-in-Some-2-clause-followed g c = λ starting log f.
+    let es = c.args.entries.now in
+    let i = c.loop-entry.entry-index in
+    decided log (take (i + 1) es) (drop (i + 1) es) (take-append-drop (i + 1) es) (c.in_ok-verdict.ensures.so_far ∙ c.in-Some-2.is)
+    (subst (HasFollowed c.take.new.self starting)
+    (append_assoc log (take i es) _ ∙ ap (λ xs. log ++ xs) (sym (take_more es i _ c.loop-entry-test.true)))
+    (c.in_ok-verdict.ensures.followed starting (log ++ take i es) (c.loop-entry.invariant.followed starting log f)))
+
+pub returns-in-Some-2-clause-answer : goal.returns-in-Some-2-clause-answer
+returns-in-Some-2-clause-answer g c = λ starting log f.
+    sym (c.in_ok-verdict.ensures.so_far ∙ c.in-Some-2.is)
+    ∙ so_far_is_known (returns-in-Some-2-clause-followed g c starting log f)
+    ∙ ap (λ l. verdict_so_far (rules_by l) starting (log ++ c.args.entries.now)) (c.take.ensures.charter ∙ c.loop-entry.invariant.header)
 
 pub returns-clause-followed : goal.returns-clause-followed
 returns-clause-followed g c = λ starting log f. subst (λ xs. HasFollowed c.loop-entry.self starting (log ++ xs))
@@ -29,11 +50,5 @@ returns-clause-followed g c = λ starting log f. subst (λ xs. HasFollowed c.loo
 
 pub returns-clause-answer : goal.returns-clause-answer
 returns-clause-answer g c = λ starting log f.
-    ap (λ (j : JudgeView). j.so_far) c.self-2.view_is
-    ∙ so_far_is_known (returns-clause-followed g c starting log f)
+    sym (none_stands c.loop-entry.invariant.undecided (returns-clause-followed g c starting log f))
     ∙ ap (λ g. verdict_so_far (rules_by g) starting (log ++ c.args.entries.now)) c.loop-entry.invariant.header
-
-pub returns-in_err-feed-clause-stays : goal.returns-in_err-feed-clause-stays
-returns-in_err-feed-clause-stays g c = on_error c.from_residual.result
-    (refused_stays c.args.self.now c.loop-entry.self c.feed.new.self c.in_err-feed.field-0.0 c.loop-entry.invariant.stands c.loop-entry.invariant.works
-    c.in_err-feed.ensures.stands c.in_err-feed.ensures.stays)

@@ -1,8 +1,7 @@
-use Rattle.std.proofs.Common.{◌≡◌, false, ◌≤◌, ◌+◌, ◌++◌, List, take}
+use Rattle.std.proofs.Common.{◌≡◌, false, ◌≤◌, ◌+◌, ◌++◌, List, None, take}
 use Rattle.vyrd_base.specs.declared.log.Entry.{Entry}
 use Rattle.vyrd_base.specs.declared.log.StartWord.{StartWord}
 use Rattle.vyrd_judge.specs.Following.{HasFollowed}
-use Rattle.vyrd_judge.proofs.OnlineLaws.{StandsStill}
 use Rattle.vyrd_judge.proofs.online.Judge.follow.Given as goal
 
 abbrev pub invariant-loop-entry : goal.invariant-loop-entry
@@ -11,5 +10,5 @@ invariant-loop-entry g l = record {
   header : l.self.kept.charter ≡ l.initial.self.kept.charter;
   counted : l.self.kept.entries ≤ l.initial.self.kept.entries + l.entry-index;
   works : l.self.has_failed ≡ false;
-  stands : StandsStill l.initial.self l.self;
+  undecided : l.self.so_far ≡ None;
 }
