@@ -38,15 +38,13 @@ use Rattle.vyrd_words.specs.Cuts.{first_with}
 use Rattle.vyrd_words.specs.Effects.{parts_behind}
 use Rattle.vyrd_judge.specs.Waiting.{replied, event_of, waiting_of, waiting_at}
 use Rattle.vyrd_observers.specs.Watching.{AreCurrent}
-use Rattle.vyrd_judge.specs.Queued.{HasQueued, HasTakenUp, MayQueue, AwaitsReturn, lets_judge}
+use Rattle.vyrd_judge.specs.Queued.{HasQueued, HasTakenUp, MayQueue, AwaitsReturn}
 use Rattle.vyrd_judge.specs.Judged.{Judged, MayJudge}
-use Rattle.vyrd_judge.specs.declared.outcome.Advance.TheVariants.{Stops}
-use Rattle.vyrd_judge.specs.Following.{Kept, HasTakenIn, IsFaultless, IsSomewhere, MayCatchUp, AdvanceGives}
+use Rattle.vyrd_judge.specs.Following.{Kept, HasTakenIn, IsFaultless, IsSomewhere, with_first, IsCatchingUp, MayCatchUp}
 use Rattle.vyrd_base.proofs.FrontLaws.{kept-push, front_at_break, break_at_break, nothing_broken}
 use Rattle.vyrd_base.proofs.VerdictParts.{sound_start, so_far_kept, so_far_break, at_end_open, at_end_accepted}
 use Rattle.vyrd_judge.proofs.JudgedLaws.{judged_more, judged_head, judged_all}
 use Rattle.vyrd_judge.proofs.JudgingLaws.{judged_waits}
-use Rattle.vyrd_judge.proofs.QueueLaws.{still_awaits}
 
 -- before the first entry
 pub judged_nothing : (r : Rules) (starting : List StartWord) (state : State) (watches : List Seen) (first : List ℕ)
@@ -78,21 +76,30 @@ judged_nothing r starting state watches first begins words current = record {
     apart : false ≡ true → ⊥
     apart e = cc
 
--- nothing of a log that is kept waits, or something waits first
-pub none_waits : {k : Kept} {starting : List StartWord} {log : List Entry} → HasTakenIn k starting log → k.waiting ≡ [] → first_fault (rules_by k.charter) starting log ≡ None
-none_waits {k} {starting} {log} t empty = judged_all (rules_by k.charter) starting log k.state k.made k.watches k.views.first k.views.since
-    (subst (λ q. Judged (rules_by k.charter) starting log k.state k.made k.watches q k.views.first k.views.since) empty t.judged)
+-- where nothing that waits can be judged there is no fault so far
+awaits_faultless : {k : Kept} {starting : List StartWord} {log : List Entry} → HasTakenIn k starting log → AwaitsReturn k.waiting
+    → first_fault (rules_by k.charter) starting log ≡ None
+awaits_faultless {k} {starting} {log} t awaits = by_first k.waiting t.judged awaits
+  where
+    by_first : (ws : List Waiting) → Judged (rules_by k.charter) starting log k.state k.made k.watches ws k.views.first k.views.since → AwaitsReturn ws
+        → first_fault (rules_by k.charter) starting log ≡ None
+    by_first [] j a = judged_all (rules_by k.charter) starting log k.state k.made k.watches k.views.first k.views.since j
+    by_first (x ∷ xs) j a = judged_waits a.2 j
 
-pub first_judged : {k : Kept} {starting : List StartWord} {log : List Entry} (x : Waiting) (xs : List Waiting) → HasTakenIn k starting log → k.waiting ≡ x ∷ xs
-    → Judged (rules_by k.charter) starting log k.state k.made k.watches (x ∷ xs) k.views.first k.views.since
-first_judged {k} {starting} {log} x xs t is = subst (λ q. Judged (rules_by k.charter) starting log k.state k.made k.watches q k.views.first k.views.since) is t.judged
+-- all that can be judged is
+pub caught_up : {k : Kept} {starting : List StartWord} {log : List Entry} → IsCatchingUp None k starting log → IsFaultless k starting log
+caught_up going =
+    let awaits = going.awaits refl in
+    record { taken_in = going.taken_in; faultless = awaits_faultless going.taken_in awaits; awaits = awaits }
 
-pub may_judge : {k : Kept} (x : Waiting) (xs : List Waiting) → k.waiting ≡ x ∷ xs → MayCatchUp k → MayJudge (rules_by k.charter) k.state k.made k.watches x k.views.first k.views.since
-may_judge {k} x xs is may = ∥∥₁_map may (λ s. (s.0, s.1, xs, first_judged x xs s.2 is, s.3))
+-- an entry was handed out: it waits first, few are judged, and its position is small
+pub may_judge : {k : Kept} (x : Waiting) → MayCatchUp (Some x) k → MayJudge (rules_by k.charter) k.state k.made k.watches x k.views.first k.views.since
+may_judge {k} x may = ∥∥₁_map may (λ s. (s.0, s.1, k.waiting, s.2.taken_in.judged, s.3))
 
-pub few_taken : {k : Kept} (x : Waiting) (xs : List Waiting) → k.waiting ≡ x ∷ xs → MayCatchUp k → k.taken + 1 < 2 ^ 64
-few_taken {k} x xs is may = below_of _ _ (∥∥₁_elim may (Bool-set _ _) (λ s.
-    let low : k.taken + 1 < 2 ^ 64 = omega (arith, s.2.queued.count, ap length is, length-newest_first_onto [] s.1, s.3) in is_below (k.taken + 1) (2 ^ 64) low))
+pub few_taken : {k : Kept} (x : Waiting) → MayCatchUp (Some x) k → k.taken + 1 < 2 ^ 64
+few_taken {k} x may = below_of _ _ (∥∥₁_elim may (Bool-set _ _) (λ s.
+    let count : k.taken + length (x ∷ k.waiting) ≤ length (newest_first s.1) = s.2.taken_in.queued.count in
+    let low : k.taken + 1 < 2 ^ 64 = omega (arith, count, length-newest_first_onto [] s.1, s.3) in is_below (k.taken + 1) (2 ^ 64) low))
 
 position_is : (p : Place Entry) (x : Waiting) → waiting_at p ≡ Some x → x.position ≡ length p.earlier
 position_is p x is = by_event (event_of p p.here.kind) is
@@ -102,10 +109,10 @@ position_is p x is = by_event (event_of p p.here.kind) is
     by_event None e = cc
     by_event (Some event) e = cc
 
-pub few_position : {k : Kept} (x : Waiting) (xs : List Waiting) → k.waiting ≡ x ∷ xs → MayCatchUp k → k.started ≤ 2 ^ 32
+pub few_position : {k : Kept} (x : Waiting) → MayCatchUp (Some x) k → k.started ≤ 2 ^ 32
     → k.started + x.position + 2 < 2 ^ 64
-few_position {k} x xs is may short = below_of _ _ (∥∥₁_elim may (Bool-set _ _) (λ s.
-    let at = judged_head (rules_by k.charter) s.0 s.1 k.state k.made k.watches x xs k.views.first k.views.since (first_judged x xs s.2 is) in
+few_position {k} x may short = below_of _ _ (∥∥₁_elim may (Bool-set _ _) (λ s.
+    let at = judged_head (rules_by k.charter) s.0 s.1 k.state k.made k.watches x k.waiting k.views.first k.views.since s.2.taken_in.judged in
     let low : k.started + x.position + 2 < 2 ^ 64 = omega (
       arith,
       short,
@@ -116,7 +123,7 @@ few_position {k} x xs is may short = below_of _ _ (∥∥₁_elim may (Bool-set 
       s.3,
     ) in is_below (k.started + x.position + 2) (2 ^ 64) low))
 
--- the entry that waits first was judged, and leaves
+-- an entry that was handed out is judged
 pub taken_on : (k n : Kept) (starting : List StartWord) (log : List Entry) (xs : List Waiting) → HasTakenIn k starting log
     → Judged (rules_by k.charter) starting log n.state n.made n.watches xs n.views.first n.views.since → HasQueued (rules_by k.charter).header xs n.taken n.callers (newest_first log) → n.waiting ≡ xs
     → n.charter ≡ k.charter → n.started ≡ k.started → n.shape ≡ k.shape → n.shadow ≡ k.shadow → n.inner ≡ k.inner → n.views.header ≡ k.views.header
@@ -314,36 +321,13 @@ first_taken_in k r starting header started begins shape shape_header words shado
   observers = observers;
 }
 
--- where no more can be judged
-pub stops_answer : (r : Rules) (starting : List StartWord) (log : List Entry) (k : Kept) (o : Option Verdict)
-    → AdvanceGives r starting log k (Stops o) → o ≡ first_fault r starting log
-stops_answer r starting log k None gives = sym gives.0
-stops_answer r starting log k (Some v) gives = sym gives
-
-pub stops_none : (r : Rules) (starting : List StartWord) (log : List Entry) (k : Kept) (o : Option Verdict) → rules_by k.charter ≡ r → o ≡ None
-    → AdvanceGives r starting log k (Stops o) → IsFaultless k starting log
-stops_none r starting log k None same is gives =
-    record { taken_in = gives.1; faultless = ap (λ q. first_fault q starting log) same ∙ gives.0; awaits = gives.2 }
-stops_none r starting log k (Some v) same is gives = cc
-
-pub may_catch_up_on : {k n : Kept} → MayCatchUp k
-    → ((starting : List StartWord) (log : List Entry) → HasTakenIn k starting log → HasTakenIn n starting log) → MayCatchUp n
+-- what may be judged once one more is
+pub may_catch_up_on : {first next : Option Waiting} {k n : Kept} → MayCatchUp first k
+    → ((starting : List StartWord) (log : List Entry) → IsCatchingUp first k starting log → IsCatchingUp next n starting log) → MayCatchUp next n
 may_catch_up_on may on = ∥∥₁_map may (λ s. (s.0, s.1, on s.0 s.1 s.2, s.3))
 
--- the value of an answer
-abbrev pub ok_of : (A E : Type 0) → A → Result A E
-ok_of A E a = Ok a
-
-pub ok_value : {A E : Type 0} {a b : A} → ok_of A E a ≡ ok_of A E b → a ≡ b
-ok_value e = cc
-
--- One more entry was taken in, and what waits has gone on with it.
-pub record TakesIn (k n : Kept) (e : Entry) (starting : List StartWord) (log : List Entry) : Type 0 where
-  pub taken_in : HasTakenIn n starting (log ++ e ∷ [])
-  pub waiting : n.waiting ≡ map (replied e) k.waiting ++ cons_option (waiting_at (place_of e (newest_first log) [])) []
-
 -- the whole of one more entry that keeps the rules, by what each part does
-pub taken_all : (k n : Kept) (e : Entry) (queue_header : Header) (commits_here observes : Bool)
+pub taken_all : (k n : Kept) (first : Option Waiting) (e : Entry) (queue_header : Header) (commits_here observes : Bool)
     → k.shape.header ≡ (rules_by k.charter).header → k.shadow.header ≡ (rules_by k.charter).header → queue_header ≡ (rules_by k.charter).header
     → ((earlier : List Entry) → ShapeFollows k.shape earlier → (broken_rule k.shape.header earlier e ≡ None) × ShapeFollows n.shape (e ∷ earlier))
     → n.shape.header ≡ k.shape.header
@@ -351,24 +335,29 @@ pub taken_all : (k n : Kept) (e : Entry) (queue_header : Header) (commits_here o
     → k.commits ≡ commit_count earlier → HasTaken n.shadow n.inner k.views n.views starting e earlier)
     → n.shadow.header ≡ k.shadow.header → n.views.header ≡ k.views.header
     → ((earlier : List Entry) → HasQueued queue_header k.waiting k.taken k.callers earlier → Keeps queue_header earlier e → k.entries ≡ length earlier
-    → HasTakenUp queue_header k.waiting n.waiting n.taken n.callers e earlier)
+    → HasTakenUp queue_header k.waiting (cons_option first n.waiting) n.taken n.callers e earlier)
+    → (AwaitsReturn k.waiting → first ≡ None → AwaitsReturn n.waiting)
     → n.charter ≡ k.charter → n.started ≡ k.started → n.state ≡ k.state → n.made ≡ k.made → n.watches ≡ k.watches
     → commits_here ≡ is_commit e.kind → n.commits ≡ k.commits + cond commits_here 1 0
     → ((earlier : List Entry) → HasQueued queue_header k.waiting k.taken k.callers earlier → Keeps queue_header earlier e
     → observes ≡ (is_return e.kind && not (has_committed e.caller earlier)))
     → n.observers ≡ k.observers + cond observes 1 0 → n.entries ≡ k.entries + 1
     → (n.views.specified ≡ k.views.specified) × (n.views.refused ≡ false)
-    → (starting : List StartWord) (log : List Entry) → HasTakenIn k starting log → TakesIn k n e starting log
-taken_all k n e queue_header commits_here observes shape_is shadow_is queue_is shape shape_header words shadow_header views_header queued header started state made watches commits_is commits_more observes_is observers entries known starting log t = record {
-  taken_in = taken_more k n starting log e t keeps (shape (newest_first log) t.shape).1 shape_header
+    → (starting : List StartWord) (log : List Entry) → IsFaultless k starting log → IsCatchingUp first n starting (log ++ e ∷ [])
+taken_all k n first e queue_header commits_here observes shape_is shadow_is queue_is shape shape_header words shadow_header views_header queued awaits header started state made watches commits_is commits_more observes_is observers entries known starting log f = record {
+  taken_in = taken_more k (with_first first n) starting log e t keeps (shape (newest_first log) t.shape).1 shape_header
       (words starting (newest_first log) t.words (keeps_at shadow_is) (t.commits ∙ sym (commits_same log))) shadow_header
       (views_header ∙ t.views_header ∙ sym t.shadow_header ∙ sym shadow_header)
-      (subst (λ h. HasTakenUp h k.waiting n.waiting n.taken n.callers e (newest_first log)) queue_is up)
+      (subst (λ h. HasTakenUp h k.waiting (cons_option first n.waiting) n.taken n.callers e (newest_first log)) queue_is
+      (queued (newest_first log) queue (keeps_at queue_is) (reversed log t.entries)))
       header started state made watches entries (commits_more ∙ ap (λ b. k.commits + cond b 1 0) commits_is)
       (observers ∙ ap (λ b. k.observers + cond b 1 0) (observes_is (newest_first log) queue (keeps_at queue_is))) known;
-  waiting = up.waiting;
+  awaits = awaits f.awaits;
 }
   where
+    t : HasTakenIn k starting log
+    t = f.taken_in
+
     keeps : Keeps (rules_by k.charter).header (newest_first log) e
     keeps = record { rules = ap (λ h. broken_rule h (newest_first log) e) (sym shape_is) ∙ (shape (newest_first log) t.shape).0 }
 
@@ -381,30 +370,11 @@ taken_all k n e queue_header commits_here observes shape_is shadow_is queue_is s
     reversed : (es : List Entry) → k.entries ≡ length es → k.entries ≡ length (newest_first es)
     reversed es is = omega (arith, is, length-newest_first_onto [] es)
 
-    up : HasTakenUp queue_header k.waiting n.waiting n.taken n.callers e (newest_first log)
-    up = queued (newest_first log) queue (keeps_at queue_is) (reversed log t.entries)
-
-pub may_catch_up : (k n : Kept) (e : Entry) → k.entries < 2 ^ 62 → IsSomewhere k
-    → ((starting : List StartWord) (log : List Entry) → HasTakenIn k starting log → TakesIn k n e starting log) → MayCatchUp n
-may_catch_up k n e few somewhere on = ∥∥₁_map somewhere (λ s.
+pub may_catch_up : (k n : Kept) (first : Option Waiting) (e : Entry) → k.entries < 2 ^ 62 → IsSomewhere k
+    → ((starting : List StartWord) (log : List Entry) → IsFaultless k starting log → IsCatchingUp first n starting (log ++ e ∷ [])) → MayCatchUp first n
+may_catch_up k n first e few somewhere on = ∥∥₁_map somewhere (λ s.
     let short : length (s.1 ++ e ∷ []) ≤ 2 ^ 62 = omega (arith, few, s.2.taken_in.entries, length_push s.1 e) in
-    (s.0, s.1 ++ e ∷ [], (on s.0 s.1 s.2.taken_in).taken_in, short))
-
--- where nothing that waits can be judged there is no fault so far
-awaits_faultless : {k : Kept} {starting : List StartWord} {log : List Entry} → HasTakenIn k starting log → AwaitsReturn k.waiting
-    → first_fault (rules_by k.charter) starting log ≡ None
-awaits_faultless {k} {starting} {log} t awaits = by_first k.waiting refl awaits
-  where
-    by_first : (ws : List Waiting) → k.waiting ≡ ws → AwaitsReturn ws → first_fault (rules_by k.charter) starting log ≡ None
-    by_first [] is a = none_waits t is
-    by_first (x ∷ xs) is a = (judged_waits a.2 (first_judged x xs t is)).0
-
--- one more entry that lets nothing be judged
-pub still_faultless : {k n : Kept} {starting : List StartWord} {log : List Entry} (e : Entry) → lets_judge e.kind ≡ false
-    → IsFaultless k starting log → TakesIn k n e starting log → IsFaultless n starting (log ++ e ∷ [])
-still_faultless {k} {n} {starting} {log} e quiet f took =
-    let awaits = still_awaits e (newest_first log) k.waiting n.waiting quiet took.waiting f.awaits in
-    record { taken_in = took.taken_in; faultless = awaits_faultless took.taken_in awaits; awaits = awaits }
+    (s.0, s.1 ++ e ∷ [], on s.0 s.1 s.2, short))
 
 -- an entry that keeps the rules by one name of the header keeps them by another
 pub keeps_by : {k : Kept} {n : ShapeKept} (e : Entry) (h : Header) → k.shape.header ≡ (rules_by k.charter).header → h ≡ (rules_by k.charter).header
@@ -418,11 +388,6 @@ keeps_by {k} {n} e h shape_is is shape starting log f = record {
 pub answer_with : {k : Kept} {starting : List StartWord} {log : List Entry} (v : Option Verdict) → HasTakenIn k starting log → v ≡ first_fault (rules_by k.charter) starting log → v ≡ verdict_so_far (rules_by k.charter) starting log
 answer_with v t is = is ∙ sym (so_far_is t)
 
--- nothing stands where nothing is wrong
-pub nothing_stands : {k : Kept} {starting : List StartWord} {log : List Entry} → IsFaultless k starting log
-    → verdict_so_far (rules_by k.charter) starting log ≡ None
-nothing_stands f = so_far_is f.taken_in ∙ f.faultless
-
 -- the verdict if `end` stands after the entries
 pub end_open : {k : Kept} {starting : List StartWord} {log : List Entry} → IsFaultless k starting log
     → is_call_open k.shape.header (newest_first log) ≡ true
@@ -430,7 +395,7 @@ pub end_open : {k : Kept} {starting : List StartWord} {log : List Entry} → IsF
 unfolding verdict_at
 end_open {k} {starting} {log} f is_open =
     (λ i. Malformed (f.taken_in.started i + f.taken_in.entries i + 2) CallOpen)
-    ∙ at_end_open (rules_by k.charter) starting log f.taken_in.begun (nothing_stands f)
+    ∙ at_end_open (rules_by k.charter) starting log f.taken_in.begun (so_far_is f.taken_in ∙ f.faultless)
     (ap (λ h. is_call_open h (newest_first log)) (sym f.taken_in.shape_header) ∙ is_open)
 
 pub end_accepted : {k : Kept} {starting : List StartWord} {log : List Entry} → IsFaultless k starting log
@@ -439,7 +404,7 @@ pub end_accepted : {k : Kept} {starting : List StartWord} {log : List Entry} →
 unfolding verdict_at accepted
 end_accepted {k} {starting} {log} f closed =
     (λ i. Accepted (f.taken_in.entries i) (f.taken_in.commits i) (f.taken_in.observers i))
-    ∙ at_end_accepted (rules_by k.charter) starting log f.taken_in.begun (nothing_stands f)
+    ∙ at_end_accepted (rules_by k.charter) starting log f.taken_in.begun (so_far_is f.taken_in ∙ f.faultless)
     (ap (λ h. is_call_open h (newest_first log)) (sym f.taken_in.shape_header) ∙ closed)
 
 -- whether a test of a result fails
@@ -451,8 +416,8 @@ open_by P (Err x) fault = sym fault.0
 pub sound_of : {k : Kept} → IsSomewhere k → k.views.refused ≡ false
 sound_of somewhere = ∥∥₁_elim somewhere (Bool-set _ _) (λ s. s.2.taken_in.sound)
 
-pub sound_up : {k : Kept} → MayCatchUp k → k.views.refused ≡ false
-sound_up may = ∥∥₁_elim may (Bool-set _ _) (λ s. s.2.sound)
+pub sound_up : {first : Option Waiting} {k : Kept} → MayCatchUp first k → k.views.refused ≡ false
+sound_up may = ∥∥₁_elim may (Bool-set _ _) (λ s. s.2.taken_in.sound)
 
 -- an entry is its caller and its kind
 pub of_kind : (e : Entry) {k : Kind} → e.kind ≡ k → record { caller = e.caller; kind = k } ≡ e

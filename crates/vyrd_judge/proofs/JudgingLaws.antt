@@ -18,13 +18,12 @@ use Rattle.vyrd_base.proofs.BlockLaws.{by_same}
 use Rattle.vyrd_base.proofs.TestLaws.{below_of, is_below, same_number, apart_of}
 use Rattle.vyrd_shadow.specs.Blocks.{with_writes}
 use Rattle.vyrd_judge.specs.declared.outcome.Outcome.{Outcome}
-use Rattle.vyrd_judge.specs.declared.outcome.Outcome.TheVariants.{Goes, Faults, Ends}
+use Rattle.vyrd_judge.specs.declared.outcome.Outcome.TheVariants.{Goes, Faults}
 use Rattle.vyrd_judge.specs.declared.waiting.Event.TheVariants.{Begins, Commits, Returns}
 use Rattle.vyrd_judge.specs.declared.waiting.Waiting.{Waiting}
 use Rattle.vyrd_base.specs.Entries.{has_method}
 use Rattle.vyrd_observers.specs.Watching.{Seen, unwatched, has_answer}
 use Rattle.vyrd_observers.specs.Watching.{AreCurrent}
-use Rattle.vyrd_judge.specs.Queued.{AwaitsReturn}
 use Rattle.vyrd_judge.specs.Judged.{Judged, HeadGives, MayJudge, CommitLeads}
 use Rattle.vyrd_base.proofs.ListLaws.{slice_get-set_same, slice_get-set_other}
 use Rattle.vyrd_judge.proofs.Reaching.{OthersStay}
@@ -203,8 +202,8 @@ judged_unanswered seen event here unanswered j =
 -- a commit that hasn't returned
 pub judged_waits : {r : Rules} {starting : List StartWord} {log : List Entry} {state : State} {made : ℕ} {watches : List Seen} {x : Waiting} {xs : List Waiting}
     {first : List ℕ} {since : List (List (ℕ × ℕ))} {method : Method} {args : Args} → x.event ≡ Commits method args None → Judged r starting log state made watches (x ∷ xs) first since
-    → (first_fault r starting log ≡ None) × Judged r starting log state made watches (x ∷ xs) first since × AwaitsReturn (x ∷ xs)
-judged_waits {method = method} {args = args} event j = let found = commits_at event j in (head_waits found.0 found.1, j, (method, args, event))
+    → first_fault r starting log ≡ None
+judged_waits event j = let found = commits_at event j in head_waits found.0 found.1
 
 -- a commit that has, by what it leads to
 pub judged_commits : {E : Type 0} {r : Rules} {starting : List StartWord} {log : List Entry} {state : State} {made : ℕ} {watches : List Seen} {x : Waiting}
@@ -231,7 +230,6 @@ judged_commits {E} {r} {starting} {log} {state} {made} {watches} {x} {xs} {first
         (head_right (set watches x.caller unwatched) new after more at is right.next right.same right.count (others_stay x.caller watches unwatched)
         right.seen right.current))
     by_outcome at is (Faults why) faulty = head_faults why at is faulty
-    by_outcome at is Ends never = absurd never
 
     by_result : (at : AtHead r starting log state made watches x xs first since) (is : IsCommit at.here at.earlier at.later x method args (Some reply))
         → (s : Result Outcome E) → IfOk s (Leads at is) → IfOk s (HeadGives r starting log after more new x xs next_first next_since)

@@ -1,6 +1,6 @@
 -- How the queue goes on with one more entry, and how entries leave it.
 use Rattle.std.proofs.Common.{◌≡◌, ℕ, zero, suc, ◌+◌, ◌-◌, ◌<◌, ◌≤◌, ◌^◌, Bool, true, false, cond, List, [], ◌∷◌, ◌++◌, map, length, set, get_or, ◌&&◌, Option, Some, None, Result, Ok, Err, slice_get, refl, ap, subst, ◌∙◌, sym, arith, length-append, length-set}
-use Rattle.std.specs.Prelude.{◌==◌, ◌≢◌, not, option_map, is_some, OnOk}
+use Rattle.std.specs.Prelude.{◌==◌, ◌≢◌, not, option_map, is_some, OnOk, IfOk}
 use Rattle.std.specs.Option.{option_or, option_flatten}
 use Rattle.std.specs.Bool.{then_some}
 use Rattle.std.specs.List.{cons_option}
@@ -15,7 +15,7 @@ use Rattle.vyrd_base.specs.declared.subject.Args.{Args}
 use Rattle.vyrd_base.specs.declared.log.Kind.{Kind}
 use Rattle.vyrd_base.specs.declared.log.Kind.TheVariants.{Call, Return, Write, Commit, BlockOpen, BlockClose, BlockCommit}
 use Rattle.vyrd_base.specs.declared.log.Entry.{Entry}
-use Rattle.vyrd_base.specs.Places.{Place, first_answer}
+use Rattle.vyrd_base.specs.Places.{first_answer}
 use Rattle.vyrd_base.specs.Callers.{Called, by_caller, open_call, call_or_return, has_committed, commit_or_call}
 use Rattle.vyrd_base.specs.Subjects.{is_observer, must_commit}
 use Rattle.vyrd_base.specs.Shape.{checks_at}
@@ -31,8 +31,9 @@ use Rattle.vyrd_judge.specs.declared.waiting.Event.TheVariants.{Begins, Commits,
 use Rattle.vyrd_judge.specs.declared.waiting.Waiting.{Waiting}
 use Rattle.vyrd_words.specs.HasWords.{Keeps}
 use Rattle.vyrd_base.specs.Entries.{place_of}
-use Rattle.vyrd_judge.specs.Queued.{IsCaller, IsPending, IsUnreturned, HasQueued, HasTakenUp, MayQueue, CanLeave, AwaitsReturn, lets_judge}
-use Rattle.vyrd_judge.specs.Waiting.{commit_of, event_of, waiting_of, waiting_at, replied_event, replied}
+use Rattle.vyrd_judge.specs.Queued.{IsCaller, IsPending, IsUnreturned, HasQueued, HasTakenUp, MayQueue, CanLeave, AwaitsReturn}
+use Rattle.vyrd_judge.specs.WaitingView.{is_unreturned}
+use Rattle.vyrd_judge.specs.Waiting.{commit_of, waiting_of, waiting_at, replied_event, replied}
 use Rattle.vyrd_base.proofs.StateLaws.{open_call-other}
 use Rattle.vyrd_base.proofs.CommitLaws.{Commits as Committing, alone, with_block, commits_called, commits_inside, commits_unreturned}
 use Rattle.vyrd_base.proofs.KeptLaws.{commit_kept, block_commit_runs, return_kept}
@@ -582,42 +583,6 @@ queue_left {h} {waiting} {taken} {callers} {earlier} x xs is can q = record {
           event = p.event;
         }
 
--- with an entry that lets nothing be judged, what waits first still awaits its return
-pub still_awaits : (e : Entry) (earlier : List Entry) (old new : List Waiting) → lets_judge e.kind ≡ false
-    → new ≡ map (replied e) old ++ cons_option (waiting_at (place_of e earlier [])) [] → AwaitsReturn old → AwaitsReturn new
-still_awaits e earlier old new quiet is awaits =
-    subst AwaitsReturn (sym (is ∙ ap (λ ws. ws ++ cons_option (waiting_at place) []) (unreplied e (no_return e.kind quiet) old))) (before old awaits)
-  where
-    place : Place Entry
-    place = place_of e earlier []
-
-    no_return : (kind : Kind) → lets_judge kind ≡ false → returned kind ≡ None
-    no_return (Call method args) q = refl
-    no_return (Return reply) q = absurd (apart (sym q))
-    no_return (Write word value) q = refl
-    no_return Commit q = refl
-    no_return BlockOpen q = refl
-    no_return BlockClose q = refl
-    no_return BlockCommit q = refl
-
-    at_commit : (o : Option Called) → AwaitsReturn (cons_option (option_map (waiting_of place) (option_map (commit_of None) o)) [])
-    at_commit None = tt
-    at_commit (Some called) = (called.method, called.args, refl)
-
-    own : (kind : Kind) → lets_judge kind ≡ false → AwaitsReturn (cons_option (option_map (waiting_of place) (event_of place kind)) [])
-    own (Call method args) q =
-        subst (λ b. AwaitsReturn (cons_option (option_map (waiting_of place) (then_some b (Begins method args))) [])) (sym q) tt
-    own (Return reply) q = absurd (apart (sym q))
-    own (Write word value) q = tt
-    own Commit q = at_commit (open_call e.caller earlier)
-    own BlockOpen q = tt
-    own BlockClose q = tt
-    own BlockCommit q = at_commit (open_call e.caller earlier)
-
-    before : (ws : List Waiting) → AwaitsReturn ws → AwaitsReturn (ws ++ cons_option (waiting_at place) [])
-    before [] a = own e.kind quiet
-    before (x ∷ xs) a = a
-
 -- what may follow: its caller, how many entries wait, and where a reply goes
 pub queue_caller : {h : Header} {waiting : List Waiting} {taken : ℕ} {callers : List Caller} {e : Entry} {position : ℕ}
     → MayQueue h waiting taken callers e position → e.caller < h.callers
@@ -666,15 +631,23 @@ pub taken_kind : {h : Header} {old new : List Waiting} {taken : ℕ} {callers : 
     → HasTakenUp h old new taken callers (entry e.caller kind) earlier → HasTakenUp h old new taken callers e earlier
 taken_kind {h} {old} {new} {taken} {callers} {earlier} e is up = subst (λ k. HasTakenUp h old new taken callers (entry e.caller k) earlier) (sym is) up
 
+-- what an answer that isn't an error gives, by what it hands out
+pub all_ok : {E P R : Type 0} {Q S : Option Waiting → Type 0} (r : Result (Option Waiting) E) → OnOk r P → IfOk r Q → OnOk r R
+    → ((first : Option Waiting) → P → Q first → R → S first) → IfOk r S
+all_ok (Ok first) p q u f = f first p q u
+all_ok (Err e) p q u f = tt
+
 -- a return is taken in, whichever it is
-pub return_up : {T E : Type 0} {h : Header} {old : List Waiting} {taken : ℕ} {callers : List Caller} {earlier : List Entry} (r : Result T E)
+pub return_up : {E : Type 0} {h : Header} {old : List Waiting} {taken : ℕ} {callers : List Caller} {earlier : List Entry} (r : Result (Option Waiting) E)
     (new : List Waiting) (taken' : ℕ) (callers' : List Caller) (c position reply : ℕ) → position ≡ length earlier → Keeps h earlier (entry c (Return reply)) → HasQueued h old taken callers earlier
     → ((caller : Caller) → slice_get callers c ≡ Some caller → caller.commit ≡ 0
-    → OnOk r (new ≡ old ++ record { caller = c; position = position; event = Returns reply } ∷ []))
+    → IfOk r (λ first. cons_option first new ≡ old ++ record { caller = c; position = position; event = Returns reply } ∷ []))
     → ((caller : Caller) → slice_get callers c ≡ Some caller → caller.commit ≢ 0 → (commit : Waiting)
     → slice_get old (caller.commit - 1 - taken) ≡ Some commit
-    → OnOk r (new ≡ set old (caller.commit - 1 - taken) (record { caller = commit.caller; position = commit.position; event = Commits caller.method caller.args (Some reply) })))
-    → OnOk r (callers' ≡ callers) → OnOk r (taken' ≡ taken) → OnOk r (HasTakenUp h old new taken' callers' (entry c (Return reply)) earlier)
+    → IfOk r (λ first. cons_option first new
+    ≡ set old (caller.commit - 1 - taken) (record { caller = commit.caller; position = commit.position; event = Commits caller.method caller.args (Some reply) })))
+    → OnOk r (callers' ≡ callers) → OnOk r (taken' ≡ taken)
+    → IfOk r (λ first. HasTakenUp h old (cons_option first new) taken' callers' (entry c (Return reply)) earlier)
 return_up {h = h} {old} {taken} {callers} {earlier} r new taken' callers' c position reply at keeps q uncommitted committed same_callers same =
     by_commit (has_committed c earlier) refl
   where
@@ -684,19 +657,25 @@ return_up {h = h} {old} {taken} {callers} {earlier} r new taken' callers' c posi
     known : IsCaller callers c called.0
     known = q.called c called.0 (caller_kept h earlier (entry c (Return reply)) keeps.rules) called.1
 
-    all_ok : {T E P Q R S : Type 0} (s : Result T E) → OnOk s P → OnOk s Q → OnOk s R → (P → Q → R → S) → OnOk s S
-    all_ok (Ok x) p q' u f = f p q' u
-    all_ok (Err x) p q' u f = tt
-
-    by_commit : (b : Bool) → has_committed c earlier ≡ b → OnOk r (HasTakenUp h old new taken' callers' (entry c (Return reply)) earlier)
+    by_commit : (b : Bool) → has_committed c earlier ≡ b → IfOk r (λ first. HasTakenUp h old (cons_option first new) taken' callers' (entry c (Return reply)) earlier)
     by_commit false none =
         let zero_there = q.uncommitted c called.0 known.caller (caller_kept h earlier (entry c (Return reply)) keeps.rules) called.1 none known.here in
-        all_ok r (uncommitted known.caller known.here zero_there) same_callers same (λ new_is of_callers of_taken.
+        all_ok r same_callers (uncommitted known.caller known.here zero_there) same (λ first of_callers new_is of_taken.
         uncommitted_up c position reply none at q of_callers new_is of_taken)
     by_commit true has =
         let p = found_commit known.caller known.here called.1 has keeps q in
-        all_ok r (committed known.caller known.here (λ zero_there. omega (arith, p.since, zero_there)) p.commit p.here) same_callers same (λ new_is of_callers of_taken.
+        all_ok r same_callers (committed known.caller known.here (λ zero_there. omega (arith, p.since, zero_there)) p.commit p.here) same (λ first of_callers new_is of_taken.
         committed_up c reply called.0 known.caller known.here has q known.method known.args p of_callers new_is of_taken)
+
+-- a commit that waits first and hasn't returned
+pub first_awaits : (ws : List Waiting) (x : Waiting) (xs : List Waiting) → ws ≡ x ∷ xs → is_unreturned x.event ≡ true → AwaitsReturn ws
+first_awaits ws x xs is unreturned = subst AwaitsReturn (sym is) (by_event x.event unreturned)
+  where
+    by_event : (event : Event) → is_unreturned event ≡ true → (method : Method) × (args : Args) × (event ≡ Commits method args None)
+    by_event (Begins method args) e = absurd (apart e)
+    by_event (Commits method args None) e = (method, args, refl)
+    by_event (Commits method args (Some reply)) e = absurd (apart e)
+    by_event (Returns reply) e = absurd (apart e)
 
 -- an execution without a commit returns exactly when what is known of the caller says so
 pub observer_is : {h : Header} {waiting : List Waiting} {taken : ℕ} {callers : List Caller} {earlier : List Entry} {e : Entry} {reply : ℕ} (caller : Caller)

@@ -1,5 +1,6 @@
 -- What the online judge keeps stands for a log.
 use Rattle.std.specs.Prelude.{◌≡◌, ◌≤◌, ◌^◌, ℕ, Bool, false, List, length, Option, Some, None}
+use Rattle.std.specs.List.{cons_option}
 use Rattle.vyrd_base.specs.declared.log.Entry.{Entry}
 use Rattle.vyrd_base.specs.declared.log.StartWord.{StartWord}
 use Rattle.vyrd_base.specs.declared.verdict.Verdict.{Verdict}
@@ -70,10 +71,21 @@ pub record IsFaultless (k : Kept) (starting : List StartWord) (log : List Entry)
 abbrev pub IsSomewhere : Kept → Type 0
 IsSomewhere k = ∥ ((starting : List StartWord) × (log : List Entry) × IsFaultless k starting log) ∥₁
 
--- entries were taken in that may still have to be judged
-abbrev pub MayCatchUp : Kept → Type 0
-MayCatchUp k = ∥ ((starting : List StartWord) × (log : List Entry) × HasTakenIn k starting log
-    × (length log ≤ 2 ^ 62)) ∥₁
+-- what is kept if this entry, which was handed out, waits before all others
+abbrev pub with_first : Option Waiting → Kept → Kept
+with_first first k = record k { waiting = cons_option first k.waiting }
+
+-- What is kept stands for the log, where this entry was handed out to be judged. If none was,
+-- nothing can be judged.
+pub record IsCatchingUp (first : Option Waiting) (k : Kept) (starting : List StartWord)
+    (log : List Entry) : Type 0 where
+  pub taken_in : HasTakenIn (with_first first k) starting log
+  pub awaits : first ≡ None → AwaitsReturn k.waiting
+
+-- so it is for some log
+abbrev pub MayCatchUp : Option Waiting → Kept → Type 0
+MayCatchUp first k = ∥ ((starting : List StartWord) × (log : List Entry)
+    × IsCatchingUp first k starting log × (length log ≤ 2 ^ 62)) ∥₁
 
 -- what is kept, the verdict that stands, and whether memory was refused
 pub record JudgeView : Type 0 where
@@ -91,9 +103,7 @@ FollowsBy k starting log (Some v) = verdict_so_far (rules_by k.charter) starting
 pub record HasFollowed (j : JudgeView) (starting : List StartWord) (log : List Entry) : Type 0 where
   pub follows : FollowsBy j.kept starting log j.so_far
 
--- what the entry that waits first leads to
+-- what the entry that was handed out leads to
 abbrev pub AdvanceGives : Rules → List StartWord → List Entry → Kept → Advance → Type 0
-AdvanceGives r starting log k Goes = HasTakenIn k starting log
-AdvanceGives r starting log k (Stops None) =
-    (first_fault r starting log ≡ None) × HasTakenIn k starting log × AwaitsReturn k.waiting
-AdvanceGives r starting log k (Stops (Some v)) = first_fault r starting log ≡ Some v
+AdvanceGives r starting log k (Goes next) = IsCatchingUp next k starting log
+AdvanceGives r starting log k (Stops v) = first_fault r starting log ≡ Some v

@@ -14,13 +14,12 @@ use Rattle.vyrd_base.specs.declared.verdict.Verdict.TheVariants.{Violation}
 use Rattle.vyrd_base.specs.Verdicts.{line_of, violation_at, first_fault, states_along}
 use Rattle.vyrd_shadow.specs.Blocks.{with_writes}
 use Rattle.vyrd_judge.specs.declared.outcome.Outcome.{Outcome}
-use Rattle.vyrd_judge.specs.declared.outcome.Outcome.TheVariants.{Goes, Faults, Ends}
+use Rattle.vyrd_judge.specs.declared.outcome.Outcome.TheVariants.{Goes, Faults}
 use Rattle.vyrd_judge.specs.declared.waiting.Waiting.{Waiting}
 use Rattle.vyrd_words.specs.Cuts.{Cuts}
 use Rattle.vyrd_words.specs.Effects.{effect_parts, HasParts, is_ended}
 use Rattle.vyrd_observers.specs.Watching.{Seen, unwatched}
 use Rattle.vyrd_judge.specs.Waiting.{waiting_after}
-use Rattle.vyrd_judge.specs.Queued.{AwaitsReturn}
 use Rattle.vyrd_judge.specs.Reached.{Reached}
 use Rattle.vyrd_observers.specs.Watching.{AreCurrent, AllSee}
 use Rattle.vyrd_base.specs.Rules.{Rules}
@@ -53,17 +52,13 @@ pub record Judged (r : Rules) (starting : List StartWord) (log : List Entry) (st
   pub current : AreCurrent (r.answer state) watches
 
 -- What the entry that waits first leads to: it is judged and no fault; or it is this fault, the
--- first of the log; or it is a commit that hasn't returned, nothing can be judged yet, and the log
--- has no fault so far.
+-- first of the log.
 abbrev pub HeadGives : Rules → List StartWord → List Entry → State → ℕ → List Seen → Waiting
     → List Waiting → List ℕ → List (List (ℕ × ℕ)) → Outcome → Type 0
 HeadGives r starting log state made watches x xs first since Goes =
     Judged r starting log state made watches xs first since
 HeadGives r starting log state made watches x xs first since (Faults why) =
     first_fault r starting log ≡ Some (Violation (line_of starting x.position) why)
-HeadGives r starting log state made watches x xs first since Ends =
-    (first_fault r starting log ≡ None)
-    × Judged r starting log state made watches (x ∷ xs) first since × AwaitsReturn (x ∷ xs)
 
 -- the entry waits first in some log
 abbrev pub MayJudge : Rules → State → ℕ → List Seen → Waiting → List ℕ → List (List (ℕ × ℕ))
@@ -97,12 +92,8 @@ CommitLeads r first part rest caller called reply before made old after more new
 CommitLeads r first part rest caller called reply before made old after more new next_first
     next_since (Faults why) =
     step_fault r (r.view first) called reply before ≡ Some why
-CommitLeads r first part rest caller called reply before made old after more new next_first
-    next_since Ends =
-    ⊥
 
 -- unless there was a fault, the views know the state that was compared last
 abbrev pub KnowsState : Rules → Cuts → State → Outcome → Type 0
 KnowsState r views state Goes = (views.specified ≡ r.shown state) × (views.refused ≡ false)
 KnowsState r views state (Faults why) = Unit {0}
-KnowsState r views state Ends = (views.specified ≡ r.shown state) × (views.refused ≡ false)

@@ -1,15 +1,12 @@
 -- The queue of the entries that wait, and how a return finds its commit there.
-use Rattle.std.specs.Prelude.{◌≡◌, ◌<◌, ◌≤◌, ◌+◌, ◌-◌, ℕ, Bool, true, false, not, List, ◌∷◌, ◌++◌}
-use Rattle.std.specs.Prelude.{[], map, length, Some, None, slice_get}
+use Rattle.std.specs.Prelude.{◌≡◌, ◌<◌, ◌≤◌, ◌+◌, ◌-◌, ℕ, true, false, List, ◌∷◌, ◌++◌, [], map}
+use Rattle.std.specs.Prelude.{length, Some, None, slice_get}
 use Rattle.std.specs.List.{cons_option}
 use Rattle.vyrd_base.specs.declared.header.Header.{Header}
 use Rattle.vyrd_base.specs.declared.subject.Method.{Method}
 use Rattle.vyrd_base.specs.declared.subject.Args.{Args}
-use Rattle.vyrd_base.specs.declared.log.Kind.{Kind}
-use Rattle.vyrd_base.specs.declared.log.Kind.TheVariants.{Call, Return}
 use Rattle.vyrd_base.specs.declared.log.Entry.{Entry}
 use Rattle.vyrd_base.specs.Callers.{Called, open_call, has_committed}
-use Rattle.vyrd_base.specs.Subjects.{must_commit}
 use Rattle.vyrd_judge.specs.declared.caller.Caller.{Caller}
 use Rattle.vyrd_judge.specs.declared.waiting.Event.TheVariants.{Commits}
 use Rattle.vyrd_judge.specs.declared.waiting.Waiting.{Waiting}
@@ -79,10 +76,3 @@ CanLeave x = (method : Method) (args : Args) → x.event ≡ Commits method args
 abbrev pub AwaitsReturn : List Waiting → Type 0
 AwaitsReturn [] = Unit {0}
 AwaitsReturn (x ∷ xs) = (method : Method) × (args : Args) × (x.event ≡ Commits method args None)
-
--- An entry of this kind may let something be judged, where nothing could be: a return may be that of
--- the commit that waits first, and what waits first may be judged at once if it isn't a commit.
-abbrev pub lets_judge : Kind → Bool
-lets_judge (Call method args) = not (must_commit method)
-lets_judge (Return reply) = true
-lets_judge _ = false

@@ -1,5 +1,5 @@
 -- What an entry that waits is seen as, and the layout in which it is held.
-use Rattle.std.specs.Prelude.{◌≡◌, ℕ, Some, None, refl}
+use Rattle.std.specs.Prelude.{◌≡◌, ℕ, Bool, true, false, Some, None, refl}
 use Rattle.vyrd_judge.specs.declared.waiting.Event.{Event}
 use Rattle.vyrd_judge.specs.declared.waiting.Event.TheVariants.{Begins, Commits, Returns}
 use Rattle.vyrd_judge.specs.declared.waiting.Held.{Held}
@@ -10,6 +10,11 @@ pub record WaitingView : Type 0 where
   pub caller : ℕ
   pub position : ℕ
   pub event : Event
+
+-- whether an event is the commit of an execution that hasn't returned
+abbrev pub is_unreturned : Event → Bool
+is_unreturned (Commits method args None) = true
+is_unreturned _ = false
 
 -- whose entry is held
 abbrev pub caller_in : Held → ℕ

@@ -1,7 +1,8 @@
 //! All that is kept of a log in which nothing is wrong so far.
 
 ghost use Rattle.std.specs.Prelude.{◌≡◌, ◌<◌, ◌≤◌, ◌+◌, ◌^◌, ◌∷◌, ◌++◌, true, List, [], length};
-ghost use Rattle.std.specs.Prelude.{Option, Some, None, Ok, IfOk, if◌then◌else◌};
+ghost use Rattle.std.specs.Prelude.{Option, Some, None, Ok, IfOk, IfSome, if◌then◌else◌};
+ghost use Rattle.std.specs.List.{cons_option};
 ghost use Rattle.vyrd_base.specs.Rules.{rules_by};
 ghost use Rattle.vyrd_base.specs.declared.header.Header.{Header};
 ghost use Rattle.vyrd_base.specs.declared.log.Entry.{Entry};
@@ -10,13 +11,15 @@ ghost use Rattle.vyrd_base.specs.Starts.{do_follow, words_at_start, state_at_sta
 ghost use Rattle.vyrd_base.specs.Commits.{is_commit};
 ghost use Rattle.vyrd_base.specs.Verdicts.{first_fault, verdict, verdict_so_far};
 ghost use Rattle.vyrd_judge.specs.Following.{Kept, HasTakenIn, IsFaultless, IsSomewhere};
-ghost use Rattle.vyrd_judge.specs.Following.{MayCatchUp, AdvanceGives};
-ghost use Rattle.vyrd_judge.specs.Queued.{lets_judge};
+ghost use Rattle.vyrd_judge.specs.Following.{IsCatchingUp, MayCatchUp, AdvanceGives};
+ghost use Rattle.vyrd_judge.specs.Queued.{CanLeave};
 ghost use Rattle.vyrd_judge.specs.declared.outcome.Advance.TheVariants.{Goes};
+ghost use Rattle.vyrd_judge.specs.declared.waiting.Waiting.{Waiting};
 
 use crate::outcome::{Advance, Outcome};
 use crate::queue::Queue;
 use crate::replay::Replay;
+use crate::waiting::Waiting;
 use std::alloc::{AllocError, Global};
 use std::marker::Model;
 use vyrd_base::{Entry, Header, Kind, Rule, StartWord, Verdict};
@@ -109,10 +112,10 @@ impl<S: Spec> Follower<S> {
         })
     }
 
-    /// Takes in one more entry, and judges what can be judged then. Most kinds of entries let nothing
-    /// be judged: before each entry nothing waits, or a commit waits first whose execution hasn't
-    /// returned. The answer is the verdict that stands with it. After a verdict nothing is known of what is kept, and nothing after memory
-    /// has run out.
+    /// Takes in one more entry, and judges what can be judged then: before and after it nothing
+    /// waits, or what waits first is a commit whose execution hasn't returned. The answer is the
+    /// verdict that stands with it. After a verdict nothing is known of what is kept, and nothing
+    /// after memory has run out.
     #[inline(always)]
     pub fn take_in(&mut self, entry: Entry) -> Result<Option<Verdict>, AllocError>
         requires few { self.old.entries < 2 ^ 62 }
@@ -184,14 +187,12 @@ impl<S: Spec> Follower<S> {
         }
         let observes = self.queue.observer_returns(entry);
         self.words.follow(entry, self.commits)?;
-        self.queue.follow(entry, self.entries)?;
+        let position = self.entries;
         self.commits = counted(self.commits, is_commit(entry.kind));
         self.observers = counted(self.observers, observes);
         self.entries += 1;
-        if !lets_judge(entry.kind) {
-            return Ok(None);
-        }
-        self.catch_up()
+        let first = self.queue.follow(entry, position)?;
+        self.catch_up(first)
     }
 
     /// The verdict if `end` stands after the entries.
@@ -212,52 +213,77 @@ impl<S: Spec> Follower<S> {
         }
     }
 
-    /// Judges all entries that wait, as far as they can be judged. The answer is the first fault so
-    /// far.
+    /// Judges the entry that was handed out, if one was, and then those that wait, as far as they
+    /// can be judged. The answer is the first fault so far.
     #[inline(always)]
-    fn catch_up(&mut self) -> Result<Option<Verdict>, AllocError>
-        requires { MayCatchUp self.old }
+    fn catch_up(&mut self, first: Option<Waiting>) -> Result<Option<Verdict>, AllocError>
+        requires may { MayCatchUp first self.old }
+        requires can_leave { IfSome first CanLeave }
         ensures answer { (starting : List StartWord) (log : List Entry)
-            → HasTakenIn self.old starting log
+            → IsCatchingUp first self.old starting log
             → IfOk result (λ v. v ≡ first_fault (rules_by self.old.charter) starting log) }
         ensures follows { (starting : List StartWord) (log : List Entry)
-            → HasTakenIn self.old starting log → result ≡ Ok None
+            → IsCatchingUp first self.old starting log → result ≡ Ok None
             → IsFaultless self.new starting log }
         ensures entries { self.new.entries ≡ self.old.entries }
         ensures charter { self.new.charter ≡ self.old.charter }
     {
-        loop {
-            match self.judge_first()? {
-                Advance::Goes => {}
-                Advance::Stops(verdict) => return Ok(verdict),
-            }
+        let Some(x) = first else {
+            return Ok(None);
+        };
+        match self.judge(x)? {
+            Advance::Goes(None) => Ok(None),
+            Advance::Goes(next) => self.go_on(next),
+            Advance::Stops(verdict) => Ok(Some(verdict)),
         }
     }
 
-    /// Judges the entry that waits first, if there is one and it can be judged.
-    #[inline(always)]
-    fn judge_first(&mut self) -> Result<Advance, AllocError>
-        requires { MayCatchUp self.old }
-        ensures gives { (starting : List StartWord) (log : List Entry)
-            → HasTakenIn self.old starting log
-            → IfOk result (AdvanceGives (rules_by self.old.charter) starting log self.new) }
-        ensures less { result ≡ Ok Goes → length self.new.waiting < length self.old.waiting }
+    /// The same, for an entry that has waited. It is a function of its own, so that `catch_up` has
+    /// no loop, and is compiled for each kind of entry.
+    #[inline(never)]
+    fn go_on(&mut self, first: Option<Waiting>) -> Result<Option<Verdict>, AllocError>
+        requires may { MayCatchUp first self.old }
+        requires can_leave { IfSome first CanLeave }
+        ensures answer { (starting : List StartWord) (log : List Entry)
+            → IsCatchingUp first self.old starting log
+            → IfOk result (λ v. v ≡ first_fault (rules_by self.old.charter) starting log) }
+        ensures follows { (starting : List StartWord) (log : List Entry)
+            → IsCatchingUp first self.old starting log → result ≡ Ok None
+            → IsFaultless self.new starting log }
         ensures entries { self.new.entries ≡ self.old.entries }
         ensures charter { self.new.charter ≡ self.old.charter }
     {
-        let Some(x) = self.queue.first() else {
-            return Ok(Advance::Stops(None));
-        };
-        match self.replay.judge(&mut self.words, x)? {
-            Outcome::Goes => {
-                self.queue.leave();
-                Ok(Advance::Goes)
+        let mut next = first;
+        while let Some(x) = next {
+            match self.judge(x)? {
+                Advance::Goes(more) => next = more,
+                Advance::Stops(verdict) => return Ok(Some(verdict)),
             }
+        }
+        Ok(None)
+    }
+
+    /// Judges an entry that was handed out. The next one is handed out, if it can be judged.
+    #[inline(always)]
+    fn judge(&mut self, x: Waiting) -> Result<Advance, AllocError>
+        requires may { MayCatchUp (Some x) self.old }
+        requires can_leave { CanLeave x }
+        ensures gives { (starting : List StartWord) (log : List Entry)
+            → IsCatchingUp (Some x) self.old starting log
+            → IfOk result (AdvanceGives (rules_by self.old.charter) starting log self.new) }
+        ensures can_leave { (next : Option Waiting) → result ≡ Ok (Goes next)
+            → IfSome next CanLeave }
+        ensures waiting { (next : Option Waiting) → result ≡ Ok (Goes next)
+            → cons_option next self.new.waiting ≡ self.old.waiting }
+        ensures entries { self.new.entries ≡ self.old.entries }
+        ensures charter { self.new.charter ≡ self.old.charter }
+    {
+        match self.replay.judge(&mut self.words, x)? {
+            Outcome::Goes => Ok(Advance::Goes(self.queue.leave())),
             Outcome::Faults(why) => {
                 let line = self.started + x.position() + 2;
-                Ok(Advance::Stops(Some(Verdict::Violation { line, why })))
+                Ok(Advance::Stops(Verdict::Violation { line, why }))
             }
-            Outcome::Ends => Ok(Advance::Stops(None)),
         }
     }
 }
@@ -268,17 +294,6 @@ fn counted(count: u64, more: bool) -> u64
     ensures { result ≡ count + (if more then 1 else 0) }
 {
     if more { count + 1 } else { count }
-}
-
-/// Whether an entry of this kind may let something be judged that waits.
-fn lets_judge(kind: Kind) -> bool
-    ensures { result ≡ lets_judge kind }
-{
-    match kind {
-        Kind::Call(method, _) => !method.must_commit(),
-        Kind::Return(_) => true,
-        _ => false,
-    }
 }
 
 /// Whether an entry of this kind commits.

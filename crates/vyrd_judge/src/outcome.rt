@@ -1,5 +1,6 @@
 //! What an entry that waits leads to.
 
+use crate::waiting::Waiting;
 use vyrd_base::{Verdict, Why};
 
 /// What an entry that waits leads to.
@@ -9,16 +10,13 @@ pub(crate) enum Outcome {
     Goes,
     /// It is a fault, for this reason.
     Faults(Why),
-    /// It is the commit of an execution that hasn't returned. It isn't a fault, and neither is
-    /// anything after it, since no later state is known.
-    Ends,
 }
 
 /// How the judging of entries that wait goes on.
 #[derive(Clone, Copy)]
 pub(crate) enum Advance {
-    /// One was judged, and the next is to be looked at.
-    Goes,
-    /// No more can be judged: this is the first fault so far, if there is one.
-    Stops(Option<Verdict>),
+    /// One was judged, and this is the next, if it can be judged.
+    Goes(Option<Waiting>),
+    /// One was judged, and this is the first fault.
+    Stops(Verdict),
 }

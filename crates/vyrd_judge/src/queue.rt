@@ -2,7 +2,7 @@
 
 ghost use Rattle.std.specs.Prelude.{◌≡◌, ◌<◌, ◌+◌, ◌-◌, ◌^◌, ◌∷◌, ◌++◌, ◌&&◌};
 ghost use Rattle.std.specs.Prelude.{List, [], length, Some, None, IfOk, OnOk, slice_get, slice_set};
-ghost use Rattle.std.specs.Prelude.{vec_len, not, ◌≢◌};
+ghost use Rattle.std.specs.Prelude.{vec_len, not, ◌≢◌, IfSome};
 ghost use Rattle.std.specs.Bool.{then_some};
 ghost use Rattle.std.specs.List.{cons_option};
 ghost use Rattle.vyrd_base.specs.Callers.{has_committed};
@@ -13,7 +13,7 @@ ghost use Rattle.vyrd_judge.specs.declared.waiting.Event.TheVariants.{Begins, Co
 ghost use Rattle.vyrd_base.specs.declared.log.Entry.{Entry};
 ghost use Rattle.vyrd_judge.specs.declared.waiting.Waiting.{Waiting};
 ghost use Rattle.vyrd_words.specs.HasWords.{Keeps};
-ghost use Rattle.vyrd_judge.specs.Queued.{HasQueued, HasTakenUp, MayQueue, CanLeave};
+ghost use Rattle.vyrd_judge.specs.Queued.{HasQueued, HasTakenUp, MayQueue, CanLeave, AwaitsReturn};
 
 use crate::caller::Caller;
 use crate::waiting::{Event, Waiting};
@@ -22,12 +22,13 @@ use std::collections::VecDeque;
 use vyrd_base::{Args, Entry, Header, Kind, Method};
 
 /// The entries that wait to be judged, in their order. A commit is there from its entry on, and has
-/// its reply once its execution has returned.
+/// its reply once its execution has returned. What waits first is handed out as soon as it can be
+/// judged, so that what needn't wait for others isn't kept here.
 #[derive(Drop)]
 pub(crate) struct Queue {
     pub header: Header,
     pub waiting: VecDeque<Waiting>,
-    /// How many entries have left the queue.
+    /// How many entries are judged.
     pub taken: u64,
     /// By caller.
     pub callers: Vec<Caller>,
@@ -57,8 +58,9 @@ impl Queue {
 
     /// Takes in the entry at a position, which keeps the rules. It waits from then on, if it is one
     /// that is judged; and if it is the return of an execution with a commit, that has the reply.
+    /// What waits first then is handed out, if the entry lets it be judged.
     #[inline(always)]
-    pub fn follow(&mut self, entry: Entry, position: u64) -> Result<(), AllocError>
+    pub fn follow(&mut self, entry: Entry, position: u64) -> Result<Option<Waiting>, AllocError>
         requires may { MayQueue self.old.header self.old.waiting.items self.old.taken
             self.old.callers.items entry position }
         requires few { position < 2 ^ 62 }
@@ -66,8 +68,12 @@ impl Queue {
             → HasQueued self.old.header self.old.waiting.items self.old.taken self.old.callers.items
             earlier
             → Keeps self.old.header earlier entry → position ≡ length earlier
-            → OnOk result (HasTakenUp self.old.header self.old.waiting.items self.new.waiting.items
-            self.new.taken self.new.callers.items entry earlier) }
+            → IfOk result (λ first. HasTakenUp self.old.header self.old.waiting.items
+            (cons_option first self.new.waiting.items) self.new.taken self.new.callers.items entry
+            earlier) }
+        ensures can_leave { IfOk result (λ first. IfSome first CanLeave) }
+        ensures awaits { AwaitsReturn self.old.waiting.items
+            → IfOk result (λ first. first ≡ None → AwaitsReturn self.new.waiting.items) }
         ensures header { self.new.header ≡ self.old.header }
     {
         let caller = entry.caller;
@@ -76,9 +82,9 @@ impl Queue {
             Kind::Return(reply) => self.give_back(caller, position, reply),
             Kind::Commit => self.commit(caller, position),
             Kind::BlockCommit => self.commit(caller, position),
-            Kind::Write(_, _) => Ok(()),
-            Kind::BlockOpen => Ok(()),
-            Kind::BlockClose => Ok(()),
+            Kind::Write(_, _) => Ok(None),
+            Kind::BlockOpen => Ok(None),
+            Kind::BlockClose => Ok(None),
         }
     }
 
@@ -91,14 +97,17 @@ impl Queue {
         position: u64,
         method: Method,
         args: Args,
-    ) -> Result<(), AllocError>
+    ) -> Result<Option<Waiting>, AllocError>
         requires { caller < self.old.header.callers }
         ensures callers { OnOk result (self.new.callers.items ≡ slice_set self.old.callers.items
             caller (record { method = method; args = args; commit = 0 })) }
-        ensures waiting { OnOk result (self.new.waiting.items
+        ensures waiting { IfOk result (λ first. cons_option first self.new.waiting.items
             ≡ self.old.waiting.items ++ cons_option (then_some (not (must_commit method))
             (record { caller = caller; position = position; event = Begins method args })) []) }
         ensures taken { OnOk result (self.new.taken ≡ self.old.taken) }
+        ensures can_leave { IfOk result (λ first. IfSome first CanLeave) }
+        ensures awaits { AwaitsReturn self.old.waiting.items
+            → IfOk result (λ first. first ≡ None → AwaitsReturn self.new.waiting.items) }
         ensures header { self.new.header ≡ self.old.header }
     {
         self.callers[caller as usize] = Caller {
@@ -106,23 +115,44 @@ impl Queue {
             args,
             commit: 0,
         };
-        if !method.must_commit() {
-            self.waiting.push_back(Waiting::new(caller, position, Event::Begins(method, args)))?;
+        if method.must_commit() {
+            return Ok(None);
         }
-        Ok(())
+        self.wait(Waiting::new(caller, position, Event::Begins(method, args)))
     }
 
-    /// A commit waits, and its caller knows its number.
+    /// An entry waits that isn't a commit. It is handed out if nothing waits before it.
+    #[inline(always)]
+    fn wait(&mut self, x: Waiting) -> Result<Option<Waiting>, AllocError>
+        requires can_leave { CanLeave x }
+        ensures waiting { IfOk result (λ first. cons_option first self.new.waiting.items
+            ≡ self.old.waiting.items ++ x ∷ []) }
+        ensures can_leave { IfOk result (λ first. IfSome first CanLeave) }
+        ensures awaits { AwaitsReturn self.old.waiting.items
+            → IfOk result (λ first. first ≡ None → AwaitsReturn self.new.waiting.items) }
+        ensures callers { self.new.callers ≡ self.old.callers }
+        ensures taken { self.new.taken ≡ self.old.taken }
+        ensures header { self.new.header ≡ self.old.header }
+    {
+        if self.waiting.is_empty() {
+            return Ok(Some(x));
+        }
+        self.waiting.push_back(x)?;
+        Ok(None)
+    }
+
+    /// A commit waits, and its caller knows its number. Nothing is handed out.
     #[inline(always)]
     #[tactic(auto, using(vyrd_base::proofs::HeaderLaws::few_callers))]
-    fn commit(&mut self, caller: u32, position: u64) -> Result<(), AllocError>
+    fn commit(&mut self, caller: u32, position: u64) -> Result<Option<Waiting>, AllocError>
         requires caller { caller < self.old.header.callers }
         requires few { self.old.taken + length self.old.waiting.items < 2 ^ 62 }
         ensures callers { (called : Caller) → slice_get self.old.callers.items caller ≡ Some called
             → OnOk result (self.new.callers.items ≡ slice_set self.old.callers.items caller
             (record called { commit = self.old.taken + length self.old.waiting.items + 1 })) }
         ensures waiting { (called : Caller) → slice_get self.old.callers.items caller ≡ Some called
-            → OnOk result (self.new.waiting.items ≡ self.old.waiting.items
+            → IfOk result (λ first. cons_option first self.new.waiting.items
+            ≡ self.old.waiting.items
             ++ record {
               caller = caller;
               position = position;
@@ -130,6 +160,9 @@ impl Queue {
             }
             ∷ []) }
         ensures taken { OnOk result (self.new.taken ≡ self.old.taken) }
+        ensures can_leave { IfOk result (λ first. IfSome first CanLeave) }
+        ensures awaits { AwaitsReturn self.old.waiting.items
+            → IfOk result (λ first. first ≡ None → AwaitsReturn self.new.waiting.items) }
         ensures header { self.new.header ≡ self.old.header }
     {
         let number = self.taken + self.waiting.len() as u64 + 1;
@@ -142,13 +175,19 @@ impl Queue {
             args: called.args,
             commit: number,
         };
-        Ok(())
+        Ok(None)
     }
 
-    /// A return goes to its execution's commit, and waits if there is none.
+    /// A return goes to its execution's commit, which is handed out if it waits first. If there is
+    /// no commit the return waits.
     #[inline(always)]
     #[tactic(auto, using(vyrd_base::proofs::HeaderLaws::few_callers))]
-    fn give_back(&mut self, caller: u32, position: u64, reply: u64) -> Result<(), AllocError>
+    fn give_back(
+        &mut self,
+        caller: u32,
+        position: u64,
+        reply: u64,
+    ) -> Result<Option<Waiting>, AllocError>
         requires caller { caller < self.old.header.callers }
         requires pending { (called : Caller) → slice_get self.old.callers.items caller ≡ Some called
             → called.commit ≢ 0
@@ -157,40 +196,37 @@ impl Queue {
         ensures uncommitted { (called : Caller)
             → slice_get self.old.callers.items caller ≡ Some called
             → called.commit ≡ 0
-            → OnOk result (self.new.waiting.items ≡ self.old.waiting.items
+            → IfOk result (λ first. cons_option first self.new.waiting.items
+            ≡ self.old.waiting.items
             ++ record { caller = caller; position = position; event = Returns reply } ∷ []) }
         ensures committed { (called : Caller)
             → slice_get self.old.callers.items caller ≡ Some called
             → called.commit ≢ 0 → (commit : Waiting)
             → slice_get self.old.waiting.items (called.commit - 1 - self.old.taken) ≡ Some commit
-            → OnOk result (self.new.waiting.items
+            → IfOk result (λ first. cons_option first self.new.waiting.items
             ≡ slice_set self.old.waiting.items (called.commit - 1 - self.old.taken)
             (record commit { event = Commits called.method called.args (Some reply) })) }
         ensures callers { OnOk result (self.new.callers.items ≡ self.old.callers.items) }
         ensures taken { OnOk result (self.new.taken ≡ self.old.taken) }
+        ensures can_leave { IfOk result (λ first. IfSome first CanLeave) }
+        ensures awaits { AwaitsReturn self.old.waiting.items
+            → IfOk result (λ first. first ≡ None → AwaitsReturn self.new.waiting.items) }
         ensures header { self.new.header ≡ self.old.header }
     {
         let called = self.callers[caller as usize];
         if called.commit == 0 {
-            self.waiting
-                .push_back(Waiting::new(caller, position, Event::Returns(reply)))?;
-        } else {
-            let at = (called.commit - 1 - self.taken) as usize;
-            let commit = self.waiting[at];
-            let event = Event::Commits(called.method, called.args, Some(reply));
-            self.waiting[at] = Waiting::new(commit.caller(), commit.position(), event);
+            return self.wait(Waiting::new(caller, position, Event::Returns(reply)));
         }
-        Ok(())
-    }
-
-    /// The first entry that waits.
-    #[inline(always)]
-    pub fn first(&self) -> Option<Waiting>
-        ensures some { (x : Waiting) → result ≡ Some x
-            → (xs : List Waiting) × (self.now.waiting.items ≡ x ∷ xs) }
-        ensures none { result ≡ None → self.now.waiting.items ≡ [] }
-    {
-        self.waiting.front().copied()
+        let at = (called.commit - 1 - self.taken) as usize;
+        let commit = self.waiting[at];
+        let event = Event::Commits(called.method, called.args, Some(reply));
+        let commit = Waiting::new(commit.caller(), commit.position(), event);
+        if at == 0 {
+            let _ = self.waiting.pop_front();
+            return Ok(Some(commit));
+        }
+        self.waiting[at] = commit;
+        Ok(None)
     }
 
     /// Whether an execution without a commit returns with the entry, which keeps the rules.
@@ -210,20 +246,37 @@ impl Queue {
         }
     }
 
-    /// The first entry no longer waits.
+    /// The entry that was handed out is judged. What waits first then is handed out, if it can be
+    /// judged.
     #[inline(always)]
-    pub fn leave(&mut self)
+    pub fn leave(&mut self) -> Option<Waiting>
         requires few { self.old.taken + 1 < 2 ^ 64 }
-        ensures left { (x : Waiting) (xs : List Waiting) (earlier : List Entry)
-            → self.old.waiting.items ≡ x ∷ xs → CanLeave x
-            → HasQueued self.old.header self.old.waiting.items self.old.taken self.old.callers.items
-            earlier
-            → HasQueued self.old.header xs self.new.taken self.new.callers.items earlier }
-        ensures waiting { (x : Waiting) (xs : List Waiting) → self.old.waiting.items ≡ x ∷ xs
-            → self.new.waiting.items ≡ xs }
+        ensures left { (x : Waiting) (earlier : List Entry) → CanLeave x
+            → HasQueued self.old.header (x ∷ self.old.waiting.items) self.old.taken
+            self.old.callers.items earlier
+            → HasQueued self.old.header self.old.waiting.items self.new.taken
+            self.new.callers.items earlier }
+        ensures waiting { cons_option result self.new.waiting.items ≡ self.old.waiting.items }
+        ensures can_leave { IfSome result CanLeave }
+        ensures awaits { result ≡ None → AwaitsReturn self.new.waiting.items }
         ensures header { self.new.header ≡ self.old.header }
     {
-        let _ = self.waiting.pop_front();
         self.taken += 1;
+        let x = self.first()?;
+        if x.awaits_return() {
+            return None;
+        }
+        let _ = self.waiting.pop_front();
+        Some(x)
+    }
+
+    /// The first entry that waits.
+    #[inline(always)]
+    fn first(&self) -> Option<Waiting>
+        ensures some { (x : Waiting) → result ≡ Some x
+            → (xs : List Waiting) × (self.now.waiting.items ≡ x ∷ xs) }
+        ensures none { result ≡ None → self.now.waiting.items ≡ [] }
+    {
+        self.waiting.front().copied()
     }
 }

@@ -1,12 +1,11 @@
 //! The part of a log that is judged.
 
-ghost use Rattle.std.specs.Prelude.{◌≡◌, ◌<◌, ◌^◌, ◌∷◌, ℕ, List, [], true, false, Some, None, Ok};
+ghost use Rattle.std.specs.Prelude.{◌≡◌, ◌<◌, ◌^◌, ◌∷◌, ℕ, List, [], true, false, Some, None};
 ghost use Rattle.std.specs.Prelude.{IfOk, OnOk, slice_get, slice_set, length};
 ghost use Rattle.vyrd_base.specs.Rules.{rules_by};
 ghost use Rattle.vyrd_base.specs.declared.log.Entry.{Entry};
 ghost use Rattle.vyrd_base.specs.declared.log.StartWord.{StartWord};
 ghost use Rattle.vyrd_base.specs.Subjects.{is_observer, must_commit};
-ghost use Rattle.vyrd_judge.specs.declared.outcome.Outcome.TheVariants.{Goes};
 ghost use Rattle.vyrd_judge.specs.declared.waiting.Waiting.{Waiting};
 ghost use Rattle.vyrd_base.specs.Entries.{has_method};
 ghost use Rattle.vyrd_judge.specs.Judged.{Judged, HeadGives, MayJudge, CommitLeads, KnowsState};
@@ -136,10 +135,9 @@ impl<S: Spec> Replay<S> {
         Ok(Outcome::Goes)
     }
 
-    /// Judges the entry that waits first, if it can be judged. After `Goes` it no longer waits, and
-    /// after `Ends` all is as it was. A commit takes time in proportion to the different questions
-    /// of open observers, the most that there were at one time, besides that of the specification's
-    /// step and of the comparison.
+    /// Judges the entry that waits first, which isn't a commit that hasn't returned. A commit takes
+    /// time in proportion to the different questions of open observers, the most that there were at
+    /// one time, besides that of the specification's step and of the comparison.
     #[inline(always)]
     pub fn judge(
         &mut self,
@@ -151,6 +149,7 @@ impl<S: Spec> Replay<S> {
         requires may { MayJudge (rules_by (S.charter self.old.spec)) (S.state self.old.spec)
             (S.made self.old.spec)
             self.old.watches.by_caller x words.old.views.first words.old.views.since }
+        requires can_leave { CanLeave x }
         requires sound { words.old.views.refused ≡ false }
         ensures gives { (starting : List StartWord) (log : List Entry) (xs : List Waiting)
             → Judged (rules_by (S.charter self.old.spec)) starting log (S.state self.old.spec)
@@ -162,7 +161,6 @@ impl<S: Spec> Replay<S> {
             (HeadGives (rules_by (S.charter self.old.spec)) starting log (S.state self.new.spec)
             (S.made self.new.spec) self.new.watches.by_caller x xs words.new.views.first
             words.new.views.since) }
-        ensures leaves { result ≡ Ok Goes → CanLeave x }
         ensures known { words.old.views.specified
             ≡ (rules_by (S.charter self.old.spec)).shown (S.state self.old.spec)
             → IfOk result
@@ -181,7 +179,7 @@ impl<S: Spec> Replay<S> {
             }
             Event::Commits(method, args, reply) => match reply {
                 Some(reply) => self.commit(words, x.caller(), method, args, reply),
-                None => Ok(Outcome::Ends),
+                None => unreachable!(),
             },
             Event::Returns(reply) => {
                 if self.end(x.caller(), reply) {

@@ -1,6 +1,7 @@
 //! What waits to be judged.
 
 ghost use Rattle.std.specs.Prelude.{◌≡◌, ◌<◌};
+ghost use Rattle.vyrd_judge.specs.WaitingView.{is_unreturned};
 
 use std::marker::Model;
 use vyrd_base::{Args, Method};
@@ -97,6 +98,14 @@ impl Waiting {
         ensures { result ≡ self.position }
     {
         self.position
+    }
+
+    /// Whether it is the commit of an execution that hasn't returned yet.
+    #[inline]
+    pub fn awaits_return(self) -> bool
+        ensures { result ≡ is_unreturned self.event }
+    {
+        matches!(self.held, Held::Unreturned(_, _, _))
     }
 
     /// What it does.

@@ -1,31 +1,34 @@
-use Rattle.std.proofs.Common.{List, ap, subst, ◌∙◌}
+use Rattle.std.proofs.Common.{ap, sym, subst, ◌∙◌}
 use Rattle.vyrd_base.specs.Rules.{rules_by}
-use Rattle.vyrd_base.specs.declared.log.Entry.{Entry}
-use Rattle.vyrd_base.specs.declared.log.StartWord.{StartWord}
 use Rattle.vyrd_base.specs.Verdicts.{first_fault}
-use Rattle.vyrd_judge.specs.Following.{HasTakenIn, AdvanceGives}
-use Rattle.vyrd_judge.proofs.FollowerLaws.{stops_answer, stops_none, may_catch_up_on, ok_value}
+use Rattle.vyrd_judge.specs.declared.outcome.Advance.TheVariants.{Goes}
+use Rattle.vyrd_judge.specs.Following.{IsCatchingUp, MayCatchUp, AdvanceGives}
+use Rattle.vyrd_judge.proofs.FollowerLaws.{caught_up, may_catch_up_on}
 use Rattle.vyrd_judge.proofs.follower.Follower.catch_up.Goals as goal
 
-pub loop-verdict-preserved : goal.loop-verdict-preserved
-loop-verdict-preserved g c =
-    let on = λ (starting : List StartWord) (log : List Entry) (t : HasTakenIn c.loop-verdict.self starting log).
-    subst (AdvanceGives (rules_by c.loop-verdict.self.charter) starting log c.judge_first.new.self) c.in-Goes.is (c.in_ok-judge_first.ensures.gives starting log t) in
-    record {
-      header = c.judge_first.ensures.charter ∙ c.loop-verdict.invariant.header;
-      entries = c.judge_first.ensures.entries ∙ c.loop-verdict.invariant.entries;
-      taken_in = λ starting log t. on starting log (c.loop-verdict.invariant.taken_in starting log t);
-      may = may_catch_up_on c.loop-verdict.invariant.may on;
-    }
+pub judge-requires-clause-may : goal.judge-requires-clause-may
+judge-requires-clause-may g c = subst (λ first. MayCatchUp first c.args.self.now) c.in-Some.is c.requires.may
 
-pub returns-in-Stops-clause-answer : goal.returns-in-Stops-clause-answer
-returns-in-Stops-clause-answer g c = λ starting log t.
-    stops_answer (rules_by c.loop-verdict.self.charter) starting log c.judge_first.new.self c.in-Stops.verdict (subst (AdvanceGives (rules_by c.loop-verdict.self.charter) starting log c.judge_first.new.self) c.in-Stops.is
-    (c.in_ok-judge_first.ensures.gives starting log (c.loop-verdict.invariant.taken_in starting log t)))
-    ∙ ap (λ g. first_fault (rules_by g) starting log) c.loop-verdict.invariant.header
+pub go_on-requires-clause-may : goal.go_on-requires-clause-may
+go_on-requires-clause-may g c = may_catch_up_on c.requires.may (λ starting log going.
+    subst (AdvanceGives (rules_by c.args.self.now.charter) starting log c.judge.new.self) c.in-Goes.is
+    (c.in_ok-judge.ensures.gives starting log (subst (λ first. IsCatchingUp first c.args.self.now starting log) c.in-Some.is going)))
 
-pub returns-in-Stops-clause-follows : goal.returns-in-Stops-clause-follows
-returns-in-Stops-clause-follows g c = λ starting log t none.
-    stops_none (rules_by c.loop-verdict.self.charter) starting log c.judge_first.new.self c.in-Stops.verdict (ap rules_by c.judge_first.ensures.charter) (ok_value none)
-    (subst (AdvanceGives (rules_by c.loop-verdict.self.charter) starting log c.judge_first.new.self) c.in-Stops.is
-    (c.in_ok-judge_first.ensures.gives starting log (c.loop-verdict.invariant.taken_in starting log t)))
+pub returns-in_default-clause-answer : goal.returns-in_default-clause-answer
+returns-in_default-clause-answer g c = λ starting log going.
+    sym (caught_up (subst (λ first. IsCatchingUp first c.args.self.now starting log) c.in_default.is going)).faultless
+
+pub returns-in_default-clause-follows : goal.returns-in_default-clause-follows
+returns-in_default-clause-follows g c = λ starting log going none.
+    caught_up (subst (λ first. IsCatchingUp first c.args.self.now starting log) c.in_default.is going)
+
+pub returns-in-Goes-None-clause-follows : goal.returns-in-Goes-None-clause-follows
+returns-in-Goes-None-clause-follows g c = λ starting log going none.
+    caught_up (subst (AdvanceGives (rules_by c.args.self.now.charter) starting log c.judge.new.self) (c.in-Goes-None.is ∙ ap Goes c.in-Goes-None.field-0-is)
+    (c.in_ok-judge.ensures.gives starting log (subst (λ first. IsCatchingUp first c.args.self.now starting log) c.in-Some.is going)))
+
+pub returns-in-Goes-None-clause-answer : goal.returns-in-Goes-None-clause-answer
+returns-in-Goes-None-clause-answer g c = λ starting log going.
+    sym (caught_up (subst (AdvanceGives (rules_by c.args.self.now.charter) starting log c.judge.new.self) (c.in-Goes-None.is ∙ ap Goes c.in-Goes-None.field-0-is)
+    (c.in_ok-judge.ensures.gives starting log (subst (λ first. IsCatchingUp first c.args.self.now starting log) c.in-Some.is going)))).faultless
+    ∙ ap (λ l. first_fault (rules_by l) starting log) c.judge.ensures.charter

@@ -4,7 +4,7 @@ use Rattle.vyrd_base.specs.Verdicts.{first_fault, verdict_so_far}
 use Rattle.vyrd_judge.specs.Queued.{MayQueue}
 use Rattle.vyrd_judge.specs.Following.{Kept, IsFaultless, IsSomewhere}
 use Rattle.std.proofs.lemmas.Result.{IfOk-weaker}
-use Rattle.vyrd_judge.proofs.FollowerLaws.{broken_so_far, may_take, may_queue, low_commits, few_commits, few_observers, low_caller_of, taken_all, may_catch_up, keeps_by, answer_with, still_faultless, nothing_stands, sound_of}
+use Rattle.vyrd_judge.proofs.FollowerLaws.{broken_so_far, may_take, may_queue, low_commits, few_commits, few_observers, low_caller_of, taken_all, may_catch_up, keeps_by, answer_with, sound_of}
 use Rattle.vyrd_judge.proofs.follower.Follower.take.Goals as goal
 
 pub returns-in-Err-clause-answer : goal.returns-in-Err-clause-answer
@@ -47,53 +47,32 @@ counted-self-inside-requires-2 g c =
     let was = subst IsSomewhere (sym c.self.view_is) c.requires.somewhere in
     few_observers (subst (λ (k : Kept). k.entries < 2 ^ 62) (sym c.self.view_is) c.requires.few) was
 
-pub catch_up-requires : goal.catch_up-requires
-catch_up-requires g c =
-    may_catch_up _ _ c.args.entry (subst (λ (k : Kept). k.entries < 2 ^ 62) (sym c.self.view_is) c.requires.few)
+pub catch_up-requires-clause-may : goal.catch_up-requires-clause-may
+catch_up-requires-clause-may g c =
+    may_catch_up _ _ c.in_ok-first.first c.args.entry (subst (λ (k : Kept). k.entries < 2 ^ 62) (sym c.self.view_is) c.requires.few)
     (subst IsSomewhere (sym c.self.view_is) c.requires.somewhere)
-    (taken_all _ _ c.args.entry c.self.inside.queue.header c.is_commit.result c.observer_returns-observes.result
+    (taken_all _ _ c.in_ok-first.first c.args.entry c.self.inside.queue.header c.is_commit.result c.observer_returns-observes.result
     c.self.invariant.0 c.self.invariant.1 c.self.invariant.2 c.in_default.ensures.ok c.step.ensures.header c.in_ok-follow.ensures.taken c.follow.ensures.header c.follow.ensures.views_header
-    c.in_ok-follow-2.ensures.taken_up refl refl refl refl refl c.is_commit.ensures c.counted-self-inside.ensures c.observer_returns-observes.ensures
+    c.in_ok-first.ensures.taken_up c.in_ok-first.ensures.awaits refl refl refl refl refl c.is_commit.ensures c.counted-self-inside.ensures c.observer_returns-observes.ensures
     c.counted-self-inside-2.ensures refl (c.in_ok-follow.ensures.specified, c.in_ok-follow.ensures.sound))
-
--- the entry lets nothing be judged
-pub returns-then-not-lets_judge-clause-answer : goal.returns-then-not-lets_judge-clause-answer
-returns-then-not-lets_judge-clause-answer g c = λ starting log f.
-    let was = subst (λ k. IsFaultless k starting log) (sym c.self.view_is) f in
-    sym (nothing_stands (still_faultless c.args.entry (sym c.lets_judge.ensures ∙ c.if-not-lets_judge.true) was
-    (taken_all _ _ c.args.entry c.self.inside.queue.header c.is_commit.result c.observer_returns-observes.result
-    c.self.invariant.0 c.self.invariant.1 c.self.invariant.2 c.in_default.ensures.ok c.step.ensures.header c.in_ok-follow.ensures.taken c.follow.ensures.header c.follow.ensures.views_header
-    c.in_ok-follow-2.ensures.taken_up refl refl refl refl refl c.is_commit.ensures c.counted-self-inside.ensures c.observer_returns-observes.ensures
-    c.counted-self-inside-2.ensures refl (c.in_ok-follow.ensures.specified, c.in_ok-follow.ensures.sound) starting log was.taken_in)))
-    ∙ ap (λ (k : Kept). verdict_so_far (rules_by k.charter) starting (log ++ c.args.entry ∷ [])) c.self.view_is
-
-pub returns-then-not-lets_judge-clause-follows : goal.returns-then-not-lets_judge-clause-follows
-returns-then-not-lets_judge-clause-follows g c = λ starting log f none.
-    let was = subst (λ k. IsFaultless k starting log) (sym c.self.view_is) f in
-    still_faultless c.args.entry (sym c.lets_judge.ensures ∙ c.if-not-lets_judge.true) was
-    (taken_all _ _ c.args.entry c.self.inside.queue.header c.is_commit.result c.observer_returns-observes.result
-    c.self.invariant.0 c.self.invariant.1 c.self.invariant.2 c.in_default.ensures.ok c.step.ensures.header c.in_ok-follow.ensures.taken c.follow.ensures.header c.follow.ensures.views_header
-    c.in_ok-follow-2.ensures.taken_up refl refl refl refl refl c.is_commit.ensures c.counted-self-inside.ensures c.observer_returns-observes.ensures
-    c.counted-self-inside-2.ensures refl (c.in_ok-follow.ensures.specified, c.in_ok-follow.ensures.sound) starting log was.taken_in)
 
 pub returns-clause-answer : goal.returns-clause-answer
 returns-clause-answer g c = λ starting log f.
-    let h = rules_by (g.S.Spec.charter c.self.inside.replay.spec) in
+    let r = rules_by (g.S.Spec.charter c.self.inside.replay.spec) in
     let was = subst (λ k. IsFaultless k starting log) (sym c.self.view_is) f in
     let more = log ++ c.args.entry ∷ [] in
-    let same = ap (λ (k : Kept). verdict_so_far (rules_by k.charter) starting more) c.self.view_is in
-    let took = taken_all _ _ c.args.entry c.self.inside.queue.header c.is_commit.result c.observer_returns-observes.result
+    let going = taken_all _ _ c.in_ok-first.first c.args.entry c.self.inside.queue.header c.is_commit.result c.observer_returns-observes.result
     c.self.invariant.0 c.self.invariant.1 c.self.invariant.2 c.in_default.ensures.ok c.step.ensures.header c.in_ok-follow.ensures.taken c.follow.ensures.header c.follow.ensures.views_header
-    c.in_ok-follow-2.ensures.taken_up refl refl refl refl refl c.is_commit.ensures c.counted-self-inside.ensures c.observer_returns-observes.ensures
-    c.counted-self-inside-2.ensures refl (c.in_ok-follow.ensures.specified, c.in_ok-follow.ensures.sound) starting log was.taken_in in
-    IfOk-weaker c.catch_up.result (λ v. v ≡ first_fault h starting more) (λ v. v ≡ verdict_so_far (rules_by c.args.self.now.charter) starting more)
-    (λ v is. answer_with v took.taken_in is ∙ same)
-    (c.catch_up.ensures.answer starting more took.taken_in)
+    c.in_ok-first.ensures.taken_up c.in_ok-first.ensures.awaits refl refl refl refl refl c.is_commit.ensures c.counted-self-inside.ensures c.observer_returns-observes.ensures
+    c.counted-self-inside-2.ensures refl (c.in_ok-follow.ensures.specified, c.in_ok-follow.ensures.sound) starting log was in
+    IfOk-weaker c.catch_up.result (λ v. v ≡ first_fault r starting more) (λ v. v ≡ verdict_so_far (rules_by c.args.self.now.charter) starting more)
+    (λ v is. answer_with v going.taken_in is ∙ ap (λ (k : Kept). verdict_so_far (rules_by k.charter) starting more) c.self.view_is)
+    (c.catch_up.ensures.answer starting more going)
 
 pub returns-clause-follows : goal.returns-clause-follows
 returns-clause-follows g c = λ starting log f is.
     let was = subst (λ k. IsFaultless k starting log) (sym c.self.view_is) f in
-    c.catch_up.ensures.follows starting (log ++ c.args.entry ∷ []) (taken_all _ _ c.args.entry c.self.inside.queue.header c.is_commit.result c.observer_returns-observes.result
+    c.catch_up.ensures.follows starting (log ++ c.args.entry ∷ []) (taken_all _ _ c.in_ok-first.first c.args.entry c.self.inside.queue.header c.is_commit.result c.observer_returns-observes.result
     c.self.invariant.0 c.self.invariant.1 c.self.invariant.2 c.in_default.ensures.ok c.step.ensures.header c.in_ok-follow.ensures.taken c.follow.ensures.header c.follow.ensures.views_header
-    c.in_ok-follow-2.ensures.taken_up refl refl refl refl refl c.is_commit.ensures c.counted-self-inside.ensures c.observer_returns-observes.ensures
-    c.counted-self-inside-2.ensures refl (c.in_ok-follow.ensures.specified, c.in_ok-follow.ensures.sound) starting log was.taken_in).taken_in is
+    c.in_ok-first.ensures.taken_up c.in_ok-first.ensures.awaits refl refl refl refl refl c.is_commit.ensures c.counted-self-inside.ensures c.observer_returns-observes.ensures
+    c.counted-self-inside-2.ensures refl (c.in_ok-follow.ensures.specified, c.in_ok-follow.ensures.sound) starting log was) is

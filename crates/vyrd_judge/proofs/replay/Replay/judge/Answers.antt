@@ -2,7 +2,7 @@ use Rattle.vyrd_base.specs.Rules.{rules_by}
 use Rattle.std.proofs.Common.{ap, sym, subst, ◌∙◌}
 use Rattle.vyrd_judge.specs.declared.waiting.Event.TheVariants.{Commits}
 use Rattle.vyrd_judge.specs.Judged.{Judged}
-use Rattle.vyrd_judge.proofs.JudgingLaws.{begins_caller, begins_may, begins_free, commits_caller, commits_may, commits_mutates, returns_caller, steps_few, judged_current, judged_begins, watch_there, judged_answered, judged_unanswered, judged_waits, judged_commits}
+use Rattle.vyrd_judge.proofs.JudgingLaws.{begins_caller, begins_may, begins_free, commits_caller, commits_may, commits_mutates, returns_caller, steps_few, judged_current, judged_begins, watch_there, judged_answered, judged_unanswered, judged_commits}
 use Rattle.vyrd_judge.proofs.replay.Replay.judge.Goals as goal
 
 pub begin-requires-clause-caller : goal.begin-requires-clause-caller
@@ -42,9 +42,9 @@ returns-in_ok-begin-in-Begins-clause-gives g c = λ starting log xs j known.
     subst (λ s. Judged h starting log (g.S.Spec.state s) (g.S.Spec.made s) c.begin.new.self.watches.by_caller xs c.args.words.now.views.first c.args.words.now.views.since) (sym same_spec)
     (subst (λ ws. Judged h starting log (g.S.Spec.state old.spec) (g.S.Spec.made old.spec) ws xs c.args.words.now.views.first c.args.words.now.views.since) (sym (rw c.caller.ensures.is at c.in_ok-begin-in-Begins.ensures.watches)) done)
 
-pub returns-in-None-clause-gives : goal.returns-in-None-clause-gives
-returns-in-None-clause-gives g c = λ starting log xs j known.
-    judged_waits (sym c.event.ensures ∙ c.in-Commits.is ∙ ap (Commits c.in-Commits.method c.in-Commits.args) c.in-None.is) j
+pub unreachable-requires : goal.unreachable-requires
+unreachable-requires g c =
+    c.requires.can_leave c.in-Commits.method c.in-Commits.args (sym c.event.ensures ∙ c.in-Commits.is ∙ ap (Commits c.in-Commits.method c.in-Commits.args) c.in-None.is)
 
 pub returns-in-Some-clause-gives : goal.returns-in-Some-clause-gives
 returns-in-Some-clause-gives g c = λ starting log xs j known.

@@ -1,0 +1,20 @@
+use Rattle.std.proofs.Common.{◌≡◌, List, length}
+use Rattle.std.specs.Prelude.{IfSome}
+use Rattle.std.specs.List.{cons_option}
+use Rattle.vyrd_base.specs.declared.log.Entry.{Entry}
+use Rattle.vyrd_base.specs.declared.log.StartWord.{StartWord}
+use Rattle.vyrd_judge.specs.Queued.{CanLeave}
+use Rattle.vyrd_judge.specs.Following.{IsCatchingUp, MayCatchUp}
+use Rattle.vyrd_judge.proofs.follower.Follower.go_on.Given as goal
+
+abbrev pub invariant-loop-next : goal.invariant-loop-next
+invariant-loop-next g l = record {
+  header : l.self.charter ≡ l.initial.self.charter;
+  entries : l.self.entries ≡ l.initial.self.entries;
+  going : (starting : List StartWord) (log : List Entry) → IsCatchingUp l.fn.first l.initial.self starting log → IsCatchingUp l.next l.self starting log;
+  may : MayCatchUp l.next l.self;
+  can_leave : IfSome l.next CanLeave;
+}
+
+abbrev pub decreases-loop-next : goal.decreases-loop-next
+decreases-loop-next g l = length (cons_option l.next l.self.waiting)
