@@ -137,7 +137,7 @@ impl Queue {
         if self.waiting.is_empty() {
             return Ok(Some(x));
         }
-        self.waiting.push_back(x)?;
+        push(&mut self.waiting, x)?;
         Ok(None)
     }
 
@@ -168,8 +168,7 @@ impl Queue {
         let number = self.taken + self.waiting.len() as u64 + 1;
         let called = self.callers[caller as usize];
         let event = Event::Commits(called.method, called.args, None);
-        self.waiting
-            .push_back(Waiting::new(caller, position, event))?;
+        push(&mut self.waiting, Waiting::new(caller, position, event))?;
         self.callers[caller as usize] = Caller {
             method: called.method,
             args: called.args,
@@ -279,4 +278,16 @@ impl Queue {
     {
         self.waiting.front().copied()
     }
+}
+
+/// An entry waits behind all others. Mostly there is room, so that this is no call.
+#[inline(always)]
+fn push(waiting: &mut VecDeque<Waiting>, x: Waiting) -> Result<(), AllocError>
+    ensures { OnOk result (waiting.new.items ≡ waiting.old.items ++ x ∷ []) }
+{
+    if waiting.capacity() <= waiting.len() {
+        waiting.reserve(1)?;
+    }
+    waiting.push_back_reserved(x);
+    Ok(())
 }
