@@ -6,12 +6,11 @@ use Rattle.vyrd_base.specs.Layout.{plain_words, lock_words}
 use Rattle.vyrd_mover.specs.declared.fault.HistoryRule.{HistoryRule}
 use Rattle.vyrd_mover.specs.HistoryText.{Recorded}
 use Rattle.vyrd_mover.specs.HistoryLines.{event_in}
-use Rattle.vyrd_mover.specs.HistoryReading.{broken_by, with_event, unless_broken, event_read, line_read}
+use Rattle.vyrd_mover.specs.HistoryReading.{broken_by}
 use Rattle.vyrd_mover.specs.Usage.{IsInRange}
 use Rattle.vyrd_mover.specs.Remembering.{Remembered}
 use Rattle.vyrd_mover.specs.Taking.{Taken, IsNext}
 use Rattle.vyrd_mover.specs.EventsRead.{HaveRead, HaveReadOn}
-use Rattle.vyrd_mover.proofs.EventLaws.{event_in_sound}
 use Rattle.vyrd_mover.proofs.TextLaws.{no_rule}
 use Rattle.vyrd_mover.proofs.TakingLaws.{taken_count, fits}
 
@@ -38,17 +37,9 @@ pub broken : (s : Remembered) (t : Taken) (r : Recorded) (e : Stamped) → HaveR
     → broken_by r e ≡ broken_by (record { header = s.header; history = r.history }) e
 broken s t r e have = ap (λ h. broken_by (record { header = h; history = r.history }) e) (sym have.header)
 
-pub numbered : (r : Recorded) (line : List ℕ) (e : Stamped) → event_in r.header.subject (length r.history) line ≡ Some e → e.number ≡ length r.history
-numbered r line e is = (event_in_sound r.header.subject (length r.history) line e is).numbered
-
--- a line that says an event which breaks a rule, or none
-pub line_broken : (r : Recorded) (line : List ℕ) (e : Stamped) (rule : HistoryRule) → event_in r.header.subject (length r.history) line ≡ Some e
-    → broken_by r e ≡ Some rule → line_read r line ≡ Err rule
-line_broken r line e rule is rule_is = ap (event_read r) is ∙ ap (unless_broken r e) rule_is
-
-pub line_taken : (r : Recorded) (line : List ℕ) (e : Stamped) → event_in r.header.subject (length r.history) line ≡ Some e
-    → broken_by r e ≡ None → line_read r line ≡ Ok (with_event r e)
-line_taken r line e is none = ap (event_read r) is ∙ ap (unless_broken r e) none
+-- the number of the next event
+pub counted : (s : Remembered) (t : Taken) (r : Recorded) (e : Stamped) → HaveRead s t r → e.number ≡ length t.steps → e.number ≡ length r.history
+counted s t r e have count = count ∙ taken_count t r.history have.taken
 
 -- an event that breaks no rule may be taken in
 pub may_follow : (s : Remembered) (t : Taken) (r : Recorded) (e : Stamped) → HaveRead s t r → broken_by r e ≡ None → IsNext t.header r.history e

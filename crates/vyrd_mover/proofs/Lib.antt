@@ -28,3 +28,4 @@ pub mod TakingLaws
 pub mod EventsReadLaws
 pub mod LinesLaws
 pub mod ReaderLaws
+pub mod FrontLaws

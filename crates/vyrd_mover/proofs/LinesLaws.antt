@@ -114,7 +114,7 @@ first_refused l fault line bytes rest fine first at lack is =
     (subst (λ text. IsRefusal fault (history_reading text)) (sym (append_assoc line (10 ∷ []) rest)) (refusal_first fault line rest lack is))
 
 -- where the rest stands after one more line
-line_and_rest : (bytes line rest : List ℕ) → (bytes ++ (line ++ 10 ∷ [])) ++ rest ≡ bytes ++ (line ++ 10 ∷ rest)
+pub line_and_rest : (bytes line rest : List ℕ) → (bytes ++ (line ++ 10 ∷ [])) ++ rest ≡ bytes ++ (line ++ 10 ∷ rest)
 line_and_rest bytes line rest =
     append_assoc bytes (line ++ 10 ∷ []) rest ∙ ap (λ more. bytes ++ more) (append_assoc line (10 ∷ []) rest)
 

@@ -8,7 +8,7 @@ use Rattle.vyrd_mover.specs.Gathering.{EachIsGathered}
 use Rattle.vyrd_mover.specs.HistoryText.{Recorded}
 use Rattle.vyrd_mover.specs.HistoryReading.{history_reading}
 use Rattle.vyrd_mover.specs.EventsRead.{AreBlocksOf}
-use Rattle.vyrd_mover.specs.HistoryReaders.{IsAt, ReaderState, HasRead}
+use Rattle.vyrd_mover.specs.HistoryReaders.{IsAt, ReaderState, HasRead, IsFedTo}
 use Rattle.vyrd_mover.proofs.CheckLaws.{each_is_gathered}
 use Rattle.vyrd_mover.proofs.TextLaws.{reading_sound}
 
@@ -43,23 +43,18 @@ more_unfinished s unfinished before more read is lack short =
     }
 
 -- how far a piece was taken in
-pub record FedTo (s : ReaderState) (bytes piece rest : List ℕ) : Type 0 where
-  pub front : List ℕ
-  pub parted : piece ≡ front ++ rest
-  pub read : HasRead s (bytes ++ front)
-
-pub fed_nothing : (s : ReaderState) (bytes piece : List ℕ) → HasRead s bytes → FedTo s bytes piece piece
+pub fed_nothing : (s : ReaderState) (bytes piece : List ℕ) → HasRead s bytes → IsFedTo s bytes piece piece
 fed_nothing s bytes piece read = record { front = []; parted = refl; read = subst (HasRead s) (sym (append-nil bytes)) read }
 
-pub fed_line : (s new : ReaderState) (bytes piece rest line next : List ℕ) → (fed : FedTo s bytes piece rest) → rest ≡ line ++ 10 ∷ next
-    → HasRead new ((bytes ++ fed.front) ++ (line ++ 10 ∷ [])) → FedTo new bytes piece next
+pub fed_line : (s new : ReaderState) (bytes piece rest line next : List ℕ) → (fed : IsFedTo s bytes piece rest) → rest ≡ line ++ 10 ∷ next
+    → HasRead new ((bytes ++ fed.front) ++ (line ++ 10 ∷ [])) → IsFedTo new bytes piece next
 fed_line s new bytes piece rest line next fed is read = record {
   front = fed.front ++ (line ++ 10 ∷ []);
   parted = fed.parted ∙ ap (λ xs. fed.front ++ xs) (is ∙ sym (append_assoc line (10 ∷ []) next)) ∙ sym (append_assoc fed.front (line ++ 10 ∷ []) next);
   read = subst (HasRead new) (append_assoc bytes fed.front (line ++ 10 ∷ [])) read;
 }
 
-pub fed_all : (s new : ReaderState) (bytes piece rest : List ℕ) → (fed : FedTo s bytes piece rest) → HasRead new ((bytes ++ fed.front) ++ rest)
+pub fed_all : (s new : ReaderState) (bytes piece rest : List ℕ) → (fed : IsFedTo s bytes piece rest) → HasRead new ((bytes ++ fed.front) ++ rest)
     → HasRead new (bytes ++ piece)
 fed_all s new bytes piece rest fed read =
     subst (HasRead new) (append_assoc bytes fed.front rest ∙ ap (λ xs. bytes ++ xs) (sym fed.parted)) read

@@ -239,7 +239,7 @@ did_whole subject caller (Marked kind) low is =
     entry_line_whole subject (record { caller = caller; kind = kind })
     (both_true (nat_lt caller (2 ^ 32)) (is_kind_of subject kind) low (first_true (is_kind_of subject kind) (not (is_write kind)) is))
 
-event_line_whole : (subject : Subject) (e : Stamped) → is_event_of subject e ≡ true → lacks 10 (event_line e) ≡ true
+pub event_line_whole : (subject : Subject) (e : Stamped) → is_event_of subject e ≡ true → lacks 10 (event_line e) ≡ true
 event_line_whole subject e is = did_whole subject e.caller e.did (first_true _ _ is) (second_true (nat_lt e.caller (2 ^ 32)) _ is)
 
 -- a line with a space isn't the line `end`
@@ -251,7 +251,7 @@ isnt_end caller did rest line = by_test (bytes_eq (did_line caller did) end_line
         ap (lacks 32) (sym ((bytes_eq-Decides (did_line caller did) end_line).0 same)) ∙ ap (lacks 32) line ∙ spaced_isnt_end (decimal caller) rest
     by_test false same = refl
 
-did_isnt_end : (caller : ℕ) (did : Did) → bytes_eq (did_line caller did) end_line ≡ false
+pub did_isnt_end : (caller : ℕ) (did : Did) → bytes_eq (did_line caller did) end_line ≡ false
 did_isnt_end caller (Read cell value) = isnt_end caller (Read cell value) _ refl
 did_isnt_end caller (Wrote cell value) = isnt_end caller (Wrote cell value) _ refl
 did_isnt_end caller (Took lock) = isnt_end caller (Took lock) _ refl

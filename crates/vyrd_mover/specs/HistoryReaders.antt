@@ -43,6 +43,12 @@ pub record IsSomewhere (l : Lines) : Type 0 where
   pub bytes : List ℕ
   pub at : IsAt l bytes
 
+-- the front of a text was taken in after these bytes, and the rest of it is left
+pub record IsTakenTo (l : Lines) (bytes text rest : List ℕ) : Type 0 where
+  pub front : List ℕ
+  pub parted : text ≡ front ++ rest
+  pub at : IsAt l (bytes ++ front)
+
 -- the lines so far, and the bytes of the line that is unfinished
 pub record ReaderState : Type 0 where
   pub lines : Lines
@@ -61,6 +67,12 @@ pub record HasReadSome (s : ReaderState) : Type 0 where
   pub bytes : List ℕ
   pub read : HasRead s bytes
 
+-- the front of a piece was read after these bytes, and the rest of it is left
+pub record IsFedTo (s : ReaderState) (bytes piece rest : List ℕ) : Type 0 where
+  pub front : List ℕ
+  pub parted : piece ≡ front ++ rest
+  pub read : HasRead s (bytes ++ front)
+
 -- the history so far with one more line, and whether `end` was read by then
 pub record GoesOn (e : Events) (r : Recorded) (n : ℕ) (was_ended : Bool) (line : List ℕ)
     (is_ended : Bool) : Type 0 where
@@ -69,3 +81,14 @@ pub record GoesOn (e : Events) (r : Recorded) (n : ℕ) (was_ended : Bool) (line
   pub read : (rest : List ℕ)
       → rest_read r n was_ended (slice_split (λ b. b == 10) (line ++ 10 ∷ rest))
       ≡ rest_read recorded (n + 1) is_ended (slice_split (λ b. b == 10) rest)
+
+-- the history so far with the lines at the front of a text, from line n on, and line m begins the
+-- rest of it; none of them is `end`
+pub record GoesTo (e : Events) (r : Recorded) (n m : ℕ) (text rest : List ℕ) : Type 0 where
+  pub front : List ℕ
+  pub parted : text ≡ front ++ rest
+  pub recorded : Recorded
+  pub have : HaveRead e.ledger e.checker recorded
+  pub read : (more : List ℕ)
+      → rest_read r n false (slice_split (λ b. b == 10) (front ++ more))
+      ≡ rest_read recorded m false (slice_split (λ b. b == 10) more)

@@ -15,6 +15,7 @@ pub mod HistoryReading
 pub mod Refusals
 pub mod Writable
 pub mod HistorySpelled
+pub mod HistoryFront
 pub mod Remembering
 pub mod EventsRead
 pub mod HistoryReaders

@@ -24,6 +24,7 @@ mod check;
 mod checker;
 mod events;
 mod fault;
+mod front;
 pub mod laws;
 mod ledger;
 mod line;

@@ -1,19 +1,21 @@
 //! The lines of a history's text that were read so far.
 
 ghost use Rattle.std.specs.Prelude.{◌≡◌, ℕ, ◌<◌, ◌≤◌, ◌==◌, ◌∷◌, ◌++◌, [], List, length, None};
-ghost use Rattle.std.specs.Prelude.{true, is_some, IfOk, IfErr, OnOk};
+ghost use Rattle.std.specs.Prelude.{true, false, is_some, IfOk, IfErr, OnOk};
 ghost use Rattle.std.specs.List.{slice_split};
 ghost use Rattle.vyrd_text.specs.Steps.{is_one_line};
 ghost use Rattle.vyrd_mover.specs.HistoryText.{Recorded};
 ghost use Rattle.vyrd_mover.specs.HistoryReading.{first_read, unfinished_rule, unless_too_many};
 ghost use Rattle.vyrd_mover.specs.HistoryReading.{history_reading};
 ghost use Rattle.vyrd_mover.specs.EventsRead.{HaveRead, HaveReadSome, HaveReadOn, AreBlocksOf};
-ghost use Rattle.vyrd_mover.specs.HistoryReaders.{IsAt, IsSomewhere, GoesOn, rest_read};
+ghost use Rattle.vyrd_mover.specs.HistoryReaders.{IsAt, IsSomewhere, GoesOn, GoesTo, IsTakenTo};
+ghost use Rattle.vyrd_mover.specs.HistoryReaders.{rest_read};
 ghost use Rattle.vyrd_mover.specs.Refusals.{IsRefusal, IsRefusedAt};
 
 use crate::blocks::Blocks;
 use crate::events::Events;
 use crate::fault::{HistoryFault, HistoryRule};
+use crate::front::front_event;
 use crate::line::read_first;
 use std::alloc::Global;
 use vyrd_text::is_word;
@@ -107,6 +109,33 @@ impl Lines {
                     self.line += 1;
                 }
                 Err(fault) => self.fault = Some(fault),
+            }
+        }
+    }
+
+    /// Takes in the events that lie whole at the front of the text, each with its line feed, and
+    /// answers what stands after them: nothing if one breaks a rule, since the rest is passed over.
+    /// Any other line is left to `take_line`.
+    pub fn take_events<'a>(&mut self, text: &'a [u8]) -> &'a [u8]
+        requires { IsSomewhere self.old }
+        ensures taken { (bytes : List ℕ) → IsAt self.old bytes
+            → IsTakenTo self.new bytes text.now result.now }
+        ensures shorter { length result.now ≤ length text.now }
+    {
+        if self.fault.is_some() || self.ended {
+            return text;
+        }
+        let Some(events) = &mut self.events else {
+            return text;
+        };
+        match take_front(events, self.line, text) {
+            Ok((rest, number)) => {
+                self.line = number;
+                rest
+            }
+            Err(fault) => {
+                self.fault = Some(fault);
+                &text[text.len()..]
             }
         }
     }
@@ -213,6 +242,33 @@ fn next_line(
     }
     events.take_line(number, line)?;
     Ok(false)
+}
+
+/// Takes in the events that lie whole at the front of the text, the first of them in line `first`.
+/// The answer is what stands after them, and the number of its line.
+fn take_front<'a>(
+    events: &mut Events,
+    first: u64,
+    text: &'a [u8],
+) -> Result<(&'a [u8], u64), HistoryFault>
+    requires { HaveReadSome events.old.ledger events.old.checker }
+    ensures ok { (r : Recorded) → HaveRead events.old.ledger events.old.checker r
+        → IfOk result (λ to. GoesTo events.new r first to.1 text.now to.0.now) }
+    ensures err { (r : Recorded) → HaveRead events.old.ledger events.old.checker r
+        → IfErr result (λ fault. (more : List ℕ) → IsRefusal fault
+        (rest_read r first false (slice_split (λ b. b == 10) (text.now ++ more)))) }
+{
+    let mut rest = text;
+    let mut number = first;
+    while number <= MOST_LINES {
+        let Some((event, after)) = front_event(events.subject(), events.len(), rest) else {
+            break;
+        };
+        events.take_event(number, event)?;
+        rest = after;
+        number += 1;
+    }
+    Ok((rest, number))
 }
 
 /// What is said of the blocks if these bytes stand after the line `end`, where line `number` would

@@ -1,6 +1,7 @@
 //! The reader of a history's text, which takes the text in pieces of any size.
 
-ghost use Rattle.std.specs.Prelude.{◌≡◌, ℕ, ◌∷◌, ◌++◌, List, [], Ok, true, IfOk, IfErr};
+ghost use Rattle.std.specs.Prelude.{◌≡◌, ℕ, ◌≤◌, ◌∷◌, ◌++◌, List, [], length, Ok, true, IfOk};
+ghost use Rattle.std.specs.Prelude.{IfErr};
 ghost use Rattle.vyrd_base.specs.Histories.{cells_of};
 ghost use Rattle.vyrd_text.specs.Steps.{is_one_line};
 ghost use Rattle.vyrd_mover.specs.declared.blocks.Blocks.TheVariants.{Reducible};
@@ -8,7 +9,7 @@ ghost use Rattle.vyrd_mover.specs.Gathering.{EachIsGathered};
 ghost use Rattle.vyrd_mover.specs.HistoryText.{Recorded};
 ghost use Rattle.vyrd_mover.specs.HistoryReading.{history_reading};
 ghost use Rattle.vyrd_mover.specs.EventsRead.{AreBlocksOf};
-ghost use Rattle.vyrd_mover.specs.HistoryReaders.{HasRead};
+ghost use Rattle.vyrd_mover.specs.HistoryReaders.{HasRead, IsFedTo};
 ghost use Rattle.vyrd_mover.specs.Refusals.{IsRefusal};
 
 use crate::blocks::Blocks;
@@ -66,10 +67,10 @@ impl HistoryReader {
             self.unfinished.clear();
             return;
         }
-        let mut rest = piece;
+        let mut rest = self.take_events(piece);
         while let Some((line, next)) = split_line(rest) {
             self.end_line(line);
-            rest = next;
+            rest = self.take_events(next);
         }
         self.put(rest);
     }
@@ -90,6 +91,19 @@ impl HistoryReader {
             → IfErr result (λ fault. IsRefusal fault (history_reading bytes)) }
     {
         self.lines.finish(self.unfinished.as_slice())
+    }
+
+    /// Takes in the events that lie whole at the front of the text, if no line is unfinished, and
+    /// answers what stands after them.
+    fn take_events<'a>(&mut self, text: &'a [u8]) -> &'a [u8]
+        ensures fed { (bytes : List ℕ) → HasRead self.old bytes
+            → IsFedTo self.new bytes text.now result.now }
+        ensures shorter { length result.now ≤ length text.now }
+    {
+        if !self.unfinished.is_empty() {
+            return text;
+        }
+        self.lines.take_events(text)
     }
 
     /// Takes in the bytes before a line feed, and that line feed.

@@ -1,7 +1,8 @@
 use Rattle.std.proofs.Common.{◌∙◌, ◌++◌, sym, subst}
 use Rattle.vyrd_mover.specs.HistoryReaders.{HasRead, ReaderState}
 use Rattle.vyrd_mover.proofs.LinesLaws.{still_at_fault}
-use Rattle.vyrd_mover.proofs.ReaderLaws.{nothing_unfinished, fed_nothing, fed_line, fed_all}
+use Rattle.vyrd_mover.proofs.ReaderLaws.{nothing_unfinished, fed_line, fed_all}
+use Rattle.vyrd_mover.proofs.FrontLaws.{fed_then}
 use Rattle.vyrd_mover.proofs.reader.HistoryReader.feed.Goals as goal
 
 pub returns-then-is_at_fault : goal.returns-then-is_at_fault
@@ -15,13 +16,15 @@ returns-then-is_at_fault c = λ before read.
     (still_at_fault here.lines had.whole (here.unfinished ++ piece) (sym c.is_at_fault.ensures ∙ c.if-is_at_fault.true) had.at))
 
 pub loop-line-init : goal.loop-line-init
-loop-line-init c = λ bytes read. fed_nothing c.args.self.now bytes c.args.piece.now read
+loop-line-init c = λ bytes read. c.take_events-rest.ensures.fed bytes read
 
 pub loop-line-preserved : goal.loop-line-preserved
 loop-line-preserved c = λ bytes read.
     let fed = c.loop-line.invariant bytes read in
-    fed_line c.loop-line.self c.end_line.new.self bytes c.args.piece.now c.loop-line.rest.now c.in-Some.line.now c.in-Some.next.now fed c.in-Some.ensures.1
-    (c.end_line.ensures _ fed.read)
+    let line = fed_line c.loop-line.self c.end_line.new.self bytes c.args.piece.now c.loop-line.rest.now c.in-Some.line.now c.in-Some.next.now fed
+    c.in-Some.ensures.1 (c.end_line.ensures _ fed.read) in
+    fed_then c.end_line.new.self c.take_events-rest-in-Some.new.self bytes c.args.piece.now c.in-Some.next.now c.take_events-rest-in-Some.result.now line
+    (c.take_events-rest-in-Some.ensures.fed _ line.read)
 
 pub returns : goal.returns
 returns c = λ bytes read.

@@ -1,0 +1,12 @@
+use Rattle.std.proofs.Common.{◌-◌}
+use Rattle.vyrd_mover.specs.HistoryText.{Recorded}
+use Rattle.vyrd_mover.specs.EventsRead.{HaveRead}
+use Rattle.vyrd_mover.specs.HistoryReaders.{GoesTo}
+use Rattle.vyrd_mover.proofs.lines.take_front.Given as goal
+
+abbrev pub invariant-loop-number : goal.invariant-loop-number
+invariant-loop-number l = (r : Recorded) → HaveRead l.fn.events.ledger l.fn.events.checker r
+    → GoesTo l.events r l.fn.first l.number l.fn.text l.rest
+
+abbrev pub decreases-loop-number : goal.decreases-loop-number
+decreases-loop-number l = 4000001 - l.number
