@@ -1,12 +1,12 @@
 -- What is kept of the events goes with the history that the lines so far say.
-use Rattle.std.proofs.Common.{◌≡◌, ℕ, ◌+◌, ◌<◌, List, length, None, Result, Ok, Err, refl, ap, sym, ◌∙◌, subst}
+use Rattle.std.proofs.Common.{◌≡◌, ℕ, ◌+◌, ◌<◌, List, length, Option, None, Result, Ok, Err, refl, ap, sym, ◌∙◌, subst}
 use Rattle.vyrd_base.specs.declared.subject.Subject.{Subject}
 use Rattle.vyrd_base.specs.declared.history.Stamped.{Stamped}
 use Rattle.vyrd_base.specs.Layout.{plain_words, lock_words}
 use Rattle.vyrd_mover.specs.declared.fault.HistoryRule.{HistoryRule}
 use Rattle.vyrd_mover.specs.HistoryText.{Recorded}
 use Rattle.vyrd_mover.specs.HistoryLines.{event_in}
-use Rattle.vyrd_mover.specs.HistoryReading.{broken_by}
+use Rattle.vyrd_mover.specs.HistoryReading.{broken_by, event_read, line_read}
 use Rattle.vyrd_mover.specs.Usage.{IsInRange}
 use Rattle.vyrd_mover.specs.Remembering.{Remembered}
 use Rattle.vyrd_mover.specs.Taking.{Taken, IsNext}
@@ -24,13 +24,15 @@ pub read_on : (s : Remembered) (t : Taken) (read : Result Recorded HistoryRule) 
 read_on s t (Ok r) have = record { now = r; is = refl; have = have }
 read_on s t (Err rule) have = absurd have
 
--- the event that a line spells after the history so far
-pub spelled : (s : Remembered) (t : Taken) (r : Recorded) (subject : Subject) (place : ℕ) (line : List ℕ) → HaveRead s t r
-    → subject ≡ s.header.subject → place ≡ length t.steps → event_in r.header.subject (length r.history) line ≡ event_in subject place line
-spelled s t r subject place line have same count =
+-- what a line does after the history so far is what the event does that it says, if it says one
+pub line_says : (s : Remembered) (t : Taken) (r : Recorded) (subject : Subject) (place : ℕ)
+    (line : List ℕ) → HaveRead s t r → subject ≡ s.header.subject → place ≡ length t.steps
+    → (said : Option Stamped) → event_in subject place line ≡ said
+    → line_read r line ≡ event_read r said
+line_says s t r subject place line have same count said is =
     let number = count ∙ taken_count t r.history have.taken in
     let whose = same ∙ ap (λ h. h.subject) have.header in
-    λ i. event_in (sym whose i) (sym number i) line
+    ap (event_read r) ((λ i. event_in (sym whose i) (sym number i) line) ∙ is)
 
 -- the first rule that it breaks
 pub broken : (s : Remembered) (t : Taken) (r : Recorded) (e : Stamped) → HaveRead s t r
@@ -38,7 +40,8 @@ pub broken : (s : Remembered) (t : Taken) (r : Recorded) (e : Stamped) → HaveR
 broken s t r e have = ap (λ h. broken_by (record { header = h; history = r.history }) e) (sym have.header)
 
 -- the number of the next event
-pub counted : (s : Remembered) (t : Taken) (r : Recorded) (e : Stamped) → HaveRead s t r → e.number ≡ length t.steps → e.number ≡ length r.history
+pub counted : (s : Remembered) (t : Taken) (r : Recorded) (e : Stamped) → HaveRead s t r
+    → e.number ≡ length t.steps → e.number ≡ length r.history
 counted s t r e have count = count ∙ taken_count t r.history have.taken
 
 -- an event that breaks no rule may be taken in

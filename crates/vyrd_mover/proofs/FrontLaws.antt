@@ -1,7 +1,7 @@
 -- Events that are read where they lie: what a reader makes of them is what it makes of their lines.
 use Rattle.std.proofs.Common.{◌≡◌, ℕ, ◌+◌, ◌-◌, ◌<◌, ◌≤◌, ◌^◌, Bool, true, false, List, [], ◌∷◌, ◌++◌, length, take, drop, get_or}
 use Rattle.std.proofs.Common.{Option, Some, None, refl, ap, sym, ◌∙◌, subst, arith, append_assoc, length-append}
-use Rattle.std.specs.Prelude.{decimal, IfSome}
+use Rattle.std.specs.Prelude.{decimal, is_some, IfSome}
 use Rattle.std.proofs.lemmas.List.{append-nil}
 use Rattle.std.proofs.lemmas.Slice.Eq.{bytes_eq-Decides}
 use denote.Ref.{Bor}
@@ -13,7 +13,8 @@ use Rattle.vyrd_base.specs.declared.history.Did.TheVariants.{Read, Wrote, Took, 
 use Rattle.vyrd_base.specs.declared.history.Stamped.{Stamped}
 use Rattle.vyrd_base.specs.Spelling.{end_line}
 use Rattle.vyrd_base.specs.Histories.{is_write}
-use Rattle.vyrd_base.proofs.SplitLaws.{cut}
+use Rattle.vyrd_base.proofs.ListLaws.{isnt_some}
+use Rattle.vyrd_base.proofs.SplitLaws.{cut, lacks}
 use Rattle.vyrd_base.proofs.TestLaws.{both_true, is_below}
 use Rattle.vyrd_text.specs.Quick.{IsKindAtFront}
 use Rattle.vyrd_text.proofs.PartLaws.{entry_line_is}
@@ -28,7 +29,7 @@ use Rattle.vyrd_mover.specs.EventsRead.{HaveRead, HaveReadOn}
 use Rattle.vyrd_mover.specs.HistoryReaders.{rest_read, Follows, IsAtBy, IsAt, GoesTo, IsTakenTo, ReaderState, HasRead, IsFedTo}
 use Rattle.vyrd_mover.specs.Refusals.{IsRefusal, IsRefusedAt}
 use Rattle.vyrd_mover.proofs.EventLaws.{event_in-event_line}
-use Rattle.vyrd_mover.proofs.EventsReadLaws.{spelled}
+use Rattle.vyrd_mover.proofs.EventsReadLaws.{line_says}
 use Rattle.vyrd_mover.proofs.LinesLaws.{rest_line, rest_goes_on, at_later, line_and_rest}
 use Rattle.vyrd_mover.proofs.ReaderLaws.{whole_line}
 use Rattle.vyrd_mover.proofs.TextLaws.{event_line_whole, did_isnt_end}
@@ -63,7 +64,8 @@ did_line_is caller (Marked kind) = entry_line_is caller kind
 -- a caller and what it did
 pub event_at_front : (subject : Subject) (number caller : ℕ) (did : Did) (text rest after : List ℕ)
     → caller < 2 ^ 32 → text ≡ decimal caller ++ 32 ∷ rest → IsDidAtFront subject rest did after
-    → IsEventAtFront subject number text (record { number = number; caller = caller; did = did }) after
+    → IsEventAtFront subject number text (record { number = number; caller = caller; did = did })
+    after
 event_at_front subject number caller did text rest after low is d = (
   refl,
   both_true _ _ (is_below caller (2 ^ 32) low) d.0,
@@ -72,63 +74,76 @@ event_at_front subject number caller did text rest after low is d = (
       ∙ ap (λ t. t ++ 10 ∷ after) (sym (did_line_is caller did)),
 )
 
--- it isn't `end`
+-- its line isn't `end`
 event_isnt_end : (e : Stamped) → ¬ (event_line e ≡ end_line)
 event_isnt_end e same =
-    let never : true ≡ false = sym ((bytes_eq-Decides (event_line e) end_line).1 same) ∙ did_isnt_end e.caller e.did in
+    let never : true ≡ false =
+    sym ((bytes_eq-Decides (event_line e) end_line).1 same) ∙ did_isnt_end e.caller e.did in
     cc
 
 -- no event of a text was taken in
-pub goes_nowhere : (e : Events) (r : Recorded) (n : ℕ) (text : List ℕ) → HaveRead e.ledger e.checker r
-    → GoesTo e r n n text text
+pub goes_nowhere : (e : Events) (r : Recorded) (n : ℕ) (text : List ℕ)
+    → HaveRead e.ledger e.checker r → GoesTo e r n n text text
 goes_nowhere e r n text have =
     record { front = []; parted = refl; recorded = r; have = have; read = λ more. refl }
 
+pub goes_shorter : {e : Events} {r : Recorded} {n m : ℕ} {text rest : List ℕ}
+    → GoesTo e r n m text rest → length rest ≤ length text
+goes_shorter {rest = rest} to = omega (arith, ap length to.parted, length-append to.front rest)
+
 -- one more event at the front of what is left
-module _ (e : Events) (r : Recorded) (n m : ℕ) (text rest after : List ℕ) (x : Stamped) (subject : Subject) (place : ℕ)
-    (to : GoesTo e r n m text rest) (low : m ≤ 4000000) (whose : subject ≡ e.ledger.header.subject)
-    (count : place ≡ length e.checker.steps) (at : IsEventAtFront subject place rest x after) where
+module _ {e : Events} {r : Recorded} {n m : ℕ} {text rest : List ℕ} (to : GoesTo e r n m text rest)
+    (low : m ≤ 4000000) (subject : Subject) (place : ℕ) (whose : subject ≡ e.ledger.header.subject)
+    (count : place ≡ length e.checker.steps) (x : Stamped) (after : List ℕ)
+    (at : IsEventAtFront subject place rest x after) where
   abbrev line : List ℕ
   line = event_line x
 
+  whole : lacks 10 line ≡ true
+  whole = event_line_whole subject x at.1
+
   is_read : line_read to.recorded line ≡ event_read to.recorded (Some x)
-  is_read = ap (event_read to.recorded)
-      (spelled e.ledger e.checker to.recorded subject place line to.have whose count
-      ∙ ap (λ k. event_in subject k line) (sym at.0) ∙ event_in-event_line subject x at.1)
+  is_read = line_says e.ledger e.checker to.recorded subject place line to.have whose count (Some x)
+      (ap (λ k. event_in subject k line) (sym at.0) ∙ event_in-event_line subject x at.1)
 
   -- it is taken in
-  pub event_goes_on : (new : Events) → HaveReadOn new.ledger new.checker (event_read to.recorded (Some x))
+  pub event_goes_on : (new : Events)
+      → HaveReadOn new.ledger new.checker (event_read to.recorded (Some x))
       → GoesTo new r n (m + 1) text after
   event_goes_on new have =
-      let on = rest_goes_on new to.recorded m false line refl (event_line_whole subject x at.1) low (event_isnt_end x)
+      let on = rest_goes_on new to.recorded m false line refl whole low (event_isnt_end x)
       (subst (HaveReadOn new.ledger new.checker) (sym is_read) have) in
       record {
         front = to.front ++ (line ++ 10 ∷ []);
-        parted = to.parted ∙ ap (λ t. to.front ++ t) (at.2 ∙ sym (append_assoc line (10 ∷ []) after))
+        parted = to.parted
+            ∙ ap (λ t. to.front ++ t) (at.2 ∙ sym (append_assoc line (10 ∷ []) after))
             ∙ sym (append_assoc to.front (line ++ 10 ∷ []) after);
         recorded = on.recorded;
         have = on.have;
-        read = λ more. ap (λ t. rest_read r n false (cut t)) (line_and_rest to.front line more)
+        read = λ more.
+            ap (λ t. rest_read r n false (cut t)) (line_and_rest to.front line more)
             ∙ to.read (line ++ 10 ∷ more) ∙ on.read more;
       }
 
   -- or it breaks a rule
-  pub event_refused : (fault : HistoryFault) (more : List ℕ) → IsRefusedAt m fault (event_read to.recorded (Some x))
+  pub event_refused : (fault : HistoryFault)
+      → IsRefusedAt m fault (event_read to.recorded (Some x)) → (more : List ℕ)
       → IsRefusal fault (rest_read r n false (cut (text ++ more)))
-  event_refused fault more is =
+  event_refused fault is more =
       let there : text ++ more ≡ to.front ++ (line ++ 10 ∷ (after ++ more)) =
       ap (λ t. t ++ more) (to.parted ∙ ap (λ t. to.front ++ t) at.2)
       ∙ append_assoc to.front (line ++ 10 ∷ after) more
       ∙ ap (λ t. to.front ++ t) (append_assoc line (10 ∷ after) more) in
       refusal_at m fault (line_read to.recorded line) (cut (after ++ more)) _
       (ap (λ t. rest_read r n false (cut t)) there ∙ to.read (line ++ 10 ∷ (after ++ more))
-      ∙ rest_line to.recorded m false line (after ++ more) refl (event_line_whole subject x at.1) low (event_isnt_end x))
+      ∙ rest_line to.recorded m false line (after ++ more) refl whole low (event_isnt_end x))
       (subst (IsRefusedAt m fault) (sym is_read) is)
 
 -- the lines so far, where `end` wasn't read
-pub at_events : (l : Lines) (e : Events) (bytes : List ℕ) → l.fault ≡ None → l.ended ≡ false → l.events ≡ Some e → IsAt l bytes
-    → Follows l.line e false bytes
-at_events l e bytes fine going later at = subst (λ d. Follows l.line e d bytes) going (at_later l e bytes fine later at)
+pub at_events : (l : Lines) (e : Events) (bytes : List ℕ) → is_some l.fault ≡ false
+    → l.ended ≡ false → l.events ≡ Some e → IsAt l bytes → Follows l.line e false bytes
+at_events l e bytes fine going later at = subst (λ d. Follows l.line e d bytes) going
+    (at_later l e bytes (isnt_some l.fault fine) later at)
 
 -- nothing of a text was taken in
 pub nothing_taken : (l : Lines) (bytes text : List ℕ) → IsAt l bytes → IsTakenTo l bytes text text
@@ -136,13 +151,16 @@ nothing_taken l bytes text at =
     record { front = []; parted = refl; at = subst (IsAt l) (sym (append-nil bytes)) at }
 
 -- events were
-pub events_taken : (l : Lines) (e new : Events) (m : ℕ) (bytes text rest : List ℕ) → l.fault ≡ None → l.ended ≡ false
-    → (f : Follows l.line e false bytes) → GoesTo new f.recorded l.line m text rest
-    → IsTakenTo (record { line = m; events = Some new; ended = l.ended; fault = l.fault }) bytes text rest
+pub events_taken : (l : Lines) (e new : Events) (m : ℕ) (bytes text rest : List ℕ)
+    → is_some l.fault ≡ false → l.ended ≡ false → (f : Follows l.line e false bytes)
+    → GoesTo new f.recorded l.line m text rest
+    → IsTakenTo (record { line = m; events = Some new; ended = l.ended; fault = l.fault }) bytes
+    text rest
 events_taken l e new m bytes text rest fine going f to = record {
   front = to.front;
   parted = to.parted;
-  at = subst (λ fault. IsAtBy m (Some new) l.ended fault (bytes ++ to.front)) (sym fine)
+  at = subst (λ fault. IsAtBy m (Some new) l.ended fault (bytes ++ to.front))
+      (sym (isnt_some l.fault fine))
       (subst (λ d. Follows m new d (bytes ++ to.front)) (sym going) follows);
 }
   where
@@ -150,40 +168,45 @@ events_taken l e new m bytes text rest fine going f to = record {
     follows = record {
       recorded = to.recorded;
       have = to.have;
-      read = λ more. ap history_reading (append_assoc bytes to.front more) ∙ f.read (to.front ++ more) ∙ to.read more;
+      read = λ more. ap history_reading (append_assoc bytes to.front more)
+          ∙ f.read (to.front ++ more) ∙ to.read more;
     }
 
--- one of them breaks a rule
-pub events_refused : (n m : ℕ) (e : Events) (events : Option Events) (ended : Bool) (fault : HistoryFault) (bytes text rest : List ℕ)
-    → (f : Follows n e false bytes) → rest ≡ []
-    → ((more : List ℕ) → IsRefusal fault (rest_read f.recorded n false (cut (text ++ more))))
-    → IsTakenTo (record { line = m; events = events; ended = ended; fault = Some fault }) bytes text rest
-events_refused n m e events ended fault bytes text rest f none refused = record {
-  front = text;
-  parted = sym (ap (λ t. text ++ t) none ∙ append-nil text);
-  at = λ more. subst (IsRefusal fault) (sym (ap history_reading (append_assoc bytes text more) ∙ f.read (text ++ more))) (refused more);
-}
-
--- what stands behind a whole text
-pub behind_all : (text : List ℕ) → take (length text - length text) (drop (length text) text) ≡ []
-behind_all text =
+-- one of them breaks a rule, and the rest is passed over
+pub events_refused : (l : Lines) (e : Events) (fault : HistoryFault) (bytes text : List ℕ)
+    → (f : Follows l.line e false bytes)
+    → ((more : List ℕ) → IsRefusal fault (rest_read f.recorded l.line false (cut (text ++ more))))
+    → (n : ℕ) (events : Option Events) (ended : Bool)
+    → IsTakenTo (record { line = n; events = events; ended = ended; fault = Some fault }) bytes
+    text (take (length text - length text) (drop (length text) text))
+events_refused l e fault bytes text f refused n events ended =
     let none : length text - length text ≡ 0 = omega arith in
-    ap (λ n. take n (drop (length text) text)) none
-
-pub goes_shorter : (e : Events) (r : Recorded) (n m : ℕ) (text rest : List ℕ) → GoesTo e r n m text rest → length rest ≤ length text
-goes_shorter e r n m text rest to = omega (arith, ap length to.parted, length-append to.front rest)
+    record {
+      front = text;
+      parted = sym (ap (λ n. text ++ take n (drop (length text) text)) none ∙ append-nil text);
+      at = λ more. subst (IsRefusal fault)
+          (sym (ap history_reading (append_assoc bytes text more) ∙ f.read (text ++ more)))
+          (refused more);
+    }
 
 -- a reader that has nothing unfinished takes in the front of a text
-pub front_fed : (l : Lines) (s : ReaderState) (bytes text rest : List ℕ) → (read : HasRead s bytes) → s.unfinished ≡ []
-    → IsTakenTo l read.whole text rest → IsFedTo (record { lines = l; unfinished = [] }) bytes text rest
-front_fed l s bytes text rest read none to =
-    record { front = to.front; parted = to.parted; read = whole_line l s bytes to.front read none to.at }
+pub front_fed : (l : Lines) (s : ReaderState) (bytes text rest : List ℕ) → (read : HasRead s bytes)
+    → s.unfinished ≡ [] → IsTakenTo l read.whole text rest
+    → IsFedTo (record { lines = l; unfinished = s.unfinished }) bytes text rest
+front_fed l s bytes text rest read none to = record {
+  front = to.front;
+  parted = to.parted;
+  read = subst (λ xs. HasRead (record { lines = l; unfinished = xs }) (bytes ++ to.front))
+      (sym none) (whole_line l s bytes to.front read none to.at);
+}
 
 -- the front of a piece, and then the front of what stands behind it
-pub fed_then : (a b : ReaderState) (bytes piece rest after : List ℕ) → (first : IsFedTo a bytes piece rest)
-    → IsFedTo b (bytes ++ first.front) rest after → IsFedTo b bytes piece after
+pub fed_then : (a b : ReaderState) (bytes piece rest after : List ℕ)
+    → (first : IsFedTo a bytes piece rest) → IsFedTo b (bytes ++ first.front) rest after
+    → IsFedTo b bytes piece after
 fed_then a b bytes piece rest after first second = record {
   front = first.front ++ second.front;
-  parted = first.parted ∙ ap (λ t. first.front ++ t) second.parted ∙ sym (append_assoc first.front second.front after);
+  parted = first.parted ∙ ap (λ t. first.front ++ t) second.parted
+      ∙ sym (append_assoc first.front second.front after);
   read = subst (HasRead b) (append_assoc bytes first.front second.front) second.read;
 }

@@ -15,13 +15,13 @@ pub returns-in_err-take_event-clause-err : goal.returns-in_err-take_event-clause
 returns-in_err-take_event-clause-err c = λ r have.
     let to = c.loop-number.invariant r have in
     let p = err_from_is_err_and c.from_residual.result c.from_residual.ensures.1 in
-    rw p.1 (rw p.2 (λ more. event_refused c.loop-number.events r c.args.first c.loop-number.number c.args.text.now c.loop-number.rest.now
-    c.in-Some.after.now c.in-Some.event c.subject.result c.len.result to (omega arith) c.subject.ensures c.len.ensures c.in-Some.ensures
-    c.in_err-take_event.field-0.0 more (c.in_err-take_event.ensures.err to.recorded to.have)))
+    rw p.1 (rw p.2 (event_refused to (omega arith) c.subject.result c.len.result c.subject.ensures
+    c.len.ensures c.in-Some.event c.in-Some.after.now c.in-Some.ensures
+    c.in_err-take_event.field-0.0 (c.in_err-take_event.ensures.err to.recorded to.have)))
 
 pub loop-number-preserved : goal.loop-number-preserved
 loop-number-preserved c = λ r have.
     let to = c.loop-number.invariant r have in
-    event_goes_on c.loop-number.events r c.args.first c.loop-number.number c.args.text.now c.loop-number.rest.now c.in-Some.after.now
-    c.in-Some.event c.subject.result c.len.result to (omega arith) c.subject.ensures c.len.ensures c.in-Some.ensures c.take_event.new.self
+    event_goes_on to (omega arith) c.subject.result c.len.result c.subject.ensures c.len.ensures
+    c.in-Some.event c.in-Some.after.now c.in-Some.ensures c.take_event.new.self
     (c.in_ok-take_event.ensures.ok to.recorded to.have)

@@ -1,32 +1,38 @@
-use Rattle.std.proofs.Common.{refl, ap, sym, ◌∙◌, subst}
+use Rattle.std.proofs.Common.{refl, sym, ◌∙◌, subst}
 use Rattle.std.specs.Prelude.{OnOk, IfErr}
-use Rattle.vyrd_mover.specs.HistoryReading.{event_read}
 use Rattle.vyrd_mover.specs.EventsRead.{HaveReadOn}
 use Rattle.vyrd_mover.specs.Refusals.{IsRefusedAt}
 use Rattle.vyrd_mover.proofs.EventLaws.{event_in_sound}
-use Rattle.vyrd_mover.proofs.EventsReadLaws.{spelled}
+use Rattle.vyrd_mover.proofs.EventsReadLaws.{line_says}
 use Rattle.vyrd_mover.proofs.events.Events.take_line.Goals as goal
 
 pub returns-in_default-clause-err : goal.returns-in_default-clause-err
-returns-in_default-clause-err c = λ r have.
-    let is = spelled c.args.self.now.ledger c.args.self.now.checker r c.subject.result c.len.result c.args.line.now have c.subject.ensures c.len.ensures
-    ∙ sym c.read_event.ensures ∙ c.in_default.is in
-    (refl, ap (event_read r) is)
+returns-in_default-clause-err c = λ r have. (
+  refl,
+  line_says c.args.self.now.ledger c.args.self.now.checker r c.subject.result c.len.result
+      c.args.line.now have c.subject.ensures c.len.ensures _
+      (sym c.read_event.ensures ∙ c.in_default.is),
+)
 
 pub take_event-requires-clause-counted : goal.take_event-requires-clause-counted
 take_event-requires-clause-counted c =
-    (event_in_sound c.subject.result c.len.result c.args.line.now c.in-Some.event (sym c.read_event.ensures ∙ c.in-Some.is)).numbered ∙ c.len.ensures
+    let is = event_in_sound c.subject.result c.len.result c.args.line.now c.in-Some.event
+    (sym c.read_event.ensures ∙ c.in-Some.is) in
+    is.numbered ∙ c.len.ensures
 
 pub returns-clause-ok : goal.returns-clause-ok
 returns-clause-ok c = λ r have.
-    let is = spelled c.args.self.now.ledger c.args.self.now.checker r c.subject.result c.len.result c.args.line.now have c.subject.ensures c.len.ensures
-    ∙ sym c.read_event.ensures ∙ c.in-Some.is in
-    subst (λ read. OnOk c.take_event.result (HaveReadOn c.take_event.new.self.ledger c.take_event.new.self.checker read)) (sym (ap (event_read r) is))
+    let new = c.take_event.new.self in
+    let says = line_says c.args.self.now.ledger c.args.self.now.checker r c.subject.result
+    c.len.result c.args.line.now have c.subject.ensures c.len.ensures _
+    (sym c.read_event.ensures ∙ c.in-Some.is) in
+    subst (λ read. OnOk c.take_event.result (HaveReadOn new.ledger new.checker read)) (sym says)
     (c.take_event.ensures.ok r have)
 
 pub returns-clause-err : goal.returns-clause-err
 returns-clause-err c = λ r have.
-    let is = spelled c.args.self.now.ledger c.args.self.now.checker r c.subject.result c.len.result c.args.line.now have c.subject.ensures c.len.ensures
-    ∙ sym c.read_event.ensures ∙ c.in-Some.is in
-    subst (λ read. IfErr c.take_event.result (λ fault. IsRefusedAt c.args.number fault read)) (sym (ap (event_read r) is))
-    (c.take_event.ensures.err r have)
+    let says = line_says c.args.self.now.ledger c.args.self.now.checker r c.subject.result
+    c.len.result c.args.line.now have c.subject.ensures c.len.ensures _
+    (sym c.read_event.ensures ∙ c.in-Some.is) in
+    subst (λ read. IfErr c.take_event.result (λ fault. IsRefusedAt c.args.number fault read))
+    (sym says) (c.take_event.ensures.err r have)

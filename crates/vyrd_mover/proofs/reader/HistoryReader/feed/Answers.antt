@@ -20,11 +20,13 @@ loop-line-init c = λ bytes read. c.take_events-rest.ensures.fed bytes read
 
 pub loop-line-preserved : goal.loop-line-preserved
 loop-line-preserved c = λ bytes read.
+    let piece = c.args.piece.now in
+    let next = c.in-Some.next.now in
     let fed = c.loop-line.invariant bytes read in
-    let line = fed_line c.loop-line.self c.end_line.new.self bytes c.args.piece.now c.loop-line.rest.now c.in-Some.line.now c.in-Some.next.now fed
-    c.in-Some.ensures.1 (c.end_line.ensures _ fed.read) in
-    fed_then c.end_line.new.self c.take_events-rest-in-Some.new.self bytes c.args.piece.now c.in-Some.next.now c.take_events-rest-in-Some.result.now line
-    (c.take_events-rest-in-Some.ensures.fed _ line.read)
+    let line = fed_line c.loop-line.self c.end_line.new.self bytes piece c.loop-line.rest.now
+    c.in-Some.line.now next fed c.in-Some.ensures.1 (c.end_line.ensures _ fed.read) in
+    fed_then c.end_line.new.self c.take_events-rest-in-Some.new.self bytes piece next
+    c.take_events-rest-in-Some.result.now line (c.take_events-rest-in-Some.ensures.fed _ line.read)
 
 pub returns : goal.returns
 returns c = λ bytes read.
