@@ -15,7 +15,7 @@ use vyrd_text::quick::{
     caller_before_space, number_before, read_close, read_commit, read_open, read_return,
     short_before,
 };
-use vyrd_text::{read_call, split_line};
+use vyrd_text::{after, read_call, split_line};
 
 /// The event with this number at the front, and what stands after its line feed.
 #[inline(always)]
@@ -149,9 +149,7 @@ fn front_kind(subject: Subject, text: &[u8]) -> Option<(Kind, &[u8])>
 fn front_call(subject: Subject, text: &[u8]) -> Option<(Kind, &[u8])>
     ensures { IfSome result (λ r. IsKindAtFront subject text.now r.0 r.1.now) }
 {
-    let [b'c', b'a', b'l', b'l', b' ', rest @ ..] = text else {
-        return None;
-    };
+    let rest = after(text, b"call ")?;
     let (line, rest) = split_line(rest)?;
     let (method, args) = read_call(subject, line)?;
     Some((Kind::Call(method, args), rest))

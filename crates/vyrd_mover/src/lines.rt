@@ -244,7 +244,7 @@ fn next_line(
     Ok(false)
 }
 
-/// Takes in the events that lie whole at the front of the text, the first of them in line `first`.
+/// Takes in the events that lie whole at the front of the text, the first of them on line `first`.
 /// The answer is what stands after them, and the number of its line.
 fn take_front<'a>(
     events: &mut Events,
