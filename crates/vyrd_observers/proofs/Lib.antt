@@ -1,3 +1,4 @@
 pub mod SeeingLaws
 pub mod TrailLaws
+pub mod AskerLaws
 pub mod TrailCounts

@@ -1,21 +1,18 @@
 -- How many trails there are, and how many answers they keep.
-use Rattle.std.proofs.Common.{◌≡◌, ℕ, zero, suc, ◌+◌, ◌*◌, ◌≤◌, Bool, true, false, cond, ◌⊎◌, inl, inr, ⊎_elim, List, [], ◌∷◌, length, drop, map, set, get_or, Option, Some, None, slice_get, refl, ap, subst, ◌∙◌, sym, arith, length-drop}
-use Rattle.std.specs.Prelude.{sum_by, sum, unwrap_or, option_map}
-use Rattle.std.proofs.lemmas.List.Sums.{sum_by-cons, sum_by-set, sum-map, count_by-le-length}
+use Rattle.std.proofs.Common.{◌≡◌, ℕ, zero, suc, ◌+◌, ◌*◌, ◌^◌, ◌<◌, ◌≤◌, Bool, true, false, cond, ◌⊎◌, inl, inr, ⊎_elim, List, [], ◌∷◌, length, drop, map, set, Option, Some, None, slice_get, refl, ap, subst, ◌∙◌, sym, arith, length-drop}
+use Rattle.std.specs.Prelude.{sum_by, sum, option_map}
+use Rattle.std.proofs.lemmas.List.Sums.{sum_by-cons, sum-map, count_by-le-length}
 use Rattle.std.proofs.lemmas.List.{length-map, length-set}
-use Rattle.std.proofs.lemmas.Option.{slice_get_within, slice_get-map, unwrap_or-slice_get, same_Some}
+use Rattle.std.proofs.lemmas.Option.{slice_get_within, slice_get-map, same_Some}
 use Rattle.vyrd_base.specs.declared.header.Header.{Header}
+use Rattle.vyrd_base.proofs.HeaderLaws.{few_callers}
 use Rattle.vyrd_base.proofs.ListLaws.{slice_get-set_other}
 use Rattle.vyrd_observers.specs.declared.watch.Watch.{Watch}
-use Rattle.vyrd_observers.specs.Trails.{Asked, seen_from, seen_by, IsOn, AreAsking, KeepsAsked, AreUsed, AreOldExcept, AreInOrder, Closes, asked_count, kept_by, kept_count}
+use Rattle.vyrd_observers.specs.Trails.{Asked, seen_from, seen_by, IsOn, AreAsking, KeepsAsked, AreUsed, AreOldExcept, asked_count, kept_by, kept_count, with_asker}
+use Rattle.vyrd_observers.specs.Order.{AreInOrder, Closes}
 use Rattle.vyrd_observers.specs.Watching.{Seen, KeepsFew, unwatched, open_count, answer_count}
-use Rattle.vyrd_observers.proofs.TrailLaws.{some_some, map_after, on_set, on_kept, used_begun}
-
--- an element gives way to another
-sum_set : {A : Type 0} (f : A → ℕ) (xs : List A) (c : ℕ) (x y : A) → slice_get xs c ≡ Some x → sum_by f (set xs c y) + f x ≡ sum_by f xs + f y
-sum_set f xs c x y here =
-    let is : get_or xs c x ≡ x = sym (unwrap_or-slice_get xs c x) ∙ ap (λ o. unwrap_or o x) here in
-    ap (λ z. sum_by f (set xs c y) + f z) (sym is) ∙ sum_by-set f xs c y x (slice_get_within xs c x here)
+use Rattle.vyrd_observers.proofs.TrailLaws.{some_some, map_after, asking_set, on_set, on_kept, on_recounted, used_begun, used_recounted}
+use Rattle.vyrd_observers.proofs.AskerLaws.{sum_set, count_low, counted_asked, counted_begun, free_begun}
 
 -- Numbers at places in a row, where for each that isn't 0 some watch is on that place and has as much:
 -- together they are at most what all watches have.
@@ -118,7 +115,7 @@ kept_few trails watches used =
         absurd (omega (arith, kept, some, ap length ((used i t there).nothing is)))
 
 -- all in order
-pub keeps_few : (h : Header) (trails : List Asked) (watches : List (Option Watch)) → AreInOrder h trails watches
+pub keeps_few : (h : Header) (reach : ℕ) (trails : List Asked) (watches : List (Option Watch)) → AreInOrder h reach trails watches
     → KeepsFew (record {
       header = h;
       by_caller = map (seen_by trails) watches;
@@ -126,20 +123,23 @@ pub keeps_few : (h : Header) (trails : List Asked) (watches : List (Option Watch
       asked = asked_count trails;
       kept = kept_count trails;
     })
-keeps_few h trails watches so = record {
+keeps_few h reach trails watches so = record {
   few = omega (arith, so.few, so.callers);
   asked = asked_few trails watches so.used;
   kept = kept_few trails watches so.used;
 }
 
-pub order_closed : (h : Header) (caller : ℕ) (old new : List Asked) (watches closed : List (Option Watch)) → Closes caller old new watches closed
-    → AreInOrder h old watches → AreInOrder h new closed
-order_closed h caller old new watches closed so was = record {
+pub order_closed : (h : Header) (caller : ℕ) (old new : List Asked) (watches closed : List (Option Watch)) (far reach : ℕ)
+    → Closes caller old new watches closed reach → AreInOrder h far old watches → AreInOrder h reach new closed
+order_closed h caller old new watches closed far reach so was = record {
   on = so.on;
   asking = so.asking h was.asking;
   used = so.used;
+  counted = so.counted;
   callers = long ∙ was.callers;
   few = omega (arith, so.trails, was.few, long);
+  within = so.within;
+  free = so.free;
 }
   where
     long : length closed ≡ length watches
@@ -195,12 +195,12 @@ still_few n m watches made one few = ⊎_elim
     (λ more. omega (arith, more, one, count_by-le-length (λ (s : Seen). s.is_open) watches))
     made
 
-pub few_begun : (h : Header) (old new : List Asked) (watches : List (Option Watch)) (c : ℕ) (seen : Seen) → AreInOrder h old watches
+pub few_begun : (h : Header) (reach : ℕ) (old new : List Asked) (watches : List (Option Watch)) (c : ℕ) (seen : Seen) → AreInOrder h reach old watches
     → slice_get watches c ≡ Some None → seen.is_open ≡ true
     → ((i : ℕ) (t : Asked) → slice_get old i ≡ Some t → t.is_asked ≡ false → length new ≡ length old)
     → length new ≤ length old + 1
     → length new ≤ length watches
-few_begun h old new watches c seen was closed is_open reused one =
+few_begun h reach old new watches c seen was closed is_open reused one =
     let long : length (set (map (seen_by old) watches) c seen) ≡ length watches
     = length-set (map (seen_by old) watches) c seen ∙ length-map watches (seen_by old) in
     let few : length new ≤ length (set (map (seen_by old) watches) c seen)
@@ -208,18 +208,33 @@ few_begun h old new watches c seen was closed is_open reused one =
     (made_few old new watches c seen closed is_open was.used reused one) one (omega (arith, long, was.few)) in
     omega (arith, few, long)
 
--- an observer begins
-pub order_begun : (h : Header) (old new : List Asked) (watches : List (Option Watch)) (c i since : ℕ) (t : Asked) → AreInOrder h old watches
-    → slice_get watches c ≡ Some None → KeepsAsked old new → AreAsking h new → AreOldExcept old new i → slice_get new i ≡ Some t → t.is_asked ≡ true
-    → since ≡ length t.others → ((u : Asked) → slice_get new i ≡ Some u → (slice_get old i ≡ Some u) ⊎ (u.others ≡ []))
-    → length new ≤ length watches → AreInOrder h new (set watches c (Some (record { trail = i; since = since })))
-order_begun h old new watches c i since t was closed keeps asking only there is_asked at_end begun few = record {
-  on = on_set new watches c own (slice_get_within watches c None closed) (λ w same. subst (IsOn new) (same_Some _ _ same) on)
-      (on_kept old new watches keeps was.on);
-  asking = asking;
-  used = used_begun old new watches c i since t closed was.used only there is_asked at_end begun;
+-- a trail has room for one more to count
+pub few_askers : (h : Header) (reach : ℕ) (old new : List Asked) (watches : List (Option Watch)) (c i : ℕ) (t : Asked) → AreInOrder h reach old watches
+    → slice_get watches c ≡ Some None → KeepsAsked old new → AreOldExcept old new i
+    → ((u : Asked) → slice_get new i ≡ Some u → (slice_get old i ≡ Some u) ⊎ ((u.askers ≡ 0) × (u.others ≡ [])))
+    → slice_get new i ≡ Some t → t.askers + 1 < 2 ^ 32
+few_askers h reach old new watches c i t was closed keeps only begun there =
+    omega (arith, counted_asked old new watches i was.on keeps only begun was.counted i t there, count_low i c watches closed, was.callers, few_callers h)
+
+-- an observer begins, and its trail counts it
+pub order_begun : (h : Header) (reach far : ℕ) (old new : List Asked) (watches : List (Option Watch)) (c i since : ℕ) (t : Asked)
+    → AreInOrder h reach old watches → slice_get watches c ≡ Some None → KeepsAsked old new → AreAsking h new → AreOldExcept old new i
+    → slice_get new i ≡ Some t → t.is_asked ≡ true → since ≡ length t.others
+    → ((u : Asked) → slice_get new i ≡ Some u → (slice_get old i ≡ Some u) ⊎ ((u.askers ≡ 0) × (u.others ≡ [])))
+    → length new ≤ length watches → reach ≤ far → i < far → far ≤ length new
+    → AreInOrder h far (set new i (with_asker t)) (set watches c (Some (record { trail = i; since = since })))
+order_begun h reach far old new watches c i since t was closed keeps asking only there is_asked at_end begun few more before within = record {
+  on = on_recounted new (set watches c own) i (t.askers + 1) t there
+      (on_set new watches c own (slice_get_within watches c None closed) (λ w same. subst (IsOn new) (same_Some _ _ same) on)
+      (on_kept old new watches keeps was.on));
+  asking = asking_set h new i (with_asker t) (slice_get_within new i t there) (λ asked. asking i t there asked) asking;
+  used = used_recounted new (set watches c own) i (t.askers + 1) t there
+      (used_begun old new watches c i since t closed was.used only there is_asked at_end begun);
+  counted = counted_begun new watches c i since t closed there (counted_asked old new watches i was.on keeps only begun was.counted);
   callers = length-set watches c own ∙ was.callers;
-  few = omega (arith, few, length-set watches c own);
+  few = omega (arith, few, length-set watches c own, length-set new i (with_asker t));
+  within = omega (arith, within, length-set new i (with_asker t));
+  free = free_begun reach far old new i (with_asker t) only more before was.free;
 }
   where
     own : Option Watch

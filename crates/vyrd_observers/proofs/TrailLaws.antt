@@ -15,7 +15,8 @@ use Rattle.vyrd_base.proofs.BlockLaws.{by_same}
 use Rattle.vyrd_base.proofs.TestLaws.{same_number, same_of, apart_of, isnt_same}
 use Rattle.vyrd_observers.specs.declared.watch.Watch.{Watch}
 use Rattle.vyrd_base.specs.Entries.{has_method}
-use Rattle.vyrd_observers.specs.Trails.{Asked, with_answer, after_state, seen_from, seen_by, IsOn, AreOn, AreAsking, KeepsAsked, IsTrailOf, IsUsed, AreUsed, OthersAreUsed, AreOldExcept, AreInOrder, StaysOrEnds, StayOrEnd, moved}
+use Rattle.vyrd_observers.specs.Trails.{Asked, with_answer, after_state, seen_from, seen_by, IsOn, AreOn, AreAsking, KeepsAsked, IsTrailOf, IsUsed, AreUsed, OthersAreUsed, AreOldExcept, StaysOrEnds, StayOrEnd, moved}
+use Rattle.vyrd_observers.specs.Order.{AreCounted, AreFreeFrom, AreInOrder}
 use Rattle.vyrd_observers.specs.Watching.{Seen, unwatched, has_answer, SeesAnswer, SeesState}
 use Rattle.vyrd_base.proofs.ChangedLists.{changed_below}
 use Rattle.vyrd_observers.proofs.SeeingLaws.{SeenBelow, knows_already}
@@ -128,15 +129,16 @@ on_set trails watches c o within own on = λ d w here. by_same c d
 pub seen_at_end : (t : Asked) → seen_from (length t.others) (Some t) ≡ record { is_open = true; method = t.method; args = t.args; answers = t.latest ∷ [] }
 seen_at_end t = ap (λ xs. record { is_open = true; method = t.method; args = t.args; answers = t.latest ∷ xs }) (drop-length t.others)
 
--- the same question, which has as many answers or more
+-- the same question, which as many ask, and which has as many answers or more
 pub record SameQuestion (t new : Asked) : Type 0 where
   pub is_asked : new.is_asked ≡ t.is_asked
+  pub askers : new.askers ≡ t.askers
   pub method : new.method ≡ t.method
   pub args : new.args ≡ t.args
   pub grown : length t.others ≤ length new.others
 
 question_stays : (t : Asked) → SameQuestion t t
-question_stays t = record { is_asked = refl; method = refl; args = refl; grown = omega arith }
+question_stays t = record { is_asked = refl; askers = refl; method = refl; args = refl; grown = omega arith }
 
 length-pushed : {A : Type 0} (xs : List A) (y : A) → length (xs ++ y ∷ []) ≡ length xs + 1
 length-pushed [] y = refl
@@ -150,7 +152,13 @@ question_after affects told t = by_touched (t.is_asked && affects t.method t.arg
 
     by_answer : (b : Bool) → SameQuestion t (cond b t (record t { latest = answer; others = t.others ++ t.latest ∷ [] }))
     by_answer true = question_stays t
-    by_answer false = record { is_asked = refl; method = refl; args = refl; grown = omega (arith, length-pushed t.others t.latest) }
+    by_answer false = record {
+      is_asked = refl;
+      askers = refl;
+      method = refl;
+      args = refl;
+      grown = omega (arith, length-pushed t.others t.latest);
+    }
 
     by_touched : (b : Bool) → SameQuestion t (cond b (with_answer answer t) t)
     by_touched true = by_answer (answer == t.latest)
@@ -159,15 +167,17 @@ question_after affects told t = by_touched (t.is_asked && affects t.method t.arg
 -- a trail that is asked has as many answers or more, and one that isn't has none if it had none
 record UsesAsMany (t new : Asked) : Type 0 where
   pub is_asked : new.is_asked ≡ t.is_asked
+  pub askers : new.askers ≡ t.askers
   pub nothing : new.is_asked ≡ false → t.others ≡ [] → new.others ≡ []
   pub grown : length t.others ≤ length new.others
 
 as_many : (t : Asked) → UsesAsMany t t
-as_many t = record { is_asked = refl; nothing = λ not_asked empty. empty; grown = omega arith }
+as_many t = record { is_asked = refl; askers = refl; nothing = λ not_asked empty. empty; grown = omega arith }
 
 as_many_after : (affects : Method → Args → Bool) (told : Method → Args → ℕ) (t : Asked) → UsesAsMany t (after_state affects told t)
 as_many_after affects told t = let same = question_after affects told t in record {
   is_asked = same.is_asked;
+  askers = same.askers;
   nothing = λ not_asked empty.
       ap (λ b. (cond (b && affects t.method t.args) (with_answer (told t.method t.args) t) t).others) (sym same.is_asked ∙ not_asked) ∙ empty;
   grown = same.grown;
@@ -227,6 +237,54 @@ on_without trails watches i t none on = λ c w here. let was = on c w here in re
   is_asked = was.is_asked;
   within = was.within;
 }
+
+-- a trail is changed in nothing except how many observers it counts
+pub seen_recounted : (trails : List Asked) (watches : List (Option Watch)) (i n : ℕ) (t : Asked) → slice_get trails i ≡ Some t
+    → map (seen_by (set trails i (record t { askers = n }))) watches ≡ map (seen_by trails) watches
+seen_recounted trails watches i n t here = map_alike (seen_by (set trails i new)) (seen_by trails) watches (λ c o there. by_watch o)
+  where
+    new : Asked
+    new = record t { askers = n }
+
+    by_watch : (o : Option Watch) → seen_by (set trails i new) o ≡ seen_by trails o
+    by_watch None = refl
+    by_watch (Some w) = by_same i w.trail
+        (λ same. ap (λ k. seen_from w.since (slice_get (set trails i new) k)) (sym same)
+        ∙ ap (seen_from w.since) (slice_get-set_same trails i new (slice_get_within trails i t here))
+        ∙ ap (seen_from w.since) (sym here)
+        ∙ ap (λ k. seen_from w.since (slice_get trails k)) same)
+        (λ other. ap (seen_from w.since) (slice_get-set_other trails i w.trail new (apart_of i w.trail other)))
+
+pub on_recounted : (trails : List Asked) (watches : List (Option Watch)) (i n : ℕ) (t : Asked) → slice_get trails i ≡ Some t → AreOn trails watches
+    → AreOn (set trails i (record t { askers = n })) watches
+on_recounted trails watches i n t here on = λ c w there. let was = on c w there in by_same i w.trail
+    (λ same. let it : t ≡ was.asked = same_Some _ _ (sym here ∙ ap (slice_get trails) same ∙ was.there) in record {
+      asked = new;
+      there = ap (slice_get (set trails i new)) (sym same) ∙ slice_get-set_same trails i new (slice_get_within trails i t here);
+      is_asked = ap (λ u. u.is_asked) it ∙ was.is_asked;
+      within = omega (arith, was.within, ap (λ u. length u.others) it);
+    })
+    (λ other. record {
+      asked = was.asked;
+      there = slice_get-set_other trails i w.trail new (apart_of i w.trail other) ∙ was.there;
+      is_asked = was.is_asked;
+      within = was.within;
+    })
+  where
+    new : Asked
+    new = record t { askers = n }
+
+pub used_recounted : (trails : List Asked) (watches : List (Option Watch)) (i n : ℕ) (t : Asked) → slice_get trails i ≡ Some t → AreUsed trails watches
+    → AreUsed (set trails i (record t { askers = n })) watches
+used_recounted trails watches i n t here used = λ j u there. by_same i j
+    (λ same. let it : new ≡ u = same_Some _ _
+    (sym (slice_get-set_same trails i new (slice_get_within trails i t here)) ∙ ap (slice_get (set trails i new)) same ∙ there) in
+    let was = used j t (ap (slice_get trails) (sym same) ∙ here) in
+    subst (λ v. IsUsed v j watches) it (record { nothing = was.nothing; by = was.by }))
+    (λ other. used j u (sym (slice_get-set_other trails i j new (apart_of i j other)) ∙ there))
+  where
+    new : Asked
+    new = record t { askers = n }
 
 -- the first answers of a trail are dropped, which count for no observer
 abbrev pub Uncounted : ℕ → ℕ → List (Option Watch) → Type 0
@@ -337,7 +395,7 @@ used_without trails watches c w here used = λ i t there other. let was = used i
 }
 
 -- one trail is changed, and is used then
-used_except : (old new : List Asked) (watches : List (Option Watch)) (i : ℕ) → AreOldExcept old new i → OthersAreUsed old watches i
+pub used_except : (old new : List Asked) (watches : List (Option Watch)) (i : ℕ) → AreOldExcept old new i → OthersAreUsed old watches i
     → ((t : Asked) → slice_get new i ≡ Some t → IsUsed t i watches) → AreUsed new watches
 used_except old new watches i only others own = λ j t there. by_same j i
     (λ same. subst (λ k. IsUsed t k watches) (sym same) (own t (ap (slice_get new) (sym same) ∙ there)))
@@ -345,6 +403,11 @@ used_except old new watches i only others own = λ j t there. by_same j i
     (λ was. others j t was (apart_of j i apart))
     (λ same. absurd (apart_of j i apart same))
     (only j t there))
+
+pub others_set : (trails : List Asked) (watches : List (Option Watch)) (i : ℕ) (t : Asked) → OthersAreUsed trails watches i
+    → OthersAreUsed (set trails i t) watches i
+others_set trails watches i t others = λ j u there other.
+    others j u (sym (slice_get-set_other trails i j t (λ same. other (sym same))) ∙ there) other
 
 pub old_except_set : (trails : List Asked) (i : ℕ) (t : Asked) → AreOldExcept trails (set trails i t) i
 old_except_set trails i t = λ j u there. by_same j i
@@ -408,19 +471,19 @@ used_still trails watches i n c here low on others = used_except trails trails w
 -- an observer begins on a trail that is asked already, or that keeps nothing before the latest answer
 pub used_begun : (old new : List Asked) (watches : List (Option Watch)) (c i since : ℕ) (t : Asked) → slice_get watches c ≡ Some None
     → AreUsed old watches → AreOldExcept old new i → slice_get new i ≡ Some t → t.is_asked ≡ true → since ≡ length t.others
-    → ((u : Asked) → slice_get new i ≡ Some u → (slice_get old i ≡ Some u) ⊎ (u.others ≡ []))
+    → ((u : Asked) → slice_get new i ≡ Some u → (slice_get old i ≡ Some u) ⊎ ((u.askers ≡ 0) × (u.others ≡ [])))
     → AreUsed new (set watches c (Some (record { trail = i; since = since })))
 used_begun old new watches c i since t closed used only there is_asked at_end begun =
     used_except old new (set watches c own) i only (λ j u was other. stays j u (used j u was)) (λ u here. ⊎_elim
     (λ was. stays i u (used i u was))
-    (λ empty. let it : t ≡ u = same_Some _ _ (sym there ∙ here) in record {
-      nothing = λ not_asked. empty;
+    (λ fresh. let it : t ≡ u = same_Some _ _ (sym there ∙ here) in record {
+      nothing = λ not_asked. fresh.1;
       by = λ asked. (
         c,
         record { trail = i; since = since },
         slice_get-set_same watches c own (slice_get_within watches c None closed),
         refl,
-        omega (arith, at_end, ap (λ v. length v.others) it, ap length empty),
+        omega (arith, at_end, ap (λ v. length v.others) it, ap length fresh.1),
       );
     })
     (begun u here))
@@ -450,19 +513,61 @@ used_after affects told n trails watches used = λ i u there.
       by = λ is_asked. let by = one.by (sym was.2.is_asked ∙ is_asked) in (by.0, by.1, by.2, by.3, omega (arith, by.4, was.2.grown));
     }
 
-pub order_after : (h : Header) (affects : Method → Args → Bool) (told : Method → Args → ℕ) (n : ℕ) (trails : List Asked) (watches : List (Option Watch))
-    → AreInOrder h trails watches → AreInOrder h (changed_below (after_state affects told) n trails) watches
-order_after h affects told n trails watches so = record {
+counted_after : (affects : Method → Args → Bool) (told : Method → Args → ℕ) (n : ℕ) (trails : List Asked) (watches : List (Option Watch))
+    → AreCounted trails watches → AreCounted (changed_below (after_state affects told) n trails) watches
+counted_after affects told n trails watches counted = λ i u there.
+    let was = changed_from UsesAsMany (after_state affects told) as_many (as_many_after affects told) n trails i u there in
+    was.2.askers ∙ counted i was.0 was.1
+
+free_after : (affects : Method → Args → Bool) (told : Method → Args → ℕ) (n reach : ℕ) (trails : List Asked) → AreFreeFrom reach trails
+    → AreFreeFrom reach (changed_below (after_state affects told) n trails)
+free_after affects told n reach trails free = λ i u high there.
+    let was = changed_from UsesAsMany (after_state affects told) as_many (as_many_after affects told) n trails i u there in
+    was.2.is_asked ∙ free i was.0 high was.1
+
+pub order_after : (h : Header) (reach : ℕ) (affects : Method → Args → Bool) (told : Method → Args → ℕ) (n : ℕ) (trails : List Asked)
+    (watches : List (Option Watch)) → AreInOrder h reach trails watches → AreInOrder h reach (changed_below (after_state affects told) n trails) watches
+order_after h reach affects told n trails watches so = record {
   on = on_after affects told n trails watches so.on;
   asking = asking_after h affects told n trails so.asking;
   used = used_after affects told n trails watches so.used;
+  counted = counted_after affects told n trails watches so.counted;
   callers = so.callers;
   few = omega (arith, so.few, length-changed (after_state affects told) n trails);
+  within = omega (arith, so.within, length-changed (after_state affects told) n trails);
+  free = free_after affects told n reach trails so.free;
 }
+
+-- where no element from a place on would change, those before it are all that do
+pub changed_enough : {A : Type 0} (f : A → A) (n : ℕ) (xs : List A) → ((i : ℕ) (x : A) → n ≤ i → slice_get xs i ≡ Some x → f x ≡ x)
+    → changed_below f n xs ≡ map f xs
+changed_enough f zero [] same = refl
+changed_enough f (suc n) [] same = refl
+changed_enough f zero (x ∷ xs) same =
+    let first : x ≡ f x = sym (same 0 x (omega arith) refl) in
+    let rest : xs ≡ map f xs = changed_enough f zero xs (λ i y high there. same (suc i) y (omega arith) there) in
+    (λ j. first j ∷ rest j)
+changed_enough f (suc n) (x ∷ xs) same =
+    ap (λ ys. f x ∷ ys) (changed_enough f n xs (λ i y high there. same (suc i) y (omega (arith, high)) there))
+
+-- what isn't asked has no next state's answer
+pub free_stays : (affects : Method → Args → Bool) (told : Method → Args → ℕ) (t : Asked) → t.is_asked ≡ false → after_state affects told t ≡ t
+free_stays affects told t free = ap (λ b. cond (b && affects t.method t.args) (with_answer (told t.method t.args) t) t) free
 
 -- a trail stays as it is, or ends
 pub stay_all : (trails : List Asked) → StayOrEnd trails trails
 stay_all trails = λ i t there. (t, there, λ is_asked. (is_asked, refl, refl, refl))
+
+pub stay_then : (old now new : List Asked) → StayOrEnd old now → StayOrEnd now new → StayOrEnd old new
+stay_then old now new first second = λ i t there.
+    let one = first i t there in
+    let two = second i one.0 one.1 in (
+      two.0,
+      two.1,
+      λ is_asked. let later = two.2 is_asked in
+          let sooner = one.2 later.0 in
+          (sooner.0, later.1 ∙ sooner.1, later.2 ∙ sooner.2, later.3 ∙ sooner.3),
+    )
 
 pub stay_set : (trails : List Asked) (i : ℕ) (t new : Asked) → slice_get trails i ≡ Some t → StaysOrEnds t new → StayOrEnd trails (set trails i new)
 stay_set trails i t new here own = λ j u there. by_same i j

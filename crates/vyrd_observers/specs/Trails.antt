@@ -1,6 +1,6 @@
 -- What open observers ask, and how they share what the states since their calls answer.
 use Rattle.std.specs.Prelude.{◌≡◌, ◌≢◌, ◌≤◌, ◌+◌, ◌-◌, ◌*◌, ◌⊎◌, ℕ, Bool, true, false, cond, ◌&&◌}
-use Rattle.std.specs.Prelude.{◌==◌, List, [], ◌∷◌, ◌++◌, length, drop, map, set, Option, Some, None}
+use Rattle.std.specs.Prelude.{◌==◌, List, [], ◌∷◌, ◌++◌, length, drop, Option, Some, None}
 use Rattle.std.specs.Prelude.{slice_get, count_by, sum_by}
 use Rattle.vyrd_base.specs.declared.header.Header.{Header}
 use Rattle.vyrd_base.specs.declared.subject.Method.{Method}
@@ -10,10 +10,11 @@ use Rattle.vyrd_observers.specs.declared.watch.Watch.{Watch}
 use Rattle.vyrd_base.specs.Entries.{has_method}
 use Rattle.vyrd_observers.specs.Watching.{Seen, unwatched}
 
--- whether some open observer may ask it, what was called, and what the states since then answer:
--- the last of them, and others before it
+-- whether some open observer may ask it, how many do, what was called, and what the states since
+-- then answer: the last of them, and others before it
 pub record Asked : Type 0 where
   pub is_asked : Bool
+  pub askers : ℕ
   pub method : Method
   pub args : Args
   pub latest : ℕ
@@ -29,6 +30,16 @@ with_answer answer t =
 abbrev pub after_state : (Method → Args → Bool) → (Method → Args → ℕ) → Asked → Asked
 after_state affects told t = cond (t.is_asked && affects t.method t.args)
     (with_answer (told t.method t.args) t) t
+
+-- the same, once one more observer asks it
+abbrev pub with_asker : Asked → Asked
+with_asker t = record t { askers = t.askers + 1 }
+
+-- The same, once an observer that asked it has returned. It is free if that was the only one.
+abbrev pub without_asker : Asked → Asked
+without_asker t = cond (t.askers == 1)
+    (record t { is_asked = false; askers = t.askers - 1; others = [] })
+    (record t { askers = t.askers - 1 })
 
 -- what an observer has seen for which the answers count from this one on
 abbrev pub seen_from : ℕ → Option Asked → Seen
@@ -116,28 +127,6 @@ StayOrEnd old new =
 abbrev pub AreOldExcept : List Asked → List Asked → ℕ → Type 0
 AreOldExcept old new trail =
     (i : ℕ) (t : Asked) → slice_get new i ≡ Some t → (slice_get old i ≡ Some t) ⊎ (i ≡ trail)
-
--- A caller's observer is closed. The others have what they had, and trails are given up that nobody
--- asks any more.
-pub record Closes (caller : ℕ) (old new : List Asked)
-    (watches closed : List (Option Watch)) : Type 0 where
-  pub seen : map (seen_by new) closed ≡ set (map (seen_by old) watches) caller unwatched
-  pub none : slice_get closed caller ≡ Some None
-  pub on : AreOn new closed
-  pub used : AreUsed new closed
-  pub asking : (h : Header) → AreAsking h old → AreAsking h new
-  pub stay : StayOrEnd old new
-  pub trails : length new ≡ length old
-
--- What is known of all trails and all watches: each open observer is on a trail, what is asked may
--- return without a commit, each trail is used, and there are no more trails than callers.
-pub record AreInOrder (h : Header) (trails : List Asked)
-    (watches : List (Option Watch)) : Type 0 where
-  pub on : AreOn trails watches
-  pub asking : AreAsking h trails
-  pub used : AreUsed trails watches
-  pub callers : length watches ≡ h.callers
-  pub few : length trails ≤ length watches
 
 -- an observer that counts the answers of a trail, once the first n of them are dropped
 abbrev pub moved : ℕ → ℕ → Option Watch → Option Watch

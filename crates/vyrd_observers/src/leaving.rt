@@ -4,10 +4,13 @@ ghost use Rattle.std.specs.Prelude.{◌≡◌, ◌≤◌, ◌<◌, ◌⊎◌, �
 ghost use Rattle.std.specs.Prelude.{None, slice_get};
 ghost use Rattle.vyrd_base.specs.declared.header.Header.{Header};
 ghost use Rattle.vyrd_observers.specs.declared.watch.Watch.{Watch};
+ghost use Rattle.vyrd_observers.specs.Order.{AreCounted, AreCountedBefore, AreFreeFrom, SomeAsks};
+ghost use Rattle.vyrd_observers.specs.Order.{Closes};
 ghost use Rattle.vyrd_observers.specs.Trails.{Asked, AreOn, AreAsking, AreUsed, OthersAreUsed};
-ghost use Rattle.vyrd_observers.specs.Trails.{AreOldExcept, StayOrEnd, Closes, moved, seen_by};
+ghost use Rattle.vyrd_observers.specs.Trails.{AreOldExcept, StayOrEnd, moved, seen_by};
 
 use crate::trail::Trail;
+use crate::trails::reach_of;
 use crate::watch::Watch;
 
 /// The earlier of a place in a trail and the one from which an observer counts, if it asks that
@@ -74,6 +77,8 @@ fn forget(trails: &mut [Trail], watches: &mut Vec<Option<Watch>>, trail: usize, 
         ≡ map (seen_by trails.old) watches.old.items }
     ensures on { AreOn trails.new watches.new.items }
     ensures asking { (h : Header) → AreAsking h trails.old → AreAsking h trails.new }
+    ensures counted { AreCounted trails.old watches.old.items
+        → AreCounted trails.new watches.new.items }
     ensures moved { watches.new.items ≡ map (moved trail n) watches.old.items }
     ensures only { AreOldExcept trails.old trails.new trail }
     ensures stay { StayOrEnd trails.old trails.new }
@@ -82,11 +87,11 @@ fn forget(trails: &mut [Trail], watches: &mut Vec<Option<Watch>>, trail: usize, 
     move_all(watches, trail, n);
 }
 
-/// An observer that asked this trail has returned. The trail is free if no other asks it. Otherwise
-/// the answers that count for no other are dropped if they are at least half of all, so that this
-/// takes constant time for each answer.
-fn let_go(trails: &mut [Trail], watches: &mut Vec<Option<Watch>>, trail: usize)
+/// The answers of a trail that count for no open observer are dropped if they are at least half of
+/// those before the latest, so that this takes constant time for each answer.
+fn forget_some(trails: &mut [Trail], watches: &mut Vec<Option<Watch>>, trail: usize)
     requires trail { trail < length trails.old }
+    requires some { SomeAsks trail watches.old.items }
     requires on { AreOn trails.old watches.old.items }
     requires used { OthersAreUsed trails.old watches.old.items trail }
     ensures seen { map (seen_by trails.new) watches.new.items
@@ -94,30 +99,63 @@ fn let_go(trails: &mut [Trail], watches: &mut Vec<Option<Watch>>, trail: usize)
     ensures on { AreOn trails.new watches.new.items }
     ensures asking { (h : Header) → AreAsking h trails.old → AreAsking h trails.new }
     ensures used { AreUsed trails.new watches.new.items }
+    ensures counted { AreCounted trails.old watches.old.items
+        → AreCounted trails.new watches.new.items }
     ensures stay { StayOrEnd trails.old trails.new }
     ensures closed { (c : ℕ) → slice_get watches.old.items c ≡ Some None
         → slice_get watches.new.items c ≡ Some None }
 {
-    match first_that_counts(watches, trail) {
-        None => trails[trail].end(),
-        Some(n) => {
-            if trails[trail].len() / 2 < n {
-                forget(trails, watches, trail, n);
-            }
+    if let Some(n) = first_that_counts(watches, trail) {
+        if trails[trail].len() / 2 < n {
+            forget(trails, watches, trail, n);
         }
     }
 }
 
-/// A caller has no open observer any more. The trail that it asked is free if no other asks it.
+/// An observer that asked this trail has returned. The trail is free if no other asks it. Otherwise
+/// those of its answers that count for no other may be dropped.
+fn let_go(trails: &mut [Trail], watches: &mut Vec<Option<Watch>>, trail: usize)
+    requires trail { trail < length trails.old }
+    requires on { AreOn trails.old watches.old.items }
+    requires used { OthersAreUsed trails.old watches.old.items trail }
+    requires counted { AreCountedBefore trail trails.old watches.old.items }
+    ensures seen { map (seen_by trails.new) watches.new.items
+        ≡ map (seen_by trails.old) watches.old.items }
+    ensures on { AreOn trails.new watches.new.items }
+    ensures asking { (h : Header) → AreAsking h trails.old → AreAsking h trails.new }
+    ensures used { AreUsed trails.new watches.new.items }
+    ensures counted { AreCounted trails.new watches.new.items }
+    ensures stay { StayOrEnd trails.old trails.new }
+    ensures closed { (c : ℕ) → slice_get watches.old.items c ≡ Some None
+        → slice_get watches.new.items c ≡ Some None }
+{
+    trails[trail].leave();
+    if trails[trail].len() > 0 {
+        forget_some(trails, watches, trail);
+    }
+}
+
+/// A caller has no open observer any more. The trail that it asked is free if no other asks it. From
+/// the reach on no trail is asked, as before.
 #[inline]
-pub(crate) fn close(trails: &mut Vec<Trail>, watches: &mut Vec<Option<Watch>>, caller: usize)
+pub(crate) fn close(
+    trails: &mut Vec<Trail>,
+    watches: &mut Vec<Option<Watch>>,
+    reach: &mut usize,
+    caller: usize,
+)
     requires caller { caller < length watches.old.items }
     requires on { AreOn trails.old.items watches.old.items }
     requires used { AreUsed trails.old.items watches.old.items }
-    ensures { Closes caller trails.old.items trails.new.items watches.old.items watches.new.items }
+    requires counted { AreCounted trails.old.items watches.old.items }
+    requires within { reach.old ≤ length trails.old.items }
+    requires free { AreFreeFrom reach.old trails.old.items }
+    ensures { Closes caller trails.old.items trails.new.items watches.old.items watches.new.items
+        reach.new }
 {
     if let Some(watch) = watches[caller] {
         watches[caller] = None;
         let_go(trails, watches, watch.trail);
+        *reach = reach_of(trails, *reach);
     }
 }

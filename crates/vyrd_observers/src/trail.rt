@@ -1,9 +1,10 @@
 //! A question that observers ask.
 
-ghost use Rattle.std.specs.Prelude.{◌≡◌, ◌≤◌, ◌<◌, ◌∷◌, ◌==◌, ◌&&◌, [], false, true, length, drop};
+ghost use Rattle.std.specs.Prelude.{◌≡◌, ◌≤◌, ◌<◌, ◌+◌, ◌^◌, ◌∷◌, ◌==◌, ◌&&◌, [], false, true};
+ghost use Rattle.std.specs.Prelude.{length, drop};
 ghost use Rattle.std.specs.Prelude.{OnOk, OnErr};
 ghost use Rattle.std.specs.List.{list_any};
-ghost use Rattle.vyrd_observers.specs.Trails.{IsTrailOf, with_answer};
+ghost use Rattle.vyrd_observers.specs.Trails.{IsTrailOf, with_answer, with_asker, without_asker};
 ghost use Rattle.vyrd_observers.specs.Watching.{has_answer};
 
 use std::alloc::{AllocError, Global};
@@ -15,6 +16,8 @@ use vyrd_base::{Args, Method};
 #[derive(Drop)]
 pub(crate) struct Trail {
     is_asked: bool,
+    /// How many open observers ask it.
+    askers: u32,
     method: Method,
     args: Args,
     /// What the last state answers.
@@ -30,6 +33,7 @@ impl Model for Trail {
 
     ghost view = { λ t. record {
       is_asked = t.is_asked;
+      askers = t.askers;
       method = t.method;
       args = t.args;
       latest = t.latest;
@@ -41,10 +45,12 @@ impl Trail {
     /// No question yet.
     pub fn new(alloc: Global) -> Trail
         ensures free { result.is_asked ≡ false }
+        ensures nobody { result.askers ≡ 0 }
         ensures nothing { result.others ≡ [] }
     {
         Trail {
             is_asked: false,
+            askers: 0,
             method: Method::some(),
             args: Args { a: 0, b: 0, c: 0 },
             latest: 0,
@@ -52,10 +58,11 @@ impl Trail {
         }
     }
 
-    /// It is asked for the first time, in a state that answers this.
+    /// It is this question from now on, which nobody asks yet, and the last state answers this.
     pub fn begin(&mut self, method: Method, args: Args, answer: u64)
         ensures { self.new ≡ record {
           is_asked = true;
+          askers = 0;
           method = method;
           args = args;
           latest = answer;
@@ -63,19 +70,31 @@ impl Trail {
         } }
     {
         self.is_asked = true;
+        self.askers = 0;
         self.method = method;
         self.args = args;
         self.latest = answer;
         self.others.clear();
     }
 
-    /// The last observer that asked it has returned.
-    pub fn end(&mut self)
-        ensures free { self.new.is_asked ≡ false }
-        ensures nothing { self.new.others ≡ [] }
+    /// One more observer asks it.
+    pub fn join(&mut self)
+        requires { self.old.askers + 1 < 2 ^ 32 }
+        ensures { self.new ≡ with_asker self.old }
     {
-        self.is_asked = false;
-        self.others.clear();
+        self.askers += 1;
+    }
+
+    /// An observer that asked it has returned. It is free if that was the only one.
+    pub fn leave(&mut self)
+        requires { 0 < self.old.askers }
+        ensures { self.new ≡ without_asker self.old }
+    {
+        self.askers -= 1;
+        if self.askers == 0 {
+            self.is_asked = false;
+            self.others.clear();
+        }
     }
 
     /// Whether an open observer may ask it.
@@ -90,7 +109,7 @@ impl Trail {
         ensures is { result ≡ true → IsTrailOf method args answer self.now }
         ensures all { IsTrailOf method args answer self.now → result ≡ true }
     {
-        self.is_asked && self.method == method && self.args == args && self.latest == answer
+        self.args == args && self.is_asked && self.method == method && self.latest == answer
     }
 
     /// How many answers stand before the latest.

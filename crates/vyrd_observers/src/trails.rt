@@ -8,7 +8,8 @@ ghost use Rattle.vyrd_base.specs.declared.header.Header.{Header};
 ghost use Rattle.vyrd_base.specs.Subjects.{must_commit};
 ghost use Rattle.vyrd_observers.specs.declared.watch.Watch.{Watch};
 ghost use Rattle.vyrd_base.specs.Entries.{has_method};
-ghost use Rattle.vyrd_observers.specs.Trails.{Asked, IsTrailOf, AreAsking, AreInOrder, KeepsAsked};
+ghost use Rattle.vyrd_observers.specs.Order.{AreFreeFrom, AreInOrder};
+ghost use Rattle.vyrd_observers.specs.Trails.{Asked, IsTrailOf, AreAsking, KeepsAsked};
 ghost use Rattle.vyrd_observers.specs.Trails.{AreOldExcept, after_state};
 
 use crate::trail::Trail;
@@ -16,15 +17,18 @@ use std::alloc::{AllocError, Global};
 use vyrd_base::{Args, Method};
 use vyrd_spec::Spec;
 
-/// The trail of a question that the last state answers in this way, if it is asked.
-fn find(trails: &[Trail], method: Method, args: Args, answer: u64) -> Option<usize>
+/// The trail of a question that the last state answers in this way, if it is asked. From the reach
+/// on no trail is.
+fn find(trails: &[Trail], reach: usize, method: Method, args: Args, answer: u64) -> Option<usize>
+    requires within { reach ≤ length trails.now }
+    requires free { AreFreeFrom reach trails.now }
     ensures found { IfSome result
         (λ i. (t : Asked) × (slice_get trails.now i ≡ Some t) × IsTrailOf method args answer t) }
     ensures none { (i : ℕ) (t : Asked) → slice_get trails.now i ≡ Some t
         → IsTrailOf method args answer t
         → IsSome result }
 {
-    for i in 0..trails.len() {
+    for i in 0..reach {
         if trails[i].is(method, args, answer) {
             return Some(i);
         }
@@ -58,6 +62,7 @@ fn free(alloc: Global, trails: &mut Vec<Trail>) -> Result<usize, AllocError>
         → t.is_asked ≡ false
         → trails.new.items ≡ trails.old.items }
     ensures one { length trails.new.items ≤ length trails.old.items + 1 }
+    ensures no_fewer { length trails.old.items ≤ length trails.new.items }
     ensures unchanged { OnErr result (trails.new.items ≡ trails.old.items) }
 {
     if let Some(i) = find_free(trails) {
@@ -71,14 +76,17 @@ fn free(alloc: Global, trails: &mut Vec<Trail>) -> Result<usize, AllocError>
 /// An observer asks a question, in a state that answers this. It gives its trail, whose latest
 /// answer is this. All that are asked have the last state's answer, so if the question is asked
 /// already, its trail has this answer. Then it is shared, and no trail changes. Otherwise a free
-/// trail is taken, and one more is made only if none is free.
+/// trail is taken, which nobody asks yet, and one more is made only if none is free.
 pub(crate) fn ask(
     alloc: Global,
     trails: &mut Vec<Trail>,
+    reach: usize,
     method: Method,
     args: Args,
     answer: u64,
 ) -> Result<usize, AllocError>
+    requires within { reach ≤ length trails.old.items }
+    requires free { AreFreeFrom reach trails.old.items }
     ensures asked { IfOk result (λ i. (t : Asked) × (slice_get trails.new.items i ≡ Some t)
         × IsTrailOf method args answer t) }
     ensures kept { KeepsAsked trails.old.items trails.new.items }
@@ -90,14 +98,15 @@ pub(crate) fn ask(
         → IsOk result × (trails.new.items ≡ trails.old.items) }
     ensures only { IfOk result (λ i. (AreOldExcept trails.old.items trails.new.items i)
         × ((t : Asked) → slice_get trails.new.items i ≡ Some t
-        → (slice_get trails.old.items i ≡ Some t) ⊎ (t.others ≡ []))) }
+        → (slice_get trails.old.items i ≡ Some t) ⊎ ((t.askers ≡ 0) × (t.others ≡ [])))) }
     ensures reused { (i : ℕ) (t : Asked) → slice_get trails.old.items i ≡ Some t
         → t.is_asked ≡ false
         → length trails.new.items ≡ length trails.old.items }
     ensures one { length trails.new.items ≤ length trails.old.items + 1 }
+    ensures no_fewer { length trails.old.items ≤ length trails.new.items }
     ensures unchanged { OnErr result (trails.new.items ≡ trails.old.items) }
 {
-    if let Some(i) = find(trails, method, args, answer) {
+    if let Some(i) = find(trails, reach, method, args, answer) {
         return Ok(i);
     }
     let i = free(alloc, trails)?;
@@ -123,8 +132,30 @@ fn see<S: Spec>(trail: &mut Trail, spec: &S) -> Result<(), AllocError>
     Ok(())
 }
 
-/// All questions that are asked get the answer of the specification's state too.
-pub(crate) fn see_all<S: Spec>(trails: &mut Vec<Trail>, spec: &S) -> Result<(), AllocError>
+/// The place behind the last trail that is asked, if none is from this one on.
+pub(crate) fn reach_of(trails: &[Trail], reach: usize) -> usize
+    requires within { reach ≤ length trails.now }
+    requires free { AreFreeFrom reach trails.now }
+    ensures within { result ≤ reach }
+    ensures free { AreFreeFrom result trails.now }
+{
+    for i in (0..reach).rev() {
+        if trails[i].is_asked() {
+            return i + 1;
+        }
+    }
+    0
+}
+
+/// All questions that are asked get the answer of the specification's state too. From the reach on
+/// no trail is asked.
+pub(crate) fn see_all<S: Spec>(
+    trails: &mut Vec<Trail>,
+    reach: usize,
+    spec: &S,
+) -> Result<(), AllocError>
+    requires within { reach ≤ length trails.old.items }
+    requires free { AreFreeFrom reach trails.old.items }
     requires asking { AreAsking (rules_by (S.charter spec.now)).header trails.old.items }
     ensures len { length trails.new.items ≡ length trails.old.items }
     ensures saw { OnOk result
@@ -133,10 +164,10 @@ pub(crate) fn see_all<S: Spec>(trails: &mut Vec<Trail>, spec: &S) -> Result<(), 
         (after_state (S.affects spec.now)
         ((rules_by (S.charter spec.now)).answer (S.state spec.now))) trails.old.items) }
     ensures order { (h : Header) (watches : List (Option Watch))
-        → AreInOrder h trails.old.items watches
-        → AreInOrder h trails.new.items watches }
+        → AreInOrder h reach trails.old.items watches
+        → AreInOrder h reach trails.new.items watches }
 {
-    for i in 0..trails.len() {
+    for i in 0..reach {
         see(&mut trails[i], spec)?;
     }
     Ok(())

@@ -29,11 +29,14 @@ pub struct Watches {
     header: Header,
     trails: Vec<Trail>,
     by_caller: Vec<Option<Watch>>,
+    /// From this place on no trail is asked.
+    reach: usize,
 }
 
 impl Model for Watches {
     ghost use Rattle.std.specs.Prelude.{map, length};
-    ghost use Rattle.vyrd_observers.specs.Trails.{AreInOrder, seen_by, asked_count, kept_count};
+    ghost use Rattle.vyrd_observers.specs.Order.{AreInOrder};
+    ghost use Rattle.vyrd_observers.specs.Trails.{seen_by, asked_count, kept_count};
     ghost use Rattle.vyrd_observers.specs.Watching.{Watched};
 
     ghost Value = { Watched };
@@ -47,7 +50,7 @@ impl Model for Watches {
           kept = kept_count w.trails.items;
         } };
 
-    ghost invariant = { λ w. AreInOrder w.header w.trails.items w.by_caller.items };
+    ghost invariant = { λ w. AreInOrder w.header w.reach w.trails.items w.by_caller.items };
 }
 
 impl Watches {
@@ -65,6 +68,7 @@ impl Watches {
             header,
             trails: Vec::new(alloc),
             by_caller: no_watches(alloc, header.callers() as usize)?,
+            reach: 0,
         })
     }
 
@@ -96,17 +100,32 @@ impl Watches {
             → self.new.trails ≡ self.old.trails }
         ensures keeps_few { KeepsFew self.new }
     {
-        close(&mut self.trails, &mut self.by_caller, caller as usize);
-        let trail = ask(self.alloc, &mut self.trails, method, args, answer)?;
+        close(
+            &mut self.trails,
+            &mut self.by_caller,
+            &mut self.reach,
+            caller as usize,
+        );
+        let trail = ask(
+            self.alloc,
+            &mut self.trails,
+            self.reach,
+            method,
+            args,
+            answer,
+        )?;
         self.by_caller[caller as usize] = Some(Watch {
             trail,
             since: self.trails[trail].len(),
         });
+        self.trails[trail].join();
+        self.reach = self.reach.max(trail + 1);
         Ok(())
     }
 
     /// An observer returns. It says whether some state since its call answers the reply. It takes
-    /// time in proportion to the callers and to the answers of its trail.
+    /// time in proportion to the trails and to the answers of its trail, and to the callers if
+    /// another open observer is on that trail and it has more answers than one.
     pub fn end(&mut self, caller: u32, reply: u64) -> bool
         requires caller { caller < length self.old.by_caller }
         ensures answered { (seen : Seen) → slice_get self.old.by_caller caller ≡ Some seen
@@ -120,7 +139,12 @@ impl Watches {
         match self.by_caller[caller as usize] {
             Some(watch) => {
                 let answered = self.trails[watch.trail].has_answer(watch.since, reply);
-                close(&mut self.trails, &mut self.by_caller, caller as usize);
+                close(
+                    &mut self.trails,
+                    &mut self.by_caller,
+                    &mut self.reach,
+                    caller as usize,
+                );
                 answered
             }
             None => false,
@@ -128,8 +152,8 @@ impl Watches {
     }
 
     /// A caller has no open observer any more: its execution has committed, and is judged by that
-    /// in place of its reply. It takes constant time if the caller has none, and otherwise time in
-    /// proportion to the callers and to the answers of its trail.
+    /// in place of its reply. It takes constant time if the caller has none, and otherwise as much
+    /// as `end`.
     #[inline]
     pub fn close(&mut self, caller: u32)
         requires caller { caller < length self.old.by_caller }
@@ -139,11 +163,17 @@ impl Watches {
         ensures trails { self.new.trails ≡ self.old.trails }
         ensures keeps_few { KeepsFew self.new }
     {
-        close(&mut self.trails, &mut self.by_caller, caller as usize);
+        close(
+            &mut self.trails,
+            &mut self.by_caller,
+            &mut self.reach,
+            caller as usize,
+        );
     }
 
     /// Every open observer sees the specification's state too. It is asked only what its last step
-    /// can have changed. It takes time in proportion to the trails.
+    /// can have changed. It takes time in proportion to the trails at most: those behind the last
+    /// one that is asked aren't looked at, so it takes constant time if no observer is open.
     pub fn see_all<S: Spec>(&mut self, spec: &S) -> Result<(), AllocError>
         requires header { (rules_by (S.charter spec.now)).header ≡ self.old.header }
         requires current { (c : ℕ) (seen : Seen) → slice_get self.old.by_caller c ≡ Some seen
@@ -163,7 +193,7 @@ impl Watches {
         ensures trails { self.new.trails ≡ self.old.trails }
         ensures keeps_few { KeepsFew self.new }
     {
-        see_all(&mut self.trails, spec)?;
+        see_all(&mut self.trails, self.reach, spec)?;
         Ok(())
     }
 }

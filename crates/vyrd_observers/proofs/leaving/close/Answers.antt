@@ -1,10 +1,12 @@
-use Rattle.std.proofs.Common.{◌<◌, List, Some, None, length, set, drop, refl, subst, ap, sym, ◌∙◌}
+use Rattle.std.proofs.Common.{◌<◌, List, Some, None, length, set, drop, refl, subst, ap, sym, ◌∙◌, arith}
 use Rattle.std.proofs.lemmas.List.{map-set}
 use Rattle.std.proofs.lemmas.Option.{slice_get_within, none-some}
 use Rattle.vyrd_base.proofs.ChangedLists.{written_back}
 use Rattle.vyrd_base.proofs.ListLaws.{slice_get-is, slice_get-set_same, is_none}
-use Rattle.vyrd_observers.specs.Trails.{Asked, AreOn, OthersAreUsed, Closes, seen_by}
+use Rattle.vyrd_observers.specs.Trails.{Asked, AreOn, OthersAreUsed, seen_by}
+use Rattle.vyrd_observers.specs.Order.{AreCountedBefore, AreFreeFrom, Closes}
 use Rattle.vyrd_observers.proofs.TrailLaws.{on_set, used_without, stay_all, closed_stays}
+use Rattle.vyrd_observers.proofs.AskerLaws.{counted_without, free_closed}
 use Rattle.vyrd_observers.proofs.leaving.close.Goals as goal
 
 pub let_go-requires-clause-trail : goal.let_go-requires-clause-trail
@@ -26,20 +28,39 @@ let_go-requires-clause-used c =
     subst (λ (ts : List Asked). OthersAreUsed ts (set watches c.args.caller None) c.in-Some.watch.trail) (sym c.deref_mut.ensures.value)
     (used_without c.args.trails.now.items watches c.args.caller c.in-Some.watch here c.requires.used)
 
+pub let_go-requires-clause-counted : goal.let_go-requires-clause-counted
+let_go-requires-clause-counted c =
+    let watches = c.args.watches.now.items in
+    let here = slice_get-is watches c.args.caller c.index.result.now c.requires.caller c.index.ensures ∙ ap Some c.in-Some.is in
+    subst (λ (ts : List Asked). AreCountedBefore c.in-Some.watch.trail ts (set watches c.args.caller None)) (sym c.deref_mut.ensures.value)
+    (counted_without c.args.trails.now.items watches c.args.caller c.in-Some.watch here c.requires.counted)
+
+pub reach_of-requires-clause-free : goal.reach_of-requires-clause-free
+reach_of-requires-clause-free c =
+    let back = written_back c.args.trails.now.len c.let_go.new.trails (drop (length c.let_go.new.trails) c.args.trails.now.items)
+    (c.let_go.auto.trails ∙ c.deref_mut.ensures.len) in
+    subst (AreFreeFrom c.args.reach.now) (sym (c.deref.ensures.value ∙ back))
+    (free_closed c.args.reach.now c.deref_mut.result.now c.let_go.new.trails c.let_go.ensures.stay c.let_go.auto.trails
+    (subst (AreFreeFrom c.args.reach.now) (sym c.deref_mut.ensures.value) c.requires.free))
+
 pub returns-in-Some : goal.returns-in-Some
 returns-in-Some c =
     let watches = c.args.watches.now.items in
     let back = written_back c.args.trails.now.len c.let_go.new.trails (drop (length c.let_go.new.trails) c.args.trails.now.items)
     (c.let_go.auto.trails ∙ c.deref_mut.ensures.len) in
-    subst (λ (ts : List Asked). Closes c.args.caller c.args.trails.now.items ts watches c.let_go.new.watches.items) (sym back)
-    (subst (λ (ts : List Asked). Closes c.args.caller ts c.let_go.new.trails watches c.let_go.new.watches.items) c.deref_mut.ensures.value (record {
+    subst (λ (ts : List Asked). Closes c.args.caller c.args.trails.now.items ts watches c.let_go.new.watches.items c.reach_of.result) (sym back)
+    (subst (λ (ts : List Asked). Closes c.args.caller ts c.let_go.new.trails watches c.let_go.new.watches.items c.reach_of.result)
+    c.deref_mut.ensures.value (record {
       seen = c.let_go.ensures.seen ∙ map-set (seen_by c.deref_mut.result.now) watches c.args.caller None;
       none = c.let_go.ensures.closed c.args.caller (slice_get-set_same watches c.args.caller None c.requires.caller);
       on = c.let_go.ensures.on;
       used = c.let_go.ensures.used;
+      counted = c.let_go.ensures.counted;
       asking = c.let_go.ensures.asking;
       stay = c.let_go.ensures.stay;
       trails = c.let_go.auto.trails;
+      within = omega (arith, c.reach_of.ensures.within, c.requires.within, c.let_go.auto.trails, ap length c.deref_mut.ensures.value);
+      free = subst (AreFreeFrom c.reach_of.result) (c.deref.ensures.value ∙ back) c.reach_of.ensures.free;
     }))
 
 pub returns-in_default : goal.returns-in_default
@@ -52,7 +73,10 @@ returns-in_default c =
       none = here;
       on = c.requires.on;
       used = c.requires.used;
+      counted = c.requires.counted;
       asking = λ h all. all;
       stay = stay_all c.args.trails.now.items;
       trails = refl;
+      within = c.requires.within;
+      free = c.requires.free;
     }

@@ -3,6 +3,8 @@ use Rattle.std.proofs.lemmas.Option.{slice_get-get_or}
 use Rattle.vyrd_base.specs.Subjects.{must_commit}
 use Rattle.vyrd_base.specs.Entries.{has_method}
 use Rattle.vyrd_observers.specs.Trails.{AreOn, seen_by}
+use Rattle.vyrd_observers.specs.Order.{AreCounted}
+use Rattle.vyrd_observers.proofs.AskerLaws.{counted_moved}
 use Rattle.vyrd_observers.proofs.TrailLaws.{seen_moved, on_moved, asking_set, old_except_set, stay_set}
 use Rattle.vyrd_observers.proofs.leaving.forget.Goals as goal
 
@@ -50,3 +52,11 @@ returns-clause-stay c =
       ap (λ u. u.args) c.forget.ensures,
       ap (λ u. u.latest) c.forget.ensures,
     ))
+
+pub returns-clause-counted : goal.returns-clause-counted
+returns-clause-counted c = λ counted.
+    let trails = c.args.trails.now in
+    let t = get_or trails c.args.trail c.index-trails-trail.result in
+    subst (AreCounted (set trails c.args.trail c.forget.new.self)) (sym c.move_all.ensures)
+    (counted_moved trails c.args.watches.now.items c.args.trail c.args.n t c.forget.new.self
+    (slice_get-get_or trails c.args.trail c.index-trails-trail.result c.requires.trail) (ap (λ u. u.askers) c.forget.ensures) counted)

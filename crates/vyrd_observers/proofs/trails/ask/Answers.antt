@@ -45,6 +45,7 @@ returns-clause-only c =
     let items = c.free.new.trails.items in
     let i = c.in_ok-i.i in (
       old_except_then c.args.trails.now.items items i c.in_ok-i.ensures.only c.begin.new.self,
-      λ t here. inr (ap (λ (u : Asked). u.others)
-          (same_Some _ _ (sym here ∙ slice_get-set_same items i c.begin.new.self (slice_get_within items i there.0 there.1)) ∙ c.begin.ensures)),
+      λ t here.
+          let is = same_Some _ _ (sym here ∙ slice_get-set_same items i c.begin.new.self (slice_get_within items i there.0 there.1)) ∙ c.begin.ensures in
+          inr (ap (λ (u : Asked). u.askers) is, ap (λ (u : Asked). u.others) is),
     )

@@ -1,10 +1,11 @@
-use Rattle.std.proofs.Common.{◌<◌, ◌≤◌, ap, sym, subst, ◌∙◌, length, set, Some, arith}
+use Rattle.std.proofs.Common.{◌<◌, ap, sym, subst, ◌∙◌, length, set, Some, arith}
 use Rattle.std.proofs.lemmas.List.{set-get_or}
 use Rattle.std.proofs.lemmas.Option.{slice_get-get_or}
-use Rattle.vyrd_observers.specs.Trails.{AreAsking, AreInOrder, after_state}
+use Rattle.vyrd_observers.specs.Trails.{AreAsking, after_state}
+use Rattle.vyrd_observers.specs.Order.{AreInOrder}
 use Rattle.vyrd_base.specs.Rules.{rules_by}
-use Rattle.vyrd_base.proofs.ChangedLists.{changed_next, changed_all}
-use Rattle.vyrd_observers.proofs.TrailLaws.{asking_after, order_after, length-changed}
+use Rattle.vyrd_base.proofs.ChangedLists.{changed_next}
+use Rattle.vyrd_observers.proofs.TrailLaws.{asking_after, order_after, length-changed, changed_enough, free_stays}
 use Rattle.vyrd_observers.proofs.trails.see_all.Goals as goal
 
 pub see-requires-clause-allowed : goal.see-requires-clause-allowed
@@ -15,8 +16,7 @@ see-requires-clause-allowed g c = λ is_asked.
     let within : i < length c.loop-i.trails.items = omega (
       arith,
       c.loop-i-test.true,
-      c.len-i-end.ensures,
-      c.args.trails.now.ok.0,
+      c.requires.within,
       ap length c.loop-i.invariant,
       length-changed f i old,
     ) in
@@ -33,8 +33,7 @@ see-requires-clause-may_answer g c = λ is_asked.
     let within : i < length c.loop-i.trails.items = omega (
       arith,
       c.loop-i-test.true,
-      c.len-i-end.ensures,
-      c.args.trails.now.ok.0,
+      c.requires.within,
       ap length c.loop-i.invariant,
       length-changed f i old,
     ) in
@@ -47,21 +46,23 @@ pub returns-in_err-see-clause-order : goal.returns-in_err-see-clause-order
 returns-in_err-see-clause-order g c = λ h watches order.
     let unchanged = ap (set c.loop-i.trails.items c.loop-i.i) (c.in_err-see.ensures.unchanged ∙ c.index_mut.ensures.value)
     ∙ set-get_or c.loop-i.trails.items c.loop-i.i c.index_mut.result.now ∙ c.loop-i.invariant in
-    subst (λ ts. AreInOrder h ts watches) (sym unchanged)
-    (order_after h (g.S.Spec.affects c.args.spec.now) ((rules_by (g.S.Spec.charter c.args.spec.now)).answer (g.S.Spec.state c.args.spec.now)) c.loop-i.i c.args.trails.now.items watches order)
+    subst (λ ts. AreInOrder h c.args.reach ts watches) (sym unchanged)
+    (order_after h c.args.reach (g.S.Spec.affects c.args.spec.now) ((rules_by (g.S.Spec.charter c.args.spec.now)).answer (g.S.Spec.state c.args.spec.now)) c.loop-i.i c.args.trails.now.items watches order)
 
 pub loop-i-preserved : goal.loop-i-preserved
 loop-i-preserved g c =
     let f = after_state (g.S.Spec.affects c.args.spec.now) ((rules_by (g.S.Spec.charter c.args.spec.now)).answer (g.S.Spec.state c.args.spec.now)) in
-    let within : c.loop-i.i < length c.args.trails.now.items = omega (arith, c.loop-i-test.true, c.len-i-end.ensures, c.args.trails.now.ok.0) in
+    let within : c.loop-i.i < length c.args.trails.now.items = omega (arith, c.loop-i-test.true, c.requires.within) in
     changed_next f c.loop-i.i c.args.trails.now.items c.loop-i.trails.items c.index_mut.result.now c.see.new.trail within c.loop-i.invariant
     (c.in_ok-see.ensures.saw ∙ ap f c.index_mut.ensures.value)
 
 pub returns-clause-saw : goal.returns-clause-saw
 returns-clause-saw g c =
-    let past : length c.args.trails.now.items ≤ c.loop-i.i = omega (arith, c.loop-i-test.false, c.len-i-end.ensures, c.args.trails.now.ok.0) in
-    c.loop-i.invariant ∙ changed_all (after_state (g.S.Spec.affects c.args.spec.now) ((rules_by (g.S.Spec.charter c.args.spec.now)).answer (g.S.Spec.state c.args.spec.now))) c.loop-i.i c.args.trails.now.items past
+    let affects = g.S.Spec.affects c.args.spec.now in
+    let told = (rules_by (g.S.Spec.charter c.args.spec.now)).answer (g.S.Spec.state c.args.spec.now) in
+    c.loop-i.invariant ∙ changed_enough (after_state affects told) c.loop-i.i c.args.trails.now.items
+    (λ i t high there. free_stays affects told t (c.requires.free i t (omega (arith, high, c.loop-i-test.false)) there))
 
 pub returns-clause-order : goal.returns-clause-order
-returns-clause-order g c = λ h watches order. subst (λ ts. AreInOrder h ts watches) (sym c.loop-i.invariant)
-    (order_after h (g.S.Spec.affects c.args.spec.now) ((rules_by (g.S.Spec.charter c.args.spec.now)).answer (g.S.Spec.state c.args.spec.now)) c.loop-i.i c.args.trails.now.items watches order)
+returns-clause-order g c = λ h watches order. subst (λ ts. AreInOrder h c.args.reach ts watches) (sym c.loop-i.invariant)
+    (order_after h c.args.reach (g.S.Spec.affects c.args.spec.now) ((rules_by (g.S.Spec.charter c.args.spec.now)).answer (g.S.Spec.state c.args.spec.now)) c.loop-i.i c.args.trails.now.items watches order)

@@ -1,32 +1,45 @@
-use Rattle.std.proofs.Common.{◌≡◌, ⊎_elim, Some, true, List, [], ◌∷◌, length, map, set, slice_get, refl, subst, ap, sym, ◌∙◌, arith}
+use Rattle.std.proofs.Common.{◌≡◌, ◌+◌, ⊎_elim, Option, Some, true, List, [], ◌∷◌, length, map, set, slice_get, refl, subst, ap, sym, ◌∙◌, arith}
 use Rattle.std.proofs.lemmas.List.{set-set, length-set}
 use Rattle.std.proofs.lemmas.Option.{slice_get_within}
 use Rattle.vyrd_base.specs.Entries.{has_method}
+use Rattle.vyrd_base.proofs.ListLaws.{slice_get-is}
+use Rattle.vyrd_observers.specs.declared.watch.Watch.{Watch}
 use Rattle.vyrd_observers.specs.Watching.{Watched, Seen, unwatched, open_count}
-use Rattle.vyrd_observers.specs.Trails.{Asked, AreInOrder, seen_by}
-use Rattle.vyrd_observers.proofs.TrailLaws.{read_is, begins_seen, trail_of_seen, trail_stays}
-use Rattle.vyrd_observers.proofs.TrailCounts.{keeps_few, order_closed, order_begun, made_few, few_begun}
+use Rattle.vyrd_observers.specs.Trails.{Asked, seen_by, with_asker}
+use Rattle.vyrd_observers.specs.Order.{AreInOrder}
+use Rattle.vyrd_observers.proofs.TrailLaws.{read_is, begins_seen, seen_recounted, trail_of_seen, trail_stays}
+use Rattle.vyrd_observers.proofs.TrailCounts.{keeps_few, order_closed, order_begun, made_few, few_begun, few_askers}
 use Rattle.vyrd_observers.proofs.watches.Watches.begin.Goals as goal
 
 pub invariant_of-self : goal.invariant_of-self
-invariant_of-self c = subst (λ (ts : List Asked). AreInOrder c.self.inside.header ts c.close.new.watches.items) (sym c.in_err-trail.ensures.unchanged)
+invariant_of-self c = subst (λ (ts : List Asked). AreInOrder c.self.inside.header c.close.new.reach ts c.close.new.watches.items) (sym c.in_err-trail.ensures.unchanged)
     (order_closed c.self.inside.header c.args.caller c.self.inside.trails.items c.close.new.trails.items c.self.inside.by_caller.items
-    c.close.new.watches.items c.close.ensures c.self.invariant)
+    c.close.new.watches.items c.self.inside.reach c.close.new.reach c.close.ensures c.self.invariant)
 
 pub returns-in_err-trail-clause-keeps_few : goal.returns-in_err-trail-clause-keeps_few
-returns-in_err-trail-clause-keeps_few c = keeps_few c.self.inside.header c.ask.new.trails.items c.close.new.watches.items
-    (subst (λ (ts : List Asked). AreInOrder c.self.inside.header ts c.close.new.watches.items) (sym c.in_err-trail.ensures.unchanged)
+returns-in_err-trail-clause-keeps_few c = keeps_few c.self.inside.header c.close.new.reach c.ask.new.trails.items c.close.new.watches.items
+    (subst (λ (ts : List Asked). AreInOrder c.self.inside.header c.close.new.reach ts c.close.new.watches.items) (sym c.in_err-trail.ensures.unchanged)
     (order_closed c.self.inside.header c.args.caller c.self.inside.trails.items c.close.new.trails.items c.self.inside.by_caller.items
-    c.close.new.watches.items c.close.ensures c.self.invariant))
+    c.close.new.watches.items c.self.inside.reach c.close.new.reach c.close.ensures c.self.invariant))
 
 pub index-requires : goal.index-requires
 index-requires c = let there = c.in_ok-trail.ensures.asked in
     omega (arith, slice_get_within c.ask.new.trails.items c.in_ok-trail.trail there.0 there.1, c.ask.new.trails.ok.0)
 
-module _ (c : goal.After-self-1) where
-  order : AreInOrder c.self.inside.header c.close.new.trails.items c.close.new.watches.items
+pub join-requires : goal.join-requires
+join-requires c =
+    let there = c.in_ok-trail.ensures.asked in
+    let order = order_closed c.self.inside.header c.args.caller c.self.inside.trails.items c.close.new.trails.items c.self.inside.by_caller.items
+    c.close.new.watches.items c.self.inside.reach c.close.new.reach c.close.ensures c.self.invariant in
+    few_askers c.self.inside.header c.close.new.reach c.close.new.trails.items c.ask.new.trails.items c.close.new.watches.items c.args.caller
+    c.in_ok-trail.trail c.index_mut-2.result.now order c.close.ensures.none c.ask.ensures.kept c.in_ok-trail.ensures.only.0 c.in_ok-trail.ensures.only.1
+    (slice_get-is c.ask.new.trails.items c.in_ok-trail.trail c.index_mut-2.result.now
+    (slice_get_within c.ask.new.trails.items c.in_ok-trail.trail there.0 there.1) c.index_mut-2.ensures.value)
+
+module _ (c : goal.After-self-3-1) where
+  order : AreInOrder c.self.inside.header c.close.new.reach c.close.new.trails.items c.close.new.watches.items
   order = order_closed c.self.inside.header c.args.caller c.self.inside.trails.items c.close.new.trails.items c.self.inside.by_caller.items
-      c.close.new.watches.items c.close.ensures c.self.invariant
+      c.close.new.watches.items c.self.inside.reach c.close.new.reach c.close.ensures c.self.invariant
 
   at_end : c.len.result ≡ length c.in_ok-trail.ensures.asked.0.others
   at_end =
@@ -37,27 +50,40 @@ module _ (c : goal.After-self-1) where
   abbrev begun : Seen
   begun = record { is_open = true; method = c.args.method; args = c.args.args; answers = c.args.answer ∷ [] }
 
+  abbrev watches_now : List (Option Watch)
+  watches_now = set c.close.new.watches.items c.args.caller (Some (record { trail = c.in_ok-trail.trail; since = c.len.result }))
+
+  -- the trail counts one more
+  is_joined : c.join.new.self ≡ with_asker c.in_ok-trail.ensures.asked.0
+  is_joined =
+      let there = c.in_ok-trail.ensures.asked in
+      c.join.ensures ∙ ap with_asker (sym (read_is c.ask.new.trails.items c.in_ok-trail.trail there.0 c.index_mut-2.result.now there.1 c.index_mut-2.ensures.value))
+
   -- all trails and watches at the end
-  order_now : AreInOrder c.self.inside.header c.ask.new.trails.items
-      (set c.close.new.watches.items c.args.caller (Some (record { trail = c.in_ok-trail.trail; since = c.len.result })))
+  order_now : AreInOrder c.self.inside.header c.max-self-inside.result (set c.ask.new.trails.items c.in_ok-trail.trail c.join.new.self) watches_now
   order_now =
       let there = c.in_ok-trail.ensures.asked in
-      order_begun c.self.inside.header c.close.new.trails.items c.ask.new.trails.items c.close.new.watches.items c.args.caller c.in_ok-trail.trail
-      c.len.result there.0 order c.close.ensures.none c.ask.ensures.kept
+      let within = slice_get_within c.ask.new.trails.items c.in_ok-trail.trail there.0 there.1 in
+      subst (λ u. AreInOrder c.self.inside.header c.max-self-inside.result (set c.ask.new.trails.items c.in_ok-trail.trail u) watches_now) (sym is_joined)
+      (order_begun c.self.inside.header c.close.new.reach c.max-self-inside.result c.close.new.trails.items c.ask.new.trails.items c.close.new.watches.items
+      c.args.caller c.in_ok-trail.trail c.len.result there.0 order c.close.ensures.none c.ask.ensures.kept
       (c.ask.ensures.asking c.self.inside.header
       (ap (λ (k : Watched). has_method k.header c.args.method c.args.args) c.self.view_is ∙ c.requires.allowed)
       c.requires.may_answer order.asking)
       c.in_ok-trail.ensures.only.0 there.1 there.2.0 at_end c.in_ok-trail.ensures.only.1
-      (few_begun c.self.inside.header c.close.new.trails.items c.ask.new.trails.items c.close.new.watches.items c.args.caller begun order
-      c.close.ensures.none refl c.ask.ensures.reused c.ask.ensures.one)
+      (few_begun c.self.inside.header c.close.new.reach c.close.new.trails.items c.ask.new.trails.items c.close.new.watches.items c.args.caller begun
+      order c.close.ensures.none refl c.ask.ensures.reused c.ask.ensures.one)
+      (omega (arith, c.max-self-inside.ensures)) (omega (arith, c.max-self-inside.ensures))
+      (omega (arith, c.max-self-inside.ensures, within, c.close.ensures.within, c.close.ensures.trails, c.ask.ensures.no_fewer)))
 
   -- what all callers have seen then
-  seen_now : map (seen_by c.ask.new.trails.items)
-      (set c.close.new.watches.items c.args.caller (Some (record { trail = c.in_ok-trail.trail; since = c.len.result })))
+  seen_now : map (seen_by (set c.ask.new.trails.items c.in_ok-trail.trail c.join.new.self)) watches_now
       ≡ set (map (seen_by c.close.new.trails.items) c.close.new.watches.items) c.args.caller begun
   seen_now =
       let there = c.in_ok-trail.ensures.asked in
-      begins_seen c.close.new.trails.items c.ask.new.trails.items c.close.new.watches.items c.args.caller c.in_ok-trail.trail c.len.result there.0
+      ap (λ u. map (seen_by (set c.ask.new.trails.items c.in_ok-trail.trail u)) watches_now) is_joined
+      ∙ seen_recounted c.ask.new.trails.items watches_now c.in_ok-trail.trail (there.0.askers + 1) there.0 there.1
+      ∙ begins_seen c.close.new.trails.items c.ask.new.trails.items c.close.new.watches.items c.args.caller c.in_ok-trail.trail c.len.result there.0
       c.args.method c.args.args c.args.answer c.ask.ensures.kept c.close.ensures.on there.1 there.2.1 there.2.2 there.2.3 at_end
 
 pub invariant_of-self-2 : goal.invariant_of-self-2
@@ -79,7 +105,8 @@ returns-clause-shared c = λ d seen before here is_open same_method same_args sa
     c.self.invariant.on (ap (λ (k : Watched). slice_get k.by_caller d) c.self.view_is ∙ here) is_open same_method same_args same_answers in
     let now = trail_stays c.self.inside.trails.items c.close.new.trails.items there.0 there.1 c.args.method c.args.args c.args.answer
     c.close.ensures.stay there.2 there.3 in
-    ⊎_elim
+    length-set c.ask.new.trails.items c.in_ok-trail.trail c.join.new.self
+    ∙ ⊎_elim
     (λ free. c.ask.ensures.reused there.0 now.0 now.1 free)
     (λ is. ap length (c.ask.ensures.shared there.0 now.0 now.1 is).1)
     now.2
@@ -90,11 +117,11 @@ returns-clause-reused c = λ low.
     let were : length c.close.new.trails.items ≡ c.args.self.now.trails
     = c.close.ensures.trails ∙ ap (λ (k : Watched). k.trails) c.self.view_is in
     ⊎_elim
-    (λ same. same ∙ were)
+    (λ same. length-set c.ask.new.trails.items c.in_ok-trail.trail c.join.new.self ∙ same ∙ were)
     (λ more. absurd (omega (arith, low, more, were, ap open_count (seen_now c))))
     (made_few c.close.new.trails.items c.ask.new.trails.items c.close.new.watches.items c.args.caller (begun c) c.close.ensures.none refl (order c).used
     c.ask.ensures.reused c.ask.ensures.one)
 
 pub returns-clause-keeps_few : goal.returns-clause-keeps_few
-returns-clause-keeps_few c = keeps_few c.self.inside.header c.ask.new.trails.items
-    (set c.close.new.watches.items c.args.caller (Some (record { trail = c.in_ok-trail.trail; since = c.len.result }))) (order_now c)
+returns-clause-keeps_few c = keeps_few c.self.inside.header c.max-self-inside.result (set c.ask.new.trails.items c.in_ok-trail.trail c.join.new.self) (watches_now c)
+    (order_now c)

@@ -42,15 +42,15 @@ returns-in-Some-clause-answered c = λ seen there.
 pub invariant_of-self : goal.invariant_of-self
 invariant_of-self c =
     order_closed c.self.inside.header c.args.caller c.self.inside.trails.items c.close.new.trails.items c.self.inside.by_caller.items
-    c.close.new.watches.items c.close.ensures c.self.invariant
+    c.close.new.watches.items c.self.inside.reach c.close.new.reach c.close.ensures c.self.invariant
 
 pub returns-in-Some-clause-watches : goal.returns-in-Some-clause-watches
 returns-in-Some-clause-watches c = c.close.ensures.seen ∙ ap (λ (k : Watched). set k.by_caller c.args.caller unwatched) c.self.view_is
 
 pub returns-in-Some-clause-keeps_few : goal.returns-in-Some-clause-keeps_few
-returns-in-Some-clause-keeps_few c = keeps_few c.self.inside.header c.close.new.trails.items c.close.new.watches.items
+returns-in-Some-clause-keeps_few c = keeps_few c.self.inside.header c.close.new.reach c.close.new.trails.items c.close.new.watches.items
     (order_closed c.self.inside.header c.args.caller c.self.inside.trails.items c.close.new.trails.items c.self.inside.by_caller.items
-    c.close.new.watches.items c.close.ensures c.self.invariant)
+    c.close.new.watches.items c.self.inside.reach c.close.new.reach c.close.ensures c.self.invariant)
 
 pub returns-in-None-clause-answered : goal.returns-in-None-clause-answered
 returns-in-None-clause-answered c = λ seen there.
@@ -70,4 +70,4 @@ returns-in-None-clause-watches c =
 
 pub returns-in-None-clause-keeps_few : goal.returns-in-None-clause-keeps_few
 returns-in-None-clause-keeps_few c = subst (λ (w : Watched). KeepsFew w) c.self.view_is
-    (keeps_few c.self.inside.header c.self.inside.trails.items c.self.inside.by_caller.items c.self.invariant)
+    (keeps_few c.self.inside.header c.self.inside.reach c.self.inside.trails.items c.self.inside.by_caller.items c.self.invariant)

@@ -11,6 +11,8 @@ use Rattle.vyrd_observers.proofs.watches.Watches.see_all.Goals as goal
 
 pub see_all-requires : goal.see_all-requires
 see_all-requires g c = record {
+  within = c.self.invariant.within;
+  free = c.self.invariant.free;
   asking = subst (λ h. AreAsking h c.self.inside.trails.items) (ap (λ (k : Watched). k.header) c.self.view_is ∙ sym c.requires.header) c.self.invariant.asking;
 }
 
@@ -18,14 +20,14 @@ pub invariant_of-self : goal.invariant_of-self
 invariant_of-self g c = c.see_all.ensures.order c.self.inside.header c.self.inside.by_caller.items c.self.invariant
 
 pub returns-in_err-see_all-clause-keeps_few : goal.returns-in_err-see_all-clause-keeps_few
-returns-in_err-see_all-clause-keeps_few g c = keeps_few c.self.inside.header c.see_all.new.trails.items c.self.inside.by_caller.items
+returns-in_err-see_all-clause-keeps_few g c = keeps_few c.self.inside.header c.self.inside.reach c.see_all.new.trails.items c.self.inside.by_caller.items
     (c.see_all.ensures.order c.self.inside.header c.self.inside.by_caller.items c.self.invariant)
 
 pub invariant_of-self-2 : goal.invariant_of-self-2
 invariant_of-self-2 g c = c.see_all.ensures.order c.self.inside.header c.self.inside.by_caller.items c.self.invariant
 
 pub returns-clause-keeps_few : goal.returns-clause-keeps_few
-returns-clause-keeps_few g c = keeps_few c.self.inside.header c.see_all.new.trails.items c.self.inside.by_caller.items
+returns-clause-keeps_few g c = keeps_few c.self.inside.header c.self.inside.reach c.see_all.new.trails.items c.self.inside.by_caller.items
     (c.see_all.ensures.order c.self.inside.header c.self.inside.by_caller.items c.self.invariant)
 
 pub returns-clause-seen : goal.returns-clause-seen
