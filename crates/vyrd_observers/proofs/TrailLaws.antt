@@ -550,6 +550,21 @@ changed_enough f zero (x ∷ xs) same =
 changed_enough f (suc n) (x ∷ xs) same =
     ap (λ ys. f x ∷ ys) (changed_enough f n xs (λ i y high there. same (suc i) y (omega (arith, high)) there))
 
+-- where none before a place would change, none has changed so far
+pub changed_none : {A : Type 0} (f : A → A) (n : ℕ) (xs : List A) → ((i : ℕ) (x : A) → i < n → slice_get xs i ≡ Some x → f x ≡ x)
+    → changed_below f n xs ≡ xs
+changed_none f zero xs same = refl
+changed_none f (suc n) [] same = refl
+changed_none f (suc n) (x ∷ xs) same =
+    let first : f x ≡ x = same 0 x (omega arith) refl in
+    let rest : changed_below f n xs ≡ xs = changed_none f n xs (λ i y low there. same (suc i) y (omega (arith, low)) there) in
+    (λ j. first j ∷ rest j)
+
+-- what isn't affected has no next state's answer
+pub unaffected_stays : (affects : Method → Args → Bool) (told : Method → Args → ℕ) (t : Asked) → (t.is_asked && affects t.method t.args) ≡ false
+    → after_state affects told t ≡ t
+unaffected_stays affects told t none = ap (λ b. cond b (with_answer (told t.method t.args) t) t) none
+
 -- what isn't asked has no next state's answer
 pub free_stays : (affects : Method → Args → Bool) (told : Method → Args → ℕ) (t : Asked) → t.is_asked ≡ false → after_state affects told t ≡ t
 free_stays affects told t free = ap (λ b. cond (b && affects t.method t.args) (with_answer (told t.method t.args) t) t) free

@@ -1,6 +1,6 @@
 //! The questions that observers ask.
 
-ghost use Rattle.std.specs.Prelude.{◌≡◌, ◌+◌, ◌<◌, ◌≤◌, ◌⊎◌, ℕ, true, false, List, [], Option};
+ghost use Rattle.std.specs.Prelude.{◌≡◌, ◌+◌, ◌<◌, ◌≤◌, ◌⊎◌, ◌&&◌, ℕ, true, false, List, [], Option};
 ghost use Rattle.std.specs.Prelude.{Some, map, slice_get, length, IfOk, OnOk, OnErr, IsOk, IfSome};
 ghost use Rattle.std.specs.Prelude.{IsSome};
 ghost use Rattle.vyrd_base.specs.Rules.{rules_by};
@@ -114,6 +114,30 @@ pub(crate) fn ask(
     Ok(i)
 }
 
+/// Whether a question is asked whose answer the specification's last step can have changed. Few
+/// answers change in a step, so that is looked at first.
+fn is_affected<S: Spec>(trail: &Trail, spec: &S) -> bool
+    ensures { result
+        ≡ (trail.now.is_asked && S.affects spec.now trail.now.method trail.now.args) }
+{
+    spec.affects(trail.method(), trail.args()) && trail.is_asked()
+}
+
+/// The first such question before the reach, or the reach. This only reads, so that what it asks of
+/// the specification needn't be loaded anew for each trail.
+fn first_affected<S: Spec>(trails: &[Trail], reach: usize, spec: &S) -> usize
+    requires within { reach ≤ length trails.now }
+    ensures none { (i : ℕ) (t : Asked) → i < result → slice_get trails.now i ≡ Some t
+        → (t.is_asked && S.affects spec.now t.method t.args) ≡ false }
+{
+    for i in 0..reach {
+        if is_affected(&trails[i], spec) {
+            return i;
+        }
+    }
+    reach
+}
+
 /// A question that is asked gets the answer of the specification's state too, if the last step can
 /// have changed it.
 fn see<S: Spec>(trail: &mut Trail, spec: &S) -> Result<(), AllocError>
@@ -167,7 +191,7 @@ pub(crate) fn see_all<S: Spec>(
         → AreInOrder h reach trails.old.items watches
         → AreInOrder h reach trails.new.items watches }
 {
-    for i in 0..reach {
+    for i in first_affected(trails, reach, spec)..reach {
         see(&mut trails[i], spec)?;
     }
     Ok(())

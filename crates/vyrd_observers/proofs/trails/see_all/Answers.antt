@@ -1,12 +1,20 @@
-use Rattle.std.proofs.Common.{◌<◌, ap, sym, subst, ◌∙◌, length, set, Some, arith}
+use Rattle.std.proofs.Common.{◌<◌, List, slice_get, ap, sym, subst, ◌∙◌, length, set, Some, arith}
 use Rattle.std.proofs.lemmas.List.{set-get_or}
 use Rattle.std.proofs.lemmas.Option.{slice_get-get_or}
-use Rattle.vyrd_observers.specs.Trails.{AreAsking, after_state}
+use Rattle.vyrd_observers.specs.Trails.{Asked, AreAsking, after_state}
 use Rattle.vyrd_observers.specs.Order.{AreInOrder}
 use Rattle.vyrd_base.specs.Rules.{rules_by}
 use Rattle.vyrd_base.proofs.ChangedLists.{changed_next}
-use Rattle.vyrd_observers.proofs.TrailLaws.{asking_after, order_after, length-changed, changed_enough, free_stays}
+use Rattle.vyrd_observers.proofs.TrailLaws.{asking_after, order_after, length-changed, changed_none, changed_enough, free_stays, unaffected_stays}
 use Rattle.vyrd_observers.proofs.trails.see_all.Goals as goal
+
+pub loop-i-init : goal.loop-i-init
+loop-i-init g c =
+    let affects = g.S.Spec.affects c.args.spec.now in
+    let told = (rules_by (g.S.Spec.charter c.args.spec.now)).answer (g.S.Spec.state c.args.spec.now) in
+    sym (changed_none (after_state affects told) c.first_affected-i.result c.args.trails.now.items (λ i t low there.
+    unaffected_stays affects told t
+    (c.first_affected-i.ensures.none i t low (ap (λ (ts : List Asked). slice_get ts i) c.deref.ensures.value ∙ there))))
 
 pub see-requires-clause-allowed : goal.see-requires-clause-allowed
 see-requires-clause-allowed g c = λ is_asked.
