@@ -129,8 +129,10 @@ keeps_few h reach trails watches so = record {
   kept = kept_few trails watches so.used;
 }
 
-pub order_closed : (h : Header) (caller : ℕ) (old new : List Asked) (watches closed : List (Option Watch)) (far reach : ℕ)
-    → Closes caller old new watches closed reach → AreInOrder h far old watches → AreInOrder h reach new closed
+pub order_closed : (h : Header) (caller : ℕ) (old new : List Asked)
+    → (watches closed : List (Option Watch)) (far reach : ℕ)
+    → Closes caller old new watches closed reach → AreInOrder h far old watches
+    → AreInOrder h reach new closed
 order_closed h caller old new watches closed far reach so was = record {
   on = so.on;
   asking = so.asking h was.asking;
@@ -209,33 +211,43 @@ few_begun h reach old new watches c seen was closed is_open reused one =
     omega (arith, few, long)
 
 -- a trail has room for one more to count
-pub few_askers : (h : Header) (reach : ℕ) (old new : List Asked) (watches : List (Option Watch)) (c i : ℕ) (t : Asked) → AreInOrder h reach old watches
+pub few_askers : (h : Header) (reach : ℕ) (old new : List Asked) (watches : List (Option Watch))
+    → (c i : ℕ) (t : Asked) → AreInOrder h reach old watches
     → slice_get watches c ≡ Some None → KeepsAsked old new → AreOldExcept old new i
-    → ((u : Asked) → slice_get new i ≡ Some u → (slice_get old i ≡ Some u) ⊎ ((u.askers ≡ 0) × (u.others ≡ [])))
+    → ((u : Asked) → slice_get new i ≡ Some u
+    → (slice_get old i ≡ Some u) ⊎ ((u.askers ≡ 0) × (u.others ≡ [])))
     → slice_get new i ≡ Some t → t.askers + 1 < 2 ^ 32
 few_askers h reach old new watches c i t was closed keeps only begun there =
-    omega (arith, counted_asked old new watches i was.on keeps only begun was.counted i t there, count_low i c watches closed, was.callers, few_callers h)
+    let counted = counted_asked old new watches i was.on keeps only begun was.counted i t there in
+    omega (arith, counted, count_low i c watches closed, was.callers, few_callers h)
 
 -- an observer begins, and its trail counts it
-pub order_begun : (h : Header) (reach far : ℕ) (old new : List Asked) (watches : List (Option Watch)) (c i since : ℕ) (t : Asked)
-    → AreInOrder h reach old watches → slice_get watches c ≡ Some None → KeepsAsked old new → AreAsking h new → AreOldExcept old new i
-    → slice_get new i ≡ Some t → t.is_asked ≡ true → since ≡ length t.others
-    → ((u : Asked) → slice_get new i ≡ Some u → (slice_get old i ≡ Some u) ⊎ ((u.askers ≡ 0) × (u.others ≡ [])))
+pub order_begun : (h : Header) (reach far : ℕ) (old new : List Asked) (watches : List (Option Watch))
+    → (c i since : ℕ) (t : Asked) → AreInOrder h reach old watches
+    → slice_get watches c ≡ Some None → KeepsAsked old new → AreAsking h new
+    → AreOldExcept old new i → slice_get new i ≡ Some t → t.is_asked ≡ true
+    → since ≡ length t.others
+    → ((u : Asked) → slice_get new i ≡ Some u
+    → (slice_get old i ≡ Some u) ⊎ ((u.askers ≡ 0) × (u.others ≡ [])))
     → length new ≤ length watches → reach ≤ far → i < far → far ≤ length new
-    → AreInOrder h far (set new i (with_asker t)) (set watches c (Some (record { trail = i; since = since })))
-order_begun h reach far old new watches c i since t was closed keeps asking only there is_asked at_end begun few more before within = record {
-  on = on_recounted new (set watches c own) i (t.askers + 1) t there
-      (on_set new watches c own (slice_get_within watches c None closed) (λ w same. subst (IsOn new) (same_Some _ _ same) on)
-      (on_kept old new watches keeps was.on));
-  asking = asking_set h new i (with_asker t) (slice_get_within new i t there) (λ asked. asking i t there asked) asking;
-  used = used_recounted new (set watches c own) i (t.askers + 1) t there
-      (used_begun old new watches c i since t closed was.used only there is_asked at_end begun);
-  counted = counted_begun new watches c i since t closed there (counted_asked old new watches i was.on keeps only begun was.counted);
-  callers = length-set watches c own ∙ was.callers;
-  few = omega (arith, few, length-set watches c own, length-set new i (with_asker t));
-  within = omega (arith, within, length-set new i (with_asker t));
-  free = free_begun reach far old new i (with_asker t) only more before was.free;
-}
+    → AreInOrder h far (set new i (with_asker t))
+    (set watches c (Some (record { trail = i; since = since })))
+order_begun h reach far old new watches c i since t was closed keeps asking only there is_asked
+    at_end begun few more before within = record {
+      on = on_recounted new (set watches c own) i (t.askers + 1) t there
+          (on_set new watches c own (slice_get_within watches c None closed)
+          (λ w same. subst (IsOn new) (same_Some _ _ same) on) (on_kept old new watches keeps was.on));
+      asking = asking_set h new i (with_asker t) (slice_get_within new i t there)
+          (λ asked. asking i t there asked) asking;
+      used = used_recounted new (set watches c own) i (t.askers + 1) t there
+          (used_begun old new watches c i since t closed was.used only there is_asked at_end begun);
+      counted = counted_begun new watches c i since t closed there
+          (counted_asked old new watches i was.on keeps only begun was.counted);
+      callers = length-set watches c own ∙ was.callers;
+      few = omega (arith, few, length-set watches c own, length-set new i (with_asker t));
+      within = omega (arith, within, length-set new i (with_asker t));
+      free = free_begun reach far old new i (with_asker t) only more before was.free;
+    }
   where
     own : Option Watch
     own = Some (record { trail = i; since = since })

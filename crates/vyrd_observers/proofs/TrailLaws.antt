@@ -138,7 +138,13 @@ pub record SameQuestion (t new : Asked) : Type 0 where
   pub grown : length t.others ≤ length new.others
 
 question_stays : (t : Asked) → SameQuestion t t
-question_stays t = record { is_asked = refl; askers = refl; method = refl; args = refl; grown = omega arith }
+question_stays t = record {
+  is_asked = refl;
+  askers = refl;
+  method = refl;
+  args = refl;
+  grown = omega arith;
+}
 
 length-pushed : {A : Type 0} (xs : List A) (y : A) → length (xs ++ y ∷ []) ≡ length xs + 1
 length-pushed [] y = refl
@@ -172,7 +178,12 @@ record UsesAsMany (t new : Asked) : Type 0 where
   pub grown : length t.others ≤ length new.others
 
 as_many : (t : Asked) → UsesAsMany t t
-as_many t = record { is_asked = refl; askers = refl; nothing = λ not_asked empty. empty; grown = omega arith }
+as_many t = record {
+  is_asked = refl;
+  askers = refl;
+  nothing = λ not_asked empty. empty;
+  grown = omega arith;
+}
 
 as_many_after : (affects : Method → Args → Bool) (told : Method → Args → ℕ) (t : Asked) → UsesAsMany t (after_state affects told t)
 as_many_after affects told t = let same = question_after affects told t in record {
@@ -239,9 +250,11 @@ on_without trails watches i t none on = λ c w here. let was = on c w here in re
 }
 
 -- a trail is changed in nothing except how many observers it counts
-pub seen_recounted : (trails : List Asked) (watches : List (Option Watch)) (i n : ℕ) (t : Asked) → slice_get trails i ≡ Some t
+pub seen_recounted : (trails : List Asked) (watches : List (Option Watch)) (i n : ℕ) (t : Asked)
+    → slice_get trails i ≡ Some t
     → map (seen_by (set trails i (record t { askers = n }))) watches ≡ map (seen_by trails) watches
-seen_recounted trails watches i n t here = map_alike (seen_by (set trails i new)) (seen_by trails) watches (λ c o there. by_watch o)
+seen_recounted trails watches i n t here =
+    map_alike (seen_by (set trails i new)) (seen_by trails) watches (λ c o there. by_watch o)
   where
     new : Asked
     new = record t { askers = n }
@@ -250,17 +263,22 @@ seen_recounted trails watches i n t here = map_alike (seen_by (set trails i new)
     by_watch None = refl
     by_watch (Some w) = by_same i w.trail
         (λ same. ap (λ k. seen_from w.since (slice_get (set trails i new) k)) (sym same)
-        ∙ ap (seen_from w.since) (slice_get-set_same trails i new (slice_get_within trails i t here))
+        ∙ ap (seen_from w.since)
+        (slice_get-set_same trails i new (slice_get_within trails i t here))
         ∙ ap (seen_from w.since) (sym here)
         ∙ ap (λ k. seen_from w.since (slice_get trails k)) same)
-        (λ other. ap (seen_from w.since) (slice_get-set_other trails i w.trail new (apart_of i w.trail other)))
+        (λ other. ap (seen_from w.since)
+        (slice_get-set_other trails i w.trail new (apart_of i w.trail other)))
 
-pub on_recounted : (trails : List Asked) (watches : List (Option Watch)) (i n : ℕ) (t : Asked) → slice_get trails i ≡ Some t → AreOn trails watches
+pub on_recounted : (trails : List Asked) (watches : List (Option Watch)) (i n : ℕ) (t : Asked)
+    → slice_get trails i ≡ Some t → AreOn trails watches
     → AreOn (set trails i (record t { askers = n })) watches
 on_recounted trails watches i n t here on = λ c w there. let was = on c w there in by_same i w.trail
-    (λ same. let it : t ≡ was.asked = same_Some _ _ (sym here ∙ ap (slice_get trails) same ∙ was.there) in record {
+    (λ same. let it : t ≡ was.asked
+    = same_Some _ _ (sym here ∙ ap (slice_get trails) same ∙ was.there) in record {
       asked = new;
-      there = ap (slice_get (set trails i new)) (sym same) ∙ slice_get-set_same trails i new (slice_get_within trails i t here);
+      there = ap (slice_get (set trails i new)) (sym same)
+          ∙ slice_get-set_same trails i new (slice_get_within trails i t here);
       is_asked = ap (λ u. u.is_asked) it ∙ was.is_asked;
       within = omega (arith, was.within, ap (λ u. length u.others) it);
     })
@@ -274,7 +292,8 @@ on_recounted trails watches i n t here on = λ c w there. let was = on c w there
     new : Asked
     new = record t { askers = n }
 
-pub used_recounted : (trails : List Asked) (watches : List (Option Watch)) (i n : ℕ) (t : Asked) → slice_get trails i ≡ Some t → AreUsed trails watches
+pub used_recounted : (trails : List Asked) (watches : List (Option Watch)) (i n : ℕ) (t : Asked)
+    → slice_get trails i ≡ Some t → AreUsed trails watches
     → AreUsed (set trails i (record t { askers = n })) watches
 used_recounted trails watches i n t here used = λ j u there. by_same i j
     (λ same. let it : new ≡ u = same_Some _ _
@@ -404,8 +423,8 @@ used_except old new watches i only others own = λ j t there. by_same j i
     (λ same. absurd (apart_of j i apart same))
     (only j t there))
 
-pub others_set : (trails : List Asked) (watches : List (Option Watch)) (i : ℕ) (t : Asked) → OthersAreUsed trails watches i
-    → OthersAreUsed (set trails i t) watches i
+pub others_set : (trails : List Asked) (watches : List (Option Watch)) (i : ℕ) (t : Asked)
+    → OthersAreUsed trails watches i → OthersAreUsed (set trails i t) watches i
 others_set trails watches i t others = λ j u there other.
     others j u (sym (slice_get-set_other trails i j t (λ same. other (sym same))) ∙ there) other
 
@@ -513,13 +532,15 @@ used_after affects told n trails watches used = λ i u there.
       by = λ is_asked. let by = one.by (sym was.2.is_asked ∙ is_asked) in (by.0, by.1, by.2, by.3, omega (arith, by.4, was.2.grown));
     }
 
-counted_after : (affects : Method → Args → Bool) (told : Method → Args → ℕ) (n : ℕ) (trails : List Asked) (watches : List (Option Watch))
-    → AreCounted trails watches → AreCounted (changed_below (after_state affects told) n trails) watches
+counted_after : (affects : Method → Args → Bool) (told : Method → Args → ℕ) (n : ℕ)
+    → (trails : List Asked) (watches : List (Option Watch)) → AreCounted trails watches
+    → AreCounted (changed_below (after_state affects told) n trails) watches
 counted_after affects told n trails watches counted = λ i u there.
     let was = changed_from UsesAsMany (after_state affects told) as_many (as_many_after affects told) n trails i u there in
     was.2.askers ∙ counted i was.0 was.1
 
-free_after : (affects : Method → Args → Bool) (told : Method → Args → ℕ) (n reach : ℕ) (trails : List Asked) → AreFreeFrom reach trails
+free_after : (affects : Method → Args → Bool) (told : Method → Args → ℕ) (n reach : ℕ)
+    → (trails : List Asked) → AreFreeFrom reach trails
     → AreFreeFrom reach (changed_below (after_state affects told) n trails)
 free_after affects told n reach trails free = λ i u high there.
     let was = changed_from UsesAsMany (after_state affects told) as_many (as_many_after affects told) n trails i u there in
@@ -539,41 +560,51 @@ order_after h reach affects told n trails watches so = record {
 }
 
 -- where no element from a place on would change, those before it are all that do
-pub changed_enough : {A : Type 0} (f : A → A) (n : ℕ) (xs : List A) → ((i : ℕ) (x : A) → n ≤ i → slice_get xs i ≡ Some x → f x ≡ x)
+pub changed_enough : {A : Type 0} (f : A → A) (n : ℕ) (xs : List A)
+    → ((i : ℕ) (x : A) → n ≤ i → slice_get xs i ≡ Some x → f x ≡ x)
     → changed_below f n xs ≡ map f xs
 changed_enough f zero [] same = refl
 changed_enough f (suc n) [] same = refl
 changed_enough f zero (x ∷ xs) same =
     let first : x ≡ f x = sym (same 0 x (omega arith) refl) in
-    let rest : xs ≡ map f xs = changed_enough f zero xs (λ i y high there. same (suc i) y (omega arith) there) in
+    let rest : xs ≡ map f xs
+    = changed_enough f zero xs (λ i y high there. same (suc i) y (omega arith) there) in
     (λ j. first j ∷ rest j)
 changed_enough f (suc n) (x ∷ xs) same =
-    ap (λ ys. f x ∷ ys) (changed_enough f n xs (λ i y high there. same (suc i) y (omega (arith, high)) there))
+    ap (λ ys. f x ∷ ys)
+    (changed_enough f n xs (λ i y high there. same (suc i) y (omega (arith, high)) there))
 
 -- where none before a place would change, none has changed so far
-pub changed_none : {A : Type 0} (f : A → A) (n : ℕ) (xs : List A) → ((i : ℕ) (x : A) → i < n → slice_get xs i ≡ Some x → f x ≡ x)
+pub changed_none : {A : Type 0} (f : A → A) (n : ℕ) (xs : List A)
+    → ((i : ℕ) (x : A) → i < n → slice_get xs i ≡ Some x → f x ≡ x)
     → changed_below f n xs ≡ xs
 changed_none f zero xs same = refl
 changed_none f (suc n) [] same = refl
 changed_none f (suc n) (x ∷ xs) same =
     let first : f x ≡ x = same 0 x (omega arith) refl in
-    let rest : changed_below f n xs ≡ xs = changed_none f n xs (λ i y low there. same (suc i) y (omega (arith, low)) there) in
+    let rest : changed_below f n xs ≡ xs
+    = changed_none f n xs (λ i y low there. same (suc i) y (omega (arith, low)) there) in
     (λ j. first j ∷ rest j)
 
 -- what isn't affected has no next state's answer
-pub unaffected_stays : (affects : Method → Args → Bool) (told : Method → Args → ℕ) (t : Asked) → (t.is_asked && affects t.method t.args) ≡ false
+pub unaffected_stays : (affects : Method → Args → Bool) (told : Method → Args → ℕ) (t : Asked)
+    → (t.is_asked && affects t.method t.args) ≡ false
     → after_state affects told t ≡ t
-unaffected_stays affects told t none = ap (λ b. cond b (with_answer (told t.method t.args) t) t) none
+unaffected_stays affects told t none =
+    ap (λ b. cond b (with_answer (told t.method t.args) t) t) none
 
 -- what isn't asked has no next state's answer
-pub free_stays : (affects : Method → Args → Bool) (told : Method → Args → ℕ) (t : Asked) → t.is_asked ≡ false → after_state affects told t ≡ t
-free_stays affects told t free = ap (λ b. cond (b && affects t.method t.args) (with_answer (told t.method t.args) t) t) free
+pub free_stays : (affects : Method → Args → Bool) (told : Method → Args → ℕ) (t : Asked)
+    → t.is_asked ≡ false → after_state affects told t ≡ t
+free_stays affects told t free =
+    unaffected_stays affects told t (ap (λ b. b && affects t.method t.args) free)
 
 -- a trail stays as it is, or ends
 pub stay_all : (trails : List Asked) → StayOrEnd trails trails
 stay_all trails = λ i t there. (t, there, λ is_asked. (is_asked, refl, refl, refl))
 
-pub stay_then : (old now new : List Asked) → StayOrEnd old now → StayOrEnd now new → StayOrEnd old new
+pub stay_then : (old now new : List Asked) → StayOrEnd old now → StayOrEnd now new
+    → StayOrEnd old new
 stay_then old now new first second = λ i t there.
     let one = first i t there in
     let two = second i one.0 one.1 in (

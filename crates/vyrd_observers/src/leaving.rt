@@ -87,8 +87,8 @@ fn forget(trails: &mut [Trail], watches: &mut Vec<Option<Watch>>, trail: usize, 
     move_all(watches, trail, n);
 }
 
-/// The answers of a trail that count for no open observer are dropped if they are at least half of
-/// those before the latest, so that this takes constant time for each answer.
+/// The answers of a trail that count for no open observer are dropped if they are more than half of
+/// those before the latest, so that dropping takes constant time for each answer.
 fn forget_some(trails: &mut [Trail], watches: &mut Vec<Option<Watch>>, trail: usize)
     requires trail { trail < length trails.old }
     requires some { SomeAsks trail watches.old.items }

@@ -124,8 +124,8 @@ impl Watches {
     }
 
     /// An observer returns. It says whether some state since its call answers the reply. It takes
-    /// time in proportion to the trails and to the answers of its trail, and to the callers if
-    /// another open observer is on that trail and it has more answers than one.
+    /// time in proportion to the trails and to the answers of its trail, and to the callers only if
+    /// another open observer shares the trail and it has more answers than one.
     pub fn end(&mut self, caller: u32, reply: u64) -> bool
         requires caller { caller < length self.old.by_caller }
         ensures answered { (seen : Seen) → slice_get self.old.by_caller caller ≡ Some seen

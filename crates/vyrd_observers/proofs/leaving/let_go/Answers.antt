@@ -6,20 +6,26 @@ use Rattle.vyrd_observers.proofs.AskerLaws.{leaves_at, counts_some, used_left, s
 use Rattle.vyrd_observers.proofs.leaving.let_go.Goals as goal
 
 pub leave-requires : goal.leave-requires
-leave-requires c = counts_some c.args.trails.now c.args.watches.now.items c.args.trail c.index-trails-trail.result c.requires.trail c.requires.counted
+leave-requires c =
+    counts_some c.args.trails.now c.args.watches.now.items c.args.trail c.index-trails-trail.result
+    c.requires.trail c.requires.counted
 
 pub forget_some-requires : goal.forget_some-requires
 forget_some-requires c =
     let trails = c.args.trails.now in
     let watches = c.args.watches.now.items in
+    let i = c.args.trail in
     let u = c.leave.new.self in
-    let so = leaves_at trails watches c.args.trail c.index-trails-trail.result u c.requires.trail c.leave.ensures c.requires.on c.requires.used c.requires.counted in
-    let it : u ≡ get_or (set trails c.args.trail u) c.args.trail c.index-trails-trail-2.result
-    = read_is (set trails c.args.trail u) c.args.trail u c.index-trails-trail-2.result so.there c.index-trails-trail-2.is ∙ c.index-trails-trail-2.is in
+    let now = set trails i u in
+    let so = leaves_at trails watches i c.index-trails-trail.result u c.requires.trail c.leave.ensures
+    c.requires.on c.requires.used c.requires.counted in
+    let read = c.index-trails-trail-2 in
+    let it : u ≡ get_or now i read.result = read_is now i u read.result so.there read.is ∙ read.is in
+    let long = ap (λ (t : Asked). length t.others) it in
     record {
-      trail = omega (arith, c.requires.trail, length-set trails c.args.trail u);
-      some = some_left c.args.trail trails (set trails c.args.trail u) watches u so
-          (omega (arith, c.if-len-gt0.true, c.len.ensures, ap (λ (t : Asked). length t.others) it));
+      trail = omega (arith, c.requires.trail, length-set trails i u);
+      some = some_left i trails now watches u so
+          (omega (arith, c.if-len-gt0.true, c.len.ensures, long));
       on = so.on;
       used = so.others;
     }
@@ -27,33 +33,39 @@ forget_some-requires c =
 pub returns-then-len-gt0 : goal.returns-then-len-gt0
 returns-then-len-gt0 c =
     let trails = c.args.trails.now in
+    let i = c.args.trail in
     let u = c.leave.new.self in
-    let so = leaves_at trails c.args.watches.now.items c.args.trail c.index-trails-trail.result u c.requires.trail c.leave.ensures c.requires.on
-    c.requires.used c.requires.counted in
+    let so = leaves_at trails c.args.watches.now.items i c.index-trails-trail.result u
+    c.requires.trail c.leave.ensures c.requires.on c.requires.used c.requires.counted in
+    let then = c.forget_some.ensures in
     record {
-      seen = c.forget_some.ensures.seen ∙ so.seen;
-      on = c.forget_some.ensures.on;
-      asking = λ h all. c.forget_some.ensures.asking h (so.asking h all);
-      used = c.forget_some.ensures.used;
-      counted = c.forget_some.ensures.counted so.counted;
-      stay = stay_then trails (set trails c.args.trail u) c.forget_some.new.trails so.stay c.forget_some.ensures.stay;
-      closed = c.forget_some.ensures.closed;
+      seen = then.seen ∙ so.seen;
+      on = then.on;
+      asking = λ h all. then.asking h (so.asking h all);
+      used = then.used;
+      counted = then.counted so.counted;
+      stay = stay_then trails (set trails i u) c.forget_some.new.trails so.stay then.stay;
+      closed = then.closed;
     }
 
 pub returns-else-len-gt0 : goal.returns-else-len-gt0
 returns-else-len-gt0 c =
     let trails = c.args.trails.now in
     let watches = c.args.watches.now.items in
+    let i = c.args.trail in
     let u = c.leave.new.self in
-    let so = leaves_at trails watches c.args.trail c.index-trails-trail.result u c.requires.trail c.leave.ensures c.requires.on c.requires.used c.requires.counted in
-    let it : u ≡ get_or (set trails c.args.trail u) c.args.trail c.index-trails-trail-2.result
-    = read_is (set trails c.args.trail u) c.args.trail u c.index-trails-trail-2.result so.there c.index-trails-trail-2.is ∙ c.index-trails-trail-2.is in
+    let now = set trails i u in
+    let so = leaves_at trails watches i c.index-trails-trail.result u c.requires.trail c.leave.ensures
+    c.requires.on c.requires.used c.requires.counted in
+    let read = c.index-trails-trail-2 in
+    let it : u ≡ get_or now i read.result = read_is now i u read.result so.there read.is ∙ read.is in
+    let long = ap (λ (t : Asked). length t.others) it in
     record {
       seen = so.seen;
       on = so.on;
       asking = so.asking;
-      used = used_left c.args.trail trails (set trails c.args.trail u) watches u so
-          (omega (arith, c.if-len-gt0.false, c.len.ensures, ap (λ (t : Asked). length t.others) it));
+      used = used_left i trails now watches u so
+          (omega (arith, c.if-len-gt0.false, c.len.ensures, long));
       counted = so.counted;
       stay = so.stay;
       closed = λ d here. here;

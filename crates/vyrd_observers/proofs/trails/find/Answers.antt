@@ -6,7 +6,8 @@ use Rattle.vyrd_observers.proofs.trails.find.Goals as goal
 pub returns-clause-none : goal.returns-clause-none
 returns-clause-none c = λ i t here is. by_place i c.loop-i.i
     (λ low. absurd (c.loop-i.invariant i t low here is))
-    (λ high. absurd (false_true (c.requires.free i t (omega (arith, high, c.loop-i-test.false)) here) is.0))
+    (λ high. let free = c.requires.free i t (omega (arith, high, c.loop-i-test.false)) here in
+    absurd (false_true free is.0))
   where
     false_true : {b : Bool} → b ≡ false → b ≡ true → ⊥
     false_true is_false is_true = cc

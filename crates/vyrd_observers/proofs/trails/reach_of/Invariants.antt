@@ -3,4 +3,5 @@ use Rattle.vyrd_observers.specs.Trails.{Asked}
 use Rattle.vyrd_observers.proofs.trails.reach_of.Given as goal
 
 abbrev pub invariant-loop-i : goal.invariant-loop-i
-invariant-loop-i l = (j : ℕ) (t : Asked) → l.i ≤ j → slice_get l.trails j ≡ Some t → t.is_asked ≡ false
+invariant-loop-i l = (j : ℕ) (t : Asked) → l.i ≤ j → slice_get l.trails j ≡ Some t
+    → t.is_asked ≡ false
