@@ -80,7 +80,66 @@ class Drawing(ScriptTest):
         self.assertEqual(texts[10], "\u2190 " + RUN_ANSWER.strip())
 
 
+class Naming(ScriptTest):
+    """Which lines --key draws. Each of these logs has the key 6, and other numbers that look like it."""
+
+    def assert_lines(self, log, wanted, *words):
+        said = self.run_script("lanes", "--key", "6", *words, given="\n".join(log) + "\n")
+        self.assertEqual((said.error, said.status), ("", 0))
+        numbers = [row.split()[0] for row in said.out.splitlines()]
+        self.assertEqual([int(number) for number in numbers if number.isdigit()], wanted)
+
+    def test_a_call_that_names_the_key_and_the_one_at_fault(self):
+        log = RUN.replace("lookup 5", "lookup 6") + RUN_ANSWER
+        drawn = RUN_DRAWN.replace("lookup 5", "lookup 6").splitlines(keepends=True)
+        said = self.run_script("lanes", "--key", "6", given=log)
+        self.assertEqual((said.out, said.status), ("".join(drawn[:1] + drawn[2:7]), 0))
+        said = self.run_script("lanes", "--key", "7", given=log)
+        alone = f"       caller 0\n    2  call insert 5\n    4  commit          <-- {RUN_ANSWER}    6  return 1\n"
+        self.assertEqual((said.out, said.status), (alone, 0))
+
+    def test_a_multiset_by_calls_and_by_the_values_of_slots(self):
+        log = ["vyrd 2 multiset 4 2", "start 0 6", "start 3 6", "0 call delete 5", "1 call insert_pair 7 6", "0 write 6 1"]
+        log += ["0 write 7 6", "1 return 0", "0 return 6", "1 call insert 5", "1 write 6 6", "1 return 1", "1 write 7 6", "end"]
+        self.assert_lines(log, [3, 4, 5, 6, 7, 8, 9])
+
+    def test_a_tree_by_the_keys_of_entries(self):
+        log = ["vyrd 1 tree 1 2", "0 call insert 5 6", "0 write 8 6", "0 write 1 6", "0 return 1", "1 call delete 5"]
+        log += ["1 write 12 6", "1 write 4 6", "1 return 6", "0 call lookup 6", "end"]
+        self.assert_lines(log, [6, 7, 8, 9, 10])
+
+    def test_a_cache_and_buffers_by_their_words_and_by_damage(self):
+        for subject, first in (("cache", 5), ("buffers", 8)):
+            log = [f"vyrd 1 {subject} 4 2", "0 call evict 3", f"0 write {2 * first} 1", "0 return 1"]
+            log += ["1 call flush 2", "0 call evict 2", f"0 write {3 * first} 2", "0 return 2", "1 return 6", "end"]
+            self.assert_lines(log, [2, 3, 4, 5, 6, 7, 8, 9])
+
+    def test_a_log_of_version_3_by_arguments_replies_and_values(self):
+        log = (TOOLS.parent / "specifications" / "queue.spec").read_text().splitlines()
+        at = len(log)
+        log += ["0 call enqueue 5", "0 write 1 5", "0 return 1", "1 call dequeue", "1 write 6 0", "1 return 6", "0 call enqueue 6"]
+        self.assert_lines([*log, "# 6", "0 write 6 6", "0 return 1", "end"], [at + n for n in (4, 5, 6, 7, 9, 10)])
+
+    def test_with_around_both_have_to_hold(self):
+        log = [*RUN.replace("lookup 5", "lookup 6").splitlines(), RUN_ANSWER.strip()]
+        self.assert_lines(log, [3, 4, 5], "--around", "1")
+
+    def test_a_line_without_a_call_is_drawn_where_it_is_named(self):
+        log = ["vyrd 1 multiset 1 1", "0 write 1 6", "end", "malformed at line 2: no call open"]
+        self.assert_lines(log, [2])
+        self.assert_lines(["vyrd 1 multiset 1 1", "0 call lookup 5", "malformed at line 3: no end"], [3])
+
+    def test_a_log_without_a_sound_header_names_no_key(self):
+        self.assert_lines(["vyrd 9 multiset 1 1", "0 call insert 6", "malformed at line 1: unknown version"], [1])
+
+
 class Misuse(ScriptTest):
+    def test_key_wants_a_number(self):
+        for words in (["x"], ["²"], [""], ["-1"], ["9" * 21], ["1.5"]):
+            said = self.run_script("lanes", "--key", *words, given=RUN + RUN_ANSWER)
+            self.assert_refused(said, "lanes: --key takes a number of at most 20 digits")
+        self.assert_refused(self.run_script("lanes", "--key", given=RUN + RUN_ANSWER), "lanes: --key takes a name")
+
     def test_around_wants_a_number(self):
         for words in (["x"], ["²"], [], [""], ["-1"], ["9" * 5000], ["1.5"]):
             said = self.run_script("lanes", "--around", *words, given=RUN + RUN_ANSWER)

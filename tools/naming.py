@@ -1,0 +1,67 @@
+"""Which lines of a log have to do with a key: those of the executions that are called with it, or that write it."""
+
+from logtext import START
+from walk import Execution
+from words import PART_WORDS, keys_of
+
+
+def lines_naming(log, key):
+    """The numbers of the lines of all executions that name a key, and of the one that the answer is about.
+
+    The starting lines that write the key are among them, and the line that the answer names.
+    """
+    chosen, of_call, named = set(), {}, set()  # of_call: by caller, the lines of its open call so far
+    for line, text, _, _ in log.lines():
+        entry = log.entry(line, text)
+        if line == log.marked_line or (line > log.front and is_start_with(log, text, key)):
+            chosen.add(line)
+        if not entry:
+            continue
+        caller = entry.caller
+        if entry.kind == "call":
+            of_call[caller] = []
+            named.discard(caller)
+        if caller in of_call:
+            of_call[caller].append(line)
+            if line == log.marked_line or is_naming(log, entry, key):
+                named.add(caller)
+            if caller in named:
+                chosen.update(of_call[caller])
+                of_call[caller].clear()
+        if entry.kind == "return":
+            of_call.pop(caller, None)
+    return chosen
+
+
+def is_start_with(log, text, key):
+    """Whether a line is a starting line that writes the key."""
+    start = START.fullmatch(text)
+    return bool(start) and is_write_of(log, int(start[1]), int(start[2]), key)
+
+
+def is_naming(log, entry, key):
+    """Whether an entry names a key. Without a sound header it isn't known what one is."""
+    if not log.subject:
+        return False
+    if entry.kind == "call":
+        called_with = entry.numbers if log.specification else keys_of(Execution(entry))
+        return part_of(log, key) in called_with
+    if entry.kind == "return":
+        return bool(log.specification) and key in entry.numbers
+    return entry.kind == "write" and is_write_of(log, *entry.numbers, key)
+
+
+def is_write_of(log, word, value, key):
+    """Whether a write of a value to a word writes a key."""
+    if log.subject in ("cache", "buffers"):
+        return word // PART_WORDS[log.subject] == part_of(log, key)
+    if log.subject == "multiset":
+        return word % 2 == 1 and value == key
+    if log.subject == "tree":
+        return word % PART_WORDS["tree"] in range(4, 8) and value == key
+    return bool(log.specification) and value == key
+
+
+def part_of(log, key):
+    """The key itself, or the chunk or the buffer whose damage it stands for."""
+    return key - log.size if log.subject in ("cache", "buffers") and key >= log.size else key
