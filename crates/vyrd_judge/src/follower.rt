@@ -131,7 +131,8 @@ impl<S: Spec> Follower<S> {
         ensures charter { self.new.charter ≡ self.old.charter }
     {
         let caller = entry.caller;
-        // Each call is compiled for its kind, so that no part of it looks at the kind again.
+        // Each call is compiled for its kind, so that no part of it looks at the kind again. It is as
+        // long as `take` isn't too large for that: docs/ARCHITECTURE.md, "Compiled in place".
         match entry.kind {
             Kind::Call(method, args) => self.take(Entry {
                 caller,
@@ -264,7 +265,7 @@ impl<S: Spec> Follower<S> {
     }
 
     /// Judges an entry that was handed out. The next one is handed out, if it can be judged.
-    #[inline(always)]
+    #[inline]
     fn judge(&mut self, x: Waiting) -> Result<Advance, AllocError>
         requires may { MayCatchUp (Some x) self.old }
         requires can_leave { CanLeave x }

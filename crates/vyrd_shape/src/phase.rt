@@ -86,7 +86,7 @@ impl Phase {
     }
 
     /// The first rule that a call breaks.
-    #[inline(always)]
+    #[inline]
     pub fn call_rule(self, header: Header, method: Method, args: Args) -> Option<Rule>
         ensures { (c : ℕ) (earlier : List Entry) → self ≡ phase_of c earlier
             → result ≡ first_broken (checks_of header earlier c (Kind.Call method args)) }
@@ -103,7 +103,7 @@ impl Phase {
     }
 
     /// The first rule that a return breaks.
-    #[inline(always)]
+    #[inline]
     pub fn return_rule(self) -> Option<Rule>
         ensures { (h : Header) (c reply : ℕ) (earlier : List Entry) → self ≡ phase_of c earlier
             → result ≡ first_broken (checks_of h earlier c (Kind.Return reply)) }
@@ -137,7 +137,7 @@ impl Phase {
     }
 
     /// The first rule that a lone commit breaks.
-    #[inline(always)]
+    #[inline]
     pub fn commit_rule(self, header: Header) -> Option<Rule>
         ensures { (c : ℕ) (earlier : List Entry) → self ≡ phase_of c earlier
             → result ≡ first_broken (checks_of header earlier c Kind.Commit) }
@@ -182,7 +182,7 @@ impl Phase {
     }
 
     /// The first rule that the end of a block with a commit breaks.
-    #[inline(always)]
+    #[inline]
     pub fn block_commit_rule(self) -> Option<Rule>
         ensures { (h : Header) (c : ℕ) (earlier : List Entry) → self ≡ phase_of c earlier
             → result ≡ first_broken (checks_of h earlier c Kind.BlockCommit) }
