@@ -160,12 +160,12 @@ class All(ScriptTest):
         """A copy in which each script notes that it ran, and one of them fails."""
         for name in ("all", "common.sh"):
             self.file(f"examples/{name}", (EXAMPLES / name).read_bytes()).chmod(0o755)
-        scripts = ["examples/compare", "examples/unproved", "examples/own/check", "examples/real/check", "specifications/check"]
-        scripts += ["specifications/same_verdicts", "tools/check", "examples/caught", "examples/flat"]
+        scripts = ["examples/compare", "examples/unproved", "examples/own/check", "examples/real/check", "loggers/check"]
+        scripts += ["specifications/check", "specifications/same_verdicts", "tools/check", "examples/caught", "examples/flat"]
         scripts += ["examples/documents", "tools/tests/run", "examples/many/check"]
         for script in scripts:
             self.program(script, f'echo {script} >>"{self.folder}/ran"', "exit 0")
-        for tests in ("examples/tests", "specifications/tests"):
+        for tests in ("examples/tests", "specifications/tests", "loggers/tests"):
             (self.folder / tests).mkdir()
         for failing, status in ((None, 0), (scripts[0], 1), (scripts[-1], 1)):
             if failing:
