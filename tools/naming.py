@@ -1,19 +1,22 @@
-"""Which lines of a log have to do with a key: those of the executions that are called with it, or that write it."""
+"""Which lines of a log have to do with some keys: those of the executions that are called with one, or that write one."""
 
+from command import tell
 from logtext import START
 from walk import Execution
 from words import PART_WORDS, keys_of
 
 
-def lines_naming(log, key):
-    """The numbers of the lines of all executions that name a key, and of the one that the answer is about.
+def lines_naming(log, keys):
+    """The numbers of the lines of all executions that name one of the keys, and of the one that the answer is about.
 
-    The starting lines that write the key are among them, and the line that the answer names.
+    The starting lines that write a key are among them, and the line that the answer names. What nothing names is told.
     """
-    chosen, of_call, named = set(), {}, set()  # of_call: by caller, the lines of its open call so far
+    chosen, of_call, named, unnamed = set(), {}, set(), set(keys)  # of_call: by caller, the lines of its open call so far
     for line, text, _, _ in log.lines():
         entry = log.entry(line, text)
-        if line == log.marked_line or (line > log.front and is_start_with(log, text, key)):
+        found = {key for key in keys if (is_naming(log, entry, key) if entry else is_start_with(log, line, text, key))}
+        unnamed -= found
+        if line == log.marked_line or (found and not entry):
             chosen.add(line)
         if not entry:
             continue
@@ -23,19 +26,21 @@ def lines_naming(log, key):
             named.discard(caller)
         if caller in of_call:
             of_call[caller].append(line)
-            if line == log.marked_line or is_naming(log, entry, key):
+            if line == log.marked_line or found:
                 named.add(caller)
             if caller in named:
                 chosen.update(of_call[caller])
                 of_call[caller].clear()
         if entry.kind == "return":
             of_call.pop(caller, None)
+    for key in sorted(unnamed):
+        tell(f"no call names the key {key}")
     return chosen
 
 
-def is_start_with(log, text, key):
+def is_start_with(log, line, text, key):
     """Whether a line is a starting line that writes the key."""
-    start = START.fullmatch(text)
+    start = START.fullmatch(text) if line > log.front else None
     return bool(start) and is_write_of(log, int(start[1]), int(start[2]), key)
 
 

@@ -84,8 +84,9 @@ class Naming(ScriptTest):
     """Which lines --key draws. Each of these logs has the key 6, and other numbers that look like it."""
 
     def assert_lines(self, log, wanted, *words):
-        said = self.run_script("lanes", "--key", "6", *words, given="\n".join(log) + "\n")
-        self.assertEqual((said.error, said.status), ("", 0))
+        words = words if "--key" in words else ("--key", "6", *words)
+        said = self.run_script("lanes", *words, given="\n".join(log) + "\n")
+        self.assertEqual(said.status, 0)
         numbers = [row.split()[0] for row in said.out.splitlines()]
         self.assertEqual([int(number) for number in numbers if number.isdigit()], wanted)
 
@@ -96,7 +97,13 @@ class Naming(ScriptTest):
         self.assertEqual((said.out, said.status), ("".join(drawn[:1] + drawn[2:7]), 0))
         said = self.run_script("lanes", "--key", "7", given=log)
         alone = f"       caller 0\n    2  call insert 5\n    4  commit          <-- {RUN_ANSWER}    6  return 1\n"
-        self.assertEqual((said.out, said.status), (alone, 0))
+        self.assertEqual((said.out, said.error, said.status), (alone, "lanes: no call names the key 7\n", 0))
+
+    def test_two_keys(self):
+        log = ["vyrd 1 multiset 1 1"]
+        for element in (5, 6, 7):
+            log += [f"0 call lookup {element}", "0 return 0"]
+        self.assert_lines([*log, "end"], [2, 3, 4, 5], "--key", "5,6")
 
     def test_a_multiset_by_calls_and_by_the_values_of_slots(self):
         log = ["vyrd 2 multiset 4 2", "start 0 6", "start 3 6", "0 call delete 5", "1 call insert_pair 7 6", "0 write 6 1"]
@@ -117,8 +124,9 @@ class Naming(ScriptTest):
     def test_a_log_of_version_3_by_arguments_replies_and_values(self):
         log = (TOOLS.parent / "specifications" / "queue.spec").read_text().splitlines()
         at = len(log)
-        log += ["0 call enqueue 5", "0 write 1 5", "0 return 1", "1 call dequeue", "1 write 6 0", "1 return 6", "0 call enqueue 6"]
-        self.assert_lines([*log, "# 6", "0 write 6 6", "0 return 1", "end"], [at + n for n in (4, 5, 6, 7, 9, 10)])
+        log += ["0 call enqueue 5", "0 write 1 5", "0 return 1", "1 call dequeue", "1 write 6 0", "1 return 6"]
+        log += ["0 call enqueue 6", "# 6", "0 write 6 6", "0 return 1", "end"]
+        self.assert_lines(log, [at + n for n in (4, 5, 6, 7, 9, 10)])
 
     def test_with_around_both_have_to_hold(self):
         log = [*RUN.replace("lookup 5", "lookup 6").splitlines(), RUN_ANSWER.strip()]
@@ -135,9 +143,9 @@ class Naming(ScriptTest):
 
 class Misuse(ScriptTest):
     def test_key_wants_a_number(self):
-        for words in (["x"], ["²"], [""], ["-1"], ["9" * 21], ["1.5"]):
+        for words in (["x"], ["²"], [""], ["-1"], ["9" * 21], ["1.5"], ["1,"], ["1, 2"]):
             said = self.run_script("lanes", "--key", *words, given=RUN + RUN_ANSWER)
-            self.assert_refused(said, "lanes: --key takes a number of at most 20 digits")
+            self.assert_refused(said, "lanes: --key takes a number of at most 20 digits, or some with commas between them")
         self.assert_refused(self.run_script("lanes", "--key", given=RUN + RUN_ANSWER), "lanes: --key takes a name")
 
     def test_around_wants_a_number(self):
