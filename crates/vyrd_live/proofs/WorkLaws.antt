@@ -11,7 +11,7 @@ use Rattle.vyrd_memory.specs.Soundness.{IsSoundSomewhere}
 use Rattle.vyrd_memory.specs.Bounds.{is_return, EndsWithin}
 use Rattle.vyrd_trace.specs.Lanes.{stamp}
 use Rattle.vyrd_trace.specs.Hands.{HandView, with_spare}
-use Rattle.vyrd_live.specs.Rooms.{HadRoom, BeginsWithRoom}
+use Rattle.vyrd_live.specs.Rooms.{HadRoom, BeginsWithRoom, HasNoRoom, StopsForRoom}
 use Rattle.vyrd_live.specs.Working.{dids_of, IsWorking, HasRoomAhead}
 use Rattle.vyrd_live.specs.Acts.{HasActed}
 use Rattle.vyrd_live.proofs.Lanes.{dids_of-snoc, length-dids}
@@ -122,3 +122,17 @@ one_longer act answer before after acted =
 pub worked_to_the_end : (h : Header) (script left : Script) (hand : HandView) → IsWorking h script left hand → next_act left ≡ Done
     → PlaysToTheEnd script (dids_of hand.lane)
 worked_to_the_end h script left hand w done = record { plays = w.plays; done = sym w.left_is ∙ nothing_left h left hand done w.fits }
+
+-- a script whose next operation has no room
+pub worked_until_spent : (h : Header) (script left : Script) (hand now : HandView) (limit : ℕ)
+    → now ≡ with_spare hand now.spare → hand.limit ≡ limit → IsWorking h script left hand
+    → HasNoRoom h hand.limit (length hand.lane) (next_act left)
+    → StopsForRoom h limit script (dids_of now.lane)
+worked_until_spent h script left hand now limit is same w none =
+    let lane : now.lane ≡ hand.lane = ap (λ (v : HandView). v.lane) is in
+    subst (λ (x : ℕ × List Stamped). StopsForRoom h x.0 script (dids_of x.1))
+    (λ i. (same i, sym lane i)) (record {
+      plays = w.plays;
+      no_room = subst (λ (x : ℕ × Script). HasNoRoom h hand.limit x.0 (next_act x.1))
+          (λ i. (sym (length-dids hand.lane) i, w.left_is i)) none;
+    })

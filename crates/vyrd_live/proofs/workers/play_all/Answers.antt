@@ -96,3 +96,32 @@ returns-clause-played g c =
           c.in_ok-spent.spent (worked g c).0 (worked g c).1 c.requires.hands h.legal parts c.requires.made (first g c);
       words_are = h.words_are ∙ ap (λ p. last_values p h.history) plan;
     }
+
+-- what no event changes of the sink stayed, from call to call
+pub returns-clause-fixed : goal.returns-clause-fixed
+returns-clause-fixed g c =
+    let fixed = g.S.EventSink.fixed in
+    let rest = c.take_rest.ensures.takes_in.fixed_is c.in-Some.ensures.stands in
+    let parted = c.in_ok-stopped.ensures.goes_on.takes_in.fixed_is rest.0 in
+    let played = c.in_ok-done.ensures.goes_on.takes_in.fixed_is parted.0 in
+    ap fixed c.in-Some.ensures.sink ∙ rest.1 ∙ parted.1 ∙ played.1 ∙ ap fixed c.in_ok-watch.ensures.sink
+
+pub part_all-requires-clause-receiver : goal.part_all-requires-clause-receiver
+part_all-requires-clause-receiver g c = c.in_ok-done.ensures.goes_on.same.queue
+    ∙ ap (λ (r : ReceiverView). r.queue)
+    (c.in_ok-watch.ensures.receiver ∙ c.in_ok-relay.ensures.receiver)
+
+pub take_rest-requires-clause-receiver : goal.take_rest-requires-clause-receiver
+take_rest-requires-clause-receiver g c =
+    c.in_ok-stopped.ensures.goes_on.same.queue ∙ c.in_ok-done.ensures.goes_on.same.queue
+    ∙ ap (λ (r : ReceiverView). r.queue)
+    (c.in_ok-watch.ensures.receiver ∙ c.in_ok-relay.ensures.receiver)
+
+pub take_rest-requires-clause-first : goal.take_rest-requires-clause-first
+take_rest-requires-clause-first g c =
+    c.in_ok-stopped.ensures.goes_on.same.settled ∙ c.in_ok-done.ensures.goes_on.same.settled
+    ∙ ap (λ (r : ReceiverView). r.settled)
+    (c.in_ok-watch.ensures.receiver ∙ c.in_ok-relay.ensures.receiver)
+
+pub take_rest-requires-clause-senders : goal.take_rest-requires-clause-senders
+take_rest-requires-clause-senders g c = c.in_ok-stopped.ensures.senders

@@ -1,16 +1,17 @@
 -- Event by event the lane is what the script wants, with room for each operation before it begins.
-use Rattle.std.proofs.Common.{◌≡◌, ◌≢◌, ℕ, List, arith, length, refl, ap, ◌∙◌, sym, subst, rules}
+use Rattle.std.proofs.Common.{◌≡◌, ◌≢◌, ℕ, List, Err, arith, length, refl, ap, ◌∙◌, sym, subst, rules}
 use Rattle.vyrd_base.specs.declared.history.Stamped.{Stamped}
 use Rattle.vyrd_memory.specs.declared.act.Act.TheVariants.{Done}
 use Rattle.vyrd_memory.specs.Scripts.{next_act, after_answer}
 use Rattle.vyrd_trace.specs.Hands.{HandView}
-use Rattle.vyrd_live.specs.Rooms.{HadRoom}
+use Rattle.vyrd_live.specs.Rooms.{HadRoom, HasNoRoom}
 use Rattle.vyrd_live.specs.Working.{dids_of, IsWorking, HasRoomAhead}
 use Rattle.vyrd_live.specs.Acts.{HasActed, MayAct}
 use Rattle.vyrd_live.proofs.RoomLaws.{room_for_one}
 use Rattle.vyrd_live.proofs.FitLaws.{next_may}
 use Rattle.vyrd_live.proofs.SendingLaws.{sent_same, sent_before}
-use Rattle.vyrd_live.proofs.WorkLaws.{working_first, working_with_room, working_turn, working_kept, same_hand, one_longer, worked_to_the_end}
+use Rattle.vyrd_live.proofs.WorkLaws.{working_first, working_with_room, working_turn, working_kept, same_hand, one_longer, worked_to_the_end, worked_until_spent}
+use Rattle.vyrd_trace.specs.declared.hand.Reserve.TheVariants as reserve
 use Rattle.vyrd_live.proofs.worker.Worker.play.Given as given
 use Rattle.vyrd_live.proofs.worker.Worker.play.Goals as goal
 
@@ -125,4 +126,24 @@ returns-clause-worked g c =
         subst (λ n. HadRoom h n (dids_of c.loop-self.self.hand.lane)) c.loop-self.invariant.hand_of.1 w.had_room,
       );
       long = λ e. cc;
+    }
+
+pub returns-in-Err-Spent-clause-worked : goal.returns-in-Err-Spent-clause-worked
+returns-in-Err-Spent-clause-worked g c =
+    let inv = c.loop-self.invariant in
+    let left = g.M.Machine.script c.loop-self.self.machine in
+    let before = c.loop-self.self.hand in
+    let hand = c.make_room.ensures.hand in
+    let spent : c.make_room.result ≡ Err reserve.Spent = search rules in record {
+      hand_of = (
+        ap (λ (v : HandView). v.table) hand ∙ inv.hand_of.0,
+        ap (λ (v : HandView). v.limit) hand ∙ inv.hand_of.1,
+      );
+      caller = ap (λ (v : HandView). v.caller) hand ∙ inv.caller;
+      ended = worked_until_spent (g.M.Machine.header_of c.args.self.now.machine)
+          (g.M.Machine.script c.args.self.now.machine) left before c.make_room.new.self.hand
+          c.args.traced.now.plan.limit hand inv.hand_of.1 inv.working
+          (subst (λ h. HasNoRoom h before.limit (length before.lane) (next_act left)) inv.header
+          (c.make_room.ensures.spent spent));
+      long = λ _. let most = c.make_room.ensures.long spent in omega (arith, most, inv.falls, inv.hand_of.1);
     }
