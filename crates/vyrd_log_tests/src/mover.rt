@@ -40,44 +40,55 @@ fn answer(alloc: Global, text: &[u8]) -> Result<Vec<u8>, AllocError> {
     Ok(line)
 }
 
+/// The text of a history, and the line that is written about it.
+type Answered = (&'static [u8], &'static [u8]);
+
+const ANSWERED: &[Answered] = &[
+    (INSERT, b"movers: 1 blocks, all reducible\n"),
+    (
+        b"history multiset 1 2\n0 open\n0 wrote 0 1\n0 wrote 1 5\n0 close\n1 wrote 0 0\n1 wrote 1 6\nend\n",
+        b"block at line 2: not reducible at line 4\n",
+    ),
+    (
+        b"history multiset 1 1\n0 open\n0 took 8\n0 gave 8\n0 took 8\n0 close\n0 gave 8\nend\n",
+        b"block at line 2: not reducible at line 5\n",
+    ),
+    (
+        b"history multiset 1 1\n0 read 0 1\nend\n",
+        b"history refused at line 2: not legal\n",
+    ),
+    (
+        b"history multiset 1 1\n0 close\nend\n",
+        b"history refused at line 2: block mark out of place\n",
+    ),
+    (b"", b"history refused at line 1: no end\n"),
+    (
+        b"history multiset 1 1\nend\n\n",
+        b"history refused at line 3: text after end\n",
+    ),
+    (
+        b"history multiset 1 2\n0 took 8\n0 open\n0 wrote 0 1\n0 wrote 1 5\n0 close\n0 gave 8\n1 took 8\n1 wrote 0 0\n1 gave 8\nend\n",
+        b"movers: 1 blocks, all reducible\n",
+    ),
+    (
+        b"history multiset 1 2\n0 open\n1 open\n1 wrote 0 1\n1 wrote 0 2\n0 wrote 0 3\n0 wrote 0 4\n1 close\n0 close\nend\n",
+        b"block at line 2: not reducible at line 7\n",
+    ),
+];
+
 #[test]
-fn answers_about_histories(rt: HostRuntime) -> Result<(), Fail> {
-    let cases: [(&[u8], &[u8]); 9] = [
-        (INSERT, b"movers: 1 blocks, all reducible\n"),
-        (
-            b"history multiset 1 2\n0 open\n0 wrote 0 1\n0 wrote 1 5\n0 close\n1 wrote 0 0\n1 wrote 1 6\nend\n",
-            b"block at line 2: not reducible at line 4\n",
-        ),
-        (
-            b"history multiset 1 1\n0 open\n0 took 8\n0 gave 8\n0 took 8\n0 close\n0 gave 8\nend\n",
-            b"block at line 2: not reducible at line 5\n",
-        ),
-        (
-            b"history multiset 1 1\n0 read 0 1\nend\n",
-            b"history refused at line 2: not legal\n",
-        ),
-        (
-            b"history multiset 1 1\n0 close\nend\n",
-            b"history refused at line 2: block mark out of place\n",
-        ),
-        (b"", b"history refused at line 1: no end\n"),
-        (
-            b"history multiset 1 1\nend\n\n",
-            b"history refused at line 3: text after end\n",
-        ),
-        (
-            b"history multiset 1 2\n0 took 8\n0 open\n0 wrote 0 1\n0 wrote 1 5\n0 close\n0 gave 8\n1 took 8\n1 wrote 0 0\n1 gave 8\nend\n",
-            b"movers: 1 blocks, all reducible\n",
-        ),
-        (
-            b"history multiset 1 2\n0 open\n1 open\n1 wrote 0 1\n1 wrote 0 2\n0 wrote 0 3\n0 wrote 0 4\n1 close\n0 close\nend\n",
-            b"block at line 2: not reducible at line 7\n",
-        ),
-    ];
-    for (text, line) in cases {
-        assert_eq!(rt; answer(rt.alloc(), text)?.as_slice(), line);
+fn answers_about_histories(rt: HostRuntime) {
+    for (row, (text, line)) in ANSWERED.iter().enumerate() {
+        assert!(rt; is_answer(rt.alloc(), text, line), "row {row}");
     }
-    Ok(())
+}
+
+/// Whether this line is written about the text of a history.
+fn is_answer(alloc: Global, text: &[u8], line: &[u8]) -> bool {
+    match answer(alloc, text) {
+        Ok(found) => found.as_slice() == line,
+        Err(_) => false,
+    }
 }
 
 /// What caller 0 does, with its number.
@@ -107,7 +118,7 @@ fn history_written(rt: HostRuntime) -> Result<(), Fail> {
     write_history(header, &history, &mut text)?;
     let lines: &[u8] =
         b"history multiset 1 1\n0 took 8\n0 open\n0 wrote 0 1\n0 close commit\n0 gave 8\nend\n";
-    assert_eq!(rt; text.as_slice(), lines);
+    assert!(rt; text.as_slice() == lines);
     Ok(())
 }
 
@@ -134,17 +145,21 @@ fn text_of_reads(alloc: Global, count: u32) -> Result<Vec<u8>, AllocError> {
 }
 
 #[test]
-fn limit_of_lines(rt: HostRuntime) -> Result<(), Fail> {
-    let cases: [(u32, &[u8]); 2] = [
-        (3_999_998, b"movers: 0 blocks, all reducible\n"),
-        (
+fn limit_of_lines(rt: HostRuntime) {
+    assert!(rt; is_limit(rt.alloc(), 3_999_998, b"movers: 0 blocks, all reducible\n"));
+    assert!(rt;
+        is_limit(
+            rt.alloc(),
             3_999_999,
-            b"history refused at line 4000001: too many lines\n",
-        ),
-    ];
-    for (count, line) in cases {
-        let text = text_of_reads(rt.alloc(), count)?;
-        assert_eq!(rt; answer(rt.alloc(), &text)?.as_slice(), line);
+            b"history refused at line 4000001: too many lines\n"
+        )
+    );
+}
+
+/// Whether this line is written about a history of that many reads.
+fn is_limit(alloc: Global, count: u32, line: &[u8]) -> bool {
+    match text_of_reads(alloc, count) {
+        Ok(text) => is_answer(alloc, &text, line),
+        Err(_) => false,
     }
-    Ok(())
 }
