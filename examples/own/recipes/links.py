@@ -126,4 +126,4 @@ def once(action):
     return lambda: left and left.pop()()
 
 
-run(Header(2, "tree", NODES, CALLERS), correct, broken)
+run(Header(1, "tree", NODES, CALLERS), correct, broken)
