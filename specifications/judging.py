@@ -36,9 +36,10 @@ def asked(words, text):
 def checked(text):
     """The status and the line of the verdict about a log."""
     status, said = asked("check", text)
-    if status > 2:
+    answer = said.removesuffix("\n")
+    if status > 2 or not VERDICT.fullmatch(answer):
         raise Ended(f"the program gives no verdict, and ends with {status}", NO_PROGRAM)
-    return status, said.removesuffix("\n")
+    return status, answer
 
 
 def batch_answers(texts):

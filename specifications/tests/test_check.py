@@ -58,13 +58,38 @@ class Check(ScriptTest):
         ran = self.check("--help")
         self.assert_ended(ran, 0, ran.stdout, [])
         self.assertIn(b"specifications/check [NAME...]", ran.stdout)
+        self.assertIn(b"specifications/check FOLDER/NAME.spec", ran.stdout)
         self.assert_ended(self.check("none"), 64, b"", ["there is no specification none here"])
         self.assert_ended(self.check("--none"), 64, b"", ["there is no option --none"])
+        self.assert_ended(self.check("none.spec"), 64, b"", ["none.spec can't be read: No such file"])
 
     def test_right_answers(self):
         said = b"specifications: 2 logs passed, 0 failed; 4 spoilt lines shown, 0 not\n"
         self.assert_ended(self.check(), 0, said, [])
         self.assert_ended(self.check("sum"), 0, said, [])
+
+    def test_specification_of_another_folder(self):
+        """One's own stands anywhere, with its logs beside it."""
+        self.check()
+        script = self.folder / "specifications/check"
+        self.file("own/mine.spec", SPECIFICATION)
+        for name, text in (("right", RIGHT), ("wrong", WRONG)):
+            self.file(f"own/logs/mine/{name}.log", text)
+        said = b"specifications: 2 logs passed, 0 failed; 4 spoilt lines shown, 0 not\n"
+        for word in (str(self.folder / "own/mine.spec"), "own/mine.spec"):
+            self.assert_ended(self.run_script(script, word, vyrd=self.folder / "checker"), 0, said, [])
+        self.file("own/other.spec", SPECIFICATION)
+        ran = self.run_script(script, "own/other.spec", vyrd=self.folder / "checker")
+        self.assert_ended(ran, 64, b"", ["other has no log that is accepted, or none that isn't, in own/logs/other"])
+
+    def test_log_with_a_wrong_note_shows_nothing(self):
+        """The log that is accepted is the only one that gets another answer by a spoilt line, and its note is wrong."""
+        of_right = '"0 return 7" not in log'
+        said = b"specifications: 2 logs passed, 0 failed; 4 spoilt lines shown, 0 not\n"
+        self.assert_ended(self.check(seen=of_right), 0, said, [])
+        ran = self.check(right=RIGHT.replace("3 entries", "30 entries"), seen=of_right)
+        self.assertEqual((ran.returncode, ran.stderr), (1, b""))
+        self.assertIn(b"specifications: 1 logs passed, 1 failed; 0 spoilt lines shown, 4 not\n", ran.stdout)
 
     def test_wrong_answers(self):
         for wrong in (WRONG.replace("reply 7", "reply 8"), WRONG.replace("violation", "malformed")):
