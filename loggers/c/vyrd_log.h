@@ -632,13 +632,18 @@ static bool vyrd_add_own(struct vyrd_text *lines, struct vyrd_header *header) {
     // It is compared with its one spelling, so nothing else is taken for a header.
     int size = snprintf(first, sizeof first, "vyrd 3 own %u %u\n", words, callers);
     bool begins = strncmp(lines->bytes, first, (size_t)size) == 0;
+    bool ends = lines->size >= 5 && strcmp(lines->bytes + lines->size - 5, "\nlog\n") == 0;
+    if (strstr(lines->bytes, "\r\n") && !(begins && ends)) {
+        vyrd_say("a line of the specification ends with a carriage return: lines end with a line "
+                 "feed alone");
+        return false;
+    }
     if (!begins || words > 65536 || callers < 1 || callers > 256) {
         vyrd_say("a specification begins with the line `vyrd 3 own WORDS CALLERS`, with up to "
                  "65,536 words and from 1 to 256 callers");
         return false;
     }
     header->callers = callers;
-    bool ends = strcmp(lines->bytes + lines->size - 5, "\nlog\n") == 0;
     if (!ends) vyrd_say("a specification ends with the line `log`");
     return ends && vyrd_add_start(lines, header);
 }

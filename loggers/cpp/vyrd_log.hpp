@@ -787,14 +787,18 @@ inline Header Header::own(std::string specification) {
     unsigned words = 0, callers = 0;
     std::sscanf(first.c_str(), "vyrd 3 own %u %u", &words, &callers);
     // It is compared with its one spelling, so nothing else is taken for a header.
-    if (first != "vyrd 3 own " + std::to_string(words) + ' ' + std::to_string(callers) ||
-        words > 65'536 || callers < 1 || callers > 256)
+    bool begins = first == "vyrd 3 own " + std::to_string(words) + ' ' + std::to_string(callers);
+    constexpr std::string_view LAST = "\nlog\n";
+    if (specification.empty() || specification.back() != '\n') specification += '\n';
+    bool ends = specification.size() >= LAST.size() &&
+                specification.compare(specification.size() - LAST.size(), LAST.size(), LAST) == 0;
+    if (specification.find("\r\n") != std::string::npos && !(begins && ends))
+        throw Error("a line of the specification ends with a carriage return: lines end with a "
+                    "line feed alone");
+    if (!begins || words > 65'536 || callers < 1 || callers > 256)
         throw Error("a specification begins with the line `vyrd 3 own WORDS CALLERS`, with up to "
                     "65,536 words and from 1 to 256 callers");
-    constexpr std::string_view LAST = "\nlog\n";
-    if (specification.back() != '\n') specification += '\n';
-    if (specification.compare(specification.size() - LAST.size(), LAST.size(), LAST) != 0)
-        throw Error("a specification ends with the line `log`");
+    if (!ends) throw Error("a specification ends with the line `log`");
     Header header = Header::text(std::move(specification), callers);
     header.version_ = 3;
     return header;

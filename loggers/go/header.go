@@ -48,11 +48,15 @@ func OwnHeader(specification string) Header {
 	words, callers := 0, 0
 	fmt.Sscanf(first, "vyrd 3 own %d %d", &words, &callers) // what is no header differs from the next
 	header := Header{version: 3, size: words, callers: callers, text: text}
-	if first != fmt.Sprintf("vyrd 3 own %d %d", words, callers) ||
-		words < 0 || words > 65536 || callers < 1 || callers > 256 {
+	begins := first == fmt.Sprintf("vyrd 3 own %d %d", words, callers)
+	ends := strings.HasSuffix(text, "\nlog\n")
+	if strings.Contains(text, "\r\n") && !(begins && ends) {
+		header.err = errors.New("a line of the specification ends with a carriage return: " +
+			"lines end with a line feed alone")
+	} else if !begins || words < 0 || words > 65536 || callers < 1 || callers > 256 {
 		header.err = errors.New("a specification begins with the line `vyrd 3 own WORDS CALLERS`, " +
 			"with up to 65,536 words and from 1 to 256 callers")
-	} else if !strings.HasSuffix(text, "\nlog\n") {
+	} else if !ends {
 		header.err = errors.New("a specification ends with the line `log`")
 	}
 	return header

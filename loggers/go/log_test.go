@@ -162,10 +162,14 @@ func TestOwnHeaders(t *testing.T) {
 			"65,536 words and from 1 to 256 callers", OwnHeader(first+"\nlog\n"))
 	}
 	for _, rest := range []string{
-		"", "\nmethod x", "\nlog\r\n", "\nlog\n\n", "\n log", "\nlog\nend",
+		"", "\nmethod x", "\nlog\n\n", "\n log", "\nlog\nend",
 	} {
 		header := OwnHeader("vyrd 3 own 65536 256" + rest)
 		refuses(t, "a specification ends with the line `log`", header)
+	}
+	for _, rest := range []string{"\r\nlog\r\n", "\r\nlog\n", "\nlog\r\n"} {
+		refuses(t, "a line of the specification ends with a carriage return: lines end with a line "+
+			"feed alone", OwnHeader("vyrd 3 own 65536 256"+rest))
 	}
 }
 

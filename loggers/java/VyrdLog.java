@@ -235,6 +235,8 @@ public final class VyrdLog implements Closeable {
         public static Header own(String specification) {
             String text = specification.endsWith("\n") ? specification : specification + "\n";
             Matcher first = OWN.matcher(text.substring(0, text.indexOf('\n')));
+            check(!text.contains("\r\n") || first.matches() && text.endsWith("\nlog\n"),
+                    "a line of the specification ends with a carriage return: lines end with a line feed alone");
             check(first.matches() && Integer.parseInt(first.group(1)) <= 65_536 && Integer.parseInt(first.group(2)) <= 256,
                     "a specification begins with the line `vyrd 3 own WORDS CALLERS`, with up to 65,536 words and from 1 to 256 "
                             + "callers");

@@ -86,6 +86,8 @@ class Header:
         """
         text = specification if specification.endswith("\n") else specification + "\n"
         first = re.fullmatch("vyrd 3 own (0|[1-9][0-9]{0,4}) ([1-9][0-9]{0,2})", text.partition("\n")[0])
+        if "\r\n" in text and not (first and text.endswith("\nlog\n")):
+            raise LogError("a line of the specification ends with a carriage return: lines end with a line feed alone")
         if not first or int(first[1]) > 65536 or int(first[2]) > 256:
             begin = "a specification begins with the line `vyrd 3 own WORDS CALLERS`"
             raise LogError(begin + ", with up to 65,536 words and from 1 to 256 callers")

@@ -135,11 +135,15 @@ static void own_headers(void) {
         snprintf(text, sizeof text, "%s\nlog\n", firsts[n]);
         refuses(vyrd_header_own(text), "a specification begins with the line `vyrd 3 own WORDS");
     }
-    const char *const rests[] = {"",          "\nmethod x", "\nlog\r\n",
-                                 "\nlog\n\n", "\n log",     "\nlog\nend"};
+    const char *const rests[] = {"", "\nmethod x", "\nlog\n\n", "\n log", "\nlog\nend"};
     for (size_t n = 0; n < sizeof rests / sizeof *rests; n++) {
         snprintf(text, sizeof text, "vyrd 3 own 65536 256%s", rests[n]);
         refuses(vyrd_header_own(text), "a specification ends with the line `log`");
+    }
+    const char *const returns[] = {"\r\nlog\r\n", "\r\nlog\n", "\nlog\r\n"};
+    for (size_t n = 0; n < sizeof returns / sizeof *returns; n++) {
+        snprintf(text, sizeof text, "vyrd 3 own 65536 256%s", returns[n]);
+        refuses(vyrd_header_own(text), "a line of the specification ends with a carriage return: ");
     }
 }
 

@@ -114,8 +114,11 @@ void own_headers() {
           "vyrd 3 own 4294967296 1", "\nvyrd 3 own 0 1"})
         refuses("a specification begins with the line `vyrd 3 own WORDS CALLERS`",
                 [&] { vyrd::Header::own(first + std::string("\nlog\n")); });
-    for (const char *rest : {"", "\nmethod x", "\nlog\r\n", "\nlog\n\n", "\n log", "\nlog\nend"})
+    for (const char *rest : {"", "\nmethod x", "\nlog\n\n", "\n log", "\nlog\nend"})
         refuses("a specification ends with the line `log`",
+                [&] { vyrd::Header::own(std::string("vyrd 3 own 65536 256") + rest); });
+    for (const char *rest : {"\r\nlog\r\n", "\r\nlog\n", "\nlog\r\n"})
+        refuses("a line of the specification ends with a carriage return: ",
                 [&] { vyrd::Header::own(std::string("vyrd 3 own 65536 256") + rest); });
 }
 

@@ -107,8 +107,12 @@ public final class UnitTests {
             refuses("a specification begins with the line `vyrd 3 own WORDS CALLERS`, with up to 65,536 words and from 1 to 256 "
                     + "callers", () -> VyrdLog.Header.own(first + "\nlog\n"));
         }
-        for (String rest : List.of("", "\nmethod x", "\nlog\r\n", "\nlog\n\n", "\n log", "\nlog\nend")) {
+        for (String rest : List.of("", "\nmethod x", "\nlog\n\n", "\n log", "\nlog\nend")) {
             refuses("a specification ends with the line `log`", () -> VyrdLog.Header.own("vyrd 3 own 65536 256" + rest));
+        }
+        for (String rest : List.of("\r\nlog\r\n", "\r\nlog\n", "\nlog\r\n")) {
+            refuses("a line of the specification ends with a carriage return: lines end with a line feed alone",
+                    () -> VyrdLog.Header.own("vyrd 3 own 65536 256" + rest));
         }
     }
 

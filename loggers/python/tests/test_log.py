@@ -104,9 +104,12 @@ class Tests(unittest.TestCase):
         ):
             refused = sentence + ", with up to 65,536 words and from 1 to 256 callers"
             self.refuses(lambda: Header.own(first + "\nlog\n"), refused)  # noqa: B023
-        for rest in ("", "\nmethod x", "\nlog\r\n", "\nlog\n\n", "\n log", "\nlog\nend"):
+        for rest in ("", "\nmethod x", "\nlog\n\n", "\n log", "\nlog\nend"):
             refused = "a specification ends with the line `log`"
             self.refuses(lambda: Header.own("vyrd 3 own 65536 256" + rest), refused)  # noqa: B023
+        returns = "a line of the specification ends with a carriage return: lines end with a line feed alone"
+        for rest in ("\r\nlog\r\n", "\r\nlog\n", "\nlog\r\n"):
+            self.refuses(lambda: Header.own("vyrd 3 own 65536 256" + rest), returns)  # noqa: B023
 
     def test_own_lines(self):
         """Lines of 200 bytes, notes, a call in the step that decides it, and one that commits nothing."""

@@ -70,11 +70,17 @@ impl Header {
     pub fn own(specification: &str) -> Result<Self, Error> {
         let end = if specification.ends_with('\n') { "" } else { "\n" };
         let text = format!("{specification}{end}");
-        let callers = text.lines().next().and_then(callers_of).ok_or_else(|| {
+        let callers = text.split('\n').next().and_then(callers_of);
+        let ends = text.ends_with("\nlog\n");
+        if text.contains("\r\n") && !(callers.is_some() && ends) {
+            let line = "a line of the specification ends with a carriage return";
+            return Err(Error::Header(format!("{line}: lines end with a line feed alone")));
+        }
+        let callers = callers.ok_or_else(|| {
             let line = "a specification begins with the line `vyrd 3 own WORDS CALLERS`";
             Error::Header(format!("{line}, with up to 65,536 words and from 1 to 256 callers"))
         })?;
-        if !text.ends_with("\nlog\n") {
+        if !ends {
             return Err(Error::Header("a specification ends with the line `log`".to_string()));
         }
         Ok(Header { first: text, callers, start: Vec::new(), version: 3 })

@@ -144,9 +144,14 @@ fn own_headers() {
             with up to 65,536 words and from 1 to 256 callers";
         assert_eq!(why(Header::own(&format!("{first}\nlog\n"))), sentence);
     }
-    for rest in ["", "\nmethod x", "\nlog\r\n", "\nlog\n\n", "\n log", "\nlog\nend"] {
+    for rest in ["", "\nmethod x", "\nlog\n\n", "\n log", "\nlog\nend"] {
         let refused = Header::own(&format!("vyrd 3 own 65536 256{rest}"));
         assert_eq!(why(refused), "a specification ends with the line `log`");
+    }
+    for rest in ["\r\nlog\r\n", "\r\nlog\n", "\nlog\r\n"] {
+        let sentence = "a line of the specification ends with a carriage return: \
+            lines end with a line feed alone";
+        assert_eq!(why(Header::own(&format!("vyrd 3 own 65536 256{rest}"))), sentence);
     }
 }
 
