@@ -56,6 +56,18 @@ class Lint(ScriptTest):
         missing = "the line `log` is missing above it: here the specification ends, and what is logged begins"
         self.assert_said(LOG.replace("log\n", ""), f"line 16: bad specification line at column 1: {missing}")
 
+    def test_carriage_returns(self):
+        """Each line that says something ends with one: the header, the specification's lines, and those of the log."""
+        why = "it ends with a carriage return: lines end with a line feed alone"
+        self.assert_said(
+            "vyrd 3 own 0 1\r\n# a get\r\nmethod get\r\n  answer 0\r\nlog\r\n0 call get\r\nend\n",
+            f"line 1: {why}",
+            f"line 3: bad specification line at column 11: {why}; `method get` is meant?",
+            f"line 4: bad specification line at column 11: {why}; `  answer 0` is meant?",
+            f"line 5: bad specification line at column 1: {why}; `log` is meant?",
+            f"line 6: {why}",
+        )
+
     def test_words_that_no_parts_fill(self):
         why = "line 17: start stands for no state: the header has 7 words, and parts of 2 words don't fill them"
         self.assert_said(LOG.replace("own 8 2", "own 7 2"), why)
