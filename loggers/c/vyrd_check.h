@@ -48,9 +48,9 @@ typedef int vyrd_body(uint64_t seed, struct vyrd_log *log, void *data);
 /// Calls the body in many runs, each with a seed and a log of its own, and lets the program judge
 /// each log. A log that is accepted is removed. `check` may be NULL; `data` is what the body gets.
 ///
-/// 0 if all logs are accepted. It is 1 at the first run whose log isn't accepted, whose body
-/// crashes or returns another number than 0, or whose body hasn't returned in time. The log is then
-/// kept, and judged as it is. It is 2 if there is no program that judges, or no folder for the
+/// 0 if all logs are accepted. It is 1 at the first run whose log isn't accepted or has no entry,
+/// whose body crashes or returns another number than 0, or whose body hasn't returned in time. The
+/// log is then kept, and judged as it is. It is 2 if there is no program that judges, or no folder for the
 /// logs. `message` is then what happened in which run, where the log is kept, and what explains it,
 /// to be freed by the caller. If it is NULL, that is said on standard error.
 int vyrd_check_runs(struct vyrd_header header, const struct vyrd_check *check, vyrd_body *body,
@@ -277,6 +277,10 @@ static char *vyrd_all_runs(struct vyrd_run_of run, struct vyrd_check check, cons
         char *path = vyrd_print("%s/%llu.log", folder, (unsigned long long)run.options.seed);
         run.path = path;
         char *fault = vyrd_play(&run, check.milliseconds), *verdict = vyrd_verdict(program, path);
+        if (*fault == '\0' && strncmp(verdict, "accepted: 0 entries", 19) == 0) {
+            free(fault);
+            fault = vyrd_print("the run logged nothing; ");
+        }
         if (*fault == '\0' && strncmp(verdict, "accepted: ", 10) == 0) {
             unlink(path);
         } else {

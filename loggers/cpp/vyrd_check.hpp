@@ -234,9 +234,9 @@ inline std::string made(const std::string &folder) {
 /// Calls the body in many runs, each with a seed and a log of its own, and lets the program judge
 /// each log. A log that is accepted is removed.
 ///
-/// Throws RunsFailed at the first run whose log isn't accepted, whose body throws or crashes, or
-/// whose body hasn't returned in time. The log is then kept, and judged as it is. It is thrown too
-/// if the program can't be run, or if a log can't be written.
+/// Throws RunsFailed at the first run whose log isn't accepted or has no entry, whose body throws or
+/// crashes, or whose body hasn't returned in time. The log is then kept, and judged as it is. It is
+/// thrown too if the program can't be run, or if a log can't be written.
 inline void check_runs(const Header &header, const Check &check, const Body &body) {
     detail::Judge judge(check);
     std::string folder = detail::made(check.folder);
@@ -245,6 +245,8 @@ inline void check_runs(const Header &header, const Check &check, const Body &bod
         std::string path = folder + '/' + std::to_string(seed) + ".log";
         std::string fault = detail::play(header, check, seed, path, body);
         std::string verdict = judge.verdict(path);
+        if (fault.empty() && verdict.rfind("accepted: 0 entries", 0) == 0)
+            fault = "the run logged nothing; ";
         if (!fault.empty() || verdict.rfind("accepted: ", 0) != 0)
             throw RunsFailed("run " + std::to_string(n + 1) + " of " + std::to_string(check.runs) +
                              ", with seed " + std::to_string(seed) + ": " + fault + verdict +

@@ -38,8 +38,8 @@ type Check struct {
 // program judge each log. The body waits for the goroutines that it starts, and doesn't finish the
 // log: that is done when it has returned. A log that is accepted is removed.
 //
-// The test fails at the first run whose log isn't accepted, whose body panics, or whose body hasn't
-// returned in time. It says where the log is kept, which is judged as it is. A body that doesn't
+// The test fails at the first run whose log isn't accepted or has no entry, whose body panics, or
+// whose body hasn't returned in time. It says where the log is kept, which is judged as it is. A body that doesn't
 // return goes on in its goroutine, and a panic in a goroutine that the body has started ends the
 // test's process. The body doesn't call FailNow, Fatal or Skip of the test, which are for the
 // test's own goroutine.
@@ -108,6 +108,9 @@ func (c Check) oneRun(
 	verdict, err := judge.verdict(path)
 	if err != nil {
 		return err
+	}
+	if fault == "" && isEmpty(verdict) {
+		fault = "the run logged nothing; "
 	}
 	if fault == "" && isAccepted(verdict) {
 		return os.Remove(path)

@@ -15,6 +15,8 @@ var verdicts = []string{"accepted: ", "violation at line ", "malformed at line "
 
 func isAccepted(verdict string) bool { return strings.HasPrefix(verdict, verdicts[0]) }
 
+func isEmpty(verdict string) bool { return strings.HasPrefix(verdict, verdicts[0]+"0 entries") }
+
 // judge is the program that judges a log, and what explains its answers.
 type judge struct{ program, explain string }
 

@@ -3,6 +3,8 @@ import java.io.IOException;
 import java.nio.charset.StandardCharsets;
 import java.nio.file.Files;
 import java.nio.file.Path;
+import java.util.HashSet;
+import java.util.Set;
 import java.util.concurrent.TimeUnit;
 
 /**
@@ -37,7 +39,7 @@ public final class VyrdCheck {
     public interface Body {
         /**
          * Makes the structure, and lets threads use it. It waits for the threads that it starts, and doesn't finish the log: that
-         * is done when it has returned.
+         * is done when it has returned. What one of these threads throws and nobody catches counts as thrown by the body.
          */
         void run(long seed, VyrdLog log) throws Exception;
     }
@@ -90,8 +92,12 @@ public final class VyrdCheck {
     /**
      * Makes the runs. A log that is accepted is removed.
      *
-     * @throws AssertionError at the first run whose log isn't accepted, whose body throws, or whose body takes too long. The log is
-     *     then kept, and judged as it is. It is thrown also where the program can't be run
+     * <p>While a body runs, what any thread throws and nobody catches counts as thrown by the body. Such threads are found by the
+     * default handler of uncaught exceptions, which still calls the one that was there before. So a thread with a handler of its
+     * own isn't seen, and neither is what a Future keeps until somebody calls its {@code get}.
+     *
+     * @throws AssertionError at the first run whose log isn't accepted or has no entry, whose body throws, or whose body takes
+     *     too long. The log is then kept, and judged as it is. It is thrown also where the program can't be run
      * @throws IOException where a log can't be written or removed
      */
     public void check(Body body) throws IOException, InterruptedException {
@@ -102,10 +108,13 @@ public final class VyrdCheck {
             Run run = new Run(body, first + n, VyrdLog.create(header, path, options.seed(first + n)));
             String fault = run.play(seconds);
             String verdict = verdict(judge, path);
+            if (fault.isEmpty() && verdict.startsWith("accepted: 0 entries")) {
+                fault = "the run logged nothing; ";
+            }
             if (!fault.isEmpty() || !verdict.startsWith("accepted: ")) {
                 String place = "run " + (n + 1) + " of " + runs + ", with seed " + Long.toUnsignedString(first + n) + ": ";
                 String log = "\nThe log is kept: " + path + "\n\n";
-                throw new AssertionError(place + fault + verdict + log + explanation(judge, path), run.thrown);
+                throw new AssertionError(place + fault + verdict + log + explanation(judge, path), run.cause());
             }
             Files.delete(path);
         }
@@ -119,7 +128,8 @@ public final class VyrdCheck {
         private final Body body;
         private final long seed;
         private final VyrdLog log;
-        private volatile Throwable thrown;
+        private volatile Throwable thrown; // by the body
+        private volatile Throwable uncaught; // the first that a thread of it threw
 
         Run(Body body, long seed, VyrdLog log) {
             this.body = body;
@@ -131,18 +141,29 @@ public final class VyrdCheck {
         String play(double seconds) throws IOException, InterruptedException {
             Thread thread = new Thread(this::call, "vyrd check");
             thread.setDaemon(true);
-            thread.start();
-            TimeUnit.NANOSECONDS.timedJoin(thread, (long) (seconds * 1e9));
+            Threads.watch(this);
+            try {
+                thread.start();
+                TimeUnit.NANOSECONDS.timedJoin(thread, (long) (seconds * 1e9));
+            } finally {
+                Threads.leave(this);
+            }
+            String ofThread = uncaught == null ? "" : "a thread of the body threw " + uncaught + "; ";
             if (thread.isAlive()) {
                 log.flush();
-                return "the body hasn't returned after " + seconds + " seconds; ";
+                return "the body hasn't returned after " + seconds + " seconds; " + ofThread;
             }
-            if (thrown != null) {
+            String fault = (thrown == null ? "" : "the body threw " + thrown + "; ") + ofThread;
+            if (fault.isEmpty()) {
+                log.finish();
+            } else {
                 log.close();
-                return "the body threw " + thrown + "; ";
             }
-            log.finish();
-            return "";
+            return fault;
+        }
+
+        Throwable cause() {
+            return thrown == null ? uncaught : thrown;
         }
 
         private void call() {
@@ -151,6 +172,44 @@ public final class VyrdCheck {
             } catch (Throwable e) { // whatever it is, it belongs to the thread that waits
                 thrown = e;
             }
+        }
+    }
+
+    /** Sees what threads throw while bodies run. Of several bodies at a time each may have started the thread. */
+    private static final class Threads {
+        private static final Set<Run> RUNS = new HashSet<>();
+        private static Thread.UncaughtExceptionHandler before;
+
+        private Threads() {}
+
+        static synchronized void watch(Run run) {
+            if (RUNS.isEmpty()) {
+                before = Thread.getDefaultUncaughtExceptionHandler();
+                Thread.setDefaultUncaughtExceptionHandler(Threads::take);
+            }
+            RUNS.add(run);
+        }
+
+        static synchronized void leave(Run run) {
+            RUNS.remove(run);
+            if (RUNS.isEmpty()) {
+                Thread.setDefaultUncaughtExceptionHandler(before);
+            }
+        }
+
+        private static void take(Thread thread, Throwable thrown) {
+            Thread.UncaughtExceptionHandler next = noted(thrown);
+            if (next != null) {
+                next.uncaughtException(thread, thrown);
+            } else { // as the virtual machine says it where there is no handler
+                System.err.print("Exception in thread \"" + thread.getName() + "\" ");
+                thrown.printStackTrace();
+            }
+        }
+
+        private static synchronized Thread.UncaughtExceptionHandler noted(Throwable thrown) {
+            RUNS.stream().filter(run -> run.uncaught == null).forEach(run -> run.uncaught = thrown);
+            return before;
         }
     }
 

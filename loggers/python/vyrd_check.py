@@ -38,8 +38,13 @@ def check_runs(body, header, *, runs=20, seed=1, seconds=60, folder=None, progra
     accepted; without it the variable VYRD_EXPLAIN, or else `tools/explain` beside the program. `folder` is made if it isn't
     there; without one it is a new one in the system's folder for temporary files.
 
-    Raises RunsFailed at the first run whose log isn't accepted, whose body raises, or whose body hasn't returned after so many
-    seconds. The log is then kept, and judged as it is. A body that doesn't return goes on in its thread, which is a daemon.
+    Raises RunsFailed at the first run whose log isn't accepted or has no entry, whose body raises, or whose body hasn't returned
+    after so many seconds. The log is then kept, and judged as it is. A body that doesn't return goes on in its thread, which is a
+    daemon.
+
+    While a body runs, what any thread raises and nobody catches counts as raised by the body. It is found by
+    `threading.excepthook`, and the hook that was there before is still called. So what a Future keeps isn't seen until somebody
+    asks for its result.
     """
     __tracebackhide__ = True  # pytest shows the test's own line
     judge = _Judge(program, explain)
@@ -49,6 +54,8 @@ def check_runs(body, header, *, runs=20, seed=1, seconds=60, folder=None, progra
         path = kept / f"{seed + number}.log"
         fault, cause = _run(body, seed + number, Log(header, path, seed=seed + number, **options), seconds)
         verdict = judge.verdict(path)
+        if not fault and verdict.startswith("accepted: 0 entries"):
+            fault = "the run logged nothing"
         if fault or not verdict.startswith("accepted: "):
             said = f"{fault}; {verdict}" if fault else verdict
             place = f"run {number + 1} of {runs}, with seed {seed + number}"
@@ -59,26 +66,61 @@ def check_runs(body, header, *, runs=20, seed=1, seconds=60, folder=None, progra
 
 
 def _run(body, seed, log, seconds):
-    """Calls the body once, and says what went wrong: a sentence, or None, and the exception."""
+    """Calls the body once, and says what went wrong: a sentence, or nothing, and the exception, or None."""
     raised = []
 
     def play():
         try:
             body(seed, log)
         except BaseException as error:  # whatever it is, it belongs to the thread that waits
-            raised.append(error)
+            raised.append(("the body", error))
 
     thread = threading.Thread(target=play, name="vyrd_check", daemon=True)
-    thread.start()
-    thread.join(seconds)
+    with _Threads(lambda error: raised.append(("a thread of the body", error))):
+        thread.start()
+        thread.join(seconds)
+    faults = [f"{who} raised {type(error).__name__}: {error}" for who, error in raised]
     if thread.is_alive():
         log.flush()
-        return f"the body hasn't returned after {seconds} seconds", None
-    if raised:
+        faults = [f"the body hasn't returned after {seconds} seconds", *faults]
+    elif faults:
         log.close()
-        return f"the body raised {type(raised[0]).__name__}: {raised[0]}", raised[0]
-    log.finish()
-    return None, None
+    else:
+        log.finish()
+    return "; ".join(faults[:2]), raised[0][1] if raised else None
+
+
+class _Threads:
+    """In its `with` statement, says what threads raise. Of several at a time each may have started the thread."""
+
+    _lock = threading.Lock()
+    _all = []
+    _before = None
+
+    def __init__(self, say):
+        self._say = say
+
+    def __enter__(self):
+        with self._lock:
+            if not self._all:
+                _Threads._before = threading.excepthook
+                threading.excepthook = _Threads._take
+            self._all.append(self)
+
+    def __exit__(self, kind, value, trace):
+        with self._lock:
+            self._all.remove(self)
+            if not self._all:
+                threading.excepthook = _Threads._before
+
+    @staticmethod
+    def _take(arguments):
+        with _Threads._lock:
+            asked, before = _Threads._all[:], _Threads._before
+        if arguments.exc_type is not SystemExit:  # which is how a thread ends itself
+            for one in asked:
+                one._say(arguments.exc_value)
+        before(arguments)
 
 
 class _Judge:

@@ -84,6 +84,22 @@ static void a_broken_one_fails_with_what_explain_says(void) {
     expect(strstr(log_of(3), "\n0 return 1\nend\n") != NULL, "the log that is kept", log_of(3));
 }
 
+static int no_line(uint64_t seed, struct vyrd_log *log, void *data) {
+    (void)seed, (void)data;
+    struct vyrd_caller *caller = vyrd_caller(log);
+    vyrd_begin(caller);
+    vyrd_end(caller);
+    return 0;
+}
+
+static void a_run_that_logs_nothing_fails(void) {
+    starts(message_of(&(struct vyrd_check){.folder = folder}, no_line, NULL, 1),
+           "run 1 of 20, with seed 1: the run logged nothing; accepted: 0 entries, 0 commits, 0 "
+           "observers\nThe log is kept: logs/1.log\n");
+    expect(strcmp(log_of(1), "vyrd 1 multiset 1 4\nend\n") == 0,
+           "a step without a line writes nothing", log_of(1));
+}
+
 static int begins(uint64_t seed, struct vyrd_log *log, void *data) {
     (void)seed;
     vyrd_call(vyrd_caller(log), "insert", 5);
@@ -122,6 +138,7 @@ int main(void) {
     struct vyrd_log *own = vyrd_create(vyrd_header(1, "multiset", 1, 4), "own.log", NULL);
     a_correct_structure_passes();
     a_broken_one_fails_with_what_explain_says();
+    a_run_that_logs_nothing_fails();
     ends_otherwise("return", 0, "the body's process ended with status 3");
     ends_otherwise("abort", 0, "the body's process was ended by signal 6");
     ends_otherwise("hang", 2000, "the body hasn't returned after 2000 milliseconds");

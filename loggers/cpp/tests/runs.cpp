@@ -74,6 +74,30 @@ void a_broken_one_fails_with_what_explain_says() {
     expect(log.size() > 5 && log.substr(log.size() - 5) == "\nend\n", "the log that is kept");
 }
 
+void a_run_that_logs_nothing_fails() {
+    auto body = [](std::uint64_t, vyrd::Log &log) { log.caller().step([](vyrd::Lines &) {}); };
+    fails(asked(), body,
+          "run 1 of 20, with seed 1: the run logged nothing; accepted: 0 entries, 0 commits, 0 "
+          "observers\nThe log is kept: " +
+              FOLDER + "/1.log\n");
+    expect(log_of(1) == "vyrd 1 multiset 1 4\nend\n", "a step without a line writes nothing");
+}
+
+// What a thread throws and nobody catches ends the process of the body.
+void a_thread_that_throws() {
+    auto body = [](std::uint64_t, vyrd::Log &log) {
+        std::thread([&] {
+            vyrd::Caller caller = log.caller();
+            caller.call("insert", 5);
+            throw std::runtime_error("by the test");
+        }).join();
+    };
+    fails(asked(), body,
+          "run 1 of 20, with seed 1: the body's process was ended by signal 6; malformed at line "
+          "3: no end\n");
+    expect(log_of(1) == BEGUN, "the lines before that: " + log_of(1));
+}
+
 // A body that begins a call, and then does something else than to return.
 void ends_otherwise(const std::string &fault, void (*then)(),
                     std::chrono::milliseconds time = std::chrono::minutes(1)) {
@@ -110,6 +134,8 @@ int main() {
     vyrd::Log own(HEADER, "own.log");
     a_correct_structure_passes();
     a_broken_one_fails_with_what_explain_says();
+    a_run_that_logs_nothing_fails();
+    a_thread_that_throws();
     ends_otherwise("the body threw: by the test", [] { throw std::runtime_error("by the test"); });
     ends_otherwise("the body's process was ended by signal 6", [] { std::abort(); });
     ends_otherwise("the body's process ended with status 3", [] { ::exit(3); });

@@ -2,6 +2,7 @@ import java.io.IOException;
 import java.nio.file.Files;
 import java.nio.file.Path;
 import java.util.ArrayList;
+import java.util.Collections;
 import java.util.List;
 import java.util.concurrent.CountDownLatch;
 import java.util.stream.Collectors;
@@ -80,6 +81,52 @@ public final class RunsTests {
         expect(Files.readString(path(1)).equals("vyrd 1 multiset 1 4\n0 call insert 5\n"), "the lines before that");
     }
 
+    /** A thread whose exception nobody catches, and what becomes of the handler that was there before. */
+    private static void threadThatThrows() throws Exception {
+        List<String> handled = new ArrayList<>();
+        Thread.UncaughtExceptionHandler before = (thread, thrown) -> handled.add(thread.getName() + ": " + thrown.getMessage());
+        Thread.setDefaultUncaughtExceptionHandler(before);
+        String said = sentenceOf(check(), (seed, log) -> startThatThrows(seed, log).join());
+        fails("run 2 of 20, with seed 2: a thread of the body threw java.lang.AssertionError: by the test; malformed at line 3: "
+                + "no end\nThe log is kept: " + path(2) + "\n", said);
+        expect(Files.readString(path(2)).equals("vyrd 1 multiset 1 4\n0 call insert 5\n"), "the lines before that");
+        fails("run 1 of 20, with seed 2: the body threw java.lang.Exception: by the body; a thread of the body threw "
+                + "java.lang.AssertionError: by the test; ", sentenceOf(check().seed(2), (seed, log) -> {
+                    startThatThrows(seed, log).join();
+                    throw new Exception("by the body");
+                }));
+        fails("run 1 of 20, with seed 2: the body hasn't returned after 1.0 seconds; a thread of the body threw "
+                + "java.lang.AssertionError: by the test; malformed at line 3: no end\n",
+                sentenceOf(check().seed(2).seconds(1), (seed, log) -> {
+                    startThatThrows(seed, log);
+                    log.startTogether(2);
+                }));
+        expect(handled.equals(Collections.nCopies(3, "worker: by the test")), "handled: " + handled);
+        expect(Thread.getDefaultUncaughtExceptionHandler() == before, "the handler is put back");
+        Thread.setDefaultUncaughtExceptionHandler(null);
+    }
+
+    private static Thread startThatThrows(long seed, VyrdLog log) {
+        Thread worker = new Thread(() -> {
+            try (VyrdLog.Caller caller = log.caller()) {
+                caller.call("insert", 5);
+                if (seed == 2) {
+                    throw new AssertionError("by the test");
+                }
+                caller.commit();
+                caller.returns(false);
+            }
+        }, "worker");
+        worker.start();
+        return worker;
+    }
+
+    private static void runThatLogsNothing() throws Exception {
+        fails("run 1 of 20, with seed 1: the run logged nothing; accepted: 0 entries, 0 commits, 0 observers\nThe log is kept: "
+                + path(1) + "\n", sentenceOf(check(), (seed, log) -> log.caller().step(lines -> {})));
+        expect(Files.readString(path(1)).equals("vyrd 1 multiset 1 4\nend\n"), "a step without a line writes nothing");
+    }
+
     private static void bodyThatHangs() throws Exception {
         CountDownLatch never = new CountDownLatch(1);
         fails("run 1 of 20, with seed 1: the body hasn't returned after 2.0 seconds; malformed at line 3: no end\n",
@@ -108,6 +155,8 @@ public final class RunsTests {
         correct();
         broken();
         bodyThatThrows();
+        threadThatThrows();
+        runThatLogsNothing();
         bodyThatHangs();
         programs();
         System.exit(failed == 0 ? 0 : 1);

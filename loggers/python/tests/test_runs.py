@@ -54,6 +54,54 @@ class Tests(unittest.TestCase):
         self.assertIn("run 1 of 20, with seed 1: the body raised ValueError: by the test; malformed at line 3: no end\n", said)
         self.assertEqual(self.kept(1), "vyrd 1 multiset 1 4\n0 call insert 5\n")
 
+    def test_what_a_thread_of_the_body_raises_is_said(self):
+        """A thread whose exception nobody catches, and what becomes of the hook that was there before."""
+
+        def start(seed, log, error=AssertionError):
+            def use():
+                with log.caller() as caller:
+                    caller.call("insert", 5)
+                    if seed == 2:
+                        raise error("by the test")
+                    caller.commit()
+                    caller.returns(False)
+
+            thread = threading.Thread(target=use)
+            thread.start()
+            return thread
+
+        def raises(seed, log):
+            start(seed, log).join()
+            raise ValueError("by the body")
+
+        def hangs(seed, log):
+            start(seed, log)
+            log.start_together(2)
+
+        hooked = []
+        hook = unittest.mock.patch("threading.excepthook", lambda arguments: hooked.append(str(arguments.exc_value)))
+        with hook as before:
+            said = self.fails(lambda seed, log: start(seed, log).join())
+            fault = "a thread of the body raised AssertionError: by the test; "
+            self.assertIn(f"run 2 of 20, with seed 2: {fault}malformed at line 3: no end\nThe log is kept: ", said)
+            self.assertEqual(self.kept(2), "vyrd 1 multiset 1 4\n0 call insert 5\n")
+            self.assertIn(f"with seed 2: {fault}the body raised ValueError: by the body; ", self.fails(raises, seed=2))
+            late = "the body hasn't returned after 1 seconds; "
+            self.assertIn(f"with seed 2: {late}{fault}malformed at line 3: no end\n", self.fails(hangs, seed=2, seconds=1))
+            self.assertEqual(hooked, 3 * ["by the test"])
+            self.assertIs(threading.excepthook, before)
+            said = self.fails(lambda seed, log: start(seed, log, SystemExit).join(), seed=2)
+            self.assertIn("with seed 2: malformed at line 3: call not returned\n", said)
+
+    def test_a_run_that_logs_nothing_fails(self):
+        def body(seed, log):
+            with log.caller().step():
+                pass
+
+        said = self.fails(body)
+        self.assertIn("run 1 of 20, with seed 1: the run logged nothing; accepted: 0 entries, 0 commits, 0 observers\n", said)
+        self.assertEqual(self.kept(1), "vyrd 1 multiset 1 4\nend\n")  # a step without a line writes nothing
+
     def test_a_body_that_hangs_is_given_up(self):
         go_on = threading.Event()
         self.addCleanup(go_on.set)

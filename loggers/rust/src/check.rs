@@ -69,9 +69,10 @@ impl CheckRuns {
 ///
 /// # Panics
 ///
-/// At the first run whose log isn't accepted, whose body panics, or whose body hasn't returned in
-/// time. It says where the log is kept, which is judged as it is. A body that doesn't return goes
-/// on in its thread. It panics too if the program can't be run, or if a log can't be written.
+/// At the first run whose log isn't accepted or has no entry, whose body panics, or whose body
+/// hasn't returned in time. It says where the log is kept, which is judged as it is. A body that
+/// doesn't return goes on in its thread. It panics too if the program can't be run, or if a log
+/// can't be written.
 #[track_caller]
 pub fn check_runs(asked: CheckRuns, body: impl Fn(u64, &Log) + Send + Sync + 'static) {
     if let Err(sentence) = all_runs(&asked, Arc::new(body)) {
@@ -114,7 +115,9 @@ fn one_run(
     match (ended, verdict) {
         (Ok(()), Verdict::Accepted) => fs::remove_file(path).map_err(|error| error.to_string()),
         (ended, verdict) => {
-            let fault = ended.err().map_or_else(String::new, |fault| format!("{fault}; "));
+            let empty = matches!(verdict, Verdict::Empty(_)).then(|| "the run logged nothing");
+            let fault = ended.err().or(empty.map(String::from));
+            let fault = fault.map_or_else(String::new, |fault| format!("{fault}; "));
             let log = format!("The log is kept: {}", path.display());
             Err(format!("{fault}{verdict}\n{log}\n\n{}", judge.explanation(path)))
         }

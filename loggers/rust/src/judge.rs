@@ -9,10 +9,13 @@ use std::path::{Path, PathBuf};
 use std::process::{Command, Output, Stdio};
 
 const STARTS: [&str; 3] = ["accepted: ", "violation at line ", "malformed at line "];
+const EMPTY: &str = "accepted: 0 entries";
 
 /// What the program says of a log.
 pub(crate) enum Verdict {
     Accepted,
+    /// Accepted, and there is no entry: its line.
+    Empty(String),
     /// Its line, or what it said where it gave none.
     Not(String),
 }
@@ -21,7 +24,7 @@ impl fmt::Display for Verdict {
     fn fmt(&self, to: &mut fmt::Formatter<'_>) -> fmt::Result {
         match self {
             Verdict::Accepted => to.write_str("accepted"),
-            Verdict::Not(line) => to.write_str(line),
+            Verdict::Empty(line) | Verdict::Not(line) => to.write_str(line),
         }
     }
 }
@@ -53,6 +56,7 @@ impl Judge {
         let line = String::from_utf8_lossy(&done.stdout).trim().to_string();
         let starts = |status: i32| STARTS.get(status as usize);
         match done.status.code() {
+            Some(0) if line.starts_with(EMPTY) => Ok(Verdict::Empty(line)),
             Some(0) if line.starts_with(STARTS[0]) => Ok(Verdict::Accepted),
             Some(status) if starts(status).map_or(false, |start| line.starts_with(start)) => {
                 Ok(Verdict::Not(line))

@@ -67,6 +67,16 @@ fn a_broken_one_fails_with_what_explain_says() {
 const BEGUN: &str = "vyrd 1 multiset 1 4\n0 call insert 5\n";
 
 #[test]
+fn a_run_that_logs_nothing_fails() {
+    let (asked, folder) = asked("nothing");
+    let said = sentence(asked, |_, log| log.caller().unwrap().step(|_| ()));
+    let verdict = "accepted: 0 entries, 0 commits, 0 observers\nThe log is kept: ";
+    contains(&said, &format!("run 1 of 20, with seed 1: the run logged nothing; {verdict}"));
+    // A step without a line writes nothing.
+    assert_eq!(fs::read_to_string(folder.join("1.log")).unwrap(), "vyrd 1 multiset 1 4\nend\n");
+}
+
+#[test]
 fn a_panic_of_the_body_is_said() {
     let (asked, folder) = asked("panic");
     let said = sentence(asked, |_, log| {

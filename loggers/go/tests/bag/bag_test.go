@@ -76,6 +76,20 @@ func TestABrokenOneFailsWithWhatExplainSays(t *testing.T) {
 	}
 }
 
+func TestARunThatLogsNothingFails(t *testing.T) {
+	folder := t.TempDir()
+	said := failure(vyrdlog.Check{Folder: folder}, func(seed uint64, log *vyrdlog.Log) {
+		callerOf(log).Step(func(*vyrdlog.Lines) {})
+	})
+	log := filepath.Join(folder, "1.log")
+	contains(t, said, "run 1 of 20, with seed 1: the run logged nothing; accepted: 0 entries, 0 commits, "+
+		"0 observers\nThe log is kept: "+log+"\n")
+	// A step without a line writes nothing.
+	if text, err := os.ReadFile(log); err != nil || string(text) != "vyrd 1 multiset 1 4\nend\n" {
+		t.Errorf("the log that is kept: %v %s", err, text)
+	}
+}
+
 // A body that begins a call, and then does something else than to return.
 func fails(t *testing.T, sentence string, check vyrdlog.Check, then func()) {
 	t.Helper()
