@@ -887,12 +887,16 @@ static void vyrd_line_or_step(struct vyrd_caller *caller, const char *words, siz
 
 void vyrd_call_of(struct vyrd_caller *caller, const char *method, size_t count,
                   const uint64_t *arguments) {
+    for (size_t n = 0; n < count; n++)
+        if (arguments[n] > UINT32_MAX) vyrd_misused("an argument is from 0 to 4294967295");
     char words[VYRD_OWN_LINE_BYTES + 2]; // a longer one is cut to a line that is too long
     snprintf(words, sizeof words, "call %s", method);
     vyrd_line_or_step(caller, words, count, arguments);
 }
 
 void vyrd_returns(struct vyrd_caller *caller, uint64_t reply) {
+    if (reply == UINT64_MAX && caller->log->line_bytes == VYRD_OWN_LINE_BYTES)
+        vyrd_misused("a reply is from 0 to 18446744073709551614");
     vyrd_line_or_step(caller, "return", 1, &reply);
 }
 
@@ -901,6 +905,7 @@ void vyrd_commit(struct vyrd_caller *caller) {
 }
 
 void vyrd_write(struct vyrd_caller *caller, uint32_t word, uint64_t value) {
+    if (value > INT64_MAX) vyrd_misused("a value is from 0 to 9223372036854775807");
     vyrd_line(caller, "write", 2, (const uint64_t[]){word, value});
 }
 

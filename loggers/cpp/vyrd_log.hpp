@@ -135,10 +135,13 @@ struct Options {
 namespace detail {
 
 template <class Number>
-std::uint64_t natural(Number number) {
+std::uint64_t natural(const char *what, Number number, std::uint64_t most) {
     static_assert(std::is_integral_v<Number>, "a number of a log is an integer");
-    if constexpr (std::is_signed_v<Number>)
-        if (number < 0) throw Error("a number of a log is negative: " + std::to_string(number));
+    bool negative = false;
+    if constexpr (std::is_signed_v<Number>) negative = number < 0;
+    if (negative || static_cast<std::uint64_t>(number) > most)
+        throw Error(std::string(what) + " is from 0 to " + std::to_string(most) + ", and not " +
+                    std::to_string(number));
     return static_cast<std::uint64_t>(number);
 }
 
@@ -447,8 +450,8 @@ struct State {
 } // namespace detail
 
 /// The lines of one step. They stand in the log one after the other. A line that would have more
-/// than 64 bytes, or in version 3 more than 200, throws Error and isn't written, and so does a
-/// negative number; all else is for `vyrd check` to judge.
+/// than 64 bytes, or in version 3 more than 200, throws Error and isn't written, and so does one
+/// with a number that a log can't hold; all else is for `vyrd check` to judge.
 class Lines {
 public:
     /// `call METHOD ARGUMENTS`: arguments are below 2^32. In the step of an action whose outcome
@@ -458,7 +461,7 @@ public:
     void call(std::string_view method, Numbers... arguments) {
         begin("call ");
         put(method);
-        (number(arguments), ...);
+        (number("an argument", arguments, UINT32_MAX), ...);
         end();
     }
 
@@ -466,7 +469,7 @@ public:
     template <class Number>
     void returns(Number reply) {
         begin("return");
-        number(reply);
+        number("a reply", reply, UINT64_MAX - (most_ == OWN_LINE_BYTES));
         end();
     }
 
@@ -474,8 +477,8 @@ public:
     template <class Word, class Value>
     void write(Word word, Value value) {
         begin("write");
-        number(word);
-        number(value);
+        number("a word", word, UINT32_MAX);
+        number("a value", value, INT64_MAX);
         end();
     }
 
@@ -543,9 +546,9 @@ private:
     }
 
     template <class Number>
-    void number(Number value) {
+    void number(const char *what, Number value, std::uint64_t most) {
         put(" ");
-        digits(detail::natural(value));
+        digits(detail::natural(what, value, most));
     }
 
     // Both keep what a line may have, and leave the rest out: `size_` is then above that.

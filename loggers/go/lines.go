@@ -2,6 +2,7 @@ package vyrdlog
 
 import (
 	"fmt"
+	"math"
 	"path/filepath"
 	"runtime"
 	"strconv"
@@ -13,9 +14,9 @@ const (
 	ownLineBytes = 200 // the same in a log of version 3
 )
 
-// Lines is the lines of one step. They stand in the log one after the other. A line that would have
-// more than 64 bytes, or in version 3 more than 200, panics and isn't written. All else is for `vyrd
-// check` to judge.
+// Lines is the lines of one step. They stand in the log one after the other. A number that a log
+// can't hold panics, as does a line that would have more than 64 bytes, or in version 3 more than
+// 200; that line isn't written. All else is for `vyrd check` to judge.
 type Lines struct {
 	text   []byte
 	caller int
@@ -25,14 +26,27 @@ type Lines struct {
 // Call is `call METHOD ARGUMENTS`: arguments are below 2^32. In the step of an action whose outcome
 // says which method it was, or its arguments, call and return may stand side by side, and lines of
 // several calls too.
-func (l *Lines) Call(method string, arguments ...uint64) { l.line("call "+method, arguments...) }
+func (l *Lines) Call(method string, arguments ...uint64) {
+	for _, argument := range arguments {
+		within("an argument", argument, math.MaxUint32)
+	}
+	l.line("call "+method, arguments...)
+}
 
 // Returns is `return REPLY`: in version 3 a reply is below 2^64 - 1. For one that is a bool there is
 // [Bool].
-func (l *Lines) Returns(reply uint64) { l.line("return", reply) }
+func (l *Lines) Returns(reply uint64) {
+	if l.most == ownLineBytes {
+		within("a reply", reply, math.MaxUint64-1)
+	}
+	l.line("return", reply)
+}
 
 // Write is `write WORD VALUE`: the word is one of the subject's, and the value below 2^63.
-func (l *Lines) Write(word uint32, value uint64) { l.line("write", uint64(word), value) }
+func (l *Lines) Write(word uint32, value uint64) {
+	within("a value", value, math.MaxInt64)
+	l.line("write", uint64(word), value)
+}
 
 // Commit is `commit`: the operation takes effect here.
 func (l *Lines) Commit() { l.line("commit") }
@@ -84,6 +98,12 @@ func (l *Lines) Helping(caller int, body func(*Lines)) {
 	l.caller = caller
 	defer func() { l.caller = own }()
 	body(l)
+}
+
+func within(what string, number, most uint64) {
+	if number > most {
+		panic(fmt.Sprintf("%s is from 0 to %d, and not %d", what, most, number))
+	}
 }
 
 func (l *Lines) line(words string, numbers ...uint64) {

@@ -233,6 +233,12 @@ func TestWhatPanicsKeepsTheLinesBeforeIt(t *testing.T) {
 	panics(t, "a step inside a step of the same caller", func() {
 		caller.Step(func(lines *Lines) { caller.Commit() })
 	})
+	panics(t, "an argument is from 0 to 4294967295, and not 4294967296", func() {
+		caller.Call("delete", 5, 1<<32)
+	})
+	panics(t, "a value is from 0 to 9223372036854775807, and not 9223372036854775808", func() {
+		caller.Step(func(lines *Lines) { lines.Write(0, 1<<63) })
+	})
 	caller.Commit()
 	log.Finish()
 	panics(t, "a step of a log that is finished", caller.Commit)

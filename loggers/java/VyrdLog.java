@@ -45,6 +45,7 @@ import java.util.regex.Pattern;
 public final class VyrdLog implements Closeable {
     private static final int LINE_BYTES = 64; // the most of a line, without its line feed
     private static final int OWN_LINE_BYTES = 200; // the same in a log of version 3
+    private static final long MOST_ARGUMENT = (1L << 32) - 1;
 
     private final Sink sink;
     private final OptionalLong seed;
@@ -436,8 +437,9 @@ public final class VyrdLog implements Closeable {
     }
 
     /**
-     * The lines of one step. They stand in the log one after the other. A line that would have more than 64 bytes, or in version
-     * 3 more than 200, throws IllegalArgumentException and isn't written. All else is for {@code vyrd check} to judge.
+     * The lines of one step. They stand in the log one after the other. A number that a log can't hold throws
+     * IllegalArgumentException, as does a line that would have more than 64 bytes, or in version 3 more than 200; that line isn't
+     * written. All else is for {@code vyrd check} to judge.
      */
     public static final class Lines {
         private byte[] text = new byte[512];
@@ -458,6 +460,9 @@ public final class VyrdLog implements Closeable {
          * @param arguments from 0 to below 2^32
          */
         public void call(String method, long... arguments) {
+            for (long argument : arguments) {
+                within("an argument", argument, MOST_ARGUMENT);
+            }
             start("call ");
             add(method);
             for (long argument : arguments) {
@@ -469,9 +474,10 @@ public final class VyrdLog implements Closeable {
         /**
          * {@code return REPLY}.
          *
-         * @param reply below 2^64, in version 3 below 2^64 - 1: it is read without a sign
+         * @param reply from 0 on: one from 2^63 on, which no long has, is written by {@link #entry}
          */
         public void returns(long reply) {
+            within("a reply", reply, Long.MAX_VALUE);
             start("return");
             number(reply);
             end();
@@ -489,6 +495,8 @@ public final class VyrdLog implements Closeable {
          * @param value from 0 on
          */
         public void write(int word, long value) {
+            within("a word", word, MOST_ARGUMENT);
+            within("a value", value, Long.MAX_VALUE);
             start("write");
             number(word);
             number(value);
@@ -551,6 +559,7 @@ public final class VyrdLog implements Closeable {
 
         /** The lines of {@code body} are those of another caller, by its number, whose operation this step completes. */
         public void helping(int other, Consumer<Lines> body) {
+            within("the number of a caller", other, Integer.MAX_VALUE);
             int own = caller;
             caller = other;
             try {
@@ -592,11 +601,13 @@ public final class VyrdLog implements Closeable {
             digits(value);
         }
 
-        private void digits(long value) {
-            if (value < 0) {
-                add(Long.toUnsignedString(value));
-                return;
+        private static void within(String what, long number, long most) {
+            if (number < 0 || number > most) {
+                throw new IllegalArgumentException(what + " is from 0 to " + most + ", and not " + number);
             }
+        }
+
+        private void digits(long value) {
             int count = 1;
             for (long rest = value / 10; rest > 0; rest /= 10) {
                 count++;

@@ -32,6 +32,8 @@ __all__ = ["Caller", "Header", "Lines", "Log", "LogError"]
 
 LINE_BYTES = 64  # the most of a line, without its line feed
 OWN_LINE_BYTES = 200  # the same in a log of version 3
+MOST_ARGUMENT = 2**32 - 1
+MOST_VALUE = 2**63 - 1
 SUBJECTS = ("multiset", "cache", "tree", "buffers")
 TICK = 0.02  # seconds between two looks for what is kept
 
@@ -251,8 +253,8 @@ class Caller:
 class Lines:
     """The lines of one step. They stand in the log one after the other.
 
-    Numbers are integers from 0 on, and True is 1. A negative one raises LogError, and so does a line that would have more
-    than 64 bytes, or in version 3 more than 200; that line isn't written. All else is for `vyrd check` to judge.
+    Numbers are integers from 0 on, and True is 1. One that a log can't hold raises LogError, and so does a line that would have
+    more than 64 bytes, or in version 3 more than 200; that line isn't written. All else is for `vyrd check` to judge.
     """
 
     def __init__(self, caller, line_bytes=LINE_BYTES):
@@ -266,17 +268,15 @@ class Lines:
         In the step of an action whose outcome says which method it was, or its arguments, call and return may stand side by
         side, and lines of several calls too.
         """
-        self.entry(" ".join(["call", method, *map(_number, arguments)]))
+        self.entry(" ".join(["call", method, *(_number("an argument", argument, MOST_ARGUMENT) for argument in arguments)]))
 
     def returns(self, reply):
         """`return REPLY`: a reply is below 2^64, in version 3 below 2^64 - 1."""
-        self.entry("return " + _number(reply))
+        self.entry("return " + _number("a reply", reply, 2**64 - (2 if self._most == OWN_LINE_BYTES else 1)))
 
     def write(self, word, value):
         """`write WORD VALUE`: the word is one of the subject's, and the value below 2^63."""
-        if word < 0 or value < 0:
-            _number(min(word, value))
-        self.entry(f"write {word:d} {value:d}")
+        self.entry(f"write {_number('a word', word, MOST_ARGUMENT)} {_number('a value', value, MOST_VALUE)}")
 
     def commit(self):
         """`commit`: the operation takes effect here."""
@@ -481,9 +481,9 @@ def _starting(start):
     return "".join(f"start {word} {value}\n" for word, value in words if value != 0)
 
 
-def _number(value):
-    if value < 0:
-        raise LogError(f"a number of a log is negative: {value}")
+def _number(what, value, most):
+    if not 0 <= value <= most:
+        raise LogError(f"{what} is from 0 to {most}, and not {value}")
     return f"{value:d}"
 
 

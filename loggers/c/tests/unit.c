@@ -235,6 +235,22 @@ static void too_long(struct vyrd_log *log, struct vyrd_caller *caller) {
     vyrd_call(caller, longest, 1);
 }
 
+static void large_argument(struct vyrd_log *log, struct vyrd_caller *caller) {
+    (void)log;
+    vyrd_call(caller, "insert", 5, -1);
+}
+
+static void large_value(struct vyrd_log *log, struct vyrd_caller *caller) {
+    (void)log;
+    vyrd_begin(caller);
+    vyrd_write(caller, 0, UINT64_C(1) << 63);
+}
+
+static void large_reply(struct vyrd_log *log, struct vyrd_caller *caller) {
+    (void)log, (void)caller;
+    vyrd_returns(vyrd_caller(made(vyrd_header_own(specification))), UINT64_MAX);
+}
+
 static void note_of_version_1(struct vyrd_log *log, struct vyrd_caller *caller) {
     (void)log;
     vyrd_begin(caller);
@@ -293,6 +309,9 @@ static void misuses(void) {
     aborts(note_outside, "vyrd_log: a line outside a step\n");
     aborts(note_of_two_lines, "vyrd_log: a note has one line\n");
     aborts(long_note, "vyrd_log: a line of a log has more than 200 bytes\n");
+    aborts(large_argument, "vyrd_log: an argument is from 0 to 4294967295\n");
+    aborts(large_value, "vyrd_log: a value is from 0 to 9223372036854775807\n");
+    aborts(large_reply, "vyrd_log: a reply is from 0 to 18446744073709551614\n");
     aborts(too_long, "vyrd_log: a line of a log has more than 64 bytes\n");
     char wanted[100] = "vyrd 1 multiset 1 2\n0 call ";
     memset(wanted + strlen(wanted), 'x', 66 - sizeof "0 call " - 1);

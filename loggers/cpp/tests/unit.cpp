@@ -183,8 +183,18 @@ void refused_steps() {
         caller.call(longest);
         refuses("a line of a log has more than 64 bytes", [&] { caller.call(longest + 'x'); });
         refuses("a line of a log has more than 64 bytes",
-                [&] { caller.call(std::string(44, 'x'), 18446744073709551615u); });
-        refuses("a number of a log is negative: -1", [&] { caller.call("insert", 5, -1); });
+                [&] { caller.call(std::string(50, 'x'), 4294967295u); });
+        refuses("an argument is from 0 to 4294967295, and not -1",
+                [&] { caller.call("insert", 5, -1); });
+        refuses("an argument is from 0 to 4294967295, and not 4294967296",
+                [&] { caller.call("insert", std::uint64_t(1) << 32); });
+        refuses("a reply is from 0 to 18446744073709551615, and not -1",
+                [&] { caller.returns(-1); });
+        caller.step([](vyrd::Lines &lines) {
+            refuses("a word is from 0 to 4294967295, and not -1", [&] { lines.write(-1, 0); });
+            refuses("a value is from 0 to 9223372036854775807, and not 9223372036854775808",
+                    [&] { lines.write(0, std::uint64_t(1) << 63); });
+        });
         log.finish();
         refuses("a step of a log that is finished", [&] { caller.returns(1); });
         refuses("a log is finished twice", [&] { log.finish(); });

@@ -56,7 +56,8 @@ public final class UnitTests {
                 lines.entry("commit");
             });
             first.commit();
-            first.returns(-1); // without a sign: 2^64 - 1
+            first.returns(Long.MAX_VALUE);
+            first.step(lines -> lines.entry("return 18446744073709551615"));
             same(second.stepGiving(lines -> {
                 lines.observed(1, "lookup", 7);
                 lines.call("delete", 7);
@@ -68,8 +69,8 @@ public final class UnitTests {
             log.finish();
         }
         same(text(written), "vyrd 1 tree 2 3\n0 call insert 4294967295 0\n0 open\n0 write 4 4611686018427387904\n"
-                + "0 close\n0 close commit\n0 commit\n0 commit\n0 return 18446744073709551615\n1 call lookup 7\n"
-                + "1 return 1\n1 call delete 7\n2 commit\n1 commit\n1 return 0\nend\n");
+                + "0 close\n0 close commit\n0 commit\n0 commit\n0 return 9223372036854775807\n0 return 18446744073709551615\n"
+                + "1 call lookup 7\n1 return 1\n1 call delete 7\n2 commit\n1 commit\n1 return 0\nend\n");
     }
 
     private static void headers() {
@@ -169,6 +170,14 @@ public final class UnitTests {
         String longest = "x".repeat(64 - "0 call ".length());
         caller.call(longest);
         refuses("a line of a log has more than 64 bytes: 0 call " + longest + "x", () -> caller.call(longest + "x"));
+        refuses("an argument is from 0 to 4294967295, and not -1", () -> caller.call("delete", 5, -1));
+        refuses("an argument is from 0 to 4294967295, and not 4294967296", () -> caller.call("delete", 1L << 32));
+        refuses("a reply is from 0 to 9223372036854775807, and not -1", () -> caller.returns(-1));
+        caller.step(lines -> {
+            refuses("a word is from 0 to 4294967295, and not -1", () -> lines.write(-1, 0));
+            refuses("a value is from 0 to 9223372036854775807, and not -1", () -> lines.write(0, -1));
+            refuses("the number of a caller is from 0 to 2147483647, and not -1", () -> lines.helping(-1, VyrdLog.Lines::commit));
+        });
         log.finish();
         refuses("a step of a log that is finished", caller::commit);
         refuses("a log is finished twice", log::finish);

@@ -130,6 +130,8 @@ class Tests(unittest.TestCase):
         with caller.step() as lines:
             self.refuses(lambda: lines.note(most + "x"), f"a line of a log has more than 200 bytes: # {most}x")
             self.refuses(lambda: lines.note("two\nlines"), "a note has one line")
+            refused = "a reply is from 0 to 18446744073709551614, and not 18446744073709551615"
+            self.refuses(lambda: lines.returns(2**64 - 1), refused)
         log.finish()
         wanted = (
             f"{SPECIFICATION}# all at once\n# test_log.py:{place}\n# {most}\n0 call take 5\n0 commit\n0 return 1\n"
@@ -159,7 +161,16 @@ class Tests(unittest.TestCase):
         longest = "x" * (64 - len("0 call "))
         caller.call(longest)
         self.refuses(lambda: caller.call(longest + "x"), f"a line of a log has more than 64 bytes: 0 call {longest}x")
-        self.refuses(lambda: caller.call("delete", -1), "a number of a log is negative: -1")
+        self.refuses(lambda: caller.call("delete", 5, -1), "an argument is from 0 to 4294967295, and not -1")
+        self.refuses(lambda: caller.call("delete", 2**32), "an argument is from 0 to 4294967295, and not 4294967296")
+        refused = "a reply is from 0 to 18446744073709551615, and not "
+        self.refuses(lambda: caller.returns(-1), refused + "-1")
+        self.refuses(lambda: caller.returns(2**64), refused + "18446744073709551616")
+        with caller.step() as lines:
+            self.refuses(lambda: lines.write(-1, 0), "a word is from 0 to 4294967295, and not -1")
+            refused = "a value is from 0 to 9223372036854775807, and not "
+            self.refuses(lambda: lines.write(0, -1), refused + "-1")
+            self.refuses(lambda: lines.write(0, 2**63), refused + "9223372036854775808")
         log.finish()
         self.refuses(caller.commit, "a step of a log that is finished")
         self.refuses(log.finish, "a log is finished twice")

@@ -9,8 +9,8 @@ pub(crate) const OWN_LINE_BYTES: usize = 200;
 ///
 /// # Panics
 ///
-/// A line that would have more than 64 bytes, or in version 3 more than 200, panics and isn't
-/// written. All else is for `vyrd check` to judge.
+/// A number that a log can't hold panics, as does a line that would have more than 64 bytes, or in
+/// version 3 more than 200; that line isn't written. All else is for `vyrd check` to judge.
 #[derive(Debug)]
 pub struct Lines {
     text: Vec<u8>,
@@ -28,6 +28,8 @@ impl Lines {
     /// In the step of an action whose outcome says which method it was, or its arguments, call and
     /// return may stand side by side, and lines of several calls too.
     pub fn call(&mut self, method: &str, arguments: &[u64]) {
+        let within = |argument: &u64| within("an argument", *argument, u64::from(u32::MAX));
+        arguments.iter().for_each(within);
         self.line(|text| {
             text.extend_from_slice(b"call ");
             text.extend_from_slice(method.as_bytes());
@@ -38,6 +40,8 @@ impl Lines {
     /// `return REPLY`: a reply is any number, in version 3 below `u64::MAX`, and `u64::from(true)`
     /// is 1.
     pub fn returns(&mut self, reply: u64) {
+        let own = self.most == OWN_LINE_BYTES;
+        within("a reply", reply, u64::MAX - u64::from(own));
         self.line(|text| {
             text.extend_from_slice(b"return");
             number(text, reply);
@@ -46,6 +50,7 @@ impl Lines {
 
     /// `write WORD VALUE`: the word is one of the subject's, and the value below 2^63.
     pub fn write(&mut self, word: u32, value: u64) {
+        within("a value", value, i64::MAX as u64);
         self.line(|text| {
             text.extend_from_slice(b"write");
             number(text, u64::from(word));
@@ -144,6 +149,10 @@ impl Lines {
         }
         self.text.push(b'\n');
     }
+}
+
+fn within(what: &str, number: u64, most: u64) {
+    assert!(number <= most, "{what} is from 0 to {most}, and not {number}");
 }
 
 fn number(text: &mut Vec<u8>, value: u64) {

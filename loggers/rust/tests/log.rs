@@ -184,6 +184,8 @@ fn own_lines() {
     caller.returns(0);
     let mut note = |words: &str| panics(|| caller.step(|lines| lines.note(words)));
     let sentences = [note(&format!("{most}x")), note("two\nlines")];
+    let large = panics(|| caller.returns(u64::MAX));
+    assert_eq!(large, "a reply is from 0 to 18446744073709551614, and not 18446744073709551615");
     assert!(sentences[0].starts_with("a line of a log has more than 200 bytes: # x"));
     assert_eq!(sentences[1], "a note has one line");
     log.finish().unwrap();
@@ -207,6 +209,21 @@ fn a_number_is_handed_out_and_given_back() {
     assert_eq!(why(log.caller()), "no caller is free: all 2 of the header are handed out");
     drop(first);
     assert_eq!((log.caller().unwrap().number(), second.number()), (0, 1));
+}
+
+#[test]
+fn numbers_that_a_log_cannot_hold() {
+    let written = Written::default();
+    let header = Header::new(1, "tree", 1, 1).unwrap();
+    let log = Log::new(header, written.clone(), unwatched()).unwrap();
+    let mut caller = log.caller().unwrap();
+    let said = panics(|| caller.call("insert", &[5, 1 << 32]));
+    assert_eq!(said, "an argument is from 0 to 4294967295, and not 4294967296");
+    let said = panics(|| caller.step(|lines| lines.write(0, 1 << 63)));
+    assert_eq!(said, "a value is from 0 to 9223372036854775807, and not 9223372036854775808");
+    caller.returns(u64::MAX);
+    log.finish().unwrap();
+    assert_eq!(written.text(), "vyrd 1 tree 1 1\n0 return 18446744073709551615\nend\n");
 }
 
 #[test]
