@@ -149,7 +149,8 @@ void vyrd_close(struct vyrd_log *log);
 /// Its number, from 0 on and below the header's callers.
 unsigned vyrd_number(const struct vyrd_caller *caller);
 
-/// Gives the number back, when its last call has returned. It may then be another thread's.
+/// Gives the number back, when its last call has returned. It may then be another thread's. Inside a
+/// call it is kept, so that no other thread is blamed.
 void vyrd_give_back(struct vyrd_caller *caller);
 
 /// Begins a step: an action, and the lines that tell of it. No step of another caller takes place
@@ -299,7 +300,8 @@ struct vyrd_step {
 struct vyrd_caller {
     struct vyrd_log *log;
     unsigned number, writing; // whose lines are written: its own, or those of one that is helped
-    bool taken, inside;       // `taken` is guarded by the log's hands
+    bool taken, lost, inside; // the first two are guarded by the log's hands
+    atomic_bool in_call;
     uint64_t draw;            // 0: no pauses
     struct vyrd_text text;    // the lines of the step under way
     pthread_mutex_t lock;     // guards the numbered steps that it keeps
@@ -749,19 +751,25 @@ struct vyrd_log *vyrd_to(struct vyrd_header header, int descriptor,
 
 struct vyrd_caller *vyrd_caller(struct vyrd_log *log) {
     pthread_mutex_lock(&log->hands);
-    unsigned n = 0;
+    unsigned n = 0, lost = 0;
     while (n < log->callers && log->caller[n].taken)
-        n++;
+        lost += log->caller[n++].lost;
     bool found = n < log->callers;
     if (found) log->caller[n].taken = true;
     pthread_mutex_unlock(&log->hands);
-    if (!found) vyrd_say("no caller is free: all %u of the header are handed out", log->callers);
+    if (!found && lost == 0)
+        vyrd_say("no caller is free: all %u of the header are handed out", log->callers);
+    else if (!found)
+        vyrd_say("no caller is free: all %u of the header are handed out (given back inside a "
+                 "call: %u)",
+                 log->callers, lost);
     return found ? &log->caller[n] : NULL;
 }
 
 void vyrd_give_back(struct vyrd_caller *caller) {
     pthread_mutex_lock(&caller->log->hands);
-    caller->taken = false;
+    caller->lost = atomic_load(&caller->in_call);
+    caller->taken = caller->lost;
     pthread_mutex_unlock(&caller->log->hands);
 }
 
@@ -874,6 +882,10 @@ static void vyrd_line(struct vyrd_caller *caller, const char *words, size_t coun
         vyrd_digits(text, numbers[n]);
     }
     vyrd_end_line(caller, begin);
+    bool begins = strncmp(words, "call ", 5) == 0;
+    if ((begins || strncmp(words, "return", 6) == 0) && caller->writing < caller->log->callers)
+        atomic_store_explicit(&caller->log->caller[caller->writing].in_call, begins,
+                              memory_order_relaxed);
 }
 
 // The same, or a step of this line alone.

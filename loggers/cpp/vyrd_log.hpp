@@ -434,10 +434,12 @@ struct State {
     bool watched = false;
     std::size_t line_bytes = LINE_BYTES;
     std::optional<std::uint64_t> seed;
+    std::vector<std::atomic<bool>> in_call; // by the callers' numbers
 
     std::mutex numbers; // guards what is below
     std::condition_variable all_here;
     std::vector<bool> taken;
+    unsigned lost = 0; // taken by handles that were given back inside a call
     unsigned waiting = 0;
     std::uint64_t meetings = 0;
 
@@ -536,13 +538,19 @@ public:
 
 private:
     friend class Caller;
-    Lines(unsigned caller, std::size_t most) : caller_(caller), most_(most) { text_.reserve(512); }
+    Lines(unsigned caller, std::size_t most, std::vector<std::atomic<bool>> *in_call)
+        : caller_(caller), most_(most), in_call_(in_call) {
+        text_.reserve(512);
+    }
 
     void begin(std::string_view words) {
         size_ = 0;
         digits(caller_);
         put(" ");
         put(words);
+        bool call = words.rfind("call ", 0) == 0;
+        if ((call || words.rfind("return", 0) == 0) && caller_ < in_call_->size())
+            (*in_call_)[caller_].store(call, std::memory_order_relaxed);
     }
 
     template <class Number>
@@ -574,11 +582,13 @@ private:
     char line_[OWN_LINE_BYTES + 1]; // the line under way
     std::size_t size_ = 0;
     unsigned caller_;
-    std::size_t most_; // bytes of a line
+    std::size_t most_;                        // bytes of a line
+    std::vector<std::atomic<bool>> *in_call_; // the log's
 };
 
 /// One caller of a log, for one thread at a time. Its number is given back with the handle, and may
-/// then be that of another thread; so give it back when its last call has returned.
+/// then be that of another thread; so give it back when its last call has returned. Inside a call
+/// its number is kept, so that no other thread is blamed.
 class Caller {
 public:
     Caller(Caller &&) noexcept = default;
@@ -587,7 +597,9 @@ public:
     ~Caller() {
         if (!state_) return;
         std::lock_guard<std::mutex> held(state_->numbers);
-        state_->taken[number_] = false;
+        bool lost = state_->in_call[number_];
+        state_->taken[number_] = lost;
+        state_->lost += lost;
     }
 
     /// Its number, from 0 on and below the header's callers.
@@ -648,7 +660,7 @@ private:
     };
 
     Caller(std::shared_ptr<detail::State> state, unsigned number)
-        : state_(std::move(state)), number_(number), lines_(number, state_->line_bytes) {
+        : state_(std::move(state)), number_(number), lines_(number, state_->line_bytes, &state_->in_call) {
         // Two multiples of odd numbers: never 0 together, as seeds and numbers go.
         if (state_->seed) draw_ = *state_->seed * 0x9e3779b97f4a7c15 + number * 2 + 1;
     }
@@ -694,7 +706,10 @@ public:
         auto free = std::find(state_->taken.begin(), state_->taken.end(), false);
         if (free == state_->taken.end())
             throw Error("no caller is free: all " + std::to_string(state_->taken.size()) +
-                        " of the header are handed out");
+                        " of the header are handed out" +
+                        (state_->lost == 0 ? ""
+                                           : " (given back inside a call: " +
+                                                 std::to_string(state_->lost) + ')'));
         *free = true;
         return Caller(state_, static_cast<unsigned>(free - state_->taken.begin()));
     }
@@ -735,6 +750,7 @@ private:
         state_->output = std::make_unique<detail::Output>(descriptor, owned, options.buffer,
                                                           header.callers(), options.order);
         state_->taken.resize(header.callers());
+        state_->in_call = std::vector<std::atomic<bool>>(header.callers());
         state_->line_bytes = header.line_bytes();
         state_->seed = options.seed ? options.seed : seed_outside();
         state_->output->put(header.lines());

@@ -7,6 +7,7 @@ import (
 	"runtime"
 	"strconv"
 	"strings"
+	"sync/atomic"
 )
 
 const (
@@ -20,7 +21,8 @@ const (
 type Lines struct {
 	text   []byte
 	caller int
-	most   int // bytes of a line
+	most   int           // bytes of a line
+	inCall []atomic.Bool // the log's
 }
 
 // Call is `call METHOD ARGUMENTS`: arguments are below 2^32. In the step of an action whose outcome
@@ -116,6 +118,10 @@ func (l *Lines) line(words string, numbers ...uint64) {
 		l.text = strconv.AppendUint(l.text, number, 10)
 	}
 	l.endLine(begin)
+	begins := strings.HasPrefix(words, "call ")
+	if (begins || strings.HasPrefix(words, "return")) && uint(l.caller) < uint(len(l.inCall)) {
+		l.inCall[l.caller].Store(begins)
+	}
 }
 
 func (l *Lines) endLine(begin int) {

@@ -52,10 +52,12 @@ type Log struct {
 
 	step     sync.Mutex // held for a step, where this is what orders them
 	finished atomic.Bool
+	inCall   []atomic.Bool // by the callers' numbers
 	closed   sync.Once
 
 	hands    sync.Mutex // guards what is below
 	taken    []bool
+	lost     int // taken by handles that were given back inside a call
 	waiting  int
 	meetings uint64
 	allHere  *sync.Cond
@@ -100,6 +102,7 @@ func New(header Header, to io.Writer, options Options) (*Log, error) {
 	out.append([]byte(lines))
 	log := &Log{output: out, seeded: options.Seeded, seed: options.Seed, most: header.lineBytes()}
 	log.taken = make([]bool, header.callers)
+	log.inCall = make([]atomic.Bool, header.callers)
 	log.allHere = sync.NewCond(&log.hands)
 	if !options.Unwatched {
 		watchToo(out)
@@ -131,7 +134,11 @@ func (l *Log) Caller() (*Caller, error) {
 			return newCaller(l, number), nil
 		}
 	}
-	return nil, fmt.Errorf("no caller is free: all %d of the header are handed out", len(l.taken))
+	lost := ""
+	if l.lost > 0 {
+		lost = fmt.Sprintf(" (given back inside a call: %d)", l.lost)
+	}
+	return nil, fmt.Errorf("no caller is free: all %d of the header are handed out%s", len(l.taken), lost)
 }
 
 // StartTogether waits until so many goroutines are here, and lets them all go: a start barrier.
@@ -196,7 +203,8 @@ type Caller struct {
 }
 
 func newCaller(log *Log, number int) *Caller {
-	c := &Caller{log: log, number: number, lines: Lines{caller: number, most: log.most}}
+	lines := Lines{caller: number, most: log.most, inCall: log.inCall}
+	c := &Caller{log: log, number: number, lines: lines}
 	if log.seeded {
 		// Two multiples of odd numbers: never 0 together, as seeds and numbers go.
 		c.draw = log.seed*0x9e3779b97f4a7c15 + uint64(number)*2 + 1
@@ -208,12 +216,18 @@ func newCaller(log *Log, number int) *Caller {
 func (c *Caller) Number() int { return c.number }
 
 // GiveBack gives the number back, when its last call has returned. It may then be that of another
-// goroutine, and this handle takes no step.
+// goroutine, and this handle takes no step. Inside a call the number is kept, so that no other
+// goroutine is blamed.
 func (c *Caller) GiveBack() {
 	c.log.hands.Lock()
 	defer c.log.hands.Unlock()
-	if !c.givenBack {
-		c.givenBack = true
+	if c.givenBack {
+		return
+	}
+	c.givenBack = true
+	if c.log.inCall[c.number].Load() {
+		c.log.lost++
+	} else {
 		c.log.taken[c.number] = false
 	}
 }

@@ -217,6 +217,28 @@ func TestANumberIsHandedOutAndGivenBack(t *testing.T) {
 	same(t, fmt.Sprint(err), "no caller is free: all 2 of the header are handed out")
 }
 
+// Its number isn't another goroutine's, whose call would then stand inside its own.
+func TestAHandleThatIsGivenBackInsideACall(t *testing.T) {
+	log, _ := newLog(t, NewHeader(1, "tree", 1, 2), Options{Unwatched: true})
+	first, second := callerOf(t, log), callerOf(t, log)
+	first.Call("insert", 5)
+	first.GiveBack()
+	first.GiveBack()
+	refused := "no caller is free: all 2 of the header are handed out (given back inside a call: %d)"
+	_, err := log.Caller()
+	same(t, fmt.Sprint(err), fmt.Sprintf(refused, 1))
+	second.Call("insert", 5)
+	second.Step(func(lines *Lines) { lines.Entry("return 0") })
+	second.GiveBack()
+	third := callerOf(t, log)
+	same(t, third.Number(), 1)
+	third.Call("delete", 5)
+	third.Step(func(lines *Lines) { lines.Helping(0, func(lines *Lines) { lines.Returns(1) }) })
+	third.GiveBack()
+	_, err = log.Caller()
+	same(t, fmt.Sprint(err), fmt.Sprintf(refused, 2))
+}
+
 func TestWhatPanicsKeepsTheLinesBeforeIt(t *testing.T) {
 	log, to := newLog(t, NewHeader(1, "tree", 1, 2), Options{Unwatched: true})
 	caller := callerOf(t, log)

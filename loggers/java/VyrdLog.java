@@ -53,6 +53,8 @@ public final class VyrdLog implements Closeable {
     private boolean finished; // under the order
     private final Object hands = new Object(); // guards what is below
     private final BitSet taken = new BitSet();
+    private int lost; // taken by handles that were closed inside a call
+    private final boolean[] inCall; // by their numbers; each is written in steps
     private final int callers;
     private final int lineBytes;
     private int waiting;
@@ -61,6 +63,7 @@ public final class VyrdLog implements Closeable {
     private VyrdLog(Header header, OutputStream to, boolean owned, Options options) {
         seed = options.seed.isPresent() ? options.seed : seedOutside();
         callers = header.callers;
+        inCall = new boolean[callers];
         lineBytes = header.version == 3 ? OWN_LINE_BYTES : LINE_BYTES;
         sink = new Sink(to, owned, options);
         byte[] first = header.lines().getBytes(StandardCharsets.UTF_8);
@@ -104,7 +107,8 @@ public final class VyrdLog implements Closeable {
         synchronized (hands) {
             int number = taken.nextClearBit(0);
             if (number >= callers) {
-                throw new IllegalStateException("no caller is free: all " + callers + " of the header are handed out");
+                String closed = lost == 0 ? "" : " (closed inside a call: " + lost + ")";
+                throw new IllegalStateException("no caller is free: all " + callers + " of the header are handed out" + closed);
             }
             taken.set(number);
             return new Caller(this, number);
@@ -328,7 +332,7 @@ public final class VyrdLog implements Closeable {
 
     /**
      * One caller of a log, for one thread at a time. Its number is given back where it is closed, and may then be that of another
-     * thread; so close it when its last call has returned.
+     * thread; so close it when its last call has returned. Inside a call its number is kept, so that no other thread is blamed.
      */
     public static final class Caller implements AutoCloseable {
         private final VyrdLog log;
@@ -340,7 +344,7 @@ public final class VyrdLog implements Closeable {
         private Caller(VyrdLog log, int number) {
             this.log = log;
             this.number = number;
-            lines = new Lines(number, log.lineBytes);
+            lines = new Lines(number, log.lineBytes, log.inCall);
             if (log.seed.isPresent()) {
                 draw = log.seed.getAsLong() * 0x9e3779b97f4a7c15L ^ (2L * number + 1);
                 draw = draw == 0 ? 1 : draw;
@@ -398,13 +402,17 @@ public final class VyrdLog implements Closeable {
             step(Lines::commit);
         }
 
-        /** Gives the number back. */
+        /** Gives the number back, except inside a call: what the log says of that call then stays this caller's. */
         @Override
         public void close() {
             synchronized (log.hands) {
                 if (!closed) {
                     closed = true;
-                    log.taken.clear(number);
+                    if (log.inCall[number]) {
+                        log.lost++;
+                    } else {
+                        log.taken.clear(number);
+                    }
                 }
             }
         }
@@ -447,10 +455,12 @@ public final class VyrdLog implements Closeable {
         private int begin; // where the line under way begins
         private int caller;
         private final int most; // bytes of a line
+        private final boolean[] inCall; // the log's
 
-        private Lines(int caller, int most) {
+        private Lines(int caller, int most, boolean[] inCall) {
             this.caller = caller;
             this.most = most;
+            this.inCall = inCall;
         }
 
         /**
@@ -579,6 +589,10 @@ public final class VyrdLog implements Closeable {
             digits(caller);
             put(' ');
             add(words);
+            boolean begins = words.startsWith("call ");
+            if (caller < inCall.length && (begins || words.startsWith("return"))) {
+                inCall[caller] = begins;
+            }
         }
 
         private void end() {

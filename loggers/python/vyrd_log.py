@@ -135,6 +135,8 @@ class Log:
         self._hands = threading.Condition()
         self._line_bytes = header._line_bytes
         self._taken = [False] * header.callers
+        self._lost = 0  # taken by handles that were given back inside a call
+        self._in_call = set()  # numbers of callers; each is changed in steps
         self._waiting = 0
         self._meetings = 0
         self._sink = _Sink(to, buffer)
@@ -149,7 +151,8 @@ class Log:
         """
         with self._hands:
             if all(self._taken):
-                raise LogError(f"no caller is free: all {len(self._taken)} of the header are handed out")
+                given_back = f" (given back inside a call: {self._lost})" if self._lost else ""
+                raise LogError(f"no caller is free: all {len(self._taken)} of the header are handed out{given_back}")
             number = self._taken.index(False)
             self._taken[number] = True
         return Caller(self, number)
@@ -202,12 +205,12 @@ class Caller:
     """One caller of a log, for one thread at a time.
 
     Its number is given back by `give_back`, or where its `with` statement ends, and may then be that of another thread; so
-    give it back when its last call has returned.
+    give it back when its last call has returned. Inside a call its number is kept, so that no other thread is blamed.
     """
 
     def __init__(self, log, number):
         self._log = log
-        self._lines = Lines(number, log._line_bytes)
+        self._lines = Lines(number, log._line_bytes, log._in_call)
         self._step = _Step(log, number, self._lines)
         self.number = number  # from 0 on, and below the header's callers
 
@@ -236,12 +239,15 @@ class Caller:
             lines.commit()
 
     def give_back(self):
-        """Gives the number back. The handle takes no step after it."""
+        """Gives the number back, except inside a call. The handle takes no step after it."""
         with self._log._hands:
             if self._step.given_back:
                 return
             self._step.given_back = True
-            self._log._taken[self.number] = False
+            if self.number in self._log._in_call:
+                self._log._lost += 1
+            else:
+                self._log._taken[self.number] = False
 
     def __enter__(self):
         return self
@@ -257,9 +263,11 @@ class Lines:
     more than 64 bytes, or in version 3 more than 200; that line isn't written. All else is for `vyrd check` to judge.
     """
 
-    def __init__(self, caller, line_bytes=LINE_BYTES):
+    def __init__(self, caller, line_bytes, in_call):
+        self._caller = caller
         self._begin = f"{caller} "
         self._most = line_bytes
+        self._in_call = in_call  # the log's
         self._text = []
 
     def call(self, method, *arguments):
@@ -318,10 +326,14 @@ class Lines:
     def entry(self, words):
         """An entry as it is, without the caller's number: for a form that this class doesn't know."""
         self._add(self._begin + words)
+        if words.startswith("call "):
+            self._in_call.add(self._caller)
+        elif words.startswith("return"):
+            self._in_call.discard(self._caller)
 
     def helping(self, caller):
         """The lines of another caller, whose operation this step completes. `caller` is its number."""
-        lines = Lines(caller, self._most)
+        lines = Lines(caller, self._most, self._in_call)
         lines._text = self._text
         return lines
 

@@ -194,6 +194,32 @@ static void handles(void) {
     vyrd_close(log);
 }
 
+// Its number isn't another thread's, whose call would then stand inside its own.
+static void handles_that_are_given_back_inside_a_call(void) {
+    struct vyrd_log *log = made(vyrd_header(1, "multiset", 1, 2));
+    struct vyrd_caller *first = vyrd_caller(log), *second = vyrd_caller(log);
+    vyrd_call(first, "insert", 5);
+    vyrd_give_back(first);
+    expect(!vyrd_caller(log), "a third of two callers");
+    starts(vyrd_why(), "no caller is free: all 2 of the header are handed out (given back inside "
+                       "a call: 1)");
+    vyrd_call(second, "insert", 5);
+    vyrd_begin(second);
+    vyrd_entry(second, "return 0");
+    vyrd_end(second);
+    vyrd_give_back(second);
+    struct vyrd_caller *third = vyrd_caller(log);
+    expect(third && vyrd_number(third) == 1, "the one that has returned");
+    vyrd_begin(third);
+    vyrd_helping(third, 0);
+    vyrd_returns(third, 1);
+    vyrd_end(third);
+    vyrd_call(third, "delete", 5);
+    vyrd_give_back(third);
+    expect(!vyrd_caller(log), "both are given back inside a call");
+    vyrd_close(log);
+}
+
 static void inside(struct vyrd_log *log, struct vyrd_caller *caller) {
     (void)log;
     vyrd_begin(caller);
@@ -407,6 +433,7 @@ int main(void) {
     own_headers();
     own_lines();
     handles();
+    handles_that_are_given_back_inside_a_call();
     misuses();
     failures();
     threads(VYRD_LOCK);

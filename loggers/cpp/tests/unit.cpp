@@ -170,6 +170,29 @@ void handles() {
     });
 }
 
+// Its number isn't another thread's, whose call would then stand inside its own.
+void handles_that_are_given_back_inside_a_call() {
+    written(vyrd::Header(1, "multiset", 1, 2), [](vyrd::Log &log) {
+        std::optional<vyrd::Caller> first(log.caller()), second(log.caller());
+        first->call("insert", 5);
+        first.reset();
+        const std::string refused = "no caller is free: all 2 of the header are handed out (given "
+                                    "back inside a call: ";
+        refuses(refused + "1)", [&] { log.caller(); });
+        second->call("insert", 5);
+        second->step([](vyrd::Lines &lines) { lines.entry("return 0"); });
+        second.reset();
+        std::optional<vyrd::Caller> third(log.caller());
+        expect(third->number() == 1, "the one that has returned");
+        third->call("delete", 5);
+        third->step([](vyrd::Lines &lines) {
+            lines.helping(0, [](vyrd::Lines &helped) { helped.returns(1); });
+        });
+        third.reset();
+        refuses(refused + "2)", [&] { log.caller(); });
+    });
+}
+
 void refused_steps() {
     std::string text = written(vyrd::Header(1, "multiset", 1, 1), [](vyrd::Log &log) {
         vyrd::Caller caller = log.caller();
@@ -275,6 +298,7 @@ int main() {
     own_headers();
     own_lines();
     handles();
+    handles_that_are_given_back_inside_a_call();
     refused_steps();
     threads(vyrd::Order::lock);
     threads(vyrd::Order::numbers);

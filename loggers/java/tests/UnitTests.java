@@ -159,6 +159,27 @@ public final class UnitTests {
         refuses("no caller is free", log::caller);
     }
 
+    /** Its number isn't another thread's, whose call would then stand inside its own. */
+    private static void handlesThatAreClosedInsideACall() {
+        VyrdLog log = log(new ByteArrayOutputStream(), 2);
+        VyrdLog.Caller first = log.caller();
+        VyrdLog.Caller second = log.caller();
+        first.call("insert", 5);
+        first.close();
+        first.close();
+        refuses("no caller is free: all 2 of the header are handed out (closed inside a call: 1)", log::caller);
+        second.call("insert", 5);
+        second.step(lines -> lines.entry("return 0"));
+        second.close();
+        VyrdLog.Caller third = log.caller();
+        same(third.number(), 1);
+        third.call("delete", 5);
+        third.step(lines -> lines.helping(0, helped -> helped.returns(true)));
+        third.step(lines -> lines.helping(2, helped -> helped.returns(true)));
+        third.close();
+        refuses("no caller is free: all 2 of the header are handed out (closed inside a call: 2)", log::caller);
+    }
+
     private static void refusedSteps() throws IOException {
         ByteArrayOutputStream written = new ByteArrayOutputStream();
         VyrdLog log = log(written, 1);
@@ -235,6 +256,7 @@ public final class UnitTests {
         ownHeaders();
         ownLines();
         handles();
+        handlesThatAreClosedInsideACall();
         refusedSteps();
         failures();
         threads();

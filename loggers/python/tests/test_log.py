@@ -151,6 +151,26 @@ class Tests(unittest.TestCase):
         self.assertEqual((log.caller().number, second.number), (0, 1))
         self.refuses(log.caller, "no caller is free: all 2 of the header are handed out")
 
+    def test_handles_that_are_given_back_inside_a_call(self):
+        """Its number isn't another thread's, whose call would then stand inside its own."""
+        log = Log(Header(1, "tree", 1, 2), io.BytesIO(), watched=False)
+        first, second = log.caller(), log.caller()
+        first.call("insert", 5)
+        first.give_back()
+        first.give_back()
+        refused = "no caller is free: all 2 of the header are handed out (given back inside a call: {})"
+        self.refuses(log.caller, refused.format(1))
+        second.call("insert", 5)
+        with second.step() as lines:
+            lines.entry("return 0")
+        second.give_back()
+        with log.caller() as third:
+            self.assertEqual(third.number, 1)
+            third.call("delete", 5)
+            with third.step() as lines:
+                lines.helping(0).returns(True)
+        self.refuses(log.caller, refused.format(2))
+
     def test_refused_steps(self):
         file = io.BytesIO()
         log = Log(Header(1, "tree", 1, 1), file, watched=False)

@@ -60,8 +60,9 @@ use std::io;
 pub enum Error {
     /// A header that no log has, or a seed in `VYRD_SEED` that is no number: the sentence says why.
     Header(String),
-    /// All callers of the header are handed out; this is how many there are.
-    NoCallerFree(usize),
+    /// All callers of the header are handed out; this is how many there are, and how many of them
+    /// are kept since they were dropped inside a call.
+    NoCallerFree(usize, usize),
     /// The file can't be opened, or a write has failed.
     Io(io::Error),
 }
@@ -70,8 +71,12 @@ impl fmt::Display for Error {
     fn fmt(&self, to: &mut fmt::Formatter<'_>) -> fmt::Result {
         match self {
             Error::Header(why) => to.write_str(why),
-            Error::NoCallerFree(all) => {
-                write!(to, "no caller is free: all {all} of the header are handed out")
+            Error::NoCallerFree(all, lost) => {
+                write!(to, "no caller is free: all {all} of the header are handed out")?;
+                match lost {
+                    0 => Ok(()),
+                    _ => write!(to, " (dropped inside a call: {lost})"),
+                }
             }
             Error::Io(error) => write!(to, "the log can't be written: {error}"),
         }

@@ -1,4 +1,6 @@
 use std::panic::Location;
+use std::sync::atomic::{AtomicBool, Ordering::SeqCst};
+use std::sync::Arc;
 
 /// The most bytes of a line, without its line feed.
 pub(crate) const LINE_BYTES: usize = 64;
@@ -15,12 +17,13 @@ pub(crate) const OWN_LINE_BYTES: usize = 200;
 pub struct Lines {
     text: Vec<u8>,
     caller: usize,
-    most: usize, // bytes of a line
+    most: usize,                // bytes of a line
+    in_call: Arc<[AtomicBool]>, // the log's, by the callers' numbers
 }
 
 impl Lines {
-    pub(crate) fn new(caller: usize, most: usize) -> Self {
-        Lines { text: Vec::with_capacity(512), caller, most }
+    pub(crate) fn new(caller: usize, most: usize, in_call: Arc<[AtomicBool]>) -> Self {
+        Lines { text: Vec::with_capacity(512), caller, most, in_call }
     }
 
     /// `call METHOD ARGUMENTS`: arguments are below 2^32.
@@ -137,8 +140,15 @@ impl Lines {
         let begin = self.text.len();
         digits(&mut self.text, self.caller as u64);
         self.text.push(b' ');
+        let entry = self.text.len();
         words(&mut self.text);
         self.end_line(begin);
+        let begins = self.text[entry..].starts_with(b"call ");
+        if begins || self.text[entry..].starts_with(b"return") {
+            if let Some(in_call) = self.in_call.get(self.caller) {
+                in_call.store(begins, SeqCst);
+            }
+        }
     }
 
     fn end_line(&mut self, begin: usize) {

@@ -61,6 +61,7 @@ struct State {
     output: Arc<Output>,
     line_bytes: usize,
     seed: Option<u64>,
+    in_call: Arc<[AtomicBool]>, // by the callers' numbers
     hands: Mutex<Hands>,
     all_here: Condvar,
 }
@@ -74,6 +75,7 @@ pub(crate) struct Output {
 
 struct Hands {
     taken: Vec<bool>,
+    lost: usize, // taken by handles that were dropped inside a call
     waiting: usize,
     meetings: u64,
 }
@@ -111,13 +113,16 @@ impl Log {
         if options.watched {
             watch::add(Arc::downgrade(&output));
         }
-        let hands = Hands { taken: vec![false; header.callers()], waiting: 0, meetings: 0 };
+        let taken = vec![false; header.callers()];
+        let in_call = taken.iter().map(|_| AtomicBool::new(false)).collect();
+        let hands = Hands { taken, lost: 0, waiting: 0, meetings: 0 };
         Ok(Log(Arc::new(State {
             step: Mutex::new(()),
             finished: AtomicBool::new(false),
             output,
             line_bytes: header.line_bytes(),
             seed,
+            in_call,
             hands: Mutex::new(hands),
             all_here: Condvar::new(),
         })))
@@ -131,7 +136,8 @@ impl Log {
     pub fn caller(&self) -> Result<Caller, Error> {
         let mut hands = locked(&self.0.hands);
         let all = hands.taken.len();
-        let number = hands.taken.iter().position(|taken| !taken).ok_or(Error::NoCallerFree(all))?;
+        let free = hands.taken.iter().position(|taken| !taken);
+        let number = free.ok_or(Error::NoCallerFree(all, hands.lost))?;
         hands.taken[number] = true;
         Ok(Caller::new(Arc::clone(&self.0), number))
     }
@@ -230,7 +236,8 @@ impl Drop for State {
 /// One caller of a log, for one thread at a time.
 ///
 /// Its number is given back when it is dropped, and may then be that of another thread; so drop it
-/// when its last call has returned.
+/// when its last call has returned. Inside a call its number is kept, so that no other thread is
+/// blamed.
 pub struct Caller {
     state: Arc<State>,
     number: usize,
@@ -242,7 +249,7 @@ impl Caller {
     fn new(state: Arc<State>, number: usize) -> Self {
         let spread = |seed: u64| seed.wrapping_mul(0x9e37_79b9_7f4a_7c15) ^ (2 * number as u64 + 1);
         let draw = state.seed.map_or(0, |seed| spread(seed).max(1));
-        let lines = Lines::new(number, state.line_bytes);
+        let lines = Lines::new(number, state.line_bytes, Arc::clone(&state.in_call));
         Caller { state, number, lines, draw }
     }
 
@@ -311,7 +318,10 @@ impl Caller {
 
 impl Drop for Caller {
     fn drop(&mut self) {
-        locked(&self.state.hands).taken[self.number] = false;
+        let lost = self.state.in_call[self.number].load(SeqCst);
+        let mut hands = locked(&self.state.hands);
+        hands.taken[self.number] = lost;
+        hands.lost += usize::from(lost);
     }
 }
 

@@ -211,6 +211,26 @@ fn a_number_is_handed_out_and_given_back() {
     assert_eq!((log.caller().unwrap().number(), second.number()), (0, 1));
 }
 
+/// Its number isn't another thread's, whose call would then stand inside its own.
+#[test]
+fn a_handle_that_is_dropped_inside_a_call() {
+    let (log, _) = log(2);
+    let (mut first, mut second) = (log.caller().unwrap(), log.caller().unwrap());
+    first.call("insert", &[5]);
+    drop(first);
+    let refused = "no caller is free: all 2 of the header are handed out (dropped inside a call: ";
+    assert_eq!(why(log.caller()), format!("{refused}1)"));
+    second.call("insert", &[5]);
+    second.step(|lines| lines.entry("return 0"));
+    drop(second);
+    let mut third = log.caller().unwrap();
+    assert_eq!(third.number(), 1);
+    third.call("delete", &[5]);
+    third.step(|lines| lines.helping(0, |lines| lines.returns(1)));
+    drop(third);
+    assert_eq!(why(log.caller()), format!("{refused}2)"));
+}
+
 #[test]
 fn numbers_that_a_log_cannot_hold() {
     let written = Written::default();
