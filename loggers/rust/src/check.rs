@@ -56,7 +56,8 @@ impl CheckRuns {
 /// each log. For a `#[test]`.
 ///
 /// The body waits for the threads that it starts, and doesn't finish the log: that is done when it
-/// has returned. A log that is accepted is removed.
+/// has returned. What a thread panics with while it has a caller counts as the body's panic; of
+/// others the body is to unwrap what `join` gives. A log that is accepted is removed.
 ///
 /// ```no_run
 /// use vyrd_log::{check_runs, CheckRuns, Header};
@@ -133,12 +134,22 @@ fn play(log: Arc<Log>, seed: u64, time: Duration, body: Arc<Body>) -> Result<(),
         body(seed, &shared);
     });
     let thread = thread.map_err(|error| format!("no thread: {error}"))?;
-    let written = if end.recv_timeout(time) == Err(RecvTimeoutError::Timeout) {
+    let in_time = end.recv_timeout(time) != Err(RecvTimeoutError::Timeout);
+    let of_caller = log.panicked().map(|number| format!("the thread of caller {number} panicked"));
+    let written = if !in_time {
         let _ = log.flush();
-        return Err(format!("the body hasn't returned after {} seconds", time.as_secs_f64()));
+        let mut late = format!("the body hasn't returned after {} seconds", time.as_secs_f64());
+        if log.waiting() > 0 {
+            late += &format!("; threads that wait at the start barrier: {}", log.waiting());
+        }
+        let of_caller = of_caller.map_or_else(String::new, |of_caller| format!("; {of_caller}"));
+        return Err(late + &of_caller);
     } else if let Err(panicked) = thread.join() {
         let _ = log.flush();
         return Err(format!("the body panicked: {}", said(panicked.as_ref())));
+    } else if let Some(of_caller) = of_caller {
+        let _ = log.flush();
+        return Err(of_caller);
     } else {
         log.end()
     };

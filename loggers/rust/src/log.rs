@@ -75,7 +75,8 @@ pub(crate) struct Output {
 
 struct Hands {
     taken: Vec<bool>,
-    lost: usize, // taken by handles that were dropped inside a call
+    lost: usize,             // taken by handles that were dropped inside a call
+    panicked: Option<usize>, // the first whose thread panicked with its handle
     waiting: usize,
     meetings: u64,
 }
@@ -115,7 +116,7 @@ impl Log {
         }
         let taken = vec![false; header.callers()];
         let in_call = taken.iter().map(|_| AtomicBool::new(false)).collect();
-        let hands = Hands { taken, lost: 0, waiting: 0, meetings: 0 };
+        let hands = Hands { taken, lost: 0, panicked: None, waiting: 0, meetings: 0 };
         Ok(Log(Arc::new(State {
             step: Mutex::new(()),
             finished: AtomicBool::new(false),
@@ -174,6 +175,16 @@ impl Log {
     /// [`Error::Io`] where a write has failed, now or before.
     pub fn finish(self) -> Result<(), Error> {
         self.end()
+    }
+
+    /// The first caller whose thread panicked with the handle.
+    pub(crate) fn panicked(&self) -> Option<usize> {
+        locked(&self.0.hands).panicked
+    }
+
+    /// How many threads wait at the start barrier.
+    pub(crate) fn waiting(&self) -> usize {
+        locked(&self.0.hands).waiting
     }
 
     /// The same, of a log that others hold too.
@@ -322,6 +333,9 @@ impl Drop for Caller {
         let mut hands = locked(&self.state.hands);
         hands.taken[self.number] = lost;
         hands.lost += usize::from(lost);
+        if thread::panicking() {
+            hands.panicked.get_or_insert(self.number);
+        }
     }
 }
 

@@ -88,6 +88,34 @@ fn a_panic_of_the_body_is_said() {
     assert_eq!(fs::read_to_string(folder.join("1.log")).unwrap(), BEGUN);
 }
 
+/// A thread that panics with its caller, and whose handle nobody asks.
+#[test]
+fn a_panic_of_a_thread_is_said() {
+    let (asked, folder) = asked("thread");
+    let said = sentence(asked, |_, log| {
+        let mut caller = log.caller().unwrap();
+        let thread = thread::spawn(move || {
+            caller.call("insert", &[5]);
+            panic!("by the test");
+        });
+        let _ = thread.join();
+    });
+    let fault = "run 1 of 20, with seed 1: the thread of caller 0 panicked; ";
+    contains(&said, &format!("{fault}malformed at line 3: no end\n"));
+    assert_eq!(fs::read_to_string(folder.join("1.log")).unwrap(), BEGUN);
+}
+
+#[test]
+fn threads_that_wait_for_more_than_there_are_callers() {
+    let (asked, _) = asked("few");
+    let said = sentence(CheckRuns { time: Duration::from_secs(2), ..asked }, |_, log| {
+        log.start_together(2);
+    });
+    let fault =
+        "the body hasn't returned after 2 seconds; threads that wait at the start barrier: 1; ";
+    contains(&said, fault);
+}
+
 #[test]
 fn a_body_that_hangs_is_given_up() {
     let (asked, folder) = asked("hang");
