@@ -637,8 +637,8 @@ private:
     friend class Log;
 
     struct Step {
-        Step(detail::State &of, unsigned caller, Lines &lines)
-            : state(of), caller(caller), lines(lines) {
+        Step(detail::State &of, unsigned its_caller, Lines &its_lines)
+            : state(of), caller(its_caller), lines(its_lines) {
             if (!state.output->numbered()) alone();
             if (state.finished) throw Error("a step of a log that is finished");
             if (held) state.owner.store(std::this_thread::get_id(), std::memory_order_relaxed);
