@@ -60,9 +60,9 @@ def other_log():
 def answered(names):
     """The log in the one file that is named, judged by the checker, or the log with its answer on standard input."""
     name = names[0] if names else "-"
-    file = kept(name)
+    file, answer = apart(name)
     if name == "-":
-        return Log(file, name, answer_after(file))
+        return Log(file, name, answer)
     with temporary() as said:
         status = check(["check"], file, said)
         answer = last_line(said)
@@ -71,16 +71,30 @@ def answered(names):
     return Log(file, name, answer)
 
 
-def answer_after(log):
-    """Takes the answer off the end of a file. Without one there, it leaves the file as it is and gives None."""
-    end = end_of(log)
+def apart(name):
+    """The log in a file, or on standard input, and the answer that stands after it, or None. The file itself stays as it is."""
+    file = kept(name)
+    end = end_of(file)
     start = max(0, end - LONGEST_ANSWER)
-    log.seek(start)
-    answer = ANSWER.search(log.read(end - start).decode("latin-1"))
+    file.seek(start)
+    answer = ANSWER.search(file.read(end - start).decode("latin-1"))
     if not answer:
-        return None
-    log.truncate(start + answer.start())
-    return answer[0]
+        return file, None
+    if name != "-":
+        return beginning(file, start + answer.start()), answer[0]
+    file.truncate(start + answer.start())
+    return file, answer[0]
+
+
+def beginning(file, length):
+    """So many bytes of a file, as another one."""
+    copy = temporary()
+    file.seek(0)
+    with open(copy.fileno(), "wb", closefd=False) as sink:
+        while piece := file.read(min(length, 1 << 20)):
+            sink.write(piece)
+            length -= len(piece)
+    return copy
 
 
 def last_line(file):

@@ -32,6 +32,15 @@ class Explaining(ScriptTest):
         self.checker_says(FAULT_ANSWER, 1)
         self.assert_explained("", FAULT_EXPLAINED, self.write("fault.log", FAULT + "end\n"))
 
+    def test_an_answer_after_the_log_in_a_file_is_no_part_of_it(self):
+        text = FAULT + "end\n"
+        self.checker(f"cat > given\nhead -c 100 given > /dev/null\nprintf '%s' '{FAULT_ANSWER}'\nexit 1")
+        for behind in ("accepted: 2 entries, 0 commits, 0 observers\n", FAULT_ANSWER, FAULT_ANSWER.strip()):
+            path = self.write("fault.log", text + behind)
+            self.assert_explained("", FAULT_EXPLAINED, path)
+            self.assertEqual((self.folder / "given").read_text(), text)
+            self.assertEqual((self.folder / "fault.log").read_text(), text + behind)
+
     def test_megabytes_behind_an_early_verdict(self):
         self.checker_says(FAULT_ANSWER, 1)
         self.assert_explained("", FAULT_EXPLAINED, self.write("long.log", FAULT + LOOK * 60_000 + "end\n"))

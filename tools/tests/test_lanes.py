@@ -40,6 +40,7 @@ class Drawing(ScriptTest):
     def test_a_file_is_judged_and_drawn(self):
         self.checker_says(RUN_ANSWER, 1)
         self.assert_drawn("", RUN_DRAWN, self.write("run.log", RUN))
+        self.assert_drawn("", RUN_DRAWN, self.write("run.log", RUN + RUN_ANSWER))
 
     def test_a_log_without_an_answer_is_drawn_without_an_arrow(self):
         bare = RUN_DRAWN.replace("|               <-- " + RUN_ANSWER, "|\n")

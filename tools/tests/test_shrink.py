@@ -261,9 +261,10 @@ class Options(ShrinkTest):
         said = self.run_script("shrink", "--answer", given=self.LOG)
         self.assertEqual(said.out, f"{small}violation at line 7: view differs at key 8\n")
 
-    def test_an_answer_after_the_log_on_standard_input_is_no_part_of_it(self):
-        given = self.LOG + self.answer(self.LOG) + "\n"
-        self.assertEqual(self.run_script("shrink", given=given).out, self.shrunk(self.LOG))
+    def test_an_answer_after_the_log_is_no_part_of_it(self):
+        given, small = self.LOG + self.answer(self.LOG) + "\n", self.shrunk(self.LOG)
+        self.assertEqual(self.run_script("shrink", given=given).out, small)
+        self.assertEqual(self.run_script("shrink", self.write("a.log", given)).out, small)
 
     def test_where_the_checks_are_spent_the_smallest_log_so_far_is_printed(self):
         said = self.run_script("shrink", "--checks", "1", given=self.LOG)
