@@ -6,6 +6,7 @@ from typing import NamedTuple
 
 from amounts import watched
 from answers import other_log
+from chains import Chain
 from logtext import METHODS, MOST_WORD, OBSERVERS, Entry
 from walk import Execution, Walk
 from words import NO_CHARACTER, PART_WORDS, State, Words, answer, keys_of
@@ -174,8 +175,19 @@ class History:
             self.changes.add(Change(write, at, before, amount, shown))
 
 
+class TakenOut(NamedTuple):
+    """The write that took a node out of a tree's chain, the entry at which it took effect, and what was there before."""
+
+    write: Entry
+    at: Entry
+    before: int
+
+
 class Findings:
-    """What a walk up to the named line finds: the changes at a key, who wrote to what the call wrote, and the commits by key."""
+    """What a walk up to the named line finds: the changes at a key, who wrote to what the call wrote, and the commits by key.
+
+    Of a tree it finds the nodes that the call wrote and which the chain from node 0 doesn't have at that line.
+    """
 
     def __init__(self, log, marked, key, keys):
         self.log, self.past = log, log.marked_line
@@ -186,6 +198,8 @@ class Findings:
         self.at_start = dict(self.state.amounts)
         self.naming = {key: Last() for key in keys}
         self.own = Last()
+        self.chain = Chain(self.history.words) if log.subject == "tree" else None
+        self.last_writes = {}  # of the call, by node
         self.walk()
 
     def walk(self):
@@ -216,8 +230,30 @@ class Findings:
     def at_effect(self, effect):
         """Writes have taken effect."""
         for write, before in self.history.take(effect):
+            if self.chain:
+                self._take_node(write, effect.at, before)
             if effect.at.line > self.execution.line and part_of(self.log.subject, write.numbers[0]) in self.parts:
                 self.own.add(OwnWrite(write, effect.at, before, self.history.words[write.numbers[0] | 1]))
+
+    def _take_node(self, write, at, before):
+        """Goes on over a write to a tree."""
+        node = write.numbers[0] // PART_WORDS["tree"]
+        self.chain.changed(write.numbers[0], before, TakenOut(write, at, before))
+        if node < self.log.size and self._is_of_call(write):
+            self.last_writes[node] = write
+
+    def _is_of_call(self, write):
+        return write.caller == self.execution.caller and write.line > self.execution.line
+
+    def outside(self):
+        """The nodes that the call wrote outside the chain, with its last write to each and what took the node out, or None.
+
+        Those that the call took out itself aren't among them.
+        """
+        for node, write in sorted(self.last_writes.items()):
+            taken_out = self.chain.taken_out.get(node)
+            if node not in self.chain.nodes and not (taken_out and self._is_of_call(taken_out.write)):
+                yield node, write, taken_out
 
     def at_commit(self, execution):
         """An execution has committed, and its reply is known."""

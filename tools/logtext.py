@@ -34,13 +34,16 @@ ENTRY = re.compile(
 
 
 class Entry:
-    """A line after the header that has the form of an entry: its kind is its word, and `numbers` are those after it."""
+    """A line after the header that has the form of an entry: its kind is its word, and `numbers` are those after it.
 
-    __slots__ = ("line", "written", "caller", "kind", "method", "numbers")
+    A write that a walk has come over has the execution that it belongs to, if it is in one.
+    """
+
+    __slots__ = ("line", "written", "caller", "kind", "method", "numbers", "execution")
 
     def __init__(self, line, written, caller, kind, method, numbers):
         self.line, self.written, self.caller = line, written, int(caller)
-        self.kind, self.method, self.numbers = kind, method, numbers
+        self.kind, self.method, self.numbers, self.execution = kind, method, numbers, None
 
     @property
     def text(self):

@@ -44,12 +44,12 @@ class Walk:
         """Goes on over an entry, and gives the execution that it belongs to, or None."""
         kind, caller = entry.kind, entry.caller
         if kind == "write":
-            block = self.blocks.get(caller)
+            block, entry.execution = self.blocks.get(caller), self.executions.get(caller)
             if block:
                 block.writes.append(entry)
             else:
                 self.effects.append(Effect(entry, [entry]))
-            return self.executions.get(caller)
+            return entry.execution
         if kind == "call":
             self.executions.pop(caller, None)  # so that the open ones stand in the order of their calls
             self.executions[caller] = Execution(entry)

@@ -82,6 +82,44 @@ class Explaining(ScriptTest):
         self.assert_explained("malformed at line 1: no end\n", f"malformed at line 1: no end\n\n  no end: {reason}\n")
 
 
+class Trees(ScriptTest):
+    """A list in the first chain of a tree: node 1 has 10 and node 2 has 20, and a third is linked in behind node 1."""
+
+    BEGIN = ["0 call insert 10 0", "0 write 16 10", "0 write 13 1", "0 write 3 1", "0 commit", "0 return 1"]
+    BEGIN += ["0 call insert 20 0", "0 write 28 20", "0 write 25 1", "0 write 15 2", "0 commit", "0 return 1"]
+    INSERT = ["1 write 40 30", "1 write 37 1", "1 write 39 2", "1 write 15 3", "1 commit", "1 return 1"]
+
+    def said_of(self, lines, answer):
+        said = self.run_script("explain", given="\n".join(["vyrd 1 tree 4 2", *lines, "end", answer, ""]))
+        self.assertEqual((said.error, said.status), ("", 0))
+        return said.out
+
+    def test_a_node_that_another_call_has_taken_out_of_the_chain(self):
+        taken = ["1 call insert 30 0", "0 call delete 10", "0 write 3 2", "0 commit", "0 return 1"]
+        said = self.said_of(self.BEGIN + taken + self.INSERT, "violation at line 23: view differs at key 30")
+        by = "line 16 took it out (caller 0: `delete 10`, node 0 right 1 -> 2)"
+        wanted = f"""
+Writes since line 17 that changed what the words show at key 30: none
+
+Nodes that it wrote outside the chain, where what they have isn't shown
+  node 1, which line 22 writes, isn't in the chain from node 0: {by}
+  node 3, which line 21 writes, isn't in the chain from node 0, and never was
+
+Writes from its call"""
+        self.assertIn(wanted, said)
+
+    def test_a_block_takes_a_node_out_where_it_ends(self):
+        taken = ["1 call insert 30 0", "0 call delete 10", "0 open", "0 write 3 2", "0 close commit", "0 return 1"]
+        said = self.said_of(self.BEGIN + taken + self.INSERT, "violation at line 24: view differs at key 30")
+        by = "line 17 took it out (caller 0: `delete 10`, node 0 right 1 -> 2, in effect on line 18)"
+        self.assertIn(f"  node 1, which line 23 writes, isn't in the chain from node 0: {by}\n", said)
+
+    def test_a_node_that_the_call_takes_out_itself_is_not_said(self):
+        lines = ["1 call delete 20", "1 write 25 0", "1 write 15 0", "1 commit", "1 return 1"]
+        said = self.said_of(self.BEGIN + lines, "violation at line 17: view differs at key 20")
+        self.assertNotIn("outside the chain", said)
+
+
 class Refusing(ScriptTest):
     def test_a_log_without_an_answer(self):
         for given in ("", FAULT, FAULT + "end\n", b"\x00" * 1000, "\n" * 100_000):
