@@ -215,6 +215,18 @@ class Faults(ShrinkTest):
         self.assert_shrunk(f"vyrd 2 multiset 2 1\n{starts}end\n", "vyrd 2 multiset 2 1\nstart 7 0\nend\n")
 
 
+    def test_starting_lines_that_nothing_but_the_call_at_fault_has_to_do_with(self):
+        call = ["0 call insert 5", "0 write 11 5", "0 commit", "0 return 1"]
+        starts = ["start 8 2", "start 9 9", "start 10 1", "start 11 7"]
+        log = "\n".join(["vyrd 2 multiset 2 4", *starts, *NOISE, *call, "end", ""])
+        self.assert_shrunk(log, log_of(call, 1))
+
+    def test_a_log_goes_back_to_version_1_only_where_the_fault_stays(self):
+        self.checker("grep -q 'vyrd 2' && echo 'violation at line 3: view differs at key 5' && exit 1\necho 'malformed at line 1: x'\nexit 2")
+        text = FAULT.replace("vyrd 1", "vyrd 2") + "end\n"
+        self.assertEqual(self.run_script("shrink", given=text).out, text)
+
+
 class Smallest(ShrinkTest):
     def executions(self, text):
         """The places of the lines of each execution."""
