@@ -9,6 +9,7 @@ from typing import NamedTuple
 
 from amounts import watched
 from answers import other_log
+from chains import Chain
 from logtext import OBSERVERS
 from steps import State as OwnState
 from steps import View, answer_of, step_of
@@ -17,17 +18,19 @@ from words import PART_WORDS, State, Words, allowed, answer, keys_of
 
 
 class Evidence(NamedTuple):
-    """What the call at fault wrote over. Whether the specification's states before the fault would have allowed the reply that is
-    wrong, and whether the words would have. For two views that differ what they show."""
+    """What the call at fault wrote over, and in a tree the nodes that it wrote and which another call had taken out of the chain.
+    Whether the specification's states before the fault would have allowed the reply that is wrong, and whether the words would
+    have. For two views that differ what they show."""
 
     over: tuple = ()
+    taken_out: tuple = ()
     by_states: bool = False
     by_words: bool = False
     views: tuple = ()
 
     def is_kept(self, other):
         """Whether another log, which has less, has the same fault."""
-        if self.views != other.views or self.over != other.over:
+        if self.views != other.views or self.over != other.over or self.taken_out != other.taken_out:
             return False
         return other.by_states if self.by_states else other.by_words or not self.by_words
 
@@ -52,6 +55,8 @@ class Walker:
         start = {word: value for word, (value, _) in less.start.items()}
         self.begin(start, keys)
         self.stored, self.over = dict(start), []  # each write counts here where it stands, inside a block too
+        self.written = set()  # the nodes of a tree that the call at fault wrote
+        self.chain = Chain(Words("tree", self.log.size, start)) if self.log.subject == "tree" else None
 
     def begin(self, start, keys):
         """The words and the state at the start."""
@@ -79,10 +84,25 @@ class Walker:
     def _drain(self, walk):
         while effect := walk.next_effect():
             for write in effect.writes if effect.at.line <= self.line else ():
+                if self.chain:
+                    self._take_node(write)
                 self.at_effect(*write.numbers)
         while execution := walk.next_commit():
             if execution.commit_line <= self.line and execution.return_line:
                 self.at_commit(execution)
+
+    def _take_node(self, write):
+        """Goes on over a write to a tree that takes effect."""
+        word, value = write.numbers
+        before, self.chain.words[word] = self.chain.words[word], value
+        self.chain.changed(word, before, write.line)
+        if write.line in self.own:
+            self.written.add(word // PART_WORDS["tree"])
+
+    def taken_out(self):
+        """The nodes that the call at fault wrote and which another call had taken out of the chain."""
+        by = self.chain.taken_out if self.chain else {}
+        return tuple(node for node in sorted(self.written) if node in by and by[node] not in self.own)
 
     def at_write(self, word, value):
         """What a write tells where it stands. Nothing here."""
@@ -107,7 +127,8 @@ class Views(Walker):
     def evidence(self):
         subject, size = self.log.subject, self.log.size
         if subject in ("multiset", "tree"):
-            return Evidence(tuple(self.over), views=(self.words.amount(self.key) - self.state[self.key],))
+            views = (self.words.amount(self.key) - self.state[self.key],)
+            return Evidence(tuple(self.over), self.taken_out(), views=views)
         first = self.key % size * PART_WORDS[subject]
         return Evidence(tuple(self.over), views=tuple(self.words[first + place] for place in range(PART_WORDS[subject])))
 
@@ -144,7 +165,7 @@ class Reply(Walker):
         return call.method in OBSERVERS and answer(self.log.subject, call.method, self.watched.amount) == call.reply
 
     def evidence(self):
-        return Evidence(tuple(self.over), self.by_states, self.by_words)
+        return Evidence(tuple(self.over), self.taken_out(), self.by_states, self.by_words)
 
 
 class OwnWalker(Walker):
@@ -201,7 +222,7 @@ class OwnReply(OwnWalker):
         return answer_of(self.said, self.method, self.state, call.arguments) == call.reply
 
     def evidence(self):
-        return Evidence(tuple(self.over), self.by_states)
+        return Evidence(tuple(self.over), by_states=self.by_states)
 
 
 def marked_execution(parts):
