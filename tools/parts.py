@@ -56,6 +56,7 @@ class Parts:
         self.header, self.front, self.starts, self.ending = "", [], [], END
         self.texts, self.lines, self.owners = [], array("Q"), array("I")
         self.units, self.marked, self.marked_place = [], None, None
+        self.staying = set()  # the units that never go: the one that is at fault, and calls that are open where the input ends
         self._open, self._walk = {}, Walk()
         self._compare(log.subject)
         self._read()
@@ -157,8 +158,11 @@ class Parts:
         """Numbers the units by their last lines."""
         order = sorted(range(len(self.units)), key=lambda number: self.units[number].places[-1])
         self.units = [self.units[number] for number in order]
+        if self.fault in ("no end", "no line feed"):
+            self.staying = {order.index(number) for number in self._open.values()}
         if self.marked is not None:
             self.marked = order.index(self.marked)
+            self.staying.add(self.marked)
 
     def whole(self):
         """All that was kept."""

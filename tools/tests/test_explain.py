@@ -77,6 +77,23 @@ class Explaining(ScriptTest):
         wanted = f"malformed at line 2: no line feed\n\n  line 2: end\n\n  no line feed: {reason}\n"
         self.assert_explained(given, wanted)
 
+    def test_the_calls_that_are_open_where_the_input_ends(self):
+        log = "vyrd 1 multiset 2 4\n3 call lookup 5\n2 call delete 6\n2 commit\n0 call insert 5\n"
+        log += "1 call lookup 5\n1 return 0\n0 write 1 5\n"
+        reason = "the input ends before the line `end`: it was cut off, or the program that wrote it stopped"
+        wanted = f"""malformed at line 9: no end
+
+  no end: {reason}
+
+The calls that are open there
+  caller 3: `lookup 5`, called on line 2, with nothing after it
+  caller 2: `delete 6`, called on line 3, committed on line 4; its last entry is line 4: commit
+  caller 0: `insert 5`, called on line 5; its last entry is line 8: write 1 5 (slot 0 value)
+"""
+        self.assert_explained(log + "malformed at line 9: no end\n", wanted)
+        said = self.run_script("explain", given=log + "0 wrimalformed at line 9: no line feed\n")
+        self.assertIn("  caller 0: `insert 5`, called on line 5; its last entry is line 8: write 1 5 (slot 0 value)\n", said.out)
+
     def test_no_bytes_at_all_were_a_log(self):
         reason = "the input ends before the line `end`: it was cut off, or the program that wrote it stopped"
         self.assert_explained("malformed at line 1: no end\n", f"malformed at line 1: no end\n\n  no end: {reason}\n")

@@ -206,6 +206,13 @@ class Faults(ShrinkTest):
         self.assert_shrunk(whole.removesuffix("\n"), "vyrd 1 multiset 2 1\nend")
         self.assert_shrunk(whole + "what\nmore\n", "vyrd 1 multiset 2 1\nend\nwhat\n")
 
+    def test_calls_that_are_open_where_a_text_ends_stay(self):
+        is_open = ["3 call insert 3", "3 write 13 3", "1 call lookup 7"]
+        lines = [*NOISE, *is_open[:2], *lookup(2, 1, 0), *is_open[2:], *insert(2, 3, 5)]
+        wanted = log_of(["0 call insert 3", "0 write 13 3", "1 call lookup 7"], 2).removesuffix("end\n")
+        self.assert_shrunk(log_of(lines).removesuffix("end\n"), wanted)
+        self.assert_shrunk(log_of([*lines, "2 call"]).removesuffix("\nend\n"), wanted + "2 call")
+
     def test_headers(self):
         self.assert_shrunk("vyrd 3 multiset 1 1\n" + "0 call lookup 1\n" * 99, "vyrd 3 multiset 1 1\n")
         self.assert_shrunk("\n" * 100, "\n")
