@@ -221,8 +221,11 @@ class Findings:
             self.at_commit(execution)
 
     def is_done(self):
-        """Whether nothing behind the line is looked for."""
-        return True
+        """Whether nothing behind the line is looked for: the calls that writes belong to have committed, or have returned."""
+        writes = [found.write for last in (self.history.changes, self.own) for found in last.items]
+        if self.chain:
+            writes += [taken_out.write for _, _, taken_out in self.outside() if taken_out]
+        return all(write.execution is None or write.execution.has_committed for write in writes)
 
     def at_entry(self, entry, execution):
         """What an entry tells as it stands. Nothing here."""
@@ -278,7 +281,7 @@ class ObserverFindings(Findings):
             self.right_at_call = self._right()
 
     def is_done(self):
-        return self.later is not None
+        return self.later is not None and super().is_done()
 
     def at_entry(self, entry, execution):
         """The changes are those after the last commit before the call that names the key."""

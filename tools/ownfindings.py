@@ -25,10 +25,14 @@ class Run:
         for entry in sound_entries(self.log):
             walk.take(entry)
             self._drain(walk)
-            if entry.line >= self.past and walk.is_settled(self.past):
+            if entry.line >= self.past and walk.is_settled(self.past) and self.is_done():
                 return
         walk.end()
         self._drain(walk)
+
+    def is_done(self):
+        """Whether nothing behind the line is looked for."""
+        return True
 
     def _drain(self, walk):
         while effect := walk.next_effect():
@@ -145,6 +149,11 @@ class Shown(Run):
         self.given[part] = now
         if not now:
             del self.given[part]
+
+    def is_done(self):
+        """The calls that writes belong to have committed, or have returned."""
+        calls = [found.write.execution for last in (self.changes, self.own) for found in last.items]
+        return all(call is None or call.has_committed for call in calls)
 
     @property
     def before(self):

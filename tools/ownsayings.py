@@ -8,7 +8,7 @@ from findings import Last
 from logtext import shown
 from ownfindings import Changing, Run, Shown, Window, before_of, notes_near
 from reasons import candidates, cells, failing, said, values, worth
-from sayings import some_of, taking_effect
+from sayings import of_later_call, some_of, taking_effect
 from specification import CASES, CHANGES, CONSTANTS, LINES, LISTS, LONGEST, METHODS, NAMES, PARAMETERS, REGISTERS, SHOWS
 from steps import View, names_in, step_of, why_no_start
 from words import Words
@@ -293,7 +293,8 @@ def say_changes(log, run):
     for write, at, before, amount, now in some_of(run.changes):
         word, value = write.numbers
         change = f"{name_of_word(log, word)} {before} -> {value}{taking_effect(write, at)}"
-        print(f"  line {write.line}: caller {write.caller}, {change}; shown {amount} -> {now}")
+        later = of_later_call(write, log.marked_line)
+        print(f"  line {write.line}: caller {write.caller}, {change}; shown {amount} -> {now}{later}")
     if not run.changes.count:
         print("  So a write is missing or changed nothing, or the commit stands at the wrong place.")
 
@@ -306,4 +307,5 @@ def say_own_writes(log, run):
     print("\nWrites from its call on to the parts that it wrote itself")
     for write, at, before, written in some_of(run.own):
         word, effect = write.numbers[0], taking_effect(write, at) if at.kind == "commit" else ""
-        print(f"  line {write.line}: caller {write.caller}, {name_of_word(log, word)} {before} -> {written}{effect}")
+        said = f"{name_of_word(log, word)} {before} -> {written}{effect}{of_later_call(write, log.marked_line)}"
+        print(f"  line {write.line}: caller {write.caller}, {said}")

@@ -10,6 +10,16 @@ def taking_effect(write, at):
     return f", in effect on line {at.line}" if at.line != write.line else ""
 
 
+def of_later_call(write, line):
+    """The call that a write belongs to, where it hasn't committed up to a line. A write outside calls has none."""
+    execution = write.execution
+    if execution is None or (execution.commit_line and execution.commit_line <= line):
+        return ""
+    if execution.commit_line:
+        return f", in `{execution}`, which commits on line {execution.commit_line}"
+    return f", in `{execution}`, which " + ("has no commit" if execution.return_line else "never commits")
+
+
 def say_call(execution):
     """The call that the named line belongs to."""
     said = f"caller {execution.caller}: `{execution}`, called on line {execution.line}"

@@ -16,6 +16,11 @@ class Execution:
     def __str__(self):
         return " ".join([self.method, *map(str, self.arguments)])
 
+    @property
+    def has_committed(self):
+        """Whether it has committed, or never will, since it has returned."""
+        return self.commit_line is not None or self.return_line is not None
+
 
 class Effect:
     """The writes that take effect at an entry. They aren't known (None) while a block is open that has its commit there."""

@@ -131,6 +131,24 @@ Writes from its call"""
         by = "line 17 took it out (caller 0: `delete 10`, node 0 right 1 -> 2, in effect on line 18)"
         self.assertIn(f"  node 1, which line 23 writes, isn't in the chain from node 0: {by}\n", said)
 
+    def test_a_write_of_a_call_that_commits_later(self):
+        lines = ["1 call delete 10", "1 write 13 0", "0 call insert 30 0", "0 commit", "0 return 2"]
+        change = "line 15: caller 1, node 1 count 1 -> 0; shown once, with the value 0 -> not at all"
+        for rest, which in (
+            (["1 commit", "1 return 1"], "commits on line 19"),
+            (["1 return 0"], "has no commit"),
+            ([], "never commits"),
+        ):
+            said = self.said_of(self.BEGIN + lines + rest, "violation at line 17: view differs at key 10")
+            self.assertIn(f"  {change}, in `delete 10`, which {which}\n", said)
+
+    def test_a_node_is_taken_out_by_a_call_that_commits_later(self):
+        taken = ["1 call insert 30 0", "0 call delete 10", "0 write 3 2"]
+        lines = self.BEGIN + taken + self.INSERT + ["0 commit", "0 return 1"]
+        said = self.said_of(lines, "violation at line 21: view differs at key 30")
+        by = "line 16 took it out (caller 0, in `delete 10`, which commits on line 23, node 0 right 1 -> 2)"
+        self.assertIn(f"  node 1, which line 20 writes, isn't in the chain from node 0: {by}\n", said)
+
     def test_a_node_that_the_call_takes_out_itself_is_not_said(self):
         lines = ["1 call delete 20", "1 write 25 0", "1 write 15 0", "1 commit", "1 return 1"]
         said = self.said_of(self.BEGIN + lines, "violation at line 17: view differs at key 20")
