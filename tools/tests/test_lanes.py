@@ -5,7 +5,7 @@ import time
 import unittest
 from xml.dom import minidom
 
-from support import FAULT, FAULT_ANSWER, LOOK, TOOLS, ScriptTest
+from support import FAULT, FAULT_ANSWER, LOOK, QUEUE, TOOLS, ScriptTest
 
 RUN = """vyrd 1 multiset 1 2
 0 call insert 5
@@ -72,6 +72,33 @@ class Drawing(ScriptTest):
     def test_around_draws_no_line_where_none_is_named(self):
         accepted = "accepted: 0 entries, 0 commits, 0 observers\n"
         self.assert_drawn("vyrd 1 multiset 1 1\nend\n" + accepted, accepted, "--around", "3")
+
+    def test_words_by_their_names(self):
+        for subject, write, name in (
+            ("multiset", "write 5 7", "slot 2 value 7"),
+            ("cache", "write 5 7", "chunk 1 state 7"),
+            ("tree", "write 15 7", "node 1 right 7"),
+            ("buffers", "write 8 7", "buffer 1 count 7"),
+        ):
+            log = f"vyrd 1 {subject} 2 1\n0 call x 1\n0 {write}\n0 commit\n"
+            drawn = f"       caller 0\n    1  vyrd 1 {subject} 2 1\n    2  call x 1\n    3  {{}}\n    4  commit\n"
+            self.assert_drawn(log, drawn.format(name), "--names")
+            self.assert_drawn(log, drawn.format(write))
+        own = QUEUE.replace("log\n", "log\n0 call enqueue 5\n0 write 3 5\n")
+        said = self.run_script("lanes", "--names", given=own)
+        self.assertIn("\n   18  word 3 (w1 of part 1) 5\n", said.out)
+
+    def test_names_widen_the_columns_and_are_not_there_without_a_sound_header(self):
+        log = "vyrd 1 buffers 2 2\n0 call append 0 65\n1 call length 0\n0 write 1 65\n"
+        drawn = "       caller 0                caller 1\n    1  vyrd 1 buffers 2 2\n    2  call append 0 65\n"
+        drawn += "    3  |                       call length 0\n    4  buffer 0 character 0 65 |\n"
+        self.assert_drawn(log, drawn, "--names")
+        self.assert_drawn("x\n0 write 1 65\n", "       caller 0\n    1  x\n    2  write 1 65\n", "--names")
+
+    def test_a_key_and_the_lines_around_together(self):
+        log = RUN.replace("lookup 5", "lookup 6") + RUN_ANSWER
+        drawn = f"       caller 0\n    4  commit          <-- {RUN_ANSWER}"
+        self.assert_drawn(log, drawn, "--key", "5", "--around", "1")
 
     def test_a_picture_is_sound(self):
         said = self.run_script("lanes", "--svg", given=RUN + RUN_ANSWER)
