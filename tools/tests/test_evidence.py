@@ -68,8 +68,9 @@ class TakenOut(unittest.TestCase):
         self.assertEqual(evidence(parts, Less(less.units, {})).taken_out, ())
 
     def test_a_node_that_the_call_itself_takes_out_does_not_count(self):
-        lines = LINES[: LINES.index("1 call insert 30")] + "1 call delete 20\n1 write 25 0\n1 write 15 0\n1 commit\n1 return 1\nend\n"
-        parts = self.parts(lines, "violation at line 17: view differs at key 20")
+        begin = LINES[: LINES.index("1 call insert 30")]
+        call = "1 call delete 20\n1 write 25 0\n1 write 15 0\n1 commit\n1 return 1\nend\n"
+        parts = self.parts(begin + call, "violation at line 17: view differs at key 20")
         self.assertEqual(evidence(parts, parts.whole()).taken_out, ())
 
 

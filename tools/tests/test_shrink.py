@@ -229,7 +229,8 @@ class Faults(ShrinkTest):
         self.assert_shrunk(log, log_of(call, 1))
 
     def test_a_log_goes_back_to_version_1_only_where_the_fault_stays(self):
-        self.checker("grep -q 'vyrd 2' && echo 'violation at line 3: view differs at key 5' && exit 1\necho 'malformed at line 1: x'\nexit 2")
+        of_version_2 = f"grep -q 'vyrd 2' && echo '{FAULT_ANSWER.strip()}' && exit 1"
+        self.checker(f"{of_version_2}\necho 'malformed at line 1: bad header'\nexit 2")
         text = FAULT.replace("vyrd 1", "vyrd 2") + "end\n"
         self.assertEqual(self.run_script("shrink", given=text).out, text)
 
