@@ -6,7 +6,7 @@ import shutil
 import subprocess
 from pathlib import Path
 
-from command import Ended, kept, temporary
+from command import Ended, kept, temporary, unread
 from logtext import Log
 
 NO_VERDICT = 70  # the checker ended as if there were a verdict, and gave none
@@ -74,10 +74,14 @@ def answered(names):
 def apart(name):
     """The log in a file, or on standard input, and the answer that stands after it, or None. The file itself stays as it is."""
     file = kept(name)
-    end = end_of(file)
-    start = max(0, end - LONGEST_ANSWER)
-    file.seek(start)
-    answer = ANSWER.search(file.read(end - start).decode("latin-1"))
+    try:
+        file.read(1)  # a file that can't be read may have no end either
+        end = end_of(file)
+        start = max(0, end - LONGEST_ANSWER)
+        file.seek(start)
+        answer = ANSWER.search(file.read(end - start).decode("latin-1"))
+    except OSError as error:
+        raise unread(name, error) from None
     if not answer:
         return file, None
     if name != "-":
