@@ -92,7 +92,7 @@ class Explain(unittest.TestCase):
                     explain.explain_violation(log)
                 elif log.answer.startswith("malformed"):
                     explain.explain_malformed(log)
-                lanes.draw_text(log, lanes.Drawing(log, None))
+                lanes.draw_text(log, lanes.Drawing(log, None, None, lanes.Texts(log, True)))
                 self.assertIn(log.answer, said.getvalue(), text)
 
 
