@@ -15,6 +15,7 @@ class Run:
         self.log, self.said, self.past = log, log.specification, log.marked_line
         self.execution, self.last_commit = marked.execution, marked.last_commit
         self.method = self.said.by_name[self.execution.method]
+        self.read, self.changing = [], Last()  # what of the state its expressions read, and the commits that changed that
         self.view = View(self.said, log.starting())
         self.state = State(self.said, self.view.amounts())
         self.walk()

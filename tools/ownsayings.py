@@ -75,6 +75,9 @@ def findings_of(log, marked):
         is_about = not run.step(marked.execution)
     if not is_about:
         raise other_log()
+    if not view:
+        run.read = cells_read(run, names_of(run, with_reply=True))
+        run.changing = Changing(log, marked, run.read).changing if run.read else Last()
     return run
 
 
@@ -94,20 +97,25 @@ def explain_own(log, marked, run):
     if isinstance(run, Shown):
         explain_view(log, run)
     elif isinstance(run, Window):
-        explain_observer(log, marked, run)
+        explain_observer(marked, run)
     else:
-        explain_reply(log, marked, run)
+        explain_reply(log, run)
 
 
-def explain_reply(log, marked, run):
+def explain_reply(log, run):
     """The state before the commit, why each case doesn't allow the reply there, and what changed what they read."""
     names = names_of(run, with_reply=True)
-    read = cells_read(run, names)
-    say_state(run, read, f"The state before line {log.marked_line}")
+    say_state(run, run.read, f"The state before line {log.marked_line}")
     say_method(run, names)
-    right = [worth(reply) for reply in candidates(run.method.cases, run.state, names) if is_allowed(run, reply)]
+    right = replies_allowed(run)
     print(f"  Allowed would be {' or '.join(right)}." if right else "  No number that stands in the cases would be allowed.")
-    say_changing(log, marked, read)
+    say_changing(run)
+
+
+def replies_allowed(run):
+    """The replies that the cases allow, of the numbers that stand in them."""
+    tried = candidates(run.method.cases, run.state, names_of(run, with_reply=True))
+    return [worth(reply) for reply in tried if is_allowed(run, reply)]
 
 
 def is_allowed(run, reply):
@@ -200,13 +208,12 @@ def say_lets(run, names):
         print(f"  line {let.line}: let {let.name} {said(let.value, run.state, names)}")
 
 
-def say_changing(log, marked, read):
+def say_changing(run):
     """The commits that changed what was read."""
-    if not read:
+    if not run.read:
         return
-    changing = Changing(log, marked, read).changing
-    print("\nCommits before it that changed what is read there" + ("" if changing.count else ": none"))
-    for execution, effects in some_of(changing):
+    print("\nCommits before it that changed what is read there" + ("" if run.changing.count else ": none"))
+    for execution, effects in some_of(run.changing):
         done = "; ".join(said_effect(effect, before) for effect, before in effects)
         print(f"  line {execution.commit_line}: caller {execution.caller}, `{execution}` with reply {execution.reply}: {done}")
 
@@ -222,7 +229,7 @@ def said_effect(effect, before):
     return f"{name} {worth(before)} -> {worth(effect.value)}"
 
 
-def explain_observer(log, marked, run):
+def explain_observer(marked, run):
     """The answers of an execution without a commit in the states from its call to its return."""
     execution, names = marked.execution, names_of(run, with_reply=False)
     print("\nIt has no commit, so its reply has to be its answer in a state from its call to its return")
@@ -232,15 +239,14 @@ def explain_observer(log, marked, run):
     if run.right_until:
         since = f"after line {run.right_since}" if run.right_since else "from the start"
         print(f"  Before its call the answer was {execution.reply} last {since}, up to line {run.right_until}.")
-    read = cells_read(run, names)
-    say_state(run, read, "The state at its return")
+    say_state(run, run.read, "The state at its return")
     print(f"\n`{run.method.name}` in that state")
     say_lets(run, names)
     say_answer(run, names)
     step = run.step(execution)
     if step:
         print(f"  line {step.case.line}: this case would allow {execution.reply} there, if it had committed")
-    say_changing(log, marked, read)
+    say_changing(run)
 
 
 def explain_view(log, run):
