@@ -14,11 +14,14 @@ class Chain:
         self.nodes, self.taken_out = set(nodes), {}
 
     def changed(self, word, before, by):
-        """A word was written that was `before` until then. What did it, `by`, is kept where it took a node out."""
+        """A word was written that was `before` until then. What did it, `by`, is kept where it took a node out.
+
+        Gives the nodes that came in and those that went.
+        """
         node, offset = divmod(word, PART_WORDS["tree"])
         after = self.words[word]
         if offset != RIGHT or after == before or node not in self.nodes:
-            return
+            return set(), set()
         added, meets = self._from(after, self.nodes)
         gone, ends = self._from(before, {meets})
         if self.is_broken or ends != meets or meets in added or meets >= self.words.size:
@@ -30,6 +33,7 @@ class Chain:
         for other in added:
             self.taken_out.pop(other, None)
         self.taken_out.update(dict.fromkeys(gone, by))
+        return added, gone
 
     def _from(self, node, known):
         """The nodes from one on along the right words, up to one that is known or has come before, and where that is.

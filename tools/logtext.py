@@ -73,8 +73,9 @@ class Log:
         header = HEADER.fullmatch(first)
         is_sound = header and int(header[3]) <= 1024 and int(header[4]) <= 64
         self.version, self.subject, self.size = (header[1], header[2], int(header[3])) if is_sound else (None, None, 0)
+        self.callers = int(header[4]) if is_sound else 0
         if sizes := specification.sizes_in(first):
-            self.version, self.size, self.longest = "3", sizes[0], specification.LONGEST
+            self.version, (self.size, self.callers), self.longest = "3", sizes, specification.LONGEST
             self._read_specification()
 
     def _read_specification(self):

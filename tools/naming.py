@@ -41,30 +41,29 @@ def lines_naming(log, keys):
 def is_start_with(log, line, text, key):
     """Whether a line is a starting line that writes the key."""
     start = START.fullmatch(text) if line > log.front else None
-    return bool(start) and is_write_of(log, int(start[1]), int(start[2]), key)
+    return bool(start) and part_of(log, key) in written(log, int(start[1]), int(start[2]))
 
 
 def is_naming(log, entry, key):
-    """Whether an entry names a key. Without a sound header it isn't known what one is."""
-    if not log.subject:
-        return False
-    if entry.kind == "call":
-        called_with = entry.numbers if log.specification else keys_of(Execution(entry))
-        return part_of(log, key) in called_with
-    if entry.kind == "return":
-        return bool(log.specification) and key in entry.numbers
-    return entry.kind == "write" and is_write_of(log, *entry.numbers, key)
+    """Whether an entry names a key."""
+    return part_of(log, key) in named_by(log, entry)
 
 
-def is_write_of(log, word, value, key):
-    """Whether a write of a value to a word writes a key."""
+def named_by(log, entry):
+    """The keys that an entry names. Without a sound header it isn't known what one is."""
+    if entry.kind == "call" and log.subject:
+        return entry.numbers if log.specification else keys_of(Execution(entry))
+    if entry.kind == "return" and log.specification:
+        return entry.numbers
+    return written(log, *entry.numbers) if entry.kind == "write" else ()
+
+
+def written(log, word, value):
+    """The key that a write of a value to a word writes."""
     if log.subject in ("cache", "buffers"):
-        return word // PART_WORDS[log.subject] == part_of(log, key)
-    if log.subject == "multiset":
-        return word % 2 == 1 and value == key
-    if log.subject == "tree":
-        return word % PART_WORDS["tree"] in range(4, 8) and value == key
-    return bool(log.specification) and value == key
+        return (word // PART_WORDS[log.subject],)
+    is_key = {"multiset": word % 2 == 1, "tree": word % PART_WORDS["tree"] in range(4, 8)}
+    return (value,) if log.specification or is_key.get(log.subject) else ()
 
 
 def part_of(log, key):

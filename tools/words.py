@@ -82,15 +82,22 @@ class Words:
 
     def leaf_amount(self, node, key):
         """What one node of a tree shows at a key, where it is one of the chain."""
-        amount = 0
+        return sum(amount for shown, amount in self._entries(node) if shown == key)
+
+    def _entries(self, node):
+        """What the entries of a tree's node show, as pairs of a key and an amount."""
         for place in range(min(self[12 * node + 1], 4)):
             entry, value = self[12 * node + 4 + place], self[12 * node + 8 + place]
             is_sound = entry < SHOWN and value < SHOWN
-            if is_sound and entry == key:
-                amount += SHOWN + value
-            elif not is_sound and key == DAMAGE:
-                amount += 1
-        return amount
+            yield (entry, SHOWN + value) if is_sound else (DAMAGE, 1)
+
+    def given_by(self, part):
+        """What a slot, a chunk or a buffer shows, or a node of the chain, as pairs of a key and an amount."""
+        if self.subject == "multiset":
+            return [(self[2 * part + 1], 1)] if self[2 * part] == 2 else []
+        if self.subject == "tree":
+            return list(self._entries(part))
+        return [(key, self.amount(key)) for key in (part, self.size + part)]
 
     def chain(self):
         """The nodes of a tree from node 0 along the right words, and whether the last one's leads out of them or back."""
