@@ -53,9 +53,9 @@ def named_by(log, entry):
     """The keys that an entry names. Without a sound header it isn't known what one is."""
     if entry.kind == "call" and log.subject:
         return entry.numbers if log.specification else keys_of(Execution(entry))
-    if entry.kind == "return" and log.specification:
-        return entry.numbers
-    return written(log, *entry.numbers) if entry.kind == "write" else ()
+    if entry.kind == "write":
+        return written(log, *entry.numbers)
+    return entry.numbers if entry.kind == "return" and log.specification else ()
 
 
 def written(log, word, value):
