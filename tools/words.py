@@ -7,6 +7,7 @@ SHOWN = 1 << 32  # what an entry of a tree adds to its value
 ROOM = 7  # the most characters of a string buffer
 PART_WORDS = {"multiset": 2, "cache": 5, "tree": 12, "buffers": 8}  # of a slot, a chunk, a node, a buffer
 NO_CHARACTER = 255  # the least number that is no character
+WRITING = ("append", "append_from", "cut")  # the methods of buffers that change a text; with another log's answer others may commit
 
 
 class Words:
@@ -197,7 +198,8 @@ def after(subject, execution, key, state):
     if subject == "cache":
         return (arguments[2] << 32) + arguments[1] if method == "write" else amount
     if subject == "buffers":
-        return text_after(method, arguments, state) if key == arguments[0] else amount
+        is_written = key == arguments[0] and method in WRITING
+        return text_after(method, arguments, state) if is_written else amount
     return {"insert": SHOWN + arguments[-1], "delete": 0}.get(method, amount)
 
 

@@ -284,6 +284,13 @@ class Followed(unittest.TestCase):
         self.assert_changes(page, "has", [])
         self.assertEqual(page.data["summary"]["texts"], ["1", "0"])
 
+    def test_an_observer_that_commits_changes_nothing(self):
+        """No log with a verdict before it has one, but an answer may be another log's."""
+        accepted = "accepted: 3 entries, 1 commits, 0 observers"
+        for subject, method in (("buffers", "length"), ("buffers", "read"), ("multiset", "lookup"), ("tree", "lookup"), ("cache", "read")):
+            log = f"vyrd 1 {subject} 1 1\n0 call {method} 0\n0 commit\n0 return 1\nend\n"
+            self.assert_changes(page_of(log.encode(), accepted), "has", [])
+
     def test_calls_that_only_look(self):
         log = b"vyrd 1 multiset 1 1\n0 call lookup 5\n0 return 0\n0 call insert 5\nend\n"
         self.assertEqual([*page_of(log, None)["looks"]], [1, 0])
