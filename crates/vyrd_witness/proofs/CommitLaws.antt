@@ -1,0 +1,35 @@
+-- The last commit before a position, one entry further.
+use Rattle.std.proofs.Common.{◌≡◌, ℕ, ◌+◌, ◌<◌, ◌≤◌, true, false, cond, List, length, take, Option}
+use Rattle.std.proofs.Common.{Some, None, slice_get, ap, ◌∙◌, sym, arith}
+use Rattle.std.specs.Prelude.{IfSome}
+use Rattle.std.proofs.lemmas.List.{length-take-le}
+use Rattle.std.proofs.lemmas.Option.{slice_get_within}
+use Rattle.vyrd_base.specs.declared.log.Entry.{Entry}
+use Rattle.vyrd_base.specs.Commits.{is_commit}
+use Rattle.vyrd_base.specs.Places.{newest_first}
+use Rattle.vyrd_base.proofs.PlaceLaws.{length-newest_first}
+use Rattle.vyrd_witness.specs.ViewWitnesses.{last_commit, up_to, commit_before}
+use Rattle.vyrd_witness.proofs.PhaseLaws.{newest_at}
+
+pub commit_here : (log : List Entry) (i : ℕ) (e : Entry) → slice_get log i ≡ Some e
+    → is_commit e.kind ≡ true → Some i ≡ commit_before log (i + 1)
+commit_here log i e here commits =
+    let within = slice_get_within log i e here in
+    let long : length (newest_first (take i log)) ≡ i =
+    length-newest_first (take i log) ∙ length-take-le i log (omega (arith, within)) in
+    sym (ap last_commit (newest_at log i e here)
+    ∙ ap (λ b. cond b (Some (length (newest_first (take i log)))) (commit_before log i)) commits
+    ∙ ap Some long)
+
+pub no_commit_here : (log : List Entry) (i : ℕ) (e : Entry) → slice_get log i ≡ Some e
+    → is_commit e.kind ≡ false → commit_before log i ≡ commit_before log (i + 1)
+no_commit_here log i e here quiet = sym (ap last_commit (newest_at log i e here)
+    ∙ ap (λ b. cond b (Some (length (newest_first (take i log)))) (commit_before log i)) quiet)
+
+pub still_before : (i : ℕ) (o : Option ℕ) → IfSome o (λ p. p < i) → IfSome o (λ p. p < i + 1)
+still_before i None low = tt
+still_before i (Some p) low = omega (arith, low)
+
+pub up_to_low : (at : ℕ) (o : Option ℕ) → IfSome o (λ p. p < at) → up_to o ≤ at
+up_to_low at None low = omega arith
+up_to_low at (Some p) low = omega (arith, low)

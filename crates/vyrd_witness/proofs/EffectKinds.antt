@@ -1,0 +1,107 @@
+-- The effects at an entry, by its kind and by the phase of its caller.
+use Rattle.std.proofs.Common.{◌≡◌, ℕ, ◌+◌, true, false, cond, List, [], ◌∷◌, ◌++◌, map, take}
+use Rattle.std.proofs.Common.{Some, slice_get, ap, ◌∙◌, sym, ◌⊎◌, inl, inr}
+use Rattle.std.specs.Option.{option_map_or}
+use Rattle.vyrd_base.specs.declared.log.Kind.{Kind}
+use Rattle.vyrd_base.specs.declared.log.Kind.TheVariants.{Write, Commit}
+use Rattle.vyrd_base.specs.declared.log.Kind.TheVariants.{BlockClose, BlockCommit}
+use Rattle.vyrd_base.specs.declared.log.Entry.{Entry}
+use Rattle.vyrd_base.specs.Places.{newest_first}
+use Rattle.vyrd_base.specs.Callers.{has_block, has_inner_commit}
+use Rattle.vyrd_base.specs.Words.{block_writes, writes_ahead, effects_at}
+use Rattle.vyrd_witness.specs.declared.effect.Effect.{Effect}
+use Rattle.vyrd_witness.specs.declared.phase.Phase.{Phase}
+use Rattle.vyrd_witness.specs.Numbered.{numbered_kind}
+use Rattle.vyrd_witness.specs.Effects.{value_of, value_at, effect_of, effects_by}
+use Rattle.vyrd_witness.specs.Phases.{phase_of}
+use Rattle.vyrd_witness.proofs.Valued.{block_same, inner_commit_same}
+use Rattle.vyrd_witness.proofs.NumberedLaws.{behind, ahead, behind_back, value_here}
+
+-- The phase of the entry's caller is that in the numbered log too.
+pub record IsPhase (log : List Entry) (at : ℕ) (e : Entry) (phase : Phase) : Type 0 where
+  pub block : has_block e.caller (behind log at) ≡ phase.in_block
+  pub commit : has_inner_commit e.caller (behind log at) ≡ phase.has_commit
+
+pub is_phase : (log : List Entry) (at : ℕ) (e : Entry) (phase : Phase)
+    → phase ≡ phase_of e.caller (newest_first (take at log)) → IsPhase log at e phase
+is_phase log at e phase is = record {
+  block = sym (block_same (value_at log) e.caller (behind log at))
+      ∙ ap (has_block e.caller) (behind_back log at) ∙ ap (λ p. p.in_block) (sym is);
+  commit = sym (inner_commit_same (value_at log) e.caller (behind log at))
+      ∙ ap (has_inner_commit e.caller) (behind_back log at) ∙ ap (λ p. p.has_commit) (sym is);
+}
+
+-- the effects, as those of an entry of this kind
+abbrev as_kind : List Entry → ℕ → ℕ → Kind → List Effect
+as_kind log at c kind = map (effect_of log at c)
+    (newest_first (effects_at (behind log at) c (numbered_kind at kind) (ahead log (at + 1))))
+
+pub write_inside : (log : List Entry) (at word value : ℕ) (e : Entry) (phase : Phase)
+    → IsPhase log at e phase → e.kind ≡ Write word value → phase.in_block ≡ true
+    → [] ≡ effects_by log at e
+write_inside log at word value e phase are is inside =
+    sym (ap (as_kind log at e.caller) is
+    ∙ ap (λ b. map (effect_of log at e.caller) (newest_first (cond b [] ((word, at) ∷ []))))
+    (are.block ∙ inside))
+
+pub write_outside : (log : List Entry) (at word value : ℕ) (e : Entry) (phase : Phase)
+    → slice_get log at ≡ Some e → IsPhase log at e phase → e.kind ≡ Write word value
+    → phase.in_block ≡ false
+    → record { written = at; at = at; caller = e.caller; word = word; value = value } ∷ []
+    ≡ effects_by log at e
+write_outside log at word value e phase here are is outside =
+    sym (ap (as_kind log at e.caller) is
+    ∙ ap (λ b. map (effect_of log at e.caller) (newest_first (cond b [] ((word, at) ∷ []))))
+    (are.block ∙ outside)
+    ∙ ap (λ v. record { written = at; at = at; caller = e.caller; word = word; value = v } ∷ [])
+    (value_here log at e here ∙ ap value_of is))
+
+pub commit_inside : (log : List Entry) (at : ℕ) (e : Entry) (phase : Phase) (es : List Effect)
+    → IsPhase log at e phase → e.kind ≡ Commit → phase.in_block ≡ true
+    → es ≡ map (effect_of log at e.caller) (newest_first (option_map_or
+    (λ more. more ++ block_writes e.caller (behind log at))
+    (writes_ahead e.caller (ahead log (at + 1))) []))
+    → es ≡ effects_by log at e
+commit_inside log at e phase es are is inside found =
+    found ∙ sym (ap (as_kind log at e.caller) is
+    ∙ ap (λ b. map (effect_of log at e.caller) (newest_first (cond b (option_map_or
+    (λ more. more ++ block_writes e.caller (behind log at))
+    (writes_ahead e.caller (ahead log (at + 1))) []) []))) (are.block ∙ inside))
+
+pub commit_outside : (log : List Entry) (at : ℕ) (e : Entry) (phase : Phase)
+    → IsPhase log at e phase → e.kind ≡ Commit → phase.in_block ≡ false
+    → [] ≡ effects_by log at e
+commit_outside log at e phase are is outside =
+    sym (ap (as_kind log at e.caller) is
+    ∙ ap (λ b. map (effect_of log at e.caller) (newest_first (cond b (option_map_or
+    (λ more. more ++ block_writes e.caller (behind log at))
+    (writes_ahead e.caller (ahead log (at + 1))) []) []))) (are.block ∙ outside))
+
+-- the two ends of a block
+as_end : (log : List Entry) (at : ℕ) (e : Entry) (phase : Phase) → IsPhase log at e phase
+    → (e.kind ≡ BlockClose) ⊎ (e.kind ≡ BlockCommit)
+    → effects_by log at e ≡ map (effect_of log at e.caller)
+    (newest_first (cond phase.has_commit [] (block_writes e.caller (behind log at))))
+as_end log at e phase are (inl is) = ap (as_kind log at e.caller) is
+    ∙ ap (λ b. map (effect_of log at e.caller)
+    (newest_first (cond b [] (block_writes e.caller (behind log at))))) are.commit
+as_end log at e phase are (inr is) = ap (as_kind log at e.caller) is
+    ∙ ap (λ b. map (effect_of log at e.caller)
+    (newest_first (cond b [] (block_writes e.caller (behind log at))))) are.commit
+
+pub end_committed : (log : List Entry) (at : ℕ) (e : Entry) (phase : Phase)
+    → IsPhase log at e phase → (e.kind ≡ BlockClose) ⊎ (e.kind ≡ BlockCommit)
+    → phase.has_commit ≡ true → [] ≡ effects_by log at e
+end_committed log at e phase are ends committed = sym (as_end log at e phase are ends
+    ∙ ap (λ b. map (effect_of log at e.caller)
+    (newest_first (cond b [] (block_writes e.caller (behind log at))))) committed)
+
+pub end_alone : (log : List Entry) (at : ℕ) (e : Entry) (phase : Phase) (es : List Effect)
+    → IsPhase log at e phase → (e.kind ≡ BlockClose) ⊎ (e.kind ≡ BlockCommit)
+    → phase.has_commit ≡ false
+    → es ≡ map (effect_of log at e.caller)
+    (newest_first (block_writes e.caller (behind log at)))
+    → es ≡ effects_by log at e
+end_alone log at e phase es are ends alone found = found ∙ sym (as_end log at e phase are ends
+    ∙ ap (λ b. map (effect_of log at e.caller)
+    (newest_first (cond b [] (block_writes e.caller (behind log at))))) alone)

@@ -1,0 +1,178 @@
+-- The effects of a log with their positions, and the words that they lead to.
+use Rattle.std.proofs.Common.{◌≡◌, ℕ, zero, suc, ◌+◌, ◌-◌, ◌<◌, ◌≤◌, List, [], ◌∷◌, ◌++◌, map}
+use Rattle.std.proofs.Common.{length, take, drop, get_or, Some, slice_get, refl, ap, ◌∙◌, sym}
+use Rattle.std.proofs.Common.{arith, append_assoc}
+use Rattle.std.specs.Option.{option_map_or}
+use Rattle.std.specs.List.{flat_map}
+use Rattle.std.proofs.lemmas.List.{map-append, drop_more, flat_map_more}
+use Rattle.std.proofs.lemmas.Option.{slice_get_within, get_or_from_slice_get}
+use Rattle.std.proofs.lemmas.Option.{slice_get-get_or}
+use Rattle.vyrd_base.specs.declared.header.Header.{Header}
+use Rattle.vyrd_base.specs.declared.log.Kind.TheVariants.{Commit}
+use Rattle.vyrd_base.specs.declared.log.Entry.{Entry}
+use Rattle.vyrd_base.specs.declared.log.StartWord.{StartWord}
+use Rattle.vyrd_base.specs.Places.{newest_first, numbers_from}
+use Rattle.vyrd_base.specs.Rules.{Rules}
+use Rattle.vyrd_base.specs.Words.{effects_at, effects, words_with}
+use Rattle.vyrd_base.proofs.PlaceLaws.{numbers_from-push}
+use Rattle.vyrd_base.proofs.EffectWords.{one_write}
+use Rattle.vyrd_witness.specs.declared.effect.Effect.{Effect}
+use Rattle.vyrd_witness.specs.declared.change.Change.{Change}
+use Rattle.vyrd_witness.specs.Numbered.{numbered_kind}
+use Rattle.vyrd_witness.specs.Effects.{value_at, effect_of, effects_by, effects_there}
+use Rattle.vyrd_witness.specs.Effects.{effects_along}
+use Rattle.vyrd_witness.specs.Changes.{words_through, changes_in}
+use Rattle.vyrd_witness.specs.Plain.{plain, plain_writes}
+use Rattle.vyrd_witness.specs.ViewWitnesses.{words_then}
+use Rattle.vyrd_witness.proofs.Valued.{valued_write, effects_same}
+use Rattle.vyrd_witness.proofs.ChangeLaws.{changes-append}
+use Rattle.vyrd_witness.proofs.NumberedLaws.{behind, ahead, map-newest_first, turned-append}
+use Rattle.vyrd_witness.proofs.NumberedLaws.{turned_twice, behind_back, ahead_back, kind_there}
+use Rattle.vyrd_witness.proofs.PhaseLaws.{newest_at}
+
+-- some entry, to stand where there is none
+abbrev pub no_entry : Entry
+no_entry = record { caller = 0; kind = Commit }
+
+-- without their positions they are those of the words
+plain_each : (log : List Entry) (at c : ℕ) (ws : List (ℕ × ℕ))
+    → map plain (map (effect_of log at c) ws) ≡ map (valued_write (value_at log)) ws
+plain_each log at c [] = refl
+plain_each log at c (w ∷ ws) =
+    ap (λ xs. (w.0, value_at log w.1) ∷ xs) (plain_each log at c ws)
+
+pub plain_effects : (log : List Entry) (at : ℕ) (e : Entry) → slice_get log at ≡ Some e
+    → plain_writes (effects_by log at e)
+    ≡ effects_at (newest_first (take at log)) e.caller e.kind (drop (at + 1) log)
+plain_effects log at e here =
+    ap newest_first (plain_each log at e.caller (newest_first found)
+    ∙ map-newest_first (valued_write (value_at log)) found)
+    ∙ turned_twice (map (valued_write (value_at log)) found)
+    ∙ sym (effects_same (value_at log) e.caller (numbered_kind at e.kind) (behind log at)
+    (ahead log (at + 1)))
+    ∙ (λ i. effects_at (behind_back log at i) e.caller (kind_there log at e here i)
+    (ahead_back log (at + 1) i))
+  where
+    found : List (ℕ × ℕ)
+    found = effects_at (behind log at) e.caller (numbered_kind at e.kind) (ahead log (at + 1))
+
+-- the words after effects
+plain-append : (xs ys : List Effect)
+    → plain_writes (xs ++ ys) ≡ plain_writes ys ++ plain_writes xs
+plain-append xs ys = ap newest_first (map-append plain xs ys)
+    ∙ turned-append (map plain xs) (map plain ys)
+
+pub words_through_are : (h : Header) (starting : List StartWord) (es : List Effect)
+    (writes : List (ℕ × ℕ))
+    → words_through (words_with h starting writes) es
+    ≡ words_with h starting (plain_writes es ++ writes)
+words_through_are h starting [] writes = refl
+words_through_are h starting (e ∷ es) writes =
+    ap (λ ws. words_through ws es) (one_write h starting writes e.word e.value)
+    ∙ words_through_are h starting es ((e.word, e.value) ∷ writes)
+    ∙ ap (words_with h starting)
+    (sym (ap (λ ws. ws ++ writes) (plain-append (e ∷ []) es)
+    ∙ append_assoc (plain_writes es) ((e.word, e.value) ∷ []) writes))
+
+pub through-append : (words : List ℕ) (xs ys : List Effect)
+    → words_through words (xs ++ ys) ≡ words_through (words_through words xs) ys
+through-append words [] ys = refl
+through-append words (x ∷ xs) ys = through-append _ xs ys
+
+-- one entry further
+here_on : (log : List Entry) (n : ℕ) (e : Entry) → slice_get log n ≡ Some e
+    → drop n log ≡ e ∷ drop (n + 1) log
+here_on log n e here = drop_more log n e (slice_get_within log n e here)
+    ∙ ap (λ x. x ∷ drop (n + 1) log) (get_or_from_slice_get log n e e here)
+
+pub words_next : (h : Header) (starting : List StartWord) (log : List Entry) (at : ℕ) (e : Entry)
+    → slice_get log at ≡ Some e
+    → words_through (words_then h starting log at) (effects_by log at e)
+    ≡ words_then h starting log (at + 1)
+words_next h starting log at e here =
+    words_through_are h starting (effects_by log at e) (effects earlier (drop at log))
+    ∙ ap (λ ws. words_with h starting (ws ++ effects earlier (drop at log)))
+    (plain_effects log at e here)
+    ∙ ap (λ later. words_with h starting
+    (effects_at earlier e.caller e.kind (drop (at + 1) log) ++ effects earlier later))
+    (here_on log at e here)
+    ∙ sym (ap (λ es. words_with h starting (effects es (drop (at + 1) log)))
+    (newest_at log at e here))
+  where
+    earlier : List Entry
+    earlier = newest_first (take at log)
+
+pub along_next : (log : List Entry) (from at : ℕ) → from ≤ at
+    → effects_along log from at ++ effects_there log at ≡ effects_along log from (at + 1)
+along_next log from at order =
+    let more : at - from + 1 ≡ at + 1 - from = omega (arith, order) in
+    let place : from + (at - from) ≡ at = omega (arith, order) in
+    ap (λ k. effects_along log from at ++ effects_there log k) (sym place)
+    ∙ flat_map_more (effects_there log) [] (numbers_from from (at - from)) (from + (at - from))
+    ∙ ap (λ ks. flat_map (effects_there log) ks) (sym (numbers_from-push from (at - from)))
+    ∙ ap (λ n. flat_map (effects_there log) (numbers_from from n)) more
+
+-- the words further on are those here after the effects between
+pub entry_there : (log : List Entry) (at : ℕ) → at < length log
+    → (e : Entry) × (slice_get log at ≡ Some e)
+entry_there log at low =
+    (get_or log at no_entry, slice_get-get_or log at no_entry low)
+
+pub words_along : (h : Header) (starting : List StartWord) (log : List Entry) (from n : ℕ)
+    → from + n ≤ length log
+    → words_through (words_then h starting log from) (effects_along log from (from + n))
+    ≡ words_then h starting log (from + n)
+words_along h starting log from zero within =
+    let none : from + 0 - from ≡ 0 = omega arith in
+    let here : from ≡ from + 0 = omega arith in
+    ap (λ k. words_through (words_then h starting log from)
+    (flat_map (effects_there log) (numbers_from from k))) none
+    ∙ ap (words_then h starting log) here
+words_along h starting log from (suc n) within =
+    let there = entry_there log (from + n) (omega (arith, within)) in
+    let one : from + n + 1 ≡ from + suc n = omega arith in
+    ap (λ k. words_through (words_then h starting log from) (effects_along log from k)) (sym one)
+    ∙ ap (words_through (words_then h starting log from))
+    (sym (along_next log from (from + n) (omega arith)))
+    ∙ through-append (words_then h starting log from) (effects_along log from (from + n))
+    (effects_there log (from + n))
+    ∙ ap (λ ws. words_through ws (effects_there log (from + n)))
+    (words_along h starting log from n (omega (arith, within)))
+    ∙ ap (λ o. words_through (words_then h starting log (from + n))
+    (option_map_or (effects_by log (from + n)) o [])) there.1
+    ∙ words_next h starting log (from + n) there.0 there.1
+    ∙ ap (words_then h starting log) one
+
+pub words_reached : (h : Header) (starting : List StartWord) (log : List Entry) (from to : ℕ)
+    (words after : List ℕ) → from ≤ to → to ≤ length log
+    → words ≡ words_then h starting log from
+    → after ≡ words_through words (effects_along log from to)
+    → after ≡ words_then h starting log to
+words_reached h starting log from to words after order within is through =
+    let place : from + (to - from) ≡ to = omega (arith, order) in
+    through ∙ ap (λ ws. words_through ws (effects_along log from to)) is
+    ∙ ap (λ k. words_through (words_then h starting log from) (effects_along log from k))
+    (sym place)
+    ∙ words_along h starting log from (to - from) (omega (arith, within, order))
+    ∙ ap (words_then h starting log) place
+
+-- one entry further along, with what it does to words
+pub pass_next : (log : List Entry) (from at : ℕ) (es : List Effect) (words mid after : List ℕ)
+    → from ≤ at → es ≡ effects_there log at
+    → mid ≡ words_through words (effects_along log from at) → after ≡ words_through mid es
+    → after ≡ words_through words (effects_along log from (at + 1))
+pass_next log from at es words mid after order is before next =
+    next ∙ (λ i. words_through (before i) (is i))
+    ∙ sym (through-append words (effects_along log from at) (effects_there log at))
+    ∙ ap (words_through words) (along_next log from at order)
+
+pub changes_next : (r : Rules) (key : ℕ) (log : List Entry) (from at : ℕ) (es : List Effect)
+    (words mid : List ℕ) (found more : List Change) → from ≤ at → es ≡ effects_there log at
+    → mid ≡ words_through words (effects_along log from at)
+    → found ≡ changes_in r key words (effects_along log from at)
+    → more ≡ found ++ changes_in r key mid es
+    → more ≡ changes_in r key words (effects_along log from (at + 1))
+changes_next r key log from at es words mid found more order is before so push =
+    push ∙ (λ i. so i ++ changes_in r key (before i) (is i))
+    ∙ changes-append r key words (effects_along log from at) (effects_there log at)
+    ∙ ap (changes_in r key words) (along_next log from at order)

@@ -1,0 +1,11 @@
+pub mod Valued
+pub mod NumberedLaws
+pub mod PhaseLaws
+pub mod EffectLaws
+pub mod ChangeLaws
+pub mod BlockWrites
+pub mod WrittenLaws
+pub mod StartWords
+pub mod EffectKinds
+pub mod AgreeLaws
+pub mod CommitLaws

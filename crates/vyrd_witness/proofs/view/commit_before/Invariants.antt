@@ -1,0 +1,10 @@
+use Rattle.std.proofs.Common.{◌≡◌, ◌<◌}
+use Rattle.std.specs.Prelude.{IfSome}
+use Rattle.vyrd_witness.specs.ViewWitnesses.{commit_before}
+use Rattle.vyrd_witness.proofs.view.commit_before.Given as goal
+
+abbrev pub invariant-loop-i : goal.invariant-loop-i
+invariant-loop-i l = record {
+  position : l.found ≡ commit_before l.front l.i;
+  before : IfSome l.found (λ p. p < l.i);
+}

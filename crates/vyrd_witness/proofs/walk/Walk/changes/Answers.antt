@@ -1,0 +1,40 @@
+use Rattle.std.proofs.Common.{◌≡◌, ◌+◌, ap, subst, ◌∙◌, take, vec_len}
+use Rattle.vyrd_base.specs.Places.{newest_first}
+use Rattle.vyrd_base.specs.Rules.{rules_by}
+use Rattle.vyrd_witness.specs.Changes.{words_through}
+use Rattle.vyrd_witness.specs.Effects.{effects_along}
+use Rattle.vyrd_witness.specs.Phases.{ArePhases}
+use Rattle.vyrd_witness.proofs.EffectLaws.{pass_next, changes_next}
+use Rattle.vyrd_witness.proofs.WrittenLaws.{there_fit}
+use Rattle.vyrd_witness.proofs.walk.Walk.changes.Goals as goal
+
+pub push_changes-requires-clause-within : goal.push_changes-requires-clause-within
+push_changes-requires-clause-within g c =
+    there_fit (rules_by (g.S.Shown.charter c.args.shown.now)).header c.args.front.now c.loop-at.at
+    (vec_len c.step.new.self.words) c.deref.result.now c.requires.kept
+    (ap vec_len c.in_ok-effects.ensures.words ∙ c.loop-at.invariant.count ∙ c.requires.count)
+    (c.deref.ensures.value ∙ c.in_ok-effects.ensures.effects)
+
+pub loop-at-preserved : goal.loop-at-preserved
+loop-at-preserved g c =
+    let front = c.args.front.now in
+    let at = c.loop-at.at in
+    let words = c.args.self.now.words.items in
+    let mid = c.step.new.self.words.items in
+    let effects = c.deref.ensures.value ∙ c.in_ok-effects.ensures.effects in
+    let same = c.in_ok-effects.ensures.words in
+    let before : mid ≡ words_through words (effects_along front c.args.from at) =
+    ap (λ v. v.items) same ∙ c.loop-at.invariant.words in
+    record {
+      words = pass_next front c.args.from at c.deref.result.now words mid
+          c.push_changes.new.words.items c.loop-at.auto.at effects before
+          c.in_ok-push_changes.ensures.words;
+      count = c.in_ok-push_changes.ensures.count ∙ ap vec_len same ∙ c.loop-at.invariant.count;
+      phases = subst (λ h. ArePhases h c.step.new.self.phases.items
+          (newest_first (take (at + 1) front))) c.header-header.ensures
+          c.in_ok-effects.ensures.next;
+      changes = changes_next (rules_by (g.S.Shown.charter c.args.shown.now)) c.args.key front
+          c.args.from at c.deref.result.now words mid c.loop-at.changes.items
+          c.push_changes.new.changes.items c.loop-at.auto.at effects before
+          c.loop-at.invariant.changes c.in_ok-push_changes.ensures.changes;
+    }

@@ -1,0 +1,18 @@
+use Rattle.std.proofs.Common.{◌≡◌, take, vec_len}
+use Rattle.vyrd_base.specs.Places.{newest_first}
+use Rattle.vyrd_base.specs.Rules.{rules_by}
+use Rattle.vyrd_witness.specs.Changes.{changes_in, words_through}
+use Rattle.vyrd_witness.specs.Effects.{effects_along}
+use Rattle.vyrd_witness.specs.Phases.{ArePhases}
+use Rattle.vyrd_witness.proofs.walk.Walk.changes.Given as goal
+
+abbrev pub invariant-loop-at : goal.invariant-loop-at
+invariant-loop-at g l = record {
+  words : l.self.words.items
+      ≡ words_through l.fn.self.words.items (effects_along l.front l.from l.at);
+  count : vec_len l.self.words ≡ vec_len l.fn.self.words;
+  phases : ArePhases (rules_by (g.S.Shown.charter l.shown)).header l.self.phases.items
+      (newest_first (take l.at l.front));
+  changes : l.changes.items ≡ changes_in (rules_by (g.S.Shown.charter l.shown)) l.key
+      l.fn.self.words.items (effects_along l.front l.from l.at);
+}

@@ -1,0 +1,9 @@
+pub mod Numbered
+pub mod Effects
+pub mod Changes
+pub mod ViewWitnesses
+pub mod Plain
+pub mod Leading
+pub mod Phases
+pub mod Written
+pub mod Samples

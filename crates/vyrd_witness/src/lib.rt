@@ -1,0 +1,29 @@
+//! The witness of a view that differs: what in a log shows why a commit's view differs at a key.
+//!
+//! The central call is `view_witness`, and its result a `ViewWitness`: what the words show of the
+//! key at the commit, where the commit before stands, what the words showed of the key there, and
+//! each write since then that changed it, by who wrote it, where it was written, where it took
+//! effect, and the values and amounts before and after. Its contract: each of these is the value of
+//! a definition (`IsViewWitness`), for any log that keeps the rules of shape. It goes over the
+//! entries a second time, after a judge, and asks for them whole.
+//!
+//! What words show is said by the trait `Shown`, by any rules; `BuiltInShown` is that of the
+//! built-in subjects. When a write takes effect is said by the one definition of it, `effects_at`
+//! of `vyrd_base`, applied to the log in which each write writes its own position (`Numbered`).
+#![tactic(auto)]
+
+mod built_in;
+mod change;
+mod effect;
+pub mod laws;
+mod phase;
+mod shown;
+mod view;
+mod walk;
+pub mod worked;
+
+pub use built_in::BuiltInShown;
+pub use change::Change;
+pub use effect::Effect;
+pub use shown::Shown;
+pub use view::{ViewWitness, view_witness};
