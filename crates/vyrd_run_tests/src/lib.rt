@@ -1,14 +1,17 @@
 //! Tests of the public calls of the crates that play a workload, a module for each.
 //!
-//! They show what no clause says: worked cases as tables, the acts of each operation one by one,
-//! each call on its happy path. They stand in a crate of their own since a crate is proved once
-//! more with its tests.
+//! They show what no clause says: worked cases as tables, operations over words that no run leaves,
+//! each call on its happy path. What each operation does over words that a run leaves is shown, act
+//! by act, by the histories of `examples/`, which ask nothing of the prover. The tests stand in a
+//! crate of their own since a crate is proved once more with its tests.
 #![tactic(auto)]
 
 #[cfg(test)]
 mod buffers;
 #[cfg(test)]
 mod cache;
+#[cfg(test)]
+mod cases;
 #[cfg(test)]
 mod errors;
 #[cfg(test)]
