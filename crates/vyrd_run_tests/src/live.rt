@@ -33,6 +33,22 @@ fn run_text<R: Threads + Wait + Sync, G: Gate>(
     Some(run_live(rt, alloc, &work, limit, gate))
 }
 
+/// The verdict about that run, if it ends.
+fn judged<R: Threads + Wait + Sync, G: Gate>(
+    rt: &R,
+    alloc: Global,
+    text: &[u8],
+    limit: u64,
+    gate: &G,
+) -> Option<Verdict>
+    requires { limit ≤ most_events }
+{
+    match run_text(rt, alloc, text, limit, gate) {
+        Some(Ok(run)) => Some(run.verdict),
+        _ => None,
+    }
+}
+
 /// The most events of a run here.
 const MOST: usize = 1000;
 
@@ -53,6 +69,14 @@ fn shown<R: Threads + Wait + Sync, G: Gate>(
         return None;
     }
     judge_history(alloc, header, &played.sink).ok()
+}
+
+fn accepted(entries: u64, commits: u64, observers: u64) -> Option<Verdict> {
+    Some(Verdict::Accepted {
+        entries,
+        commits,
+        observers,
+    })
 }
 
 /// A gate that lets callers 0 and 1 begin once both want to. It looks for the other one that many
@@ -98,44 +122,33 @@ impl Gate for Meeting {
 
 /// In one thread, in whatever order, one of the two callers would not find the other's note.
 #[test]
-fn two_callers_at_once(rt: HostRuntime) -> Result<(), Fail> {
+fn two_callers_at_once(rt: HostRuntime) {
     let text = b"work multiset 2 2 correct\nop 0 lookup 1\nop 1 lookup 0\nop 1 lookup 0\nend\n";
     let gate = Meeting::new();
-    let Some(Ok(run)) = run_text(&rt, rt.alloc(), text, 1000, &gate) else {
-        panic!(rt; "no run")
-    };
-    let accepted = Verdict::Accepted {
-        entries: 6,
-        commits: 0,
-        observers: 3,
-    };
-    assert_eq!(rt; run.verdict, accepted);
-    assert!(rt; !gate.missed.load(Ordering::SeqCst));
+    let verdict = judged(&rt, rt.alloc(), text, MOST as u64, &gate);
+    assert!(rt; verdict == accepted(6, 0, 3) && !gate.missed.load(Ordering::SeqCst));
 
     let gate = Meeting::new();
-    assert_eq!(rt; shown(&rt, rt.alloc(), text, &gate), Some(accepted));
-    assert!(rt; !gate.missed.load(Ordering::SeqCst));
-    Ok(())
+    let verdict = shown(&rt, rt.alloc(), text, &gate);
+    assert!(rt; verdict == accepted(6, 0, 3) && !gate.missed.load(Ordering::SeqCst));
+}
+
+/// Whether caller 0 is stopped before its first event.
+fn stops_at_once<R: Threads + Wait + Sync>(rt: &R, alloc: Global, text: &[u8], limit: u64) -> bool
+    requires { limit ≤ most_events }
+{
+    match run_text(rt, alloc, text, limit, &OpenGate) {
+        Some(Err(LiveFault::Spent(spent))) => spent.caller == 0 && spent.history.is_empty(),
+        _ => false,
+    }
 }
 
 /// The bound of a multiset's operation is 32.
 #[test]
-fn bound_of_events(rt: HostRuntime) -> Result<(), Fail> {
+fn bound_of_events(rt: HostRuntime) {
     let text = b"work multiset 1 1 correct\nop 0 lookup 5\nend\n";
-    let Some(Err(LiveFault::Spent(overrun))) = run_text(&rt, rt.alloc(), text, 31, &OpenGate) else {
-        panic!(rt; "not spent")
-    };
-    assert!(rt; overrun.caller == 0 && overrun.history.is_empty());
-    let Some(Ok(run)) = run_text(&rt, rt.alloc(), text, 32, &OpenGate) else {
-        panic!(rt; "no run")
-    };
-    let accepted = Verdict::Accepted {
-        entries: 2,
-        commits: 0,
-        observers: 1,
-    };
-    assert_eq!(rt; run.verdict, accepted);
-    Ok(())
+    assert!(rt; stops_at_once(&rt, rt.alloc(), text, 31));
+    assert!(rt; judged(&rt, rt.alloc(), text, 32, &OpenGate) == accepted(2, 0, 1));
 }
 
 /// A gate that holds each of two callers in the middle of its work until the other one has come to
@@ -196,23 +209,19 @@ impl Gate for Turnstile {
 
 /// Playing one script after the other doesn't lead to this order of events.
 #[test]
-fn schedule_forced_by_the_gate(rt: HostRuntime) -> Result<(), Fail> {
+fn schedule_forced_by_the_gate(rt: HostRuntime) {
     let text = b"work multiset 1 2 broken\nop 0 insert 5\nop 1 insert 6\nop 1 lookup 9\nend\n";
-    let gate = Turnstile::new();
-    let Some(Ok(run)) = run_text(&rt, rt.alloc(), text, 1000, &gate) else {
-        panic!(rt; "no run")
-    };
     let differs = Verdict::Violation {
         line: 14,
         why: Why::View(6),
     };
-    assert_eq!(rt; run.verdict, differs);
-    assert!(rt; !gate.gave_up.load(Ordering::SeqCst));
+    let gate = Turnstile::new();
+    let verdict = judged(&rt, rt.alloc(), text, MOST as u64, &gate);
+    assert!(rt; verdict == Some(differs) && !gate.gave_up.load(Ordering::SeqCst));
 
     let gate = Turnstile::new();
-    assert_eq!(rt; shown(&rt, rt.alloc(), text, &gate), Some(differs));
-    assert!(rt; !gate.gave_up.load(Ordering::SeqCst));
-    Ok(())
+    let verdict = shown(&rt, rt.alloc(), text, &gate);
+    assert!(rt; verdict == Some(differs) && !gate.gave_up.load(Ordering::SeqCst));
 }
 
 /// Four callers, each of which inserts its key, looks for it, deletes it and looks for it twice,
@@ -238,15 +247,8 @@ fn four_callers(alloc: Global) -> Result<Vec<u8>, AllocError> {
 #[test]
 fn four_callers_beside(rt: HostRuntime) -> Result<(), Fail> {
     let text = four_callers(rt.alloc())?;
-    let Some(Ok(run)) = run_text(&rt, rt.alloc(), &text, 16_777_216, &OpenGate) else {
-        panic!(rt; "no run")
-    };
-    let accepted = Verdict::Accepted {
-        entries: 720,
-        commits: 80,
-        observers: 120,
-    };
-    assert_eq!(rt; run.verdict, accepted);
+    let verdict = judged(&rt, rt.alloc(), &text, 16_777_216, &OpenGate);
+    assert!(rt; verdict == accepted(720, 80, 120));
     Ok(())
 }
 
@@ -285,22 +287,13 @@ impl Gate for Beside {
 
 /// A verifier that begins to take in events once the workers have ended doesn't ask in time.
 #[test]
-fn verifier_beside_the_worker(rt: HostRuntime) -> Result<(), Fail> {
+fn verifier_beside_the_worker(rt: HostRuntime) {
     let text = b"work multiset 1 1 correct\nop 0 lookup 5\nop 0 lookup 5\nend\n";
     let gate = Beside::new();
-    let Some(Ok(run)) = run_text(&rt, rt.alloc(), text, 1000, &gate) else {
-        panic!(rt; "no run")
-    };
-    let accepted = Verdict::Accepted {
-        entries: 4,
-        commits: 0,
-        observers: 2,
-    };
-    assert_eq!(rt; run.verdict, accepted);
-    assert!(rt; !gate.gave_up.load(Ordering::SeqCst));
+    let verdict = judged(&rt, rt.alloc(), text, MOST as u64, &gate);
+    assert!(rt; verdict == accepted(4, 0, 2) && !gate.gave_up.load(Ordering::SeqCst));
 
     let gate = Beside::new();
-    assert_eq!(rt; shown(&rt, rt.alloc(), text, &gate), Some(accepted));
-    assert!(rt; !gate.gave_up.load(Ordering::SeqCst));
-    Ok(())
+    let verdict = shown(&rt, rt.alloc(), text, &gate);
+    assert!(rt; verdict == accepted(4, 0, 2) && !gate.gave_up.load(Ordering::SeqCst));
 }

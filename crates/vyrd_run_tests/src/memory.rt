@@ -8,7 +8,6 @@ ghost use Rattle.vyrd_run_tests.specs.Laws.Visits.{visit_sums, visit_is_ahead, v
 ghost use Rattle.vyrd_run_tests.specs.Laws.Visits.{visit_done, visit_few};
 
 use std::alloc::Global;
-use std::test::Fail;
 use vyrd_base::{Args, Did, Header, Kind, Method, MultisetMethod, Stamped, Subject};
 use vyrd_memory::{Act, Machine, Ran, StepFault, Turn, run_turns};
 
@@ -112,107 +111,149 @@ fn header() -> Option<Header>
     Header::new(1, Subject::Multiset, 2, 2)
 }
 
-/// The run of two callers by these turns. The second may take the locks in the other order.
-fn run(alloc: Global, crosses: bool, turns: &[Turn]) -> Result<Result<Ran, StepFault>, Fail>
-    requires callers { All (λ turn. turn.caller < 2) turns.now }
-{
-    let header = header().ok_or("a header")?;
-    let mut machines = [Visitor::new(0, false), Visitor::new(1, crosses)];
-    Ok(run_turns(alloc, header, &mut machines, turns))
+/// How many turns there are of two callers: of the caller that comes first, and of the other one.
+#[derive(Clone, Copy)]
+enum Turns {
+    /// Caller 0 comes first.
+    ZeroFirst(u32, u32),
+    /// Caller 1 does.
+    OneFirst(u32, u32),
 }
 
-fn turns(caller: u32, count: u32) -> Turn
+impl Turns {
+    fn in_order(self) -> [Turn; 2]
+        ensures { All (λ turn. turn.caller < 2) result }
+    {
+        match self {
+            Turns::ZeroFirst(first, other) => [turn(0, first), turn(1, other)],
+            Turns::OneFirst(first, other) => [turn(1, first), turn(0, other)],
+        }
+    }
+}
+
+fn turn(caller: u32, count: u32) -> Turn
     ensures { result.caller ≡ caller }
 {
     Turn { caller, count }
 }
 
-/// The event of the act at a place of a visit, if the load finds this value.
-fn event(crosses: bool, place: usize, found: u64) -> Option<Did> {
-    match acts(crosses).get(place) {
-        Some(Act::Load(cell)) => Some(Did::Read(*cell, found)),
-        Some(Act::Store(cell, value)) => Some(Did::Wrote(*cell, *value)),
-        Some(Act::Take(lock)) => Some(Did::Took(*lock)),
-        Some(Act::Give(lock)) => Some(Did::Gave(*lock)),
-        Some(Act::Mark(kind)) => Some(Did::Marked(*kind)),
-        Some(Act::Done) | None => None,
+/// The run of two callers by these turns. The second may take the locks in the other order.
+fn run(alloc: Global, crosses: bool, turns: Turns) -> Option<Result<Ran, StepFault>> {
+    let header = header()?;
+    let mut machines = [Visitor::new(0, false), Visitor::new(1, crosses)];
+    Some(run_turns(alloc, header, &mut machines, &turns.in_order()))
+}
+
+/// The event of an act, if a load finds this value.
+fn event(act: Act, found: u64) -> Option<Did> {
+    match act {
+        Act::Load(cell) => Some(Did::Read(cell, found)),
+        Act::Store(cell, value) => Some(Did::Wrote(cell, value)),
+        Act::Take(lock) => Some(Did::Took(lock)),
+        Act::Give(lock) => Some(Did::Gave(lock)),
+        Act::Mark(kind) => Some(Did::Marked(kind)),
+        Act::Done => None,
     }
+}
+
+/// The event of the caller that comes after these.
+fn next_event(
+    history: &[Stamped],
+    crosses: bool,
+    caller: u32,
+    found: (u64, u64),
+) -> Option<Stamped> {
+    let place = history.iter().filter(|e| e.caller == caller).count();
+    let (visit, found) = if caller == 0 {
+        (acts(false), found.0)
+    } else {
+        (acts(crosses), found.1)
+    };
+    Some(Stamped {
+        number: history.len() as u64,
+        caller,
+        did: event(*visit.get(place)?, found)?,
+    })
 }
 
 /// The history in which the callers have their events in this order, and their loads find these
 /// values.
-fn history(
-    alloc: Global,
-    crosses: bool,
-    order: &[u32],
-    found: [u64; 2],
-) -> Result<Vec<Stamped>, Fail> {
+fn history(alloc: Global, crosses: bool, order: &[u32], found: (u64, u64)) -> Option<Vec<Stamped>> {
     let mut history: Vec<Stamped> = Vec::new(alloc);
     for caller in order {
-        let place = history.iter().filter(|e| e.caller == *caller).count();
-        let did = if *caller == 0 {
-            event(false, place, found[0])
-        } else {
-            event(crosses, place, found[1])
-        };
-        history.push(Stamped {
-            number: history.len() as u64,
-            caller: *caller,
-            did: did.ok_or("an event")?,
-        })?;
+        let event = next_event(&history, crosses, *caller, found)?;
+        history.push(event).ok()?;
     }
-    Ok(history)
+    Some(history)
+}
+
+/// Whether the second caller takes the locks crosswise, the turns, whose event each one is, what
+/// the loads of the two callers find, and word 1 at the end.
+struct Case {
+    crosses: bool,
+    turns: Turns,
+    order: &'static [u32],
+    found: (u64, u64),
+    last: u64,
+}
+
+const CASES: &[Case] = &[
+    Case {
+        crosses: false,
+        turns: Turns::ZeroFirst(0, 0),
+        order: &[0, 1, 0, 0, 0, 0, 0, 0, 0, 1, 0, 1, 1, 1, 1, 1, 1, 1],
+        found: (0, 5),
+        last: 5,
+    },
+    Case {
+        crosses: true,
+        turns: Turns::ZeroFirst(20, 2),
+        order: &[0, 0, 0, 0, 0, 0, 0, 0, 0, 1, 1, 1, 1, 1, 1, 1, 1, 1],
+        found: (0, 5),
+        last: 6,
+    },
+    Case {
+        crosses: true,
+        turns: Turns::OneFirst(4, 1),
+        order: &[1, 1, 1, 1, 0, 1, 1, 1, 0, 1, 0, 1, 0, 0, 0, 0, 0, 0],
+        found: (6, 0),
+        last: 5,
+    },
+];
+
+/// Whether the run leaves the history and the words that the case says.
+fn holds(alloc: Global, case: &Case) -> bool {
+    let Some(wanted) = history(alloc, case.crosses, case.order, case.found) else {
+        return false;
+    };
+    match run(alloc, case.crosses, case.turns) {
+        Some(Ok(ran)) => ran.history == wanted && has_only(&ran.words, case.last),
+        _ => false,
+    }
+}
+
+/// Whether word 1 is this, and all other words and locks are 0.
+fn has_only(words: &[u64], last: u64) -> bool {
+    let mut wanted = [0; 18];
+    wanted[1] = last;
+    words == wanted.as_slice()
 }
 
 #[test]
-fn visits_by_turns(rt: HostRuntime) -> Result<(), Fail> {
-    // Whether the second caller takes the locks crosswise, the turns, whose event each one is, what
-    // the loads of the two callers find, and word 1 at the end.
-    let cases = [
-        (
-            false,
-            [turns(0, 0), turns(1, 0)],
-            [0, 1, 0, 0, 0, 0, 0, 0, 0, 1, 0, 1, 1, 1, 1, 1, 1, 1],
-            [0, 5],
-            5,
-        ),
-        (
-            true,
-            [turns(0, 20), turns(1, 2)],
-            [0, 0, 0, 0, 0, 0, 0, 0, 0, 1, 1, 1, 1, 1, 1, 1, 1, 1],
-            [0, 5],
-            6,
-        ),
-        (
-            true,
-            [turns(1, 4), turns(0, 1)],
-            [1, 1, 1, 1, 0, 1, 1, 1, 0, 1, 0, 1, 0, 0, 0, 0, 0, 0],
-            [6, 0],
-            5,
-        ),
-    ];
-    for (crosses, turns, order, found, last) in cases {
-        let wanted = history(rt.alloc(), crosses, order.as_slice(), found)?;
-        let Ok(ran) = run(rt.alloc(), crosses, turns.as_slice())? else {
-            panic!(rt; "no end")
-        };
-        let mut words = [0; 18];
-        words[1] = last;
-        assert_eq!(rt; ran.history.as_slice(), wanted.as_slice());
-        assert_eq!(rt; ran.words.as_slice(), words.as_slice());
+fn visits_by_turns(rt: HostRuntime) {
+    for (row, case) in CASES.iter().enumerate() {
+        assert!(rt; holds(rt.alloc(), case), "row {row}");
     }
-    Ok(())
 }
 
 #[test]
-fn locks_taken_crosswise(rt: HostRuntime) -> Result<(), Fail> {
+fn locks_taken_crosswise(rt: HostRuntime) {
     for turns in [
-        [turns(0, 0), turns(1, 0)],
-        [turns(0, 2), turns(1, 2)],
-        [turns(1, 2), turns(0, 50)],
+        Turns::ZeroFirst(0, 0),
+        Turns::ZeroFirst(2, 2),
+        Turns::OneFirst(2, 50),
     ] {
-        let ran = run(rt.alloc(), true, turns.as_slice())?;
-        assert!(rt; matches!(ran, Err(StepFault::Stuck)));
+        let ran = run(rt.alloc(), true, turns);
+        assert!(rt; matches!(ran, Some(Err(StepFault::Stuck))));
     }
-    Ok(())
 }

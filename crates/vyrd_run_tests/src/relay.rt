@@ -37,29 +37,53 @@ fn one(alloc: Global, capacity: u64) -> Result<(Relay, Sender, Receiver), AllocE
     Ok((relay, sender, receiver))
 }
 
+/// Whether a relay of one place takes an event and no second one, and gives it back.
+fn has_one_place<R: Wait>(
+    rt: &R,
+    relay: &Relay,
+    sender: &mut Sender,
+    receiver: &mut Receiver,
+) -> bool
+    requires sender { (sender.old.queue ≡ relay.now.queue) × (sender.old.caller ≡ 0)
+        × (sender.old.sent ≡ []) }
+    requires receiver { receiver.old.queue ≡ relay.now.queue }
+    ensures sender { sender.new.queue ≡ sender.old.queue }
+    ensures receiver { receiver.new.queue ≡ receiver.old.queue }
+{
+    is_pushed(rt, relay, sender, 0, 7)
+        && !is_pushed(rt, relay, sender, 0, 8)
+        && is_popped(rt, relay, receiver, Some(event_of(0, 7)))
+        && is_popped(rt, relay, receiver, None)
+}
+
+/// Puts an event that wasn't put before. It answers whether it did.
+fn is_put(reorder: &mut Reorder, number: u64) -> bool
+    requires { number < 2 ^ 62 }
+{
+    !reorder.had(number) && reorder.put(event(number)).is_ok()
+}
+
+/// Whether two events that are put the wrong way round come in their order.
+fn puts_in_order(reorder: &mut Reorder) -> bool {
+    is_put(reorder, 1)
+        && reorder.next_in_order() == None
+        && reorder.had(1)
+        && is_put(reorder, 0)
+        && reorder.next_in_order() == Some(event(0))
+        && reorder.next_in_order() == Some(event(1))
+        && reorder.next_in_order() == None
+        && reorder.had(0)
+        && !reorder.had(2)
+}
+
 #[test]
 fn relay_and_reorder(rt: HostRuntime) -> Result<(), Fail> {
     let (relay, mut sender, mut receiver) = one(rt.alloc(), 1)?;
-    let first = relay.push_next(&rt, &mut sender, event(7));
-    let second = relay.push_next(&rt, &mut sender, event(8));
-    assert!(rt; first == Ok(()) && second == Err(Full));
-    let popped = relay.pop(&rt, &mut receiver);
-    let none = relay.pop(&rt, &mut receiver);
-    assert!(rt; popped == Some(event(7)) && none == None);
+    assert!(rt; has_one_place(&rt, &relay, &mut sender, &mut receiver));
     assert!(rt; relay.settle(&rt, &mut receiver, sender) == 1);
 
     let mut reorder = Reorder::new(rt.alloc())?;
-    reorder.put(event(1))?;
-    let early = reorder.next_in_order();
-    assert!(rt; early == None && reorder.had(1));
-    if !reorder.had(0) {
-        reorder.put(event(0))?;
-    }
-    let first = reorder.next_in_order();
-    let second = reorder.next_in_order();
-    let third = reorder.next_in_order();
-    assert!(rt; first == Some(event(0)) && second == Some(event(1)) && third == None);
-    assert!(rt; reorder.had(0) && !reorder.had(2));
+    assert!(rt; puts_in_order(&mut reorder));
     Ok(())
 }
 
@@ -93,27 +117,64 @@ fn two(alloc: Global, capacity: u64) -> Result<(Relay, Sender, Sender, Receiver)
     Ok((relay, first, second, receiver))
 }
 
+/// Pushes an event, if there is room. It answers whether there was.
+fn is_pushed<R: Wait>(rt: &R, relay: &Relay, sender: &mut Sender, caller: u32, number: u64) -> bool
+    requires sender { (sender.old.queue ≡ relay.now.queue) × (sender.old.caller ≡ caller) }
+    requires few { length sender.old.sent < 2 ^ 62 }
+    ensures same { (sender.new.queue ≡ sender.old.queue) × (sender.new.caller ≡ sender.old.caller) }
+    ensures one { length sender.new.sent ≤ length sender.old.sent + 1 }
+{
+    match relay.push_next(rt, sender, event_of(caller, number)) {
+        Ok(()) => true,
+        Err(Full) => false,
+    }
+}
+
+/// Whether this is what is popped.
+fn is_popped<R: Wait>(
+    rt: &R,
+    relay: &Relay,
+    receiver: &mut Receiver,
+    wanted: Option<Stamped>,
+) -> bool
+    requires { receiver.old.queue ≡ relay.now.queue }
+    ensures { receiver.new.queue ≡ receiver.old.queue }
+{
+    relay.pop(rt, receiver) == wanted
+}
+
+/// Whether there is room for two events, whoever sends them, and for one more where one was popped.
+fn has_two_places<R: Wait>(
+    rt: &R,
+    relay: &Relay,
+    first: &mut Sender,
+    second: &mut Sender,
+    receiver: &mut Receiver,
+) -> bool
+    requires first { (first.old.queue ≡ relay.now.queue) × (first.old.caller ≡ 0)
+        × (first.old.sent ≡ []) }
+    requires second { (second.old.queue ≡ relay.now.queue) × (second.old.caller ≡ 1)
+        × (second.old.sent ≡ []) }
+    requires receiver { receiver.old.queue ≡ relay.now.queue }
+{
+    is_pushed(rt, relay, first, 0, 5)
+        && is_pushed(rt, relay, second, 1, 6)
+        && !is_pushed(rt, relay, first, 0, 7)
+        && !is_pushed(rt, relay, second, 1, 8)
+        && is_popped(rt, relay, receiver, Some(event_of(0, 5)))
+        && is_pushed(rt, relay, second, 1, 8)
+        && !is_pushed(rt, relay, first, 0, 7)
+        && is_popped(rt, relay, receiver, Some(event_of(1, 6)))
+        && is_popped(rt, relay, receiver, Some(event_of(1, 8)))
+        && is_popped(rt, relay, receiver, None)
+}
+
 /// What no clause can say where there is more than one sender: a push finds no room only when as
 /// many events are queued as there may be, whoever sent them.
 #[test]
 fn two_senders_fill_the_relay(rt: HostRuntime) -> Result<(), Fail> {
     let (relay, mut first, mut second, mut receiver) = two(rt.alloc(), 2)?;
-    let one = relay.push_next(&rt, &mut first, event_of(0, 5));
-    let other = relay.push_next(&rt, &mut second, event_of(1, 6));
-    assert!(rt; one == Ok(()) && other == Ok(()));
-    let of_first = relay.push_next(&rt, &mut first, event_of(0, 7));
-    let of_second = relay.push_next(&rt, &mut second, event_of(1, 8));
-    assert!(rt; of_first == Err(Full) && of_second == Err(Full));
-
-    let popped = relay.pop(&rt, &mut receiver);
-    let again = relay.push_next(&rt, &mut second, event_of(1, 8));
-    let full = relay.push_next(&rt, &mut first, event_of(0, 7));
-    assert!(rt; popped == Some(event_of(0, 5)) && again == Ok(()) && full == Err(Full));
-
-    let next = relay.pop(&rt, &mut receiver);
-    let last = relay.pop(&rt, &mut receiver);
-    let none = relay.pop(&rt, &mut receiver);
-    assert!(rt; next == Some(event_of(1, 6)) && last == Some(event_of(1, 8)) && none == None);
+    assert!(rt; has_two_places(&rt, &relay, &mut first, &mut second, &mut receiver));
     Ok(())
 }
 

@@ -17,11 +17,11 @@ end
 ";
 
 /// The operation of a caller.
-fn op(caller: u32, method: Method, a: u32, b: u32) -> WorkOp {
+fn op(caller: u32, method: MultisetMethod, a: u32, b: u32) -> WorkOp {
     WorkOp {
         caller,
         op: Op {
-            method,
+            method: Method::Multiset(method),
             args: Args { a, b, c: 0 },
         },
     }
@@ -36,31 +36,43 @@ fn refusal_of(alloc: Global, text: &[u8]) -> Result<Vec<u8>, AllocError> {
     Ok(line)
 }
 
-#[test]
-fn workload_read_and_written(rt: HostRuntime) -> Result<(), Fail> {
-    let work = read_work(rt.alloc(), SMALL).map_err(|_| "a workload")?;
-    assert_eq!(rt; Header::new(1, Subject::Multiset, 1, 2), Some(work.header));
-    assert_eq!(rt; work.variant, Variant::Broken);
+const SMALL_TURNS: &[Turn] = &[
+    Turn {
+        caller: 0,
+        count: 2,
+    },
+    Turn {
+        caller: 1,
+        count: 10,
+    },
+];
+
+/// Whether these are the parts of the small workload.
+fn is_small(work: &Work) -> bool {
     let ops = [
-        op(0, Method::Multiset(MultisetMethod::Insert), 5, 0),
-        op(1, Method::Multiset(MultisetMethod::Insert), 6, 0),
+        op(0, MultisetMethod::Insert, 5, 0),
+        op(1, MultisetMethod::Insert, 6, 0),
     ];
-    assert_eq!(rt; work.ops.as_slice(), ops.as_slice());
-    let turns = [
-        Turn {
-            caller: 0,
-            count: 2,
-        },
-        Turn {
-            caller: 1,
-            count: 10,
-        },
-    ];
-    assert_eq!(rt; work.turns.as_slice(), turns.as_slice());
-    let mut text = Vec::new(rt.alloc());
-    write_work(&work, &mut text)?;
-    assert_eq!(rt; text.as_slice(), SMALL);
-    Ok(())
+    Header::new(1, Subject::Multiset, 1, 2) == Some(work.header)
+        && work.variant == Variant::Broken
+        && work.ops.as_slice() == ops.as_slice()
+        && work.turns.as_slice() == SMALL_TURNS
+}
+
+/// The workload's text, if there is memory for it.
+fn written(alloc: Global, work: &Work) -> Option<Vec<u8>> {
+    let mut text = Vec::new(alloc);
+    write_work(work, &mut text).ok()?;
+    Some(text)
+}
+
+#[test]
+fn workload_read_and_written(rt: HostRuntime) {
+    let Ok(work) = read_work(rt.alloc(), SMALL) else {
+        panic!(rt; "no workload")
+    };
+    assert!(rt; is_small(&work));
+    assert!(rt; matches!(written(rt.alloc(), &work), Some(text) if text.as_slice() == SMALL));
 }
 
 /// A text whose line breaks the rule, and the line that says so.
@@ -109,8 +121,16 @@ fn refused_by(rule: WorkRule) -> (&'static [u8], &'static [u8]) {
     }
 }
 
+/// Whether this text is refused with this line.
+fn is_refused(alloc: Global, text: &[u8], line: &[u8]) -> bool {
+    match refusal_of(alloc, text) {
+        Ok(said) => said.as_slice() == line,
+        Err(_) => false,
+    }
+}
+
 #[test]
-fn refused_workloads(rt: HostRuntime) -> Result<(), Fail> {
+fn refused_workloads(rt: HostRuntime) {
     for rule in [
         WorkRule::AfterEnd,
         WorkRule::BadHeader,
@@ -123,50 +143,63 @@ fn refused_workloads(rt: HostRuntime) -> Result<(), Fail> {
         WorkRule::NoEnd,
     ] {
         let (text, line) = refused_by(rule);
-        assert_eq!(rt; refusal_of(rt.alloc(), text)?.as_slice(), line);
+        assert!(rt; is_refused(rt.alloc(), text, line), "{rule:?}");
     }
-    Ok(())
+}
+
+/// A workload of an operation more than there may be.
+fn one_too_many(alloc: Global) -> Option<Vec<u8>> {
+    let mut text = Vec::from_slice(alloc, b"work multiset 1 2 correct\n").ok()?;
+    for _ in 0..200_001 {
+        text.extend_from_slice(b"op 1 lookup 5\n").ok()?;
+    }
+    Some(text)
 }
 
 #[test]
-fn too_many_operations(rt: HostRuntime) -> Result<(), Fail> {
-    let mut text = Vec::from_slice(rt.alloc(), b"work multiset 1 2 correct\n")?;
-    for _ in 0..200_001 {
-        text.extend_from_slice(b"op 1 lookup 5\n")?;
-    }
+fn too_many_operations(rt: HostRuntime) {
+    let Some(text) = one_too_many(rt.alloc()) else {
+        panic!(rt; "no memory")
+    };
     let (_, line) = refused_by(WorkRule::TooManyOps);
-    assert_eq!(rt; refusal_of(rt.alloc(), &text)?.as_slice(), line);
-    Ok(())
+    assert!(rt; is_refused(rt.alloc(), &text, line));
+}
+
+/// Whether the workload is written as a text that has its operations.
+fn is_read_again(alloc: Global, work: &Work) -> bool {
+    let Some(text) = written(alloc, work) else {
+        return false;
+    };
+    match read_work(alloc, &text) {
+        Ok(read) => read.ops == work.ops,
+        Err(_) => false,
+    }
 }
 
 #[test]
 fn as_many_operations_as_there_may_be(rt: HostRuntime) -> Result<(), Fail> {
     let work = generate(rt.alloc(), 200_000)?;
-    assert_eq!(rt; work.ops.len(), 200_000);
-    let mut text = Vec::new(rt.alloc());
-    write_work(&work, &mut text)?;
-    let read = read_work(rt.alloc(), &text).map_err(|_| "a workload")?;
-    assert_eq!(rt; read.ops.as_slice(), work.ops.as_slice());
+    assert!(rt; work.ops.len() == 200_000 && is_read_again(rt.alloc(), &work));
     Ok(())
+}
+
+/// Whether these are the parts of the generated workload of four operations.
+fn is_of_four(work: &Work) -> bool {
+    let ops = [
+        op(0, MultisetMethod::Insert, 227, 0),
+        op(1, MultisetMethod::Lookup, 204, 0),
+        op(2, MultisetMethod::InsertPair, 31, 5),
+        op(3, MultisetMethod::Lookup, 207, 0),
+    ];
+    Header::new(1, Subject::Multiset, 64, 4) == Some(work.header)
+        && work.variant == Variant::Correct
+        && work.ops.as_slice() == ops.as_slice()
+        && work.turns.is_empty()
 }
 
 #[test]
 fn four_generated_operations(rt: HostRuntime) -> Result<(), Fail> {
-    let Work {
-        header,
-        variant,
-        ops,
-        turns,
-    } = generate(rt.alloc(), 4)?;
-    assert_eq!(rt; Header::new(1, Subject::Multiset, 64, 4), Some(header));
-    assert_eq!(rt; variant, Variant::Correct);
-    let want = [
-        op(0, Method::Multiset(MultisetMethod::Insert), 227, 0),
-        op(1, Method::Multiset(MultisetMethod::Lookup), 204, 0),
-        op(2, Method::Multiset(MultisetMethod::InsertPair), 31, 5),
-        op(3, Method::Multiset(MultisetMethod::Lookup), 207, 0),
-    ];
-    assert_eq!(rt; ops.as_slice(), want.as_slice());
-    assert!(rt; turns.is_empty());
+    let work = generate(rt.alloc(), 4)?;
+    assert!(rt; is_of_four(&work));
     Ok(())
 }
