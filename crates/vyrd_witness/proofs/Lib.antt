@@ -9,3 +9,5 @@ pub mod StartWords
 pub mod EffectKinds
 pub mod AgreeLaws
 pub mod CommitLaws
+pub mod TextLaws
+pub mod Opened

@@ -7,3 +7,6 @@ pub mod Leading
 pub mod Phases
 pub mod Written
 pub mod Samples
+pub mod Executions
+pub mod Items
+pub mod ItemText

@@ -7,6 +7,9 @@
 //! a definition (`IsViewWitness`), for any log that keeps the rules of shape. It goes over the
 //! entries a second time, after a judge, and asks for them whole.
 //!
+//! `view_items` says the same item by item, with where the execution was called and returns
+//! (`execution_of`), and `text_of` writes the items, a line each.
+//!
 //! What words show is said by the trait `Shown`, by any rules; `BuiltInShown` is that of the
 //! built-in subjects. When a write takes effect is said by the one definition of it, `effects_at`
 //! of `vyrd_base`, applied to the log in which each write writes its own position (`Numbered`).
@@ -15,9 +18,13 @@
 mod built_in;
 mod change;
 mod effect;
+mod execution;
+mod item;
+mod items;
 pub mod laws;
 mod phase;
 mod shown;
+mod text;
 mod view;
 mod walk;
 pub mod worked;
@@ -25,5 +32,9 @@ pub mod worked;
 pub use built_in::BuiltInShown;
 pub use change::Change;
 pub use effect::Effect;
+pub use execution::{Execution, Returned, execution_of};
+pub use item::Item;
+pub use items::view_items;
 pub use shown::Shown;
+pub use text::text_of;
 pub use view::{ViewWitness, view_witness};
