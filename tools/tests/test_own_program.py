@@ -14,6 +14,7 @@ from importlib.machinery import SourceFileLoader
 from importlib.util import module_from_spec, spec_from_loader
 
 import command
+from explanation import explain
 from logtext import Log
 from own_judge import Text, answer_to
 from own_samples import sample, spoilt
@@ -82,16 +83,13 @@ class Lint(unittest.TestCase):
 
 class Explain(unittest.TestCase):
     def test_it_and_lanes_have_something_to_say_of_each_log(self):
-        explain, lanes = script("explain"), script("lanes")
+        lanes = script("lanes")
         for text in texts(3, ALONE):
             data = text.encode("latin-1")
             with tempfile.TemporaryFile(buffering=0) as file, contextlib.redirect_stdout(io.StringIO()) as said:
                 file.write(data)
                 log = Log(file, "a sample", answer_to(data))
-                if log.answer.startswith("violation"):
-                    explain.explain_violation(log)
-                elif log.answer.startswith("malformed"):
-                    explain.explain_malformed(log)
+                explain(log)
                 lanes.draw_text(log, lanes.Drawing(log, None, None, lanes.Texts(log, True)))
                 self.assertIn(log.answer, said.getvalue(), text)
 
