@@ -162,7 +162,7 @@ class All(ScriptTest):
             self.file(f"examples/{name}", (EXAMPLES / name).read_bytes()).chmod(0o755)
         scripts = ["examples/compare", "examples/unproved", "examples/own/check", "examples/real/check", "loggers/check"]
         scripts += ["specifications/check", "specifications/same_verdicts", "tools/check", "examples/caught", "examples/flat"]
-        scripts += ["examples/documents", "tools/tests/run", "examples/many/check"]
+        scripts += ["examples/documents", "tools/tests/run", "tools/tests/browser", "examples/many/check"]
         for script in scripts:
             self.program(script, f'echo {script} >>"{self.folder}/ran"', "exit 0")
         for tests in ("examples/tests", "specifications/tests", "loggers/tests"):
