@@ -80,7 +80,7 @@ through-append words [] ys = refl
 through-append words (x ∷ xs) ys = through-append _ xs ys
 
 -- one entry further
-here_on : (log : List Entry) (n : ℕ) (e : Entry) → slice_get log n ≡ Some e
+pub here_on : (log : List Entry) (n : ℕ) (e : Entry) → slice_get log n ≡ Some e
     → drop n log ≡ e ∷ drop (n + 1) log
 here_on log n e here = drop_more log n e (slice_get_within log n e here)
     ∙ ap (λ x. x ∷ drop (n + 1) log) (get_or_from_slice_get log n e e here)

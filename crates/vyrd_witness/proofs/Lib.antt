@@ -4,6 +4,7 @@ pub mod PhaseLaws
 pub mod EffectLaws
 pub mod ChangeLaws
 pub mod BlockWrites
+pub mod BegunLaws
 pub mod WrittenLaws
 pub mod StartWords
 pub mod EffectKinds
@@ -11,3 +12,6 @@ pub mod AgreeLaws
 pub mod CommitLaws
 pub mod TextLaws
 pub mod Opened
+pub mod BelowLaws
+pub mod RaceLaws
+pub mod PassedLaws

@@ -1,21 +1,30 @@
 -- The one line that each item is written as. It is words and numbers alone, and names entries by
--- their lines.
+-- their lines: `line` gives the line of the entry at a position.
 use Rattle.std.specs.Prelude.{ℕ, ◌++◌, List, flat_map, codes, decimal}
-use Rattle.vyrd_base.specs.declared.log.StartWord.{StartWord}
 use Rattle.vyrd_base.specs.Spelling.{ended_line}
-use Rattle.vyrd_base.specs.Verdicts.{line_of}
 use Rattle.vyrd_witness.specs.declared.change.Change.{Change}
+use Rattle.vyrd_witness.specs.declared.effect.Effect.{Effect}
 use Rattle.vyrd_witness.specs.declared.item.Item.{Item}
 use Rattle.vyrd_witness.specs.declared.item.Item.TheVariants.{Called, Replied, Agreed}
 use Rattle.vyrd_witness.specs.declared.item.Item.TheVariants.{AgreedAtStart, Shown, Changed}
+use Rattle.vyrd_witness.specs.declared.item.Item.TheVariants.{Before, After, Allowed, Answered}
+use Rattle.vyrd_witness.specs.declared.item.Item.TheVariants.{OpenCall, OpenBlock, Held, Passed}
 
 -- words, and the line of the entry at a position behind them
-unfoldable pub line_words : List StartWord → List ℕ → ℕ → List ℕ
-line_words starting words at = words ++ decimal (line_of starting at)
+unfoldable pub line_words : (ℕ → ℕ) → List ℕ → ℕ → List ℕ
+line_words line words at = words ++ decimal (line at)
 
 -- what is said of an amount of a key
 unfoldable pub amount_words : ℕ → ℕ → List ℕ
 amount_words key amount = codes ": key " ++ decimal key ++ codes " amount " ++ decimal amount
+
+-- what is said of a reply
+unfoldable pub reply_words : List ℕ → ℕ → List ℕ
+reply_words words reply = words ++ decimal reply
+
+-- which word an effect is on
+unfoldable pub word_words : Effect → List ℕ
+word_words effect = codes ": word " ++ decimal effect.word
 
 -- what a change made of its word
 unfoldable pub value_words : Change → List ℕ
@@ -28,23 +37,36 @@ shown_words key c = codes ", key " ++ decimal key ++ codes " amount " ++ decimal
     ++ codes " to " ++ decimal c.after
 
 -- an item, without its line feed
-abbrev pub item_words : List StartWord → Item → List ℕ
-item_words starting (Called at) = line_words starting (codes "call at line ") at
-item_words starting (Replied at) = line_words starting (codes "reply at line ") at
-item_words starting (AgreedAtStart key amount) =
+abbrev pub item_words : (ℕ → ℕ) → Item → List ℕ
+item_words line (Called at) = line_words line (codes "call at line ") at
+item_words line (Replied at) = line_words line (codes "reply at line ") at
+item_words line (AgreedAtStart key amount) =
     codes "agreed at the start" ++ amount_words key amount
-item_words starting (Agreed at key amount) =
-    line_words starting (codes "agreed at line ") at ++ amount_words key amount
-item_words starting (Shown at key amount) =
-    line_words starting (codes "words after line ") at ++ amount_words key amount
-item_words starting (Changed key c) =
-    line_words starting (codes "change at line ") c.effect.written ++ value_words c
-    ++ line_words starting (codes ", in effect at line ") c.effect.at ++ shown_words key c
+item_words line (Agreed at key amount) =
+    line_words line (codes "agreed at line ") at ++ amount_words key amount
+item_words line (Shown at key amount) =
+    line_words line (codes "words after line ") at ++ amount_words key amount
+item_words line (Changed key c) =
+    line_words line (codes "change at line ") c.effect.written ++ value_words c
+    ++ line_words line (codes ", in effect at line ") c.effect.at ++ shown_words key c
+item_words line (Before at key amount) =
+    line_words line (codes "state before line ") at ++ amount_words key amount
+item_words line (After at key amount) =
+    line_words line (codes "state after line ") at ++ amount_words key amount
+item_words line (Allowed reply) = reply_words (codes "allowed reply ") reply
+item_words line (Answered at reply) =
+    line_words line (codes "answer from line ") at ++ reply_words (codes ": ") reply
+item_words line (OpenCall at) = line_words line (codes "open call at line ") at
+item_words line (OpenBlock at) = line_words line (codes "open block at line ") at
+item_words line (Held at) = line_words line (codes "held by line ") at
+item_words line (Passed effect) =
+    line_words line (codes "passed at line ") effect.written ++ word_words effect
+    ++ line_words line (codes ", in effect at line ") effect.at
 
 -- the line of an item, with its line feed
-abbrev pub item_text : List StartWord → Item → List ℕ
-item_text starting item = ended_line (item_words starting item)
+abbrev pub item_text : (ℕ → ℕ) → Item → List ℕ
+item_text line item = ended_line (item_words line item)
 
--- the lines of items of a log that begins with these words
-abbrev pub items_text : List StartWord → List Item → List ℕ
-items_text starting items = flat_map (item_text starting) items
+-- the lines of items
+abbrev pub items_text : (ℕ → ℕ) → List Item → List ℕ
+items_text line items = flat_map (item_text line) items

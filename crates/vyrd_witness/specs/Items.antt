@@ -22,6 +22,10 @@ execution_items x =
 abbrev pub execution_at : List Entry → ℕ → Option Execution
 execution_at front at = option_and_then (λ e. execution_in front at e.caller) (slice_get front at)
 
+-- where that execution was called, and where it returns
+abbrev pub called_items : List Entry → ℕ → List Item
+called_items front at = option_map_or execution_items (execution_at front at) []
+
 -- what the words showed at the commit before, or at the start
 abbrev pub agreed_item : ℕ → Option ℕ → ℕ → Item
 agreed_item key None amount = AgreedAtStart key amount
@@ -34,7 +38,7 @@ witness_items at w = agreed_item w.key w.since w.agreed ∷ Shown at w.key w.sho
 
 -- all that is said of the key and of the entry at a position of a front
 abbrev pub view_items : Rules → List StartWord → List Entry → ℕ → ℕ → List Item
-view_items r starting front at key = option_map_or execution_items (execution_at front at) []
+view_items r starting front at key = called_items front at
     ++ (agreed_item key (commit_before front at)
     (amount_then r starting front (up_to (commit_before front at)) key)
     ∷ Shown at key (amount_then r starting front (at + 1) key)

@@ -10,3 +10,5 @@ pub mod Samples
 pub mod Executions
 pub mod Items
 pub mod ItemText
+pub mod Opens
+pub mod Races

@@ -1,5 +1,6 @@
 -- Small logs of a multiset of one bucket whose views differ at the key 5, with the effects that
--- changed it. Slot 0 has the words 0 and 1: its state, which is 2 where it is valid, and its value.
+-- changed it, and one of a write that races. Slot 0 has the words 0 and 1: its state, which is 2
+-- where it is valid, and its value.
 use Rattle.std.specs.Prelude.{ℕ, List, [], ◌∷◌, refl}
 use Rattle.vyrd_base.specs.declared.header.Header.{Header}
 use Rattle.vyrd_base.specs.declared.subject.Subject.TheVariants.{Multiset}
@@ -12,6 +13,11 @@ use Rattle.vyrd_witness.specs.declared.change.Change.{Change}
 -- the second version's multiset of one bucket with one caller
 abbrev pub second : Header
 second = record { version = 2; subject = Multiset; size = 1; callers = 1; within = refl }
+
+-- the same with two callers
+abbrev pub second_of_two : Header
+second_of_two =
+    record { version = 2; subject = Multiset; size = 1; callers = 2; within = refl }
 
 -- an insert, and a delete that claims what it didn't do: the write that frees the slot is missing
 abbrev pub kept : List Entry
@@ -40,3 +46,12 @@ shown_and_hidden = change (effect 4 3 0 2) 0 0 1 ∷ change (effect 5 3 1 6) 5 1
 -- the write outside a block that shows the 5 too early, where another caller commits
 abbrev pub shown_too_early : List Change
 shown_too_early = change (effect 3 3 0 2) 1 0 1 ∷ []
+
+-- another caller writes a word behind the commit inside a block, and then the block does
+abbrev pub passed : List Entry
+passed =
+    insert 0 5 ∷ begin 0 ∷ commit 0 ∷ insert 1 6 ∷ write 1 0 1 ∷ write 1 1 6 ∷ write 0 0 2 ∷ []
+
+-- the other caller's write to that word
+abbrev pub passing : Effect
+passing = record { written = 4; at = 4; caller = 1; word = 0; value = 1 }

@@ -4,6 +4,7 @@ ghost use Rattle.std.specs.Prelude.{◌≡◌, ◌≤◌, length, take, drop};
 ghost use Rattle.vyrd_base.specs.Places.{newest_first};
 ghost use Rattle.vyrd_witness.specs.Executions.{begun_in, next_return, execution_in};
 
+use crate::effect::entry_at;
 use vyrd_base::{Args, Entry, Kind, Method};
 
 /// A call with the position of its entry, from 0.
@@ -33,7 +34,11 @@ pub struct Execution {
 }
 
 /// The caller's execution that is open before the entry at a position, `None` if there is none. It
-/// may return with that entry, or behind it. Time is in proportion to the log.
+/// may return with that entry, or behind it.
+///
+/// Time is in proportion to the entries from the call to the return, or to the log's end if it
+/// doesn't return. If there is none, it is that of the entries since the caller's last return, or
+/// of all before the position.
 pub fn execution_of(log: &[Entry], at: usize, caller: u32) -> Option<Execution>
     requires { at ≤ length log.now }
     ensures { result ≡ execution_in log.now at caller }
@@ -49,21 +54,24 @@ pub fn execution_of(log: &[Entry], at: usize, caller: u32) -> Option<Execution>
     })
 }
 
-/// The caller's call that these entries leave open.
-fn begun_in(caller: u32, before: &[Entry]) -> Option<Begun>
+/// The caller's call that these entries leave open. They are gone over from the end back to that
+/// call, or to the caller's last return.
+#[tactic(auto, using(crate::proofs::BegunLaws::begun_back))]
+pub(crate) fn begun_in(caller: u32, before: &[Entry]) -> Option<Begun>
     ensures { result ≡ begun_in caller (newest_first before.now) }
 {
-    let mut begun = None;
-    for (at, entry) in before.iter().enumerate() {
+    for i in 0..before.len() {
+        let at = before.len() - 1 - i;
+        let entry = entry_at(before, at);
         if entry.caller == caller {
             match entry.kind {
-                Kind::Call(method, args) => begun = Some(Begun { at, method, args }),
-                Kind::Return(_) => begun = None,
+                Kind::Call(method, args) => return Some(Begun { at, method, args }),
+                Kind::Return(_) => return None,
                 _ => {}
             }
         }
     }
-    begun
+    None
 }
 
 /// The caller's next return from this position on.

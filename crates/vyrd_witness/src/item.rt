@@ -1,11 +1,12 @@
-//! What is said of a view that differs, item by item.
+//! What is said of a verdict, item by item.
 
 use crate::change::Change;
+use crate::effect::Effect;
 
 /// One item. Positions count the entries before, from 0.
 #[derive(Clone, Copy, Debug, PartialEq, Eq)]
 pub enum Item {
-    /// Where the call of the execution stands whose commit is at fault.
+    /// Where the call stands of the execution that the verdict is about.
     Called { at: usize },
     /// Where it returns.
     Replied { at: usize },
@@ -17,4 +18,21 @@ pub enum Item {
     Shown { at: usize, key: u64, amount: u128 },
     /// A write since then that changed what they show of it.
     Changed { key: u64, change: Change },
+    /// What the specification's state has of the key before the commit that stands there.
+    Before { at: usize, key: u64, amount: u64 },
+    /// What it has of it after that commit.
+    After { at: usize, key: u64, amount: u64 },
+    /// A reply that the state before the commit allows.
+    Allowed { reply: u64 },
+    /// What an observer would reply from the entry on that stands there.
+    Answered { at: usize, reply: u64 },
+    /// A call that is open there.
+    OpenCall { at: usize },
+    /// Where a block begins that is open there.
+    OpenBlock { at: usize },
+    /// The last write of another caller's open block to the word.
+    Held { at: usize },
+    /// A write of another caller to the word, which took effect behind the commit inside the
+    /// writer's block.
+    Passed { effect: Effect },
 }

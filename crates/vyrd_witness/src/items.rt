@@ -1,11 +1,10 @@
 //! From a witness to what is said of it, item by item.
 
 ghost use Rattle.std.specs.Prelude.{◌≡◌, ◌≢◌, ◌++◌, ◌<◌, [], length, map, IfOk, OnOk, None};
-ghost use Rattle.std.specs.Option.{option_map_or};
 ghost use Rattle.vyrd_base.specs.Front.{first_break};
 ghost use Rattle.vyrd_base.specs.Rules.{rules_by};
 ghost use Rattle.vyrd_witness.specs.declared.item.Item.TheVariants.{Changed};
-ghost use Rattle.vyrd_witness.specs.Items.{execution_items, execution_at, agreed_item};
+ghost use Rattle.vyrd_witness.specs.Items.{execution_items, called_items, agreed_item};
 ghost use Rattle.vyrd_witness.specs.Items.{witness_items, view_items};
 
 use crate::change::Change;
@@ -37,16 +36,17 @@ pub fn view_items<S: Shown>(
         ≡ view_items (rules_by (S.charter shown.now)) starting.now front.now at key) }
 {
     let witness = view_witness(alloc, shown, starting, front, at, key)?;
-    let mut items = execution_of_entry(alloc, front, at)?;
+    let mut items = called_items(alloc, front, at)?;
     push_witness(at, &witness, &mut items)?;
     Ok(items)
 }
 
 /// Where the execution was called and returns in whose midst the entry at a position stands.
-fn execution_of_entry(alloc: Global, front: &[Entry], at: usize) -> Result<Vec<Item>, AllocError>
+///
+/// The only error is that memory has run out. Time is that of `execution_of`.
+pub fn called_items(alloc: Global, front: &[Entry], at: usize) -> Result<Vec<Item>, AllocError>
     requires { at < length front.now }
-    ensures { IfOk result (λ items. items.items
-        ≡ option_map_or execution_items (execution_at front.now at) []) }
+    ensures { IfOk result (λ items. items.items ≡ called_items front.now at) }
 {
     let mut items = Vec::new(alloc);
     if let Some(execution) = execution_of(front, at, entry_at(front, at).caller) {

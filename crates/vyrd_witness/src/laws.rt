@@ -1,8 +1,10 @@
 //! Laws of the definitions of a witness, each a clause of a function that does nothing.
 
-ghost use Rattle.std.specs.Prelude.{◌≡◌, ◌≢◌, ◌+◌, ℕ, true, List, All, drop, take};
+ghost use Rattle.std.specs.Prelude.{◌≡◌, ◌≢◌, ◌↔◌, ◌+◌, ℕ, true, false, List, [], All, drop, take};
 ghost use Rattle.std.specs.Prelude.{slice_get, Some, None};
+ghost use Rattle.vyrd_base.specs.declared.header.Header.{Header};
 ghost use Rattle.vyrd_base.specs.declared.log.Entry.{Entry};
+ghost use Rattle.vyrd_base.specs.declared.log.Kind.TheVariants.{Write};
 ghost use Rattle.vyrd_base.specs.declared.log.StartWord.{StartWord};
 ghost use Rattle.vyrd_base.specs.declared.verdict.Why.TheVariants.{View};
 ghost use Rattle.vyrd_base.specs.Amounts.{amount_of};
@@ -11,13 +13,16 @@ ghost use Rattle.vyrd_base.specs.Entries.{place_of};
 ghost use Rattle.vyrd_base.specs.Faults.{fault_at};
 ghost use Rattle.vyrd_base.specs.Places.{newest_first};
 ghost use Rattle.vyrd_base.specs.Rules.{Rules};
+ghost use Rattle.vyrd_base.specs.Samples.{by};
+ghost use Rattle.vyrd_base.specs.Shape.{is_held_by_other, is_raced};
 ghost use Rattle.vyrd_base.specs.States.{State};
-ghost use Rattle.vyrd_base.specs.Words.{effects_at};
+ghost use Rattle.vyrd_base.specs.Words.{effects_at, is_passed};
 ghost use Rattle.vyrd_witness.specs.declared.effect.Effect.{Effect};
 ghost use Rattle.vyrd_witness.specs.Changes.{amount_shown, changes_in, words_through};
 ghost use Rattle.vyrd_witness.specs.Effects.{effects_by};
 ghost use Rattle.vyrd_witness.specs.Leading.{LeadTo};
 ghost use Rattle.vyrd_witness.specs.Plain.{plain_writes};
+ghost use Rattle.vyrd_witness.specs.Races.{held_items, passed_items, race_items};
 ghost use Rattle.vyrd_witness.specs.ViewWitnesses.{amount_then};
 ghost use Rattle.vyrd_witness.specs.Written.{IsWritten};
 
@@ -68,4 +73,25 @@ pub fn words_and_state_differ_at_the_fault()
         → fault_at r starting states
         (place_of e (newest_first (take at front)) (drop (at + 1) front)) ≡ Some (View key)
         → amount_then r starting front (at + 1) key ≢ amount_of (r.shown t) key }
+{}
+
+/// A write to a word that another caller holds has that caller's write among its items, and only
+/// such a write has one.
+pub fn held_words_have_items()
+    ensures { (h : Header) (front : List Entry) (c w : ℕ)
+        → (held_items h front c w ≡ []) ↔ (is_held_by_other h c w (newest_first front) ≡ false) }
+{}
+
+/// A write to a word that is passed has a write that passed it among its items, and only such a
+/// write has one.
+pub fn passed_words_have_items()
+    ensures { (front : List Entry) (c w : ℕ)
+        → (passed_items front c w ≡ []) ↔ (is_passed c w (newest_first front) ≡ false) }
+{}
+
+/// So a write has an item exactly where it races.
+pub fn races_have_items()
+    ensures { (h : Header) (front : List Entry) (c w value : ℕ)
+        → (race_items h front (by c (Write w value)) ≡ [])
+        ↔ (is_raced h c w (newest_first front) ≡ false) }
 {}

@@ -8,7 +8,10 @@
 //! entries a second time, after a judge, and asks for them whole.
 //!
 //! `view_items` says the same item by item, with where the execution was called and returns
-//! (`execution_of`), and `text_of` writes the items, a line each.
+//! (`execution_of`), and `text_of` writes the items, a line each. Two calls give the items of other
+//! verdicts: `open_items` says what is open after a front, and `race_items` what has to do with a
+//! write that races. Each is the value of a definition too, and a write has an item exactly where
+//! it races (the law `races_have_items`).
 //!
 //! What words show is said by the trait `Shown`, by any rules; `BuiltInShown` is that of the
 //! built-in subjects. When a write takes effect is said by the one definition of it, `effects_at`
@@ -22,7 +25,10 @@ mod execution;
 mod item;
 mod items;
 pub mod laws;
+mod lines;
+mod opens;
 mod phase;
+mod races;
 mod shown;
 mod text;
 mod view;
@@ -34,7 +40,11 @@ pub use change::Change;
 pub use effect::Effect;
 pub use execution::{Execution, Returned, execution_of};
 pub use item::Item;
-pub use items::view_items;
+pub use items::{called_items, view_items};
+pub use lines::{InRow, Lines};
+pub use opens::open_items;
+pub use races::race_items;
 pub use shown::Shown;
 pub use text::text_of;
 pub use view::{ViewWitness, view_witness};
+pub use walk::words_at_start;

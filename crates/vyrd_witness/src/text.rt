@@ -2,85 +2,158 @@
 
 ghost use Rattle.std.specs.Prelude.{◌≡◌, ◌++◌, ◌≤◌, ◌+◌, IfOk, OnOk, length, codes, decimal};
 ghost use Rattle.vyrd_base.specs.Spelling.{ended_line};
-ghost use Rattle.vyrd_base.specs.Verdicts.{line_of};
-ghost use Rattle.vyrd_witness.specs.declared.item.Item.TheVariants.{Changed};
-ghost use Rattle.vyrd_witness.specs.ItemText.{line_words, amount_words, value_words, shown_words};
+ghost use Rattle.vyrd_witness.specs.declared.item.Item.TheVariants.{Changed, Answered, Passed};
+ghost use Rattle.vyrd_witness.specs.ItemText.{line_words, amount_words, reply_words, word_words};
+ghost use Rattle.vyrd_witness.specs.ItemText.{value_words, shown_words};
 ghost use Rattle.vyrd_witness.specs.ItemText.{item_words, item_text, items_text};
 
 use crate::change::Change;
+use crate::effect::Effect;
 use crate::item::Item;
+use crate::lines::Lines;
 use itoa::Buffer;
 use std::alloc::{AllocError, Global};
-use vyrd_base::StartWord;
 use vyrd_text::LineBuffer;
 
-/// The text of items, a line each, where the log begins with these words. It takes memory for the
-/// text.
-pub fn text_of(alloc: Global, starting: &[StartWord], items: &[Item]) -> Result<Vec<u8>, AllocError>
-    ensures { IfOk result (λ text. text.items ≡ items_text starting.now items.now) }
+/// The text of items, a line each, of a log whose entries stand on these lines. It takes memory for
+/// the text.
+pub fn text_of<L: Lines>(alloc: Global, lines: &L, items: &[Item]) -> Result<Vec<u8>, AllocError>
+    ensures { IfOk result (λ text. text.items ≡ items_text (L.line lines.now) items.now) }
 {
     let mut text = Vec::new(alloc);
     for item in items {
-        put_words(starting, *item, &mut text)?;
+        put_words(lines, *item, &mut text)?;
         text.extend_from_slice(b"\n")?;
     }
     Ok(text)
 }
 
 /// Puts an item, without its line feed, at the end.
-fn put_words(starting: &[StartWord], item: Item, text: &mut Vec<u8>) -> Result<(), AllocError>
-    ensures { OnOk result (text.new.items ≡ text.old.items ++ item_words starting.now item) }
+fn put_words<L: Lines>(lines: &L, item: Item, text: &mut Vec<u8>) -> Result<(), AllocError>
+    ensures { OnOk result (text.new.items ≡ text.old.items ++ item_words (L.line lines.now) item) }
 {
     match item {
-        Item::Called { at } => put_line(starting, b"call at line ", at, text),
-        Item::Replied { at } => put_line(starting, b"reply at line ", at, text),
-        Item::AgreedAtStart { key, amount } => {
-            text.extend_from_slice(b"agreed at the start")?;
-            put_amount(key, amount, text)
-        }
+        Item::Called { at } => put_line(lines, b"call at line ", at, text),
+        Item::Replied { at } => put_line(lines, b"reply at line ", at, text),
+        Item::AgreedAtStart { key, amount } => put_agreed_at_start(key, amount, text),
         Item::Agreed { at, key, amount } => {
-            put_line(starting, b"agreed at line ", at, text)?;
-            put_amount(key, amount, text)
+            put_amount_at(lines, b"agreed at line ", at, key, amount, text)
         }
         Item::Shown { at, key, amount } => {
-            put_line(starting, b"words after line ", at, text)?;
-            put_amount(key, amount, text)
+            put_amount_at(lines, b"words after line ", at, key, amount, text)
         }
-        Item::Changed { key, change } => put_change(starting, key, change, text),
+        Item::Changed { key, change } => put_change(lines, key, change, text),
+        Item::Before { at, key, amount } => {
+            put_state_at(lines, b"state before line ", at, key, amount, text)
+        }
+        Item::After { at, key, amount } => {
+            put_state_at(lines, b"state after line ", at, key, amount, text)
+        }
+        Item::Allowed { reply } => put_reply(b"allowed reply ", reply, text),
+        Item::Answered { at, reply } => put_answer(lines, at, reply, text),
+        Item::OpenCall { at } => put_line(lines, b"open call at line ", at, text),
+        Item::OpenBlock { at } => put_line(lines, b"open block at line ", at, text),
+        Item::Held { at } => put_line(lines, b"held by line ", at, text),
+        Item::Passed { effect } => put_passed(lines, effect, text),
     }
 }
 
+/// Puts what the words showed of a key at the start at the end.
+fn put_agreed_at_start(key: u64, amount: u128, text: &mut Vec<u8>) -> Result<(), AllocError>
+    ensures { OnOk result (text.new.items
+        ≡ text.old.items ++ (codes "agreed at the start" ++ amount_words key amount)) }
+{
+    text.extend_from_slice(b"agreed at the start")?;
+    put_amount(key, amount, text)
+}
+
+/// Puts words, the line of the entry at a position, and an amount that a key has there at the end.
+fn put_amount_at<L: Lines>(
+    lines: &L,
+    words: &[u8],
+    at: usize,
+    key: u64,
+    amount: u128,
+    text: &mut Vec<u8>,
+) -> Result<(), AllocError>
+    requires { length words.now ≤ 20 }
+    ensures { OnOk result (text.new.items
+        ≡ text.old.items ++ (line_words (L.line lines.now) words.now at ++ amount_words key amount)) }
+{
+    put_line(lines, words, at, text)?;
+    put_amount(key, amount, text)
+}
+
+/// The same of an amount that a state has.
+fn put_state_at<L: Lines>(
+    lines: &L,
+    words: &[u8],
+    at: usize,
+    key: u64,
+    amount: u64,
+    text: &mut Vec<u8>,
+) -> Result<(), AllocError>
+    requires { length words.now ≤ 20 }
+    ensures { OnOk result (text.new.items
+        ≡ text.old.items ++ (line_words (L.line lines.now) words.now at ++ amount_words key amount)) }
+{
+    put_amount_at(lines, words, at, key, u128::from(amount), text)
+}
+
+/// Puts an answer, and from which line on it is given, at the end.
+fn put_answer<L: Lines>(
+    lines: &L,
+    at: usize,
+    reply: u64,
+    text: &mut Vec<u8>,
+) -> Result<(), AllocError>
+    ensures { OnOk result (text.new.items
+        ≡ text.old.items ++ item_words (L.line lines.now) (Answered at reply)) }
+{
+    put_line(lines, b"answer from line ", at, text)?;
+    put_reply(b": ", reply, text)
+}
+
+/// Puts a write that took effect behind a commit at the end.
+fn put_passed<L: Lines>(lines: &L, effect: Effect, text: &mut Vec<u8>) -> Result<(), AllocError>
+    ensures { OnOk result (text.new.items
+        ≡ text.old.items ++ item_words (L.line lines.now) (Passed effect)) }
+{
+    put_line(lines, b"passed at line ", effect.written, text)?;
+    put_word(effect, text)?;
+    put_line(lines, b", in effect at line ", effect.at, text)
+}
+
 /// Puts a change at the end.
-fn put_change(
-    starting: &[StartWord],
+fn put_change<L: Lines>(
+    lines: &L,
     key: u64,
     change: Change,
     text: &mut Vec<u8>,
 ) -> Result<(), AllocError>
     ensures { OnOk result (text.new.items
-        ≡ text.old.items ++ item_words starting.now (Changed key change)) }
+        ≡ text.old.items ++ item_words (L.line lines.now) (Changed key change)) }
 {
-    put_line(starting, b"change at line ", change.effect.written, text)?;
+    put_line(lines, b"change at line ", change.effect.written, text)?;
     put_value(change, text)?;
-    put_line(starting, b", in effect at line ", change.effect.at, text)?;
+    put_line(lines, b", in effect at line ", change.effect.at, text)?;
     put_shown(key, change, text)
 }
 
 /// Puts words and the line of the entry at a position at the end.
 #[tactic(auto, unfolding(crate::specs::ItemText::line_words))]
-fn put_line(
-    starting: &[StartWord],
+fn put_line<L: Lines>(
+    lines: &L,
     words: &[u8],
     at: usize,
     text: &mut Vec<u8>,
 ) -> Result<(), AllocError>
     requires { length words.now ≤ 20 }
     ensures { OnOk result (text.new.items
-        ≡ text.old.items ++ line_words starting.now words.now at) }
+        ≡ text.old.items ++ line_words (L.line lines.now) words.now at) }
 {
-    let line_number = starting.len() as u128 + at as u128 + 2;
     let mut line = LineBuffer::new();
-    push_said(words, line_number, &mut line);
+    push_said(words, lines.line(at), &mut line);
     text.extend_from_slice(line.as_slice())
 }
 
@@ -92,6 +165,27 @@ fn put_amount(key: u64, amount: u128, text: &mut Vec<u8>) -> Result<(), AllocErr
     let mut line = LineBuffer::new();
     push_said(b": key ", u128::from(key), &mut line);
     push_said(b" amount ", amount, &mut line);
+    text.extend_from_slice(line.as_slice())
+}
+
+/// Puts words and a reply at the end.
+#[tactic(auto, unfolding(crate::specs::ItemText::reply_words))]
+fn put_reply(words: &[u8], reply: u64, text: &mut Vec<u8>) -> Result<(), AllocError>
+    requires { length words.now ≤ 20 }
+    ensures { OnOk result (text.new.items ≡ text.old.items ++ reply_words words.now reply) }
+{
+    let mut line = LineBuffer::new();
+    push_word(words, reply, &mut line);
+    text.extend_from_slice(line.as_slice())
+}
+
+/// Puts which word an effect is on at the end.
+#[tactic(auto, unfolding(crate::specs::ItemText::word_words))]
+fn put_word(effect: Effect, text: &mut Vec<u8>) -> Result<(), AllocError>
+    ensures { OnOk result (text.new.items ≡ text.old.items ++ word_words effect) }
+{
+    let mut line = LineBuffer::new();
+    push_word(b": word ", u64::from(effect.word), &mut line);
     text.extend_from_slice(line.as_slice())
 }
 

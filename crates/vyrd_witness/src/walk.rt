@@ -103,6 +103,32 @@ impl Walk {
         Ok(changes)
     }
 
+    /// Goes on from one place to another, and finds all effects on the way. It doesn't let them
+    /// take place.
+    pub fn effects(
+        &mut self,
+        alloc: Global,
+        header: Header,
+        front: &[Entry],
+        from: usize,
+        to: usize,
+    ) -> Result<Vec<Effect>, AllocError>
+        requires order { from ≤ to }
+        requires within { to ≤ length front.now }
+        requires kept { first_break header front.now ≡ None }
+        requires here { ArePhases header self.old.phases.items
+            (newest_first (take from front.now)) }
+        ensures { IfOk result
+            (λ effects. effects.items ≡ effects_along front.now from to) }
+    {
+        let mut effects = Vec::new(alloc);
+        for at in from..to {
+            let here = self.step(alloc, header, front, at)?;
+            effects.extend_from_slice(&here)?;
+        }
+        Ok(effects)
+    }
+
     /// The writes that take effect at the entry at a place, the first to do so first. The callers
     /// are then seen as they are after it; the words stay as they are.
     fn step(
@@ -132,7 +158,7 @@ impl Walk {
 
 /// The plain words at the start: those that a log begins with have their values, and all others are
 /// 0. The first of several values of one word counts.
-fn words_at_start(
+pub fn words_at_start(
     alloc: Global,
     header: Header,
     starting: &[StartWord],

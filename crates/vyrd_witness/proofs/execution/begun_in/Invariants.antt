@@ -1,7 +1,6 @@
-use Rattle.std.proofs.Common.{◌≡◌, take}
-use Rattle.vyrd_base.specs.Places.{newest_first}
-use Rattle.vyrd_witness.specs.Executions.{begun_in}
+use Rattle.std.proofs.Common.{◌-◌, length}
+use Rattle.vyrd_witness.proofs.BegunLaws.{LeavesBegun}
 use Rattle.vyrd_witness.proofs.execution.begun_in.Given as goal
 
-abbrev pub invariant-loop-at : goal.invariant-loop-at
-invariant-loop-at l = l.begun ≡ begun_in l.fn.caller (newest_first (take l.at l.before))
+abbrev pub invariant-loop-i : goal.invariant-loop-i
+invariant-loop-i l = LeavesBegun l.fn.caller l.before (length l.before - l.i)

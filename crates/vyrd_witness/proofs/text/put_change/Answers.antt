@@ -5,8 +5,8 @@ use Rattle.vyrd_witness.proofs.TextLaws.{four_behind}
 use Rattle.vyrd_witness.proofs.text.put_change.Goals as goal
 
 pub returns : goal.returns
-returns c =
-    let s = c.args.starting.now in
+returns g c =
+    let s = (g.L.Lines.line c.args.lines.now) in
     let x = c.args.change in
     on_ok_weaker c.put_shown.result
     (λ last. last

@@ -1,27 +1,34 @@
-use Rattle.std.proofs.Common.{ap, sym, ◌∙◌, ◌++◌, codes}
+use Rattle.std.proofs.Common.{ap, sym, ◌∙◌, ◌++◌}
 use Rattle.std.proofs.lemmas.Result.{on_ok_weaker}
-use Rattle.vyrd_witness.specs.ItemText.{line_words, amount_words, item_words}
-use Rattle.vyrd_witness.proofs.TextLaws.{two_behind}
+use Rattle.vyrd_witness.specs.ItemText.{item_words}
 use Rattle.vyrd_witness.proofs.text.put_words.Goals as goal
 
-pub returns-in_ok-extend_from_slice-in-AgreedAtStart :
-    goal.returns-in_ok-extend_from_slice-in-AgreedAtStart
-returns-in_ok-extend_from_slice-in-AgreedAtStart c =
-    let text = c.args.text.now.items in
-    let said = amount_words c.in-AgreedAtStart.key c.in-AgreedAtStart.amount in
-    on_ok_weaker c.put_amount.result
-    (λ last. last ∙ ap (λ xs. xs ++ said) c.in_ok-extend_from_slice-in-AgreedAtStart.ensures.items
-    ∙ two_behind text (codes "agreed at the start") said
-    ∙ ap (λ item. text ++ item_words c.args.starting.now item) (sym c.in-AgreedAtStart.is))
-    c.put_amount.ensures
+pub returns-in-Agreed : goal.returns-in-Agreed
+returns-in-Agreed g c = on_ok_weaker c.put_amount_at.result
+    (λ last. last ∙ ap (λ item. c.args.text.now.items ++ item_words (g.L.Lines.line c.args.lines.now) item)
+    (sym c.in-Agreed.is))
+    c.put_amount_at.ensures
 
-pub returns-in_ok-put_line-in-Agreed : goal.returns-in_ok-put_line-in-Agreed
-returns-in_ok-put_line-in-Agreed c =
-    let text = c.args.text.now.items in
-    let s = c.args.starting.now in
-    let said = amount_words c.in-Agreed.key c.in-Agreed.amount in
-    on_ok_weaker c.put_amount-in-Agreed.result
-    (λ last. last ∙ ap (λ xs. xs ++ said) c.in_ok-put_line-in-Agreed.ensures
-    ∙ two_behind text (line_words s (codes "agreed at line ") c.in-Agreed.at) said
-    ∙ ap (λ item. text ++ item_words s item) (sym c.in-Agreed.is))
-    c.put_amount-in-Agreed.ensures
+pub returns-in-Before : goal.returns-in-Before
+returns-in-Before g c = on_ok_weaker c.put_state_at.result
+    (λ last. last ∙ ap (λ item. c.args.text.now.items ++ item_words (g.L.Lines.line c.args.lines.now) item)
+    (sym c.in-Before.is))
+    c.put_state_at.ensures
+
+pub returns-in-After : goal.returns-in-After
+returns-in-After g c = on_ok_weaker c.put_state_at-in-After.result
+    (λ last. last ∙ ap (λ item. c.args.text.now.items ++ item_words (g.L.Lines.line c.args.lines.now) item)
+    (sym c.in-After.is))
+    c.put_state_at-in-After.ensures
+
+pub returns-in-Allowed : goal.returns-in-Allowed
+returns-in-Allowed g c = on_ok_weaker c.put_reply.result
+    (λ last. last ∙ ap (λ item. c.args.text.now.items ++ item_words (g.L.Lines.line c.args.lines.now) item)
+    (sym c.in-Allowed.is))
+    c.put_reply.ensures
+
+pub returns-in-Held : goal.returns-in-Held
+returns-in-Held g c = on_ok_weaker c.put_line-in-Held.result
+    (λ last. last ∙ ap (λ item. c.args.text.now.items ++ item_words (g.L.Lines.line c.args.lines.now) item)
+    (sym c.in-Held.is))
+    c.put_line-in-Held.ensures

@@ -1,0 +1,122 @@
+-- A caller's open call, entry by entry back from a position.
+use Rattle.std.proofs.Common.{◌≡◌, ℕ, ◌+◌, ◌-◌, ◌<◌, ◌≤◌, Bool, true, ◌&&◌, List, length}
+use Rattle.std.proofs.Common.{take, Option, Some, None, slice_get, refl, ap, ◌∙◌, sym, arith}
+use Rattle.std.proofs.lemmas.List.{length-take-le}
+use Rattle.std.specs.Prelude.{◌==◌, ◌≢◌, option_map, if◌then◌else◌}
+use Rattle.std.specs.Option.{option_or, option_flatten}
+use Rattle.vyrd_base.specs.declared.subject.Method.{Method}
+use Rattle.vyrd_base.specs.declared.subject.Args.{Args}
+use Rattle.vyrd_base.specs.declared.log.Kind.{Kind}
+use Rattle.vyrd_base.specs.declared.log.Kind.TheVariants.{Call, Return, Write, Commit, BlockOpen}
+use Rattle.vyrd_base.specs.declared.log.Kind.TheVariants.{BlockClose, BlockCommit}
+use Rattle.vyrd_base.specs.declared.log.Entry.{Entry}
+use Rattle.vyrd_base.specs.Callers.{by_caller, call_or_return, is_call, entries_before_call}
+use Rattle.vyrd_base.specs.Places.{newest_first, first_answer}
+use Rattle.vyrd_base.proofs.PlaceLaws.{length-newest_first}
+use Rattle.vyrd_base.proofs.TestLaws.{is_same, isnt_same}
+use Rattle.vyrd_witness.specs.declared.execution.Begun.{Begun}
+use Rattle.vyrd_witness.specs.Executions.{begun_in}
+use Rattle.vyrd_witness.proofs.PhaseLaws.{newest_at}
+
+-- the call that the entries before a position leave open
+abbrev pub begun_before : ℕ → List Entry → ℕ → Option Begun
+begun_before c log n = begun_in c (newest_first (take n log))
+
+-- it is that of the whole log
+abbrev pub LeavesBegun : ℕ → List Entry → ℕ → Type 0
+LeavesBegun c log n = begun_before c log n ≡ begun_in c (newest_first log)
+
+-- with one more entry, by whether it is the caller's
+abbrev begun_with : Bool → Kind → ℕ → List Entry → Option Begun
+begun_with own kind c earlier = option_map
+    (λ called. record {
+      at = length (if own && is_call kind then earlier else entries_before_call c earlier);
+      method = called.method;
+      args = called.args;
+    })
+    (option_flatten (option_or (if own then call_or_return kind else None)
+    (first_answer (by_caller c call_or_return) earlier)))
+
+begun_next : (c : ℕ) (log : List Entry) (n : ℕ) (e : Entry) → slice_get log n ≡ Some e
+    → begun_before c log (n + 1)
+    ≡ begun_with (e.caller == c) e.kind c (newest_first (take n log))
+begun_next c log n e here = ap (begun_in c) (newest_at log n e here)
+
+-- an entry of another caller
+other_before : (c : ℕ) (log : List Entry) (n : ℕ) (e : Entry) → slice_get log n ≡ Some e
+    → e.caller ≢ c → begun_before c log (n + 1) ≡ begun_before c log n
+other_before c log n e here other = begun_next c log n e here
+    ∙ ap (λ own. begun_with own e.kind c (newest_first (take n log))) (isnt_same e.caller c other)
+
+-- an entry of the caller
+own_before : (c : ℕ) (log : List Entry) (n : ℕ) (e : Entry) → slice_get log n ≡ Some e
+    → e.caller ≡ c
+    → begun_before c log (n + 1) ≡ begun_with true e.kind c (newest_first (take n log))
+own_before c log n e here same = begun_next c log n e here
+    ∙ ap (λ own. begun_with own e.kind c (newest_first (take n log))) (is_same e.caller c same)
+
+quiet_with : (kind : Kind) (c : ℕ) (earlier : List Entry)
+    → ((method : Method) (args : Args) → kind ≡ Call method args → ⊥)
+    → ((reply : ℕ) → kind ≡ Return reply → ⊥)
+    → begun_with true kind c earlier ≡ begun_in c earlier
+quiet_with (Call method args) c earlier calls returns = absurd (calls method args refl)
+quiet_with (Return reply) c earlier calls returns = absurd (returns reply refl)
+quiet_with (Write word value) c earlier calls returns = refl
+quiet_with Commit c earlier calls returns = refl
+quiet_with BlockOpen c earlier calls returns = refl
+quiet_with BlockClose c earlier calls returns = refl
+quiet_with BlockCommit c earlier calls returns = refl
+
+-- an entry further back
+goes_back : (c : ℕ) (log : List Entry) (i n : ℕ) → i < length log → n ≡ length log - 1 - i
+    → begun_before c log (n + 1) ≡ begun_before c log n → LeavesBegun c log (length log - i)
+    → LeavesBegun c log (length log - (i + 1))
+goes_back c log i n low place step so =
+    let here : length log - i ≡ n + 1 = omega (arith, low, place) in
+    let next : length log - (i + 1) ≡ n = omega (arith, low, place) in
+    ap (begun_before c log) next ∙ sym step ∙ ap (begun_before c log) (sym here) ∙ so
+
+pub back_other : (c : ℕ) (log : List Entry) (i n : ℕ) (e : Entry) → i < length log
+    → n ≡ length log - 1 - i → slice_get log n ≡ Some e → e.caller ≢ c
+    → LeavesBegun c log (length log - i) → LeavesBegun c log (length log - (i + 1))
+back_other c log i n e low place here other =
+    goes_back c log i n low place (other_before c log n e here other)
+
+pub back_quiet : (c : ℕ) (log : List Entry) (i n : ℕ) (e : Entry) → i < length log
+    → n ≡ length log - 1 - i → slice_get log n ≡ Some e → e.caller ≡ c
+    → ((method : Method) (args : Args) → e.kind ≡ Call method args → ⊥)
+    → ((reply : ℕ) → e.kind ≡ Return reply → ⊥)
+    → LeavesBegun c log (length log - i) → LeavesBegun c log (length log - (i + 1))
+back_quiet c log i n e low place here same calls returns =
+    goes_back c log i n low place (own_before c log n e here same
+    ∙ quiet_with e.kind c (newest_first (take n log)) calls returns)
+
+-- at the call, at a return, and with no entry left
+found_back : (c : ℕ) (log : List Entry) (i n : ℕ) (e : Entry) → i < length log
+    → n ≡ length log - 1 - i → slice_get log n ≡ Some e → e.caller ≡ c
+    → LeavesBegun c log (length log - i)
+    → begun_with true e.kind c (newest_first (take n log)) ≡ begun_in c (newest_first log)
+found_back c log i n e low place here same so =
+    let next : n + 1 ≡ length log - i = omega (arith, low, place) in
+    sym (own_before c log n e here same) ∙ ap (begun_before c log) next ∙ so
+
+pub back_call : (c : ℕ) (log : List Entry) (i n : ℕ) (e : Entry) (method : Method) (args : Args)
+    → i < length log → n ≡ length log - 1 - i → slice_get log n ≡ Some e → e.caller ≡ c
+    → e.kind ≡ Call method args → LeavesBegun c log (length log - i)
+    → Some (record { at = n; method = method; args = args }) ≡ begun_in c (newest_first log)
+back_call c log i n e method args low place here same is so =
+    let within : n ≤ length log = omega (arith, low, place) in
+    let at : n ≡ length (newest_first (take n log)) =
+    sym (length-newest_first (take n log) ∙ length-take-le n log within) in
+    ap (λ k. Some (record { at = k; method = method; args = args })) at
+    ∙ ap (λ kind. begun_with true kind c (newest_first (take n log))) (sym is)
+    ∙ found_back c log i n e low place here same so
+
+pub back_return : (c : ℕ) (log : List Entry) (i n : ℕ) (e : Entry) (reply : ℕ) → i < length log
+    → n ≡ length log - 1 - i → slice_get log n ≡ Some e → e.caller ≡ c → e.kind ≡ Return reply
+    → LeavesBegun c log (length log - i) → None ≡ begun_in c (newest_first log)
+back_return c log i n e reply low place here same is so =
+    ap (λ kind. begun_with true kind c (newest_first (take n log))) (sym is)
+    ∙ found_back c log i n e low place here same so
+
+pub ruleset begun_back = (back_other, back_quiet, back_call, back_return)

@@ -1,0 +1,16 @@
+use Rattle.std.proofs.Common.{◌≡◌, ◌<◌, take, cond, None}
+use Rattle.std.specs.Prelude.{IfSome}
+use Rattle.vyrd_base.specs.Callers.{has_block}
+use Rattle.vyrd_base.specs.Places.{newest_first}
+use Rattle.vyrd_base.specs.Words.{is_lone_commit}
+use Rattle.vyrd_base.proofs.EffectLaws.{committed_since_open}
+use Rattle.vyrd_witness.specs.Races.{last_of}
+use Rattle.vyrd_witness.proofs.races.inner_commit.Given as goal
+
+abbrev pub invariant-loop-at : goal.invariant-loop-at
+invariant-loop-at l = record {
+  block : l.in_block ≡ has_block l.fn.caller (newest_first (take l.at l.front));
+  commit : l.commit ≡ cond (committed_since_open l.fn.caller (newest_first (take l.at l.front)))
+      (last_of l.fn.caller is_lone_commit (newest_first (take l.at l.front))) None;
+  within : IfSome l.commit (λ at. at < l.at);
+}
