@@ -1,0 +1,6 @@
+pub mod CallLaws
+pub mod KnownLaws
+pub mod ReplyLaws
+pub mod RunLaws
+pub mod StartLaws
+pub mod WindowLaws

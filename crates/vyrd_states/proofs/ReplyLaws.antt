@@ -1,0 +1,126 @@
+-- The replies that a state allows, one more.
+use Rattle.std.proofs.Common.{◌≡◌, ℕ, ◌+◌, Bool, true, false, cond, List, [], ◌∷◌, ◌++◌, map}
+use Rattle.std.proofs.Common.{Option, Some, None, refl, ap, ◌∙◌, sym, append-nil}
+use Rattle.std.proofs.Common.{append_assoc, take, slice_get}
+use Rattle.std.specs.Prelude.{is_some, filter, option_and_then}
+use Rattle.std.specs.Option.{option_map_or}
+use Rattle.vyrd_base.specs.declared.log.Entry.{Entry}
+use Rattle.vyrd_base.specs.declared.log.StartWord.{StartWord}
+use Rattle.vyrd_base.specs.Callers.{Called, open_call}
+use Rattle.vyrd_base.specs.Places.{newest_first, numbers_below}
+use Rattle.vyrd_base.specs.Rules.{Rules}
+use Rattle.vyrd_base.specs.States.{State}
+use Rattle.vyrd_base.proofs.PlaceLaws.{numbers_below-push}
+use Rattle.vyrd_witness.specs.declared.item.Item.{Item}
+use Rattle.vyrd_witness.specs.declared.item.Item.TheVariants.{Allowed}
+use Rattle.vyrd_witness.specs.declared.execution.Execution.{Execution}
+use Rattle.vyrd_witness.specs.Executions.{execution_in}
+use Rattle.vyrd_states.specs.Known.{state_then}
+use Rattle.vyrd_states.specs.Replies.{called_at, before_items, call_items, reply_items}
+use Rattle.vyrd_states.specs.Running.{called_by}
+use Rattle.vyrd_states.proofs.CallLaws.{execution_is, no_execution}
+
+-- the replies below a number that a state allows, if it is known
+abbrev pub allowed_below : Rules → Called → Option State → ℕ → List Item
+allowed_below r called o n = option_map_or
+    (λ state. map Allowed (filter (λ reply. is_some (r.next called.method called.args reply state))
+    (numbers_below n))) o []
+
+-- what passes a test among one element more
+filter_push : (p : ℕ → Bool) (xs : List ℕ) (x : ℕ)
+    → map Allowed (filter p (xs ++ x ∷ []))
+    ≡ map Allowed (filter p xs) ++ cond (p x) (Allowed x ∷ []) []
+filter_push p [] x = by_test (p x)
+  where
+    by_test : (b : Bool) → map Allowed (cond b (x ∷ []) []) ≡ cond b (Allowed x ∷ []) []
+    by_test true = refl
+    by_test false = refl
+filter_push p (y ∷ xs) x = by_test (p y) (filter_push p xs x)
+  where
+    by_test : (b : Bool)
+        → map Allowed (filter p (xs ++ x ∷ []))
+        ≡ map Allowed (filter p xs) ++ cond (p x) (Allowed x ∷ []) []
+        → map Allowed (cond b (y ∷ filter p (xs ++ x ∷ [])) (filter p (xs ++ x ∷ [])))
+        ≡ map Allowed (cond b (y ∷ filter p xs) (filter p xs)) ++ cond (p x) (Allowed x ∷ []) []
+    by_test true same = ap (λ ys. Allowed y ∷ ys) same
+    by_test false same = same
+
+one_more : (r : Rules) (called : Called) (s : State) (n : ℕ)
+    → allowed_below r called (Some s) (n + 1) ≡ allowed_below r called (Some s) n
+    ++ cond (is_some (r.next called.method called.args n s)) (Allowed n ∷ []) []
+one_more r called s n =
+    ap (λ xs. map Allowed (filter p xs)) (numbers_below-push n) ∙ filter_push p (numbers_below n) n
+  where
+    p : ℕ → Bool
+    p reply = is_some (r.next called.method called.args reply s)
+
+-- one more that is allowed, and one more that isn't
+pub reply_allowed : (r : Rules) (called : Called) (o : Option State) (s : State) (n : ℕ)
+    (first before after : List Item) (b : Bool) → o ≡ Some s
+    → b ≡ is_some (r.next called.method called.args n s) → b ≡ true
+    → before ≡ first ++ allowed_below r called o n → after ≡ before ++ Allowed n ∷ []
+    → after ≡ first ++ allowed_below r called o (n + 1)
+reply_allowed r called o s n first before after b known is allowed so next =
+    next ∙ ap (λ xs. xs ++ Allowed n ∷ []) so ∙ append_assoc first (allowed_below r called o n) (Allowed n ∷ [])
+    ∙ ap (λ q. first ++ (allowed_below r called q n ++ Allowed n ∷ [])) known
+    ∙ ap (λ t. first ++ (allowed_below r called (Some s) n ++ cond t (Allowed n ∷ []) []))
+    (sym allowed ∙ is)
+    ∙ ap (λ xs. first ++ xs) (sym (one_more r called s n))
+    ∙ ap (λ q. first ++ allowed_below r called q (n + 1)) (sym known)
+
+pub reply_refused : (r : Rules) (called : Called) (o : Option State) (s : State) (n : ℕ)
+    (first before : List Item) (b : Bool) → o ≡ Some s
+    → b ≡ is_some (r.next called.method called.args n s) → b ≡ false
+    → before ≡ first ++ allowed_below r called o n
+    → before ≡ first ++ allowed_below r called o (n + 1)
+reply_refused r called o s n first before b known is refused so =
+    so ∙ ap (λ q. first ++ allowed_below r called q n) known
+    ∙ ap (λ xs. first ++ xs) (sym (append-nil (allowed_below r called (Some s) n)))
+    ∙ ap (λ t. first ++ (allowed_below r called (Some s) n ++ cond t (Allowed n ∷ []) []))
+    (sym refused ∙ is)
+    ∙ ap (λ xs. first ++ xs) (sym (one_more r called s n))
+    ∙ ap (λ q. first ++ allowed_below r called q (n + 1)) (sym known)
+
+-- what the entry's caller has called, and what is said of it
+pub called_there : (front : List Entry) (at : ℕ) (e : Entry) (x : Execution)
+    → slice_get front at ≡ Some e → execution_in front at e.caller ≡ Some x
+    → called_at front at ≡ Some (called_by x)
+called_there front at e x here is =
+    ap (option_and_then (λ d. open_call d.caller (newest_first (take at front)))) here
+    ∙ (execution_is front at e.caller x is).0
+
+pub called_nothing : (front : List Entry) (at : ℕ) (e : Entry) → slice_get front at ≡ Some e
+    → execution_in front at e.caller ≡ None → called_at front at ≡ None
+called_nothing front at e here is =
+    ap (option_and_then (λ d. open_call d.caller (newest_first (take at front)))) here
+    ∙ no_execution front at e.caller is
+
+pub replies_to : (r : Rules) (starting : List StartWord) (front : List Entry) (at : ℕ) (e : Entry)
+    (x : Execution) → slice_get front at ≡ Some e → execution_in front at e.caller ≡ Some x
+    → option_map_or (λ s. before_items r at s (called_by x)) (state_then r starting front at) []
+    ++ allowed_below r (called_by x) (state_then r starting front at) 3
+    ≡ reply_items r starting front at
+replies_to r starting front at e x here is =
+    by_state (state_then r starting front at)
+    ∙ ap (λ q. option_map_or (λ s. option_map_or (call_items r at s) q [])
+    (state_then r starting front at) []) (sym (called_there front at e x here is))
+  where
+    by_state : (o : Option State)
+        → option_map_or (λ s. before_items r at s (called_by x)) o []
+        ++ allowed_below r (called_by x) o 3
+        ≡ option_map_or (λ s. option_map_or (call_items r at s) (Some (called_by x)) []) o []
+    by_state None = refl
+    by_state (Some s) = refl
+
+pub no_replies : (r : Rules) (starting : List StartWord) (front : List Entry) (at : ℕ) (e : Entry)
+    → slice_get front at ≡ Some e → execution_in front at e.caller ≡ None
+    → reply_items r starting front at ≡ []
+no_replies r starting front at e here is =
+    ap (λ q. option_map_or (λ s. option_map_or (call_items r at s) q [])
+    (state_then r starting front at) []) (called_nothing front at e here is)
+    ∙ by_state (state_then r starting front at)
+  where
+    by_state : (o : Option State)
+        → option_map_or (λ s. option_map_or (call_items r at s) None []) o [] ≡ []
+    by_state None = refl
+    by_state (Some s) = refl

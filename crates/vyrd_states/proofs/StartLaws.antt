@@ -1,0 +1,69 @@
+-- The words at the start are small, so that a specification can start from them.
+use Rattle.std.proofs.Common.{◌≡◌, ℕ, zero, suc, ◌+◌, ◌<◌, ◌^◌, Bool, true, false, not, cond, ◌||◌}
+use Rattle.std.proofs.Common.{List, [], ◌∷◌, map, Option, Some, None, ap, ◌∙◌, sym, arith}
+use Rattle.std.specs.Prelude.{◌==◌, nat_le, All, unwrap_or}
+use Rattle.std.specs.Option.{option_or}
+use Rattle.std.proofs.lemmas.Bool.{not-true}
+use Rattle.std.proofs.lemmas.List.Elements.{All-nil, All-cons}
+use Rattle.vyrd_base.specs.declared.header.Header.{Header}
+use Rattle.vyrd_base.specs.declared.log.Entry.{Entry}
+use Rattle.vyrd_base.specs.declared.log.StartWord.{StartWord}
+use Rattle.vyrd_base.specs.Layout.{plain_words}
+use Rattle.vyrd_base.specs.Places.{numbers_from, first_answer}
+use Rattle.vyrd_base.specs.Rules.{rules_of}
+use Rattle.vyrd_base.specs.Starts.{is_out_of_range, is_out_of_order, do_follow, may_start}
+use Rattle.vyrd_base.specs.Starts.{words_at_start, state_at_start}
+use Rattle.vyrd_base.specs.States.{State}
+use Rattle.vyrd_base.specs.Words.{given_to, value_at_start, value_after}
+use Rattle.vyrd_base.proofs.TestLaws.{above_of, first_true, second_true, neither_true}
+use Rattle.vyrd_states.specs.Known.{state_then}
+use Rattle.vyrd_states.proofs.KnownLaws.{state_then-first}
+
+value_small : (h : Header) (last : Option StartWord) (starting : List StartWord) (w : ℕ)
+    → do_follow h last starting ≡ true → value_at_start starting w < 2 ^ 63
+value_small h last [] w e = omega arith
+value_small h last (s ∷ starting) w e =
+    by_word (s.word == w) (value_small h (Some s) starting w (second_true keeps _ e))
+  where
+    keeps : Bool
+    keeps = not (is_out_of_range h s || is_out_of_order last s)
+
+    in_range : is_out_of_range h s ≡ false
+    in_range = (neither_true (is_out_of_range h s) (is_out_of_order last s)
+        (not-true _ (first_true keeps (do_follow h (Some s) starting) e))).0
+
+    value : s.value < 2 ^ 63
+    value = above_of (2 ^ 63) s.value (neither_true (nat_le (plain_words h) s.word || s.value == 0)
+        (nat_le (2 ^ 63) s.value) in_range).1
+
+    by_word : (b : Bool) → value_at_start starting w < 2 ^ 63
+        → unwrap_or (option_or (cond b (Some s.value) None)
+        (first_answer (λ t. given_to w (t.word, t.value)) starting)) 0 < 2 ^ 63
+    by_word true rest = value
+    by_word false rest = rest
+
+start_small : (h : Header) (starting : List StartWord) (w : ℕ) → may_start h starting ≡ true
+    → value_at_start starting w < 2 ^ 63
+start_small h [] w may = omega arith
+start_small h (s ∷ starting) w may =
+    value_small h None (s ∷ starting) w (second_true (h.version == 2) _ may)
+
+all_small : (f : ℕ → ℕ) (k n : ℕ) → ((w : ℕ) → f w < 2 ^ 63)
+    → All (λ value. value < 2 ^ 63) (map f (numbers_from k n))
+all_small f k zero small = All-nil (λ value. value < 2 ^ 63)
+all_small f k (suc n) small =
+    All-cons (λ value. value < 2 ^ 63) (f k) (map f (numbers_from (k + 1) n)) (small k)
+    (all_small f (k + 1) n small)
+
+pub words_small : (h : Header) (starting : List StartWord) → may_start h starting ≡ true
+    → All (λ value. value < 2 ^ 63) (words_at_start h starting)
+words_small h starting may =
+    all_small (value_after starting []) 0 (plain_words h) (λ w. start_small h starting w may)
+
+-- what is found at the start is in the state there
+pub found_first : (h : Header) (starting : List StartWord) (front : List Entry) (words : List ℕ)
+    (o : Option State) → words ≡ words_at_start h starting → o ≡ (rules_of h).start words
+    → o ≡ state_then (rules_of h) starting front 0
+unfolding state_at_start
+found_first h starting front words o same found =
+    found ∙ ap (rules_of h).start same ∙ sym (state_then-first (rules_of h) starting front)

@@ -1,0 +1,31 @@
+use Rattle.std.proofs.Common.{subst, sym, ap, ◌∙◌}
+use Rattle.std.specs.Prelude.{is_some}
+use Rattle.vyrd_base.specs.Rules.{rules_of}
+use Rattle.vyrd_spec.specs.AnySpecs.{state_in}
+use Rattle.vyrd_states.specs.Known.{state_then}
+use Rattle.vyrd_states.specs.Running.{IsKnown, called_by}
+use Rattle.vyrd_states.proofs.ReplyLaws.{reply_allowed, reply_refused}
+use Rattle.vyrd_states.proofs.replies.push_allowed.Goals as goal
+use Rattle.vyrd_states.proofs.replies.push_allowed.Goals.{then-branch+in_ok-push, else-branch}
+
+pub loop-reply-preserved : goal.loop-reply-preserved
+loop-reply-preserved c =
+    let r = rules_of c.args.header in
+    let x = c.args.call in
+    let reply = c.loop-reply.reply in
+    let spec = c.in-Some.spec in
+    let o = state_then r c.args.starting.now c.args.front.now c.args.at in
+    let known = subst (IsKnown c.args.header c.args.starting.now c.args.front.now c.args.at)
+    c.in-Some.is c.in_ok-spec.ensures in
+    let says = c.in_ok-allows.ensures
+    ∙ ap (λ g. is_some ((rules_of g).next x.method x.args reply (state_in spec))) known.header in
+    elim c.if-branch.branch [
+      | then-branch+in_ok-push w ↦ reply_allowed r (called_by x) o (state_in spec) reply
+          c.args.items.now.items c.loop-reply.items.items c.if-branch.items.items
+          c.in_ok-allows.field-0 (sym known.state_is) says w.if-branch.true
+          c.loop-reply.invariant (ap (λ v. v.items) w.items-is ∙ w.in_ok-push.ensures.items)
+      | else-branch w ↦ reply_refused r (called_by x) o (state_in spec) reply
+          c.args.items.now.items c.if-branch.items.items c.in_ok-allows.field-0
+          (sym known.state_is) says w.if-branch.false
+          (ap (λ v. v.items) w.items-is ∙ c.loop-reply.invariant)
+    ]

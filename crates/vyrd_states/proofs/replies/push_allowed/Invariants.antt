@@ -1,0 +1,11 @@
+use Rattle.std.proofs.Common.{◌≡◌, ◌++◌}
+use Rattle.vyrd_base.specs.Rules.{rules_of}
+use Rattle.vyrd_states.specs.Known.{state_then}
+use Rattle.vyrd_states.specs.Running.{called_by}
+use Rattle.vyrd_states.proofs.ReplyLaws.{allowed_below}
+use Rattle.vyrd_states.proofs.replies.push_allowed.Given as goal
+
+abbrev pub invariant-loop-reply : goal.invariant-loop-reply
+invariant-loop-reply l = l.items.items ≡ l.initial.items.items
+    ++ allowed_below (rules_of l.fn.header) (called_by l.fn.call)
+    (state_then (rules_of l.fn.header) l.starting l.front l.at) l.reply

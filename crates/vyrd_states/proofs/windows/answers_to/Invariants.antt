@@ -1,0 +1,13 @@
+use Rattle.std.proofs.Common.{◌≡◌, ◌-◌, ◌++◌, Some, None}
+use Rattle.vyrd_base.specs.Places.{numbers_from}
+use Rattle.vyrd_base.specs.Rules.{rules_of}
+use Rattle.vyrd_states.specs.Running.{IsKnown, called_by}
+use Rattle.vyrd_states.specs.Windows.{answer_after, answers_along}
+use Rattle.vyrd_states.proofs.windows.answers_to.Given as goal
+
+abbrev pub invariant-loop-position : goal.invariant-loop-position
+invariant-loop-position l =
+    IsKnown l.fn.header l.fn.starting l.fn.front l.position (Some l.spec)
+    × (let f = answer_after (rules_of l.fn.header) l.fn.starting l.fn.front (called_by l.fn.call) in
+    l.items.items ++ answers_along f l.last (numbers_from l.position (l.fn.at - l.position))
+    ≡ answers_along f None (numbers_from l.fn.call.called_at (l.fn.at - l.fn.call.called_at)))

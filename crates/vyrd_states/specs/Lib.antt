@@ -1,0 +1,5 @@
+pub mod Known
+pub mod Looks
+pub mod Replies
+pub mod Running
+pub mod Windows
