@@ -1,0 +1,5 @@
+pub mod SettledLaws
+pub mod TakenLaws
+pub mod PositionLaws
+pub mod OwnShownLaws
+pub mod Opened

@@ -1,0 +1,151 @@
+-- What the parts of words give to a key is what the words show of it.
+use Rattle.std.proofs.Common.{◌≡◌, ℕ, zero, suc, ◌+◌, ◌-◌, ◌*◌, ◌/◌, ◌<◌, ◌≤◌, Bool, true, false}
+use Rattle.std.proofs.Common.{cond, List, [], ◌++◌, length, map, take, drop, refl, ap, ◌∙◌, sym}
+use Rattle.std.proofs.Common.{arith}
+use Rattle.std.specs.Prelude.{◌≢◌, ◌==◌, slice_range, flat_map}
+use Rattle.std.proofs.lemmas.List.{drop-take, take-take, length-take}
+use Rattle.std.proofs.lemmas.Nat.{div-mul-add}
+use Rattle.std.proofs.Math.Nat.{div-add-mod}
+use Rattle.vyrd_base.specs.declared.header.Header.{Header}
+use Rattle.vyrd_base.specs.declared.subject.Subject.TheVariants.{Own}
+use Rattle.vyrd_base.specs.Amounts.{Amounts, amount_of, collected, given, part_given}
+use Rattle.vyrd_base.specs.Layout.{plain_words, plain_words_of}
+use Rattle.vyrd_base.specs.Places.{numbers_from, numbers_below}
+use Rattle.vyrd_base.specs.Own.OwnRules.{own_view}
+use Rattle.vyrd_base.specs.Own.Programs.{Written}
+use Rattle.vyrd_base.specs.Own.Steps.{part_gives, part_words, view_of}
+use Rattle.vyrd_base.proofs.SumLaws.{own_part, other_part, amount_of-collected}
+use Rattle.vyrd_base.proofs.TestLaws.{apart_of}
+use Rattle.vyrd_view.specs.Decoded.{Gives, words_of, pairs_by}
+use Rattle.vyrd_view.specs.Laws.Sums.{given_map_push, given_flat_push, places_give}
+use Rattle.vyrd_view.proofs.DecodedLaws.{part_within}
+use Rattle.vyrd_own_spec.specs.Parts.{width_of}
+use Rattle.vyrd_explain.specs.PartPairs.{part_pairs}
+
+-- ---- one place more
+
+module _ (f : ℕ → ℕ × ℕ) (q m amount : ℕ) (pair : ℕ × ℕ) where
+  -- it gives to its own key
+  pub place_given : amount ≡ given q (map f (numbers_below m)) → pair ≡ f m → pair.0 ≡ q
+      → amount + pair.1 ≡ given q (map f (numbers_below (m + 1)))
+  place_given is here own =
+      omega (
+        arith,
+        is,
+        given_map_push q f m,
+        ap (part_given q) here,
+        ap (λ k. part_given q (k, pair.1)) own,
+        own_part q pair.1,
+      )
+
+  -- and nothing to another
+  pub place_passed : amount ≡ given q (map f (numbers_below m)) → pair ≡ f m → pair.0 ≢ q
+      → amount ≡ given q (map f (numbers_below (m + 1)))
+  place_passed is here other =
+      omega (
+        arith,
+        is,
+        given_map_push q f m,
+        ap (part_given q) here,
+        other_part q pair.0 pair.1 (λ same. other (sym same)),
+      )
+
+-- a pair as it was decoded
+pub decoded : (gives : Gives) (words : List ℕ) (width part j n : ℕ) (pair : ℕ × ℕ) → n ≡ width
+    → pair ≡ gives part (slice_range words (part * n) (part * n + n)) j
+    → pair ≡ gives part (words_of width part words) j
+decoded gives words width part j n pair same is =
+    is ∙ ap (λ k. gives part (slice_range words (part * k) (part * k + k)) j) same
+
+-- ---- one part more
+
+module _ (width places : ℕ) (gives : Gives) (words : List ℕ) (q part amount : ℕ) where
+  pub part_added : (more : ℕ)
+      → amount ≡ given q (flat_map (part_pairs width places gives words) (numbers_below part))
+      → more ≡ given q (part_pairs width places gives words part)
+      → amount + more
+      ≡ given q (flat_map (part_pairs width places gives words) (numbers_below (part + 1)))
+  part_added more is new =
+      omega (arith, is, new, given_flat_push q (part_pairs width places gives words) part)
+
+  -- what all parts give to a key is its amount
+  pub all_parts : (parts : ℕ) (view : Amounts) → part ≡ parts
+      → amount ≡ given q (flat_map (part_pairs width places gives words) (numbers_below part))
+      → collected (pairs_by width places parts gives words) ≡ view → amount ≡ amount_of view q
+  all_parts parts view end is shown =
+      let pairs : ℕ → List (ℕ × ℕ) = part_pairs width places gives words in
+      is ∙ ap (λ n. given q (flat_map pairs (numbers_below n))) end
+      ∙ sym (places_give width places gives words q pairs (λ p. refl) parts)
+      ∙ sym (amount_of-collected (pairs_by width places parts gives words) q)
+      ∙ ap (λ s. amount_of s q) shown
+
+-- ---- words behind the last whole part
+
+flat_alike : (f g : ℕ → List (ℕ × ℕ)) (k n : ℕ) → ((i : ℕ) → k ≤ i → i < k + n → f i ≡ g i)
+    → flat_map f (numbers_from k n) ≡ flat_map g (numbers_from k n)
+flat_alike f g k zero same = refl
+flat_alike f g k (suc n) same =
+    ap (λ xs. xs ++ flat_map f (numbers_from (k + 1) n)) (same k (omega arith) (omega arith))
+    ∙ ap (λ xs. g k ++ xs)
+    (flat_alike f g (k + 1) n (λ i from to. same i (omega arith) (omega arith)))
+
+module _ (w : Written) (words : List ℕ) (whole : ℕ) where
+  -- a part that ends among the first words
+  part_kept : (i : ℕ) → w.words * i + w.words ≤ whole
+      → part_words w (take whole words) i ≡ part_words w words i
+  part_kept i within =
+      let from : ℕ = w.words * i in
+      let rest : ℕ = whole - from in
+      let all : whole ≡ from + rest = omega arith in
+      let own : from + w.words - from ≡ w.words = omega arith in
+      ap (λ n. take n (drop from (take whole words))) own
+      ∙ ap (λ n. take w.words (drop from (take n words))) all
+      ∙ ap (take w.words) (drop-take from rest words)
+      ∙ take-take w.words rest (drop from words) (omega arith)
+      ∙ ap (λ n. take n (drop from words)) (sym own)
+
+  -- the words of all whole parts show what all words show
+  view_kept : 1 ≤ w.words → whole ≡ length words / w.words * w.words
+      → view_of w (take whole words) ≡ view_of w words
+  unfolding view_of
+  view_kept some is =
+      let parts : ℕ = length words / w.words in
+      let before : ℕ → List (ℕ × ℕ) = λ i. part_gives w i (part_words w (take whole words) i) in
+      let after : ℕ → List (ℕ × ℕ) = λ i. part_gives w i (part_words w words i) in
+      let turned : w.words * parts ≡ parts * w.words = omega arith in
+      let within : whole ≤ length words =
+      omega (arith, is, turned, div-add-mod (length words) w.words) in
+      let count : length (take whole words) ≡ parts * w.words + 0 =
+      omega (arith, length-take whole words, within, is) in
+      let quotient : length (take whole words) / w.words ≡ parts =
+      ap (λ n. n / w.words) count ∙ div-mul-add parts w.words 0 (omega arith) in
+      ap (λ n. collected (flat_map before (numbers_below n))) quotient
+      ∙ ap collected (flat_alike before after 0 parts
+      (λ i from to. ap (part_gives w i) (part_kept i (ends i to))))
+    where
+      ends : (i : ℕ) → i < 0 + length words / w.words → w.words * i + w.words ≤ whole
+      ends i low =
+          let turned : w.words * i ≡ i * w.words = omega arith in
+          let within = part_within i (length words / w.words) w.words (omega arith) in
+          omega (arith, is, turned, within)
+
+  pub whole_shown : whole ≡ length words / width_of w * width_of w
+      → own_view w (take whole words) ≡ own_view w words
+  whole_shown is = by_test (w.words == 0) refl is
+    where
+      by_test : (b : Bool) → (w.words == 0) ≡ b
+          → whole ≡ length words / cond b 1 w.words * cond b 1 w.words
+          → cond b [] (view_of w (take whole words)) ≡ cond b [] (view_of w words)
+      by_test true e all = refl
+      by_test false e all =
+          let other : w.words ≢ 0 = apart_of w.words 0 e in
+          view_kept (omega arith) all
+
+-- how many words all whole parts have
+pub whole_count : (h : Header) (w : Written) (n width parts a b : ℕ) → h.subject ≡ Own
+    → n ≡ plain_words h → width ≡ width_of w → parts ≡ h.size / width → a ≡ parts → b ≡ width
+    → a * b ≡ n / width_of w * width_of w
+whole_count h w n width parts a b subject count wide many first second =
+    let all : n ≡ h.size = count ∙ ap (λ s. plain_words_of s h.size) subject in
+    ap (λ k. a * k) second ∙ ap (λ k. k * width) (first ∙ many)
+    ∙ ap (λ k. h.size / k * k) wide ∙ ap (λ k. k / width_of w * width_of w) (sym all)

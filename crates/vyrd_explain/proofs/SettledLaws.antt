@@ -1,0 +1,102 @@
+-- When no further byte changes what is answered about a log.
+use Rattle.std.proofs.Common.{◌≡◌, ℕ, ◌*◌, ◌≤◌, true, false, List, [], ◌++◌, length, Option, Some, None, refl, ap, ◌∙◌, sym, arith, append-nil}
+use Rattle.std.specs.Prelude.{◌&&◌, is_some}
+use Rattle.vyrd_base.specs.declared.verdict.Verdict.{Verdict}
+use Rattle.vyrd_base.specs.LogVerdicts.{log_verdict, log_verdict_so_far}
+use Rattle.vyrd_base.specs.Reading.{TextFault}
+use Rattle.vyrd_base.proofs.ReadingGrows.{reading_grows}
+use Rattle.vyrd_base.proofs.TestLaws.{first_true, second_true}
+use Rattle.vyrd_own_log.proofs.GrownLaws.{reading_grown}
+use Rattle.vyrd_log_check.proofs.LengthFacts.{bytes_short}
+use Rattle.vyrd_log_check.proofs.LengthLaws.{undecided_is_short}
+use Rattle.vyrd_log_check.proofs.LogLasts.{log_verdict_lasts, log_verdict_stands, nothing_yet}
+use Rattle.vyrd_log_check.proofs.OwnLengths.{own_bytes_short}
+use Rattle.vyrd_explain.specs.Explained.{read_as, own_read_as, explanation, explained, is_settled}
+
+-- there is something
+some_of : {A : Type 0} (o : Option A) → is_some o ≡ true → (a : A) × (o ≡ Some a)
+some_of None e = cc
+some_of (Some a) e = (a, refl)
+
+module _ (max : ℕ) (bytes : List ℕ) where
+  -- the verdict stands, and a line breaks a rule of text by either reading
+  record Settled : Type 0 where
+    verdict : Verdict
+    stands : log_verdict_so_far max bytes ≡ Some verdict
+    fault : TextFault
+    stops : (read_as max bytes).fault ≡ Some fault
+    own_fault : TextFault
+    own_stops : (own_read_as max bytes).fault ≡ Some own_fault
+
+  settled : is_settled max bytes ≡ true → Settled
+  unfolding is_settled
+  settled e =
+      let first = is_some (log_verdict_so_far max bytes) && is_some (read_as max bytes).fault in
+      let both : first ≡ true = first_true first _ e in
+      let v = some_of (log_verdict_so_far max bytes) (first_true _ _ both) in
+      let f = some_of (read_as max bytes).fault (second_true _ _ both) in
+      let g = some_of (own_read_as max bytes).fault (second_true first _ e) in
+      record {
+        verdict = v.0;
+        stands = v.1;
+        fault = f.0;
+        stops = f.1;
+        own_fault = g.0;
+        own_stops = g.1;
+      }
+
+pub verdict_lasts : (max : ℕ) (bytes more : List ℕ) → 1 ≤ max → max ≤ 268435456
+    → is_settled max bytes ≡ true → log_verdict max (bytes ++ more) ≡ log_verdict max bytes
+verdict_lasts max bytes more low high e =
+    let s = settled max bytes e in
+    log_verdict_stands max bytes more s.verdict low high s.stands
+    ∙ sym (ap (log_verdict max) (sym (append-nil bytes))
+    ∙ log_verdict_stands max bytes [] s.verdict low high s.stands)
+
+pub text_lasts : (max : ℕ) (bytes more : List ℕ) → 1 ≤ max → max ≤ 268435456
+    → is_settled max bytes ≡ true → explained max (bytes ++ more) ≡ explained max bytes
+unfolding explained
+text_lasts max bytes more low high e =
+    let s = settled max bytes e in
+    let read = (reading_grows max false bytes more low).grown.fault s.fault s.stops in
+    let own_read =
+    (reading_grown max false bytes more low high).fault s.own_fault s.own_stops in
+    let verdict = verdict_lasts max bytes more low high e in
+    λ i. explanation (read i) (own_read i) (verdict i)
+
+pub ruleset lasting = (verdict_lasts, text_lasts)
+
+pub settled_stays : (max : ℕ) (bytes more : List ℕ) → 1 ≤ max → max ≤ 268435456
+    → is_settled max bytes ≡ true → is_settled max (bytes ++ more) ≡ true
+unfolding is_settled
+settled_stays max bytes more low high e =
+    let s = settled max bytes e in
+    let verdict = log_verdict_lasts max bytes more s.verdict low high s.stands in
+    let stops = ap (λ read. read.fault)
+    ((reading_grows max false bytes more low).grown.fault s.fault s.stops) ∙ s.stops in
+    let own_stops = ap (λ read. read.fault)
+    ((reading_grown max false bytes more low high).fault s.own_fault s.own_stops) ∙ s.own_stops in
+    λ i. is_some (verdict i) && is_some (stops i) && is_some (own_stops i)
+
+-- without a byte anything may come
+pub nothing_settled : (max : ℕ) → is_settled max [] ≡ false
+unfolding is_settled
+nothing_settled max = ap (λ verdict. is_some verdict && is_some (read_as max []).fault
+    && is_some (own_read_as max []).fault) (nothing_yet max)
+
+pub unsettled_is_short : (max : ℕ) (bytes : List ℕ) → 1 ≤ max → is_settled max bytes ≡ false
+    → length bytes ≤ 201 * max
+unfolding is_settled
+unsettled_is_short max bytes low e =
+    by_verdict (log_verdict_so_far max bytes) (read_as max bytes).fault
+    (own_read_as max bytes).fault refl refl refl e
+  where
+    by_verdict : (v : Option Verdict) (f g : Option TextFault) → log_verdict_so_far max bytes ≡ v
+        → (read_as max bytes).fault ≡ f → (own_read_as max bytes).fault ≡ g
+        → (is_some v && is_some f && is_some g) ≡ false → length bytes ≤ 201 * max
+    by_verdict None f g is right own_right e = undecided_is_short max bytes low is
+    by_verdict (Some v) None g is right own_right e =
+        omega (arith, bytes_short max bytes low right)
+    by_verdict (Some v) (Some f) None is right own_right e =
+        own_bytes_short max bytes low own_right
+    by_verdict (Some v) (Some f) (Some g) is right own_right e = cc

@@ -1,0 +1,5 @@
+pub mod Verdicts
+pub mod Explained
+pub mod Explaining
+pub mod ExplainerView
+pub mod PartPairs
