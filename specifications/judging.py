@@ -10,6 +10,7 @@ from pathlib import Path
 from command import Ended
 
 NO_PROGRAM = 70
+REFUSED, STUCK = 7, 8  # statuses of a workload that isn't played to its end
 MOST_LOGS, MOST_BYTES = 10_000, 60_000_000  # of a batch; the program takes 64 MiB
 TOP = Path(__file__).resolve().parent.parent
 VERDICT = re.compile("(accepted: |violation at line |malformed at line ).*")
@@ -27,7 +28,7 @@ def program():
 def asked(words, text):
     """The status and the output of the program. It reads from a file, so that it may end before it has read all."""
     with tempfile.TemporaryFile() as source:
-        source.write(text.encode())
+        source.write(text.encode("latin-1"))
         source.seek(0)
         ran = subprocess.run([program(), *words.split()], stdin=source, stdout=subprocess.PIPE, check=False)
     return ran.returncode, ran.stdout.decode("latin-1")
@@ -40,6 +41,16 @@ def checked(text):
     if status > 2 or not VERDICT.fullmatch(answer):
         raise Ended(f"the program gives no verdict, and ends with {status}", NO_PROGRAM)
     return status, answer
+
+
+def played(work):
+    """The log of a workload's run by turns, or None where that is refused or gets stuck."""
+    status, said = asked("step --log", work)
+    if status in (REFUSED, STUCK):
+        return None
+    if status > 2:
+        raise Ended(f"the program plays no workload, and ends with {status}", NO_PROGRAM)
+    return "".join(line + "\n" for line in said.split("\n")[:-2])
 
 
 def batch_answers(texts):

@@ -23,15 +23,19 @@ def operation(draw, subject, size):
         return draw.choice([f"insert {value}", f"insert_pair {value} {other}", f"delete {value}", f"lookup {value}"])
     if subject == "cache":
         return draw.choice([f"write {chunk} {value} {other}", f"flush {chunk}", f"evict {chunk}", f"read {chunk}"])
+    if subject == "buffers":
+        source = draw.randrange(size)
+        changing = [f"append {chunk} {value}", f"append_from {chunk} {source}", f"cut {chunk} {other}"]
+        return draw.choice([*changing, f"length {chunk}", f"read {chunk}"])
     return draw.choice([f"insert {value} {other}", f"insert {value} {other}", f"delete {value}", f"lookup {value}"])
 
 
-def spoiled(draw, log, times):
-    """A log spoilt so many times."""
+def spoiled(draw, log, times, ways=None):
+    """A log spoilt so many times, in one of these ways each time, or in one of WAYS."""
     lines = log.split("\n")
     for _ in range(times):
         if len(lines) > 2:
-            draw.choice(WAYS)(draw, lines)
+            draw.choice(ways or WAYS)(draw, lines)
     return "\n".join(lines)
 
 

@@ -229,7 +229,7 @@ class Words(ScriptTest):
         self.assertIn(b"tools/definitions [--files] [SENTENCE...]", ran.stdout)
 
     def test_misuse(self):
-        self.assert_ended(self.definitions("9"), 64, b"", ["'9' is no sentence"])
+        self.assert_ended(self.definitions("10"), 64, b"", ["'10' is no sentence"])
         self.assert_ended(self.definitions("1", "-x"), 64, b"", ["'-x' is no sentence"])
 
     def test_output_that_takes_nothing(self):

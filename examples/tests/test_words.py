@@ -7,14 +7,14 @@ import unittest
 from scripts import EXAMPLES, ScriptTest
 
 WITHOUT_WORDS = ["all", "compare", "caught", "flat", "own/check", "no_memory/try"]
-ASKING = ["compare", "caught", "flat", "own/check", "real/check", "no_memory/try", "documents", "measure"]
-USAGE = "usage: vyrd check | step [--log|--history] | run [--log|--history] | gen N | movers | batch"
+ASKING = ["compare", "explained", "caught", "flat", "own/check", "real/check", "no_memory/try", "documents", "measure"]
+USAGE = "usage: vyrd check | step [--log|--history] | run [--log|--history] | gen N | movers | batch | explain"
 VIOLATION = "violation at line 7: reply 1 not allowed"
 
 
 class Words(ScriptTest):
     def test_help(self):
-        for script in [*WITHOUT_WORDS, "real/check", "documents", "measure", "batch_of", "rows_of"]:
+        for script in [*WITHOUT_WORDS, "explained", "real/check", "documents", "measure", "batch_of", "rows_of"]:
             ran = self.run_script(script, "--help")
             self.assert_ended(ran, 0, ran.stdout, [])
             self.assertIn(script.split("/")[-1].encode(), ran.stdout)
@@ -48,11 +48,11 @@ class Compare(ScriptTest):
     def test_output_and_status_are_compared(self):
         table = f"a.log\tcheck\t1\t{VIOLATION}\n"
         right = self.compare(table, f"echo '{VIOLATION}'", "exit 1")
-        self.assert_ended(right, 0, b"examples: 20 passed, 0 failed\n", [])
+        self.assert_ended(right, 0, b"examples: 21 passed, 0 failed\n", [])
         for wrong in (f"echo '{VIOLATION}'; exit 0", f"printf '{VIOLATION}'; exit 1", "echo accepted; exit 1", "exit 70"):
             ran = self.compare(table, wrong)
             self.assertEqual(ran.returncode, 1)
-            self.assertIn(b"examples: 19 passed, 1 failed\n", ran.stdout)
+            self.assertIn(b"examples: 20 passed, 1 failed\n", ran.stdout)
 
 
 class Caught(ScriptTest):
@@ -160,9 +160,9 @@ class All(ScriptTest):
         """A copy in which each script notes that it ran, and one of them fails."""
         for name in ("all", "common.sh"):
             self.file(f"examples/{name}", (EXAMPLES / name).read_bytes()).chmod(0o755)
-        scripts = ["examples/compare", "examples/unproved", "examples/own/check", "examples/real/check", "loggers/check"]
-        scripts += ["specifications/check", "specifications/same_verdicts", "tools/check", "examples/caught", "examples/flat"]
-        scripts += ["examples/documents", "tools/tests/run", "tools/tests/browser", "examples/many/check"]
+        scripts = ["examples/compare", "examples/explained", "examples/unproved", "examples/own/check", "examples/real/check"]
+        scripts += ["loggers/check", "specifications/check", "specifications/same_verdicts", "tools/check", "examples/caught"]
+        scripts += ["examples/flat", "examples/documents", "tools/tests/run", "tools/tests/browser", "examples/many/check"]
         for script in scripts:
             self.program(script, f'echo {script} >>"{self.folder}/ran"', "exit 0")
         for tests in ("examples/tests", "specifications/tests", "loggers/tests"):

@@ -10,6 +10,7 @@ pub mod TellingLaws
 pub mod EveryLaws
 pub mod EveryWritten
 pub mod MoversLaws
+pub mod ExplainLaws
 pub mod BatchLaws
 pub mod StatusLaws
 pub mod CommandLaws

@@ -1,9 +1,8 @@
 -- How the checking of an input goes on with a piece of it, and how it stops.
-use Rattle.std.proofs.Common.{◌≡◌, ℕ, ◌+◌, ◌-◌, ◌*◌, ◌<◌, ◌≤◌, Bool, true, false, List, []}
+use Rattle.std.proofs.Common.{◌≡◌, ℕ, ◌+◌, ◌*◌, ◌<◌, ◌≤◌, true, false, List, []}
 use Rattle.std.proofs.Common.{◌++◌, length, take, Option, Some, None, refl, ap, subst, ◌∙◌, sym}
 use Rattle.std.proofs.Common.{arith, inl, inr, length-append}
-use Rattle.std.specs.Prelude.{is_some, nat_le, IfSome, IfNone}
-use Rattle.std.proofs.lemmas.Bool.Decides.{nat_tests}
+use Rattle.std.specs.Prelude.{is_some, IfSome, IfNone}
 use Rattle.std.proofs.lemmas.List.{length-take}
 use Rattle.vyrd_base.specs.declared.verdict.Verdict.{Verdict}
 use Rattle.vyrd_base.specs.Devices.{SourceKnown, Gives}
@@ -14,41 +13,26 @@ use Rattle.vyrd_log_check.proofs.LengthLaws.{undecided_is_short}
 use Rattle.vyrd_program.specs.Inputs.{longest_read, IsTaken}
 use Rattle.vyrd_program.specs.Checks.{has_verdict, IsReadNoFurther}
 use Rattle.vyrd_program.specs.Progress.{IsChecking, IsReached}
-use Rattle.vyrd_program.proofs.TakenLaws.{no_more_bytes, taken_more, taken_nothing, begins_with}
+use Rattle.vyrd_program.proofs.TakenLaws.{no_more_bytes, taken_more, taken_nothing, begins_later}
 
 some_verdict : (o : Option Verdict) → is_some o ≡ true → (v : Verdict) × (o ≡ Some v)
 some_verdict None e = cc
 some_verdict (Some v) e = (v, refl)
 
 -- a verdict lasts
-verdict_there : (max : ℕ) (bytes more : List ℕ) → IsLimit max → has_verdict max bytes ≡ true
+pub verdict_there : (max : ℕ) (bytes more : List ℕ) → IsLimit max → has_verdict max bytes ≡ true
     → has_verdict max (bytes ++ more) ≡ true
 verdict_there max bytes more within e =
     let v = some_verdict (log_verdict_so_far max bytes) e in
     ap is_some (log_verdict_lasts max bytes more v.0 within.low within.high v.1)
 
--- If bytes have no verdict and a piece follows, a beginning of all that has one is no shorter than
--- they.
-begins_later : (max : ℕ) (taken piece first more : List ℕ) → IsLimit max
+-- A beginning that has a verdict is no shorter than bytes that have none yet.
+judged_later : (max : ℕ) (taken piece first more : List ℕ) → IsLimit max
     → log_verdict_so_far max taken ≡ None → taken ++ piece ≡ first ++ more
     → has_verdict max first ≡ true → length taken ≤ length first
-begins_later max taken piece first more within nothing same there =
-    by_length (nat_le (length taken) (length first)) refl
-  where
-    both : has_verdict max taken ≡ true → has_verdict max taken ≡ false → ⊥
-    both e f = cc
-
-    by_length : (b : Bool) → nat_le (length taken) (length first) ≡ b
-        → length taken ≤ length first
-    by_length true e = grind (arith, nat_tests)
-    by_length false e =
-        let shorter : length first < length taken = grind (arith, nat_tests) in
-        let rest = take (length taken - length first) more in
-        let begins : taken ≡ first ++ rest
-        = begins_with taken piece first more (omega arith) same in
-        let here : has_verdict max taken ≡ true
-        = ap (has_verdict max) begins ∙ verdict_there max first rest within there in
-        absurd (both here (ap is_some nothing))
+judged_later max taken piece first more within nothing =
+    begins_later (has_verdict max) (λ bytes more. verdict_there max bytes more within)
+    taken piece first more (ap is_some nothing)
 
 -- before the first read
 pub checking_starts : (max : ℕ) (before : SourceKnown) (checker : LogCheckerState)
@@ -79,7 +63,7 @@ same_no_further max before now after checker rounds within r kept = record {
   taken = r.taken;
   told = subst (IsTaken before.rest r.taken) (sym kept) r.told;
   no_more = λ first more same there.
-      let later = begins_later max r.taken [] first more within r.nothing
+      let later = judged_later max r.taken [] first more within r.nothing
       (no_more_bytes r.taken ∙ same) there in
       omega (arith, later);
 }
@@ -99,7 +83,7 @@ read_no_further max before now after checker buffer n rounds within r gives shor
       no_more = λ first more same there.
           omega (
             arith,
-            begins_later max r.taken piece first more within r.nothing same there,
+            judged_later max r.taken piece first more within r.nothing same there,
             length-append r.taken piece,
             length_piece n buffer gives.within,
             gives.within,

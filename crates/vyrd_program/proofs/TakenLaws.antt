@@ -1,6 +1,7 @@
 -- Bytes that were taken of an input, one after the other.
-use Rattle.std.proofs.Common.{◌≡◌, ℕ, ◌+◌, ◌-◌, ◌≤◌, List, [], ◌∷◌, ◌++◌, length, take, Option, Some, None, refl, ap, ◌∙◌, sym, subst, arith, inl, inr, length-append, append_assoc}
-use Rattle.std.specs.Prelude.{◌⊎◌, option_map, IfSome, Result, Ok}
+use Rattle.std.proofs.Common.{◌≡◌, ℕ, ◌+◌, ◌-◌, ◌<◌, ◌≤◌, Bool, true, false, List, [], ◌∷◌, ◌++◌, length, take, Option, Some, None, refl, ap, ◌∙◌, sym, subst, arith, inl, inr, length-append, append_assoc}
+use Rattle.std.specs.Prelude.{◌⊎◌, nat_le, option_map, IfSome, Result, Ok}
+use Rattle.std.proofs.lemmas.Bool.Decides.{nat_tests}
 use Rattle.std.proofs.Math.Seq.{take-append_seam, take-append-add}
 use Rattle.vyrd_base.specs.Devices.{SourceKnown, IsAtEnd}
 use Rattle.vyrd_program.specs.Inputs.{IsTaken, IsInputRead, IsInputTaken}
@@ -22,12 +23,29 @@ taken_nothing None = refl
 taken_nothing (Some bytes) = refl
 
 -- of two beginnings of the same bytes the longer one begins with the other
-pub begins_with : (taken piece first more : List ℕ) → length first ≤ length taken → taken ++ piece ≡ first ++ more
+begins_with : (taken piece first more : List ℕ) → length first ≤ length taken → taken ++ piece ≡ first ++ more
     → taken ≡ first ++ take (length taken - length first) more
 begins_with taken piece first more within same =
     let rest : length taken ≡ length first + (length taken - length first) = omega arith in
     sym (take-append_seam taken piece) ∙ ap (take (length taken)) same ∙ ap (λ n. take n (first ++ more)) rest
     ∙ take-append-add first more (length taken - length first)
+
+-- If bytes don't have what lasts, and a piece follows, a beginning of all that has it is no shorter
+-- than they.
+pub begins_later : (has : List ℕ → Bool) → ((bytes more : List ℕ) → has bytes ≡ true → has (bytes ++ more) ≡ true)
+    → (taken piece first more : List ℕ) → has taken ≡ false → taken ++ piece ≡ first ++ more → has first ≡ true → length taken ≤ length first
+begins_later has lasts taken piece first more nothing same there = by_length (nat_le (length taken) (length first)) refl
+  where
+    both : has taken ≡ true → has taken ≡ false → ⊥
+    both e f = cc
+
+    by_length : (b : Bool) → nat_le (length taken) (length first) ≡ b → length taken ≤ length first
+    by_length true e = grind (arith, nat_tests)
+    by_length false e =
+        let shorter : length first < length taken = grind (arith, nat_tests) in
+        let rest = take (length taken - length first) more in
+        let begins : taken ≡ first ++ rest = begins_with taken piece first more (omega arith) same in
+        absurd (both (ap has begins ∙ lasts first rest there) nothing)
 
 -- What was read of a source says what its whole input says, if the bytes of the longest input settle that.
 pub whole_input : {A : Type 0} (reading : List ℕ → A) (most : ℕ) (before after : SourceKnown) (bytes : List ℕ)

@@ -36,6 +36,7 @@ pub record IsMoreRead (most : ℕ) (before after : SourceKnown) (old new : List 
   pub grown : new ≡ old ++ piece
   pub many : length piece ≡ n
   pub few : n ≤ most
+  pub short : n ≤ longest_read
   pub at_end : n ≡ 0 → IsAtEnd after
   pub goes_on : 0 < n → after.ended ≡ false
 

@@ -10,5 +10,6 @@ pub mod Generated
 pub mod CorrectInputs
 pub mod Moved
 pub mod Batches
+pub mod Explains
 pub mod Counts
 pub mod Commands

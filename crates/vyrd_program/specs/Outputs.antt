@@ -20,5 +20,6 @@ status_of (Malformed line rule) = 2
 
 -- the usage line
 abbrev pub usage_line : List ℕ
-usage_line = codes
-    "usage: vyrd check | step [--log|--history] | run [--log|--history] | gen N | movers | batch\n"
+usage_line =
+    codes "usage: vyrd check | step [--log|--history] | run [--log|--history] | gen N"
+    ++ codes " | movers | batch | explain\n"

@@ -9,6 +9,7 @@ ghost use Rattle.vyrd_program.specs.Commands.{IsNoFurther};
 
 use crate::answer::Answer;
 use crate::batch::batch;
+use crate::explain::{MOST_EXPLAINED, explain};
 use crate::form::Form;
 use crate::generate::answer_generated;
 use crate::movers::movers;
@@ -50,5 +51,6 @@ pub(crate) fn carry_out<R: Threads + Wait + Sync, S: Source, G: Gate>(
         Form::Gen { count } => answer_generated(alloc, count),
         Form::Movers => movers(alloc, source),
         Form::Batch => batch(rt, alloc, source),
+        Form::Explain => explain(alloc, MOST_EXPLAINED, source),
     }
 }

@@ -30,6 +30,8 @@ pub enum Form {
     Movers,
     /// `batch`: the verdicts about the logs of a batch.
     Batch,
+    /// `explain`: the verdict about a log, and what in the log has to do with it.
+    Explain,
 }
 
 /// The form of the words that stand after the program's name, if they have one.
@@ -59,6 +61,7 @@ fn one_word(word: &str) -> Option<Form>
         }),
         "movers" => Some(Form::Movers),
         "batch" => Some(Form::Batch),
+        "explain" => Some(Form::Explain),
         _ => None,
     }
 }

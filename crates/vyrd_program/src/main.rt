@@ -16,6 +16,9 @@ mod case;
 mod check;
 mod command;
 mod deliver;
+mod explain;
+#[cfg(test)]
+mod explain_tests;
 mod form;
 mod generate;
 #[cfg(test)]

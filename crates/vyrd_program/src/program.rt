@@ -32,7 +32,7 @@ const MAX_LINES: u64 = 268_435_456;
 
 /// The usage line.
 const USAGE_LINE: &[u8] =
-    b"usage: vyrd check | step [--log|--history] | run [--log|--history] | gen N | movers | batch\n";
+    b"usage: vyrd check | step [--log|--history] | run [--log|--history] | gen N | movers | batch | explain\n";
 
 /// How a call of the program ended.
 #[derive(Debug, Drop)]
@@ -57,9 +57,10 @@ pub struct Ended {
 /// verdict's line. `movers` reads a history, and writes whether its commit blocks are reducible
 /// (Lipton, CACM 1975), or which of them is the first that isn't. `batch` reads many logs in one
 /// text, judges them on as many threads as there are processors, and writes a line for each log's
-/// verdict, in the order of the logs, and one that counts them. All other words are answered with
-/// the usage line, and the source is left alone. All output is made before its first byte is
-/// written.
+/// verdict, in the order of the logs, and one that counts them. `explain` reads a log of at most
+/// 16,777,216 lines and writes its verdict's line, and then a line for each thing in the log that
+/// has to do with the verdict. All other words are answered with the usage line, and the source is
+/// left alone. All output is made before its first byte is written.
 pub fn vyrd<R: Threads + Wait + Sync, S: Source, K: Sink, G: Gate>(
     rt: &R,
     alloc: Global,
@@ -77,8 +78,8 @@ pub fn vyrd<R: Threads + Wait + Sync, S: Source, K: Sink, G: Gate>(
         → HasAnswered (form_said words.now) (S.known source.old).rest result.status
         (K.known sink.old).taken (K.known sink.new).taken }
 
-    // What is taken of the source: as much as an answer needs, and no more. A log is accepted at
-    // the source's end alone, and a read that fails after its verdict is never made.
+    // What is taken of the source: as much as an answer needs, and no more. `check` accepts a log
+    // at the source's end alone, and never makes a read that fails after its verdict.
     ensures consumed { IsAnswerStatus (form_said words.now) result.status
         → IsEnough (form_said words.now) result.status (S.known source.old) (S.known source.new) }
     ensures no_further { IsNoFurther (form_said words.now) (S.known source.old)

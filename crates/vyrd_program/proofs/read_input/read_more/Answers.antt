@@ -21,6 +21,7 @@ returns-clause-more g c =
           whole (omega arith) c.in_ok-resize.ensures.items);
       many = omega (arith, length-take n (drop count mid), within);
       few = omega (arith, within, length-drop count mid, c.in_ok-n.ensures.len, c.in_ok-resize.ensures.len, c.min.ensures);
+      short = omega (arith, within, length-drop count mid, c.in_ok-n.ensures.len, c.in_ok-resize.ensures.len, c.min.ensures);
       at_end = gives.at_end;
       goes_on = gives.goes_on;
     }
