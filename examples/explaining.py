@@ -1,0 +1,146 @@
+"""The lines that `vyrd explain` has to write behind a verdict, worked out by the modules of tools/, which share nothing with it."""
+
+import re
+
+from findings import sound_entries
+from steps import View
+from walk import Walk
+from words import State, Words, allowed, answer, keys_of
+
+VIOLATION = re.compile("violation at line ([0-9]+): (reply|view differs at key|observer reply) ([0-9]+).*")
+RACE, NO_STATE = ": block raced", ": start stands for no state"
+
+
+def lines_behind(log):
+    """The lines behind the verdict `log.answer`: none behind that of a log that is accepted, or whose header isn't read.
+
+    Of a log of version 3 they have nothing of the specification's state.
+    """
+    if not (log.subject or log.specification) or log.answer.startswith("accepted") or log.answer.endswith(NO_STATE):
+        return []
+    violation = VIOLATION.fullmatch(log.answer)
+    if not violation:
+        before = Past(log, (entry for entry in log.entries() if entry.line < log.marked_line))
+        return [*(races(before) if log.answer.endswith(RACE) else []), *left_open(before)]
+    line, what, number = int(violation[1]), violation[2], int(violation[3])
+    past = Past(log, sound_entries(log))
+    execution = past.executions[line]
+    called = [f"call at line {execution.line}", f"reply at line {execution.return_line}"]
+    if log.specification:
+        return [*called, *(shown(past, line, number) if what.startswith("view") else [])]
+    if what == "reply":
+        return [*called, *refused(past, execution)]
+    if what == "observer reply":
+        return [*called, *answers(past, execution)]
+    return [*called, *shown(past, line, number), f"state after line {line}: {told(number, past.state([number], line))}"]
+
+
+class Past:
+    """A walk along entries that keep the rules of shape, at least up to where the verdict stands."""
+
+    def __init__(self, log, entries):
+        self.log, self.walk = log, Walk()
+        self.executions, self.commit_lines, self.opened = {}, [], {}  # by line; in their order; by caller
+        for entry in entries:
+            self.executions[entry.line] = self.walk.take(entry)
+            if entry.commits:
+                self.commit_lines.append(entry.line)
+            if entry.kind == "open":
+                self.opened[entry.caller] = entry.line
+        self.walk.end()
+
+    def effects(self, line):
+        """The writes that take effect behind a line, each with the entry at which it does, the first to do so first."""
+        return [(write, effect.at) for effect in self.walk.effects if effect.at.line > line for write in effect.writes]
+
+    def words(self):
+        """The words at the start."""
+        if self.log.specification:
+            return OwnWords(self.log.specification, self.log.starting())
+        return Words(self.log.subject, self.log.size, self.log.starting())
+
+    def state(self, keys, line):
+        """The specification's state at these keys, after the commits up to a line."""
+        state = State(self.words(), keys)
+        for execution in self.walk.commits:
+            if execution.commit_line <= line:
+                state.take(execution)
+        return state
+
+
+class OwnWords(View):
+    """The words of a log of version 3."""
+
+    def amount(self, key):
+        """What they show of a key."""
+        return self.amounts().get(key, 0)
+
+
+def told(key, amounts):
+    return f"key {key} amount {amounts[key]}"
+
+
+def shown(past, line, key):
+    """What the words showed of a key at the commit before a line, what they show on it, and the writes between that changed it."""
+    since = max((commit for commit in past.commit_lines if commit < line), default=0)
+    words, changes = past.words(), []
+    agreed = words.amount(key)
+    for write, at in past.effects(0):
+        if at.line > line:
+            break
+        (word, value), before = write.numbers, words.amount(key)
+        was, words[word] = words[word], value
+        if at.line <= since:
+            agreed = words.amount(key)
+        elif words.amount(key) != before:
+            change = f"change at line {write.line}: word {word} from {was} to {value}, in effect at line {at.line}"
+            changes.append(f"{change}, key {key} amount {before} to {words.amount(key)}")
+    where = f"at line {since}" if since else "at the start"
+    now = f"words after line {line}: key {key} amount {words.amount(key)}"
+    return [f"agreed {where}: key {key} amount {agreed}", now, *changes]
+
+
+def refused(past, execution):
+    """What the state before a call's commit has of the keys that it looks at, and the replies that it allows."""
+    keys, line = keys_of(execution), execution.commit_line
+    state = past.state(keys, line - 1)
+    replies = allowed(past.log.subject, execution, keys[0], state).split(" or ")
+    before = [f"state before line {line}: {told(key, state)}" for key in keys]
+    return before + [f"allowed reply {reply}" for reply in sorted(replies)]
+
+
+def answers(past, execution):
+    """What a call would be answered where it stands, and behind each later commit up to its return that changes that."""
+    key, lines, last = execution.arguments[0], [], None
+    commits = [line for line in past.commit_lines if execution.line < line < execution.return_line]
+    for line in [execution.line, *commits]:
+        now = answer(past.log.subject, execution.method, past.state([key], line)[key])
+        if now != last:
+            lines.append(f"answer from line {line}: {now}")
+        last = now
+    return lines
+
+
+def races(past):
+    """What the write on the named line races with: blocks that have written its word, and writes behind its own block's commit."""
+    write = next(entry for entry in past.log.entries() if entry.line == past.log.marked_line)
+    lines = []
+    for caller, block in sorted(past.walk.blocks.items()):
+        same = [other.line for other in block.writes if other.numbers[0] == write.numbers[0]]
+        if same and caller != write.caller:
+            lines.append(f"held by line {same[-1]}")
+    own = past.walk.blocks.get(write.caller)
+    for other, at in past.effects(own.effect.at.line) if own and own.effect else ():
+        if other.numbers[0] == write.numbers[0] and other.caller != write.caller:
+            lines.append(f"passed at line {other.line}: word {other.numbers[0]}, in effect at line {at.line}")
+    return lines
+
+
+def left_open(past):
+    """The calls and the blocks that are open behind the entries, in the order of the callers."""
+    lines = []
+    for caller, execution in sorted(past.walk.executions.items()):
+        lines.append(f"open call at line {execution.line}")
+        if caller in past.walk.blocks:
+            lines.append(f"open block at line {past.opened[caller]}")
+    return lines

@@ -1,0 +1,418 @@
+"""Tests of explained. The lines of each case were worked out by hand, from the definitions of crates/vyrd_explain/specs."""
+
+import random
+import re
+import sys
+import tempfile
+import unittest
+
+from scripts import EXAMPLES, ScriptTest, module_of
+
+sys.path[:0] = [str(EXAMPLES), str(EXAMPLES.parent / "tools")]
+
+from explaining import lines_behind
+from logtext import Log
+
+# Each case: the log, the verdict, and the lines behind it.
+VIEWS = [
+    # Nothing was written.
+    (
+        "vyrd 1 multiset 1 1\n0 call insert 5\n0 commit\n0 return 1\nend\n",
+        "violation at line 3: view differs at key 5",
+        """call at line 2
+reply at line 4
+agreed at the start: key 5 amount 0
+words after line 3: key 5 amount 0
+state after line 3: key 5 amount 1""",
+    ),
+    # What is written behind the commit inside its block counts at it. The 5 goes into two slots, and the first then gets a 6.
+    (
+        """vyrd 2 multiset 1 2
+start 2 2
+start 3 7
+1 call insert 8
+1 commit
+1 return 0
+0 call insert 5
+0 write 1 5
+0 open
+0 commit
+0 write 0 2
+0 write 3 5
+0 write 1 6
+0 close
+0 return 1
+end
+""",
+        "violation at line 10: view differs at key 6",
+        """call at line 7
+reply at line 15
+agreed at line 5: key 6 amount 0
+words after line 10: key 6 amount 1
+change at line 13: word 1 from 5 to 6, in effect at line 10, key 6 amount 0 to 1
+state after line 10: key 6 amount 0""",
+    ),
+    # A pair that tears: each half is a change. The write on line 10 counts where it stands, before the commit of another caller.
+    (
+        """vyrd 1 cache 1 2
+0 call write 0 1 2
+0 open
+0 write 1 1
+0 write 2 2
+0 write 0 2
+0 close commit
+0 return 1
+0 call write 0 3 4
+0 write 1 3
+1 call evict 0
+1 commit
+1 return 1
+""",
+        "violation at line 12: view differs at key 0",
+        """call at line 11
+reply at line 13
+agreed at line 7: key 0 amount 8589934593
+words after line 12: key 0 amount 8589934595
+change at line 10: word 1 from 1 to 3, in effect at line 10, key 0 amount 8589934593 to 8589934595
+state after line 12: key 0 amount 8589934593""",
+    ),
+    # The right word of node 0 leads back to it: that is damage, which no state has. The key is 2^33.
+    (
+        "vyrd 1 tree 2 1\n0 call insert 1 2\n0 write 4 1\n0 write 8 2\n0 write 1 1\n0 write 3 9\n0 commit\n0 return 1\n",
+        "violation at line 7: view differs at key 8589934592",
+        """call at line 2
+reply at line 8
+agreed at the start: key 8589934592 amount 0
+words after line 7: key 8589934592 amount 1
+change at line 6: word 3 from 0 to 9, in effect at line 6, key 8589934592 amount 0 to 1
+state after line 7: key 8589934592 amount 0""",
+    ),
+]
+REPLIES = [
+    # The state before has the insert on line 3, and not the one whose block is open.
+    (
+        """vyrd 1 multiset 1 3
+0 call insert 5
+0 commit
+0 return 0
+1 call insert_pair 5 5
+1 open
+2 call delete 5
+2 commit
+2 return 1
+""",
+        "violation at line 8: reply 1 not allowed",
+        "call at line 7\nreply at line 9\nstate before line 8: key 5 amount 0\nallowed reply 0",
+    ),
+    # Both values are looked at, also where they are the same one.
+    (
+        "vyrd 1 multiset 1 1\n0 call insert_pair 5 5\n0 commit\n0 return 2\n",
+        "violation at line 3: reply 2 not allowed",
+        """call at line 2
+reply at line 4
+state before line 3: key 5 amount 0
+state before line 3: key 5 amount 0
+allowed reply 0
+allowed reply 1""",
+    ),
+    # A key that is there is inserted with the reply 2, or not at all.
+    (
+        """vyrd 2 tree 1 1
+start 1 1
+start 4 9
+start 8 3
+0 call insert 9 4
+0 write 8 4
+0 commit
+0 return 1
+""",
+        "violation at line 7: reply 1 not allowed",
+        "call at line 5\nreply at line 8\nstate before line 7: key 9 amount 4294967299\nallowed reply 0\nallowed reply 2",
+    ),
+    # Four characters behind four are one too many. 16843009 is 1 + 256 + 256^2 + 256^3: four characters 0.
+    (
+        """vyrd 2 buffers 2 1
+start 0 4
+start 8 4
+0 call append_from 0 1
+0 commit
+0 return 1
+""",
+        "violation at line 5: reply 1 not allowed",
+        """call at line 4
+reply at line 6
+state before line 5: key 0 amount 16843009
+state before line 5: key 1 amount 16843009
+allowed reply 0""",
+    ),
+    # Cut has one key, and one reply.
+    (
+        "vyrd 1 buffers 1 1\n0 call cut 0 3\n0 commit\n0 return 0\n",
+        "violation at line 3: reply 0 not allowed",
+        "call at line 2\nreply at line 4\nstate before line 3: key 0 amount 0\nallowed reply 1",
+    ),
+]
+OBSERVERS = [
+    # Two commits change the answer, and the one between them doesn't. What commits before the call isn't told by itself.
+    (
+        """vyrd 1 tree 1 3
+0 call insert 1 9
+0 write 4 1
+0 write 8 9
+0 write 1 1
+0 commit
+0 return 1
+2 call lookup 1
+0 call insert 1 7
+0 write 8 7
+0 commit
+0 return 2
+0 call delete 5
+0 commit
+0 return 0
+0 call delete 1
+0 write 1 0
+0 commit
+2 return 5
+0 return 1
+""",
+        "violation at line 19: observer reply 5 in no state",
+        "call at line 8\nreply at line 19\nanswer from line 8: 10\nanswer from line 11: 8\nanswer from line 18: 0",
+    ),
+    (
+        "vyrd 2 buffers 1 1\nstart 0 2\nstart 1 65\nstart 2 66\n0 call length 0\n0 return 1\n",
+        "violation at line 6: observer reply 1 in no state",
+        "call at line 5\nreply at line 6\nanswer from line 5: 2",
+    ),
+]
+BROKEN = [
+    # Caller 0's block holds the word by its last write to it. The callers' open ones come in the order of the callers.
+    (
+        """vyrd 1 multiset 1 3
+1 call insert 5
+1 open
+1 write 0 1
+1 write 0 2
+1 write 2 1
+0 call insert 6
+0 open
+2 call lookup 6
+0 write 0 1
+""",
+        "malformed at line 10: block raced",
+        "held by line 5\nopen call at line 7\nopen block at line 8\nopen call at line 2\nopen block at line 3\nopen call at line 9",
+    ),
+    # Behind the commit on line 5 caller 1 writes the word twice, once in a block that ends.
+    (
+        """vyrd 2 multiset 1 2
+0 call insert 5
+0 write 1 5
+0 open
+0 commit
+1 call insert 6
+1 write 0 1
+1 open
+1 write 1 6
+1 write 0 2
+1 close commit
+0 write 0 2
+""",
+        "malformed at line 12: block raced",
+        """passed at line 7: word 0, in effect at line 7
+passed at line 10: word 0, in effect at line 11
+open call at line 2
+open block at line 4
+open call at line 6""",
+    ),
+    # The value is what is wrong. That another caller's block holds the word isn't told.
+    (
+        "vyrd 1 multiset 1 2\n0 call insert 5\n0 open\n0 write 0 1\n1 call insert 6\n1 write 0 9223372036854775808\n",
+        "malformed at line 6: value out of range",
+        "open call at line 2\nopen block at line 3\nopen call at line 5",
+    ),
+    # A write without a call, and one that has a leading zero and is no entry.
+    ("vyrd 1 multiset 1 2\n0 call insert 5\n1 write 0 1\n", "malformed at line 3: no call open", "open call at line 2"),
+    (
+        "vyrd 1 multiset 1 2\n0 call insert 5\n0 open\n0 write 0 1\n1 call insert 5\n1 write 0 01\n",
+        "malformed at line 6: bad entry",
+        "open call at line 2\nopen block at line 3\nopen call at line 5",
+    ),
+    # A block that ended is no longer open, nor is an execution that returned.
+    (
+        "vyrd 1 multiset 1 1\n0 call lookup 5\n0 open\n0 close\n0 return 0\n0 call delete 5\n0 commit\n0 commit\n",
+        "malformed at line 8: second commit",
+        "open call at line 6",
+    ),
+    ("vyrd 1 multiset 1 2\n1 call lookup 5\n0 call lookup 5\nend\n", "malformed at line 4: call not returned",
+        "open call at line 3\nopen call at line 2"),
+    ("vyrd 1 multiset 1 1\n0 call lookup 5", "malformed at line 2: no line feed", ""),
+    ("vyrd 1 multiset 1 1\n0 return 5\n", "malformed at line 2: no call open", ""),
+    ("vyrd 2 multiset 1 1\nstart 0 0\n0 call lookup 5\n", "malformed at line 2: start out of range", ""),
+    # What is open further down has nothing to do with the words at the start.
+    ("vyrd 2 multiset 2 1\nstart 0 2\nstart 1 5\n0 call lookup 5\n", "malformed at line 2: start stands for no state", ""),
+    ("vyrd 4 multiset 1 1\n0 call lookup 5\n", "malformed at line 1: unknown version", ""),
+    ("", "malformed at line 1: no end", ""),
+]
+ACCEPTED = [("vyrd 1 multiset 1 1\nend\n", "accepted: 0 entries, 0 commits, 0 observers", "")]
+# Of version 3 nothing is told of the specification's state. Lines are those of the whole text.
+OWN = [
+    # Part 1 shows 2 of key 9 beside the 3 that part 0 shows.
+    (
+        """vyrd 3 own 4 2
+part 2
+  shows w1 w0
+method put k
+  allow (reply == 1)
+    set [k] 3
+log
+# It begins with a 3 of key 9.
+start 0 3
+start 1 9
+0 call put 9
+# Main.java:61
+0 write 2 2
+0 write 3 9
+0 commit
+0 return 1
+""",
+        "violation at line 15: view differs at key 9",
+        """call at line 11
+reply at line 16
+agreed at the start: key 9 amount 3
+words after line 15: key 9 amount 5
+change at line 14: word 3 from 0 to 9, in effect at line 14, key 9 amount 3 to 5""",
+    ),
+    (
+        "vyrd 3 own 0 1\nmethod m\n  allow (reply == 1)\nlog\n0 call m\n0 commit\n0 return 2\n",
+        "violation at line 6: reply 2 not allowed",
+        "call at line 5\nreply at line 7",
+    ),
+    (
+        "vyrd 3 own 0 1\nmethod get k\n  answer [k]\nlog\n0 call get 7\n# a note\n0 return 2\n",
+        "violation at line 7: observer reply 2 in no state",
+        "call at line 5\nreply at line 7",
+    ),
+    (
+        """vyrd 3 own 2 2
+method m
+  allow (reply == 1)
+log
+0 call m
+0 open
+0 write 1 5
+1 call m
+1 write 1 6
+""",
+        "malformed at line 9: block raced",
+        "held by line 7\nopen call at line 5\nopen block at line 6\nopen call at line 8",
+    ),
+    ("vyrd 3 own 2 2\nmethod m\nlog\n", "malformed at line 3: method without a case", ""),
+]
+
+
+class Lines(unittest.TestCase):
+    def assert_lines(self, text, answer, lines):
+        with tempfile.TemporaryFile(buffering=0) as file:
+            file.write(text.encode())
+            self.assertEqual("\n".join(lines_behind(Log(file, "-", answer))), lines, text)
+
+    def test_cases(self):
+        for cases in VIEWS, REPLIES, OBSERVERS, BROKEN, ACCEPTED, OWN:
+            for text, answer, lines in cases:
+                with self.subTest(answer=answer):
+                    self.assert_lines(text, answer, lines)
+
+
+# A checker that finds one thing in every log, plays every workload alike, and says what stands in the file `said` behind it.
+CHECKER = """case $1 in
+    step) printf 'vyrd 1 multiset 1 1\\n0 call lookup 5\\n0 return 0\\nend\\naccepted: and so on\\n'; exit 0 ;;
+    check) cat >/dev/null; cat answer; exit "$(cat status)" ;;
+    explain) cat >/dev/null; cat answer lines; exit "$(cat status)" ;;
+esac
+exit 3"""
+
+
+class Explained(ScriptTest):
+    def setUp(self):
+        super().setUp()
+        self.checker = self.program("checker", f"cd '{self.folder}'", CHECKER)
+
+    def explained(self, case, *words, **others):
+        """Runs the script over the log of a case, or with other words, where the program says what the case says."""
+        text, answer, lines = case
+        self.file("log", text)
+        self.file("answer", f"{answer}\n")
+        self.file("lines", f"{lines}\n" if lines else "")
+        self.file("status", str(["accepted", "violation", "malformed"].index(answer.split()[0].rstrip(":"))))
+        return self.run_script("explained", *(words or ["log"]), **{"vyrd": self.checker, **others})
+
+    def test_what_is_compared_is_counted(self):
+        said = b"logs: 1 view differs at key\n"
+        said += b"lines: 1 agreed at the start: key, 1 call at line, 1 reply at line, 1 state after line, 1 words after line\n"
+        said += b"explained: 1 logs are explained as they have to be, 0 otherwise\n"
+        self.assert_ended(self.explained(VIEWS[0]), 0, said, [])
+
+    def test_the_first_difference_is_said_whole(self):
+        text, answer, lines = REPLIES[0]
+        ran = self.explained((text, answer, lines.replace("allowed reply 0", "allowed reply 1")), "log", "log")
+        told = f"{answer}\n{lines}\n"
+        said = f"log: the status 1, and\n{told.replace('allowed reply 0', 'allowed reply 1')}wanted: the status 1, and\n{told}"
+        said += f"of this log:\n{text}logs: \nlines: \nexplained: 0 logs are explained as they have to be, 1 otherwise\n"
+        self.assert_ended(ran, 1, said.encode(), [])
+
+    def test_other_lines_are_differences(self):
+        text, answer, lines = REPLIES[0]
+        for others in ("", lines + "\n", lines.upper(), "\n".join(lines.split("\n")[::-1])):
+            self.assertEqual(self.explained((text, answer, others)).returncode, 1)
+
+    def test_another_status_is_a_difference(self):
+        ends_with_2 = CHECKER.replace("lines; exit", "lines; exit 2; exit")
+        self.checker = self.program("checker", f"cd '{self.folder}'", ends_with_2)
+        ran = self.explained(REPLIES[0])
+        self.assertEqual(ran.returncode, 1)
+        self.assertIn(b"log: the status 2, and\n", ran.stdout)
+
+    def test_all_logs_that_are_there_and_some_that_are_drawn(self):
+        ran = self.explained(ACCEPTED[0], "--logs", "60", "--seed", "2")
+        self.assertEqual((ran.returncode, ran.stderr), (0, b""))
+        kept = len(list((EXAMPLES / "logs").glob("*.log"))) + len(list((EXAMPLES / "workloads").glob("*.work")))
+        own = len(list((EXAMPLES.parent / "specifications/logs").glob("*/*.log")))
+        counts = re.match(rb"logs: ([0-9]+) accepted, ([0-9]+) accepted in version 3\n", ran.stdout)
+        self.assertEqual(int(counts[1]) + int(counts[2]), kept + own + 60)
+        self.assertTrue(own < int(counts[2]) < own + 60)
+
+    def test_what_ends_it(self):
+        self.assert_ended(self.explained(VIEWS[0], "missing"), 64, b"", ["missing can't be read"])
+        self.assert_ended(self.explained(VIEWS[0], "--logs"), 64, b"", ["--logs takes a number"])
+        self.assert_ended(self.explained(VIEWS[0], "-x"), 64, b"", ["there is no option -x"])
+        self.assert_ended(self.explained(VIEWS[0], vyrd="/missing"), 70, b"", ["can't be run: /missing"])
+        without = self.program("without", "exit 3")
+        self.assert_ended(self.explained(VIEWS[0], vyrd=without), 70, b"", ["explains nothing, and ends with 3"])
+
+    def test_files_of_all_kinds(self):
+        bad = ("", "malformed at line 1: bad header", "")
+        self.explained(bad)
+        for name, content in (("-x", b"x\n"), ("binary", bytes(range(256)) * 9), ("long", b"0" * 1_000_000), ("empty", b"")):
+            self.file(name, content)
+            ran = self.run_script("explained", "--", name, vyrd=self.checker)
+            self.assertEqual((ran.returncode, ran.stderr), (0, b""), name)
+
+    def test_logs_are_drawn_of_all_kinds(self):
+        """Spoilt ones are other ones; some have a commit inside a block, and a word that two callers write."""
+        script = module_of(EXAMPLES / "explained")
+        block = ["vyrd 1 multiset 1 2", "0 open", "1 write 3 5", "0 write 0 2", "0 close commit", "end", ""]
+        raced = set()
+        for seed in range(40):
+            lines = list(block)
+            script.raced(random.Random(seed), lines)
+            raced.add("\n".join(lines))
+        self.assertTrue(all("0 write 3 " in text for text in raced))
+        self.assertEqual({"0 commit\n" in text for text in raced}, {True, False})
+        self.assertEqual({text[:6] for text in raced}, {"vyrd 1", "vyrd 2"})
+        lone = ["vyrd 1 multiset 1 1", "0 open", "0 write 0 2", "0 close", "1 write 3 5", "end"]
+        script.raced(random.Random(1), lone)
+        self.assertEqual(len(lone), 6)
+
+
+if __name__ == "__main__":
+    unittest.main()
