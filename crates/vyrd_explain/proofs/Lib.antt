@@ -2,4 +2,5 @@ pub mod SettledLaws
 pub mod TakenLaws
 pub mod PositionLaws
 pub mod OwnShownLaws
+pub mod OwnAfterLaws
 pub mod Opened

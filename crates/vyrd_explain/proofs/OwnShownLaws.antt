@@ -2,7 +2,7 @@
 use Rattle.std.proofs.Common.{◌≡◌, ℕ, zero, suc, ◌+◌, ◌-◌, ◌*◌, ◌/◌, ◌<◌, ◌≤◌, Bool, true, false}
 use Rattle.std.proofs.Common.{cond, List, [], ◌++◌, length, map, take, drop, refl, ap, ◌∙◌, sym}
 use Rattle.std.proofs.Common.{arith}
-use Rattle.std.specs.Prelude.{◌≢◌, ◌==◌, slice_range, flat_map}
+use Rattle.std.specs.Prelude.{◌≢◌, ◌==◌, flat_map}
 use Rattle.std.proofs.lemmas.List.{drop-take, take-take, length-take}
 use Rattle.std.proofs.lemmas.Nat.{div-mul-add}
 use Rattle.std.proofs.Math.Nat.{div-add-mod}
@@ -13,10 +13,12 @@ use Rattle.vyrd_base.specs.Layout.{plain_words, plain_words_of}
 use Rattle.vyrd_base.specs.Places.{numbers_from, numbers_below}
 use Rattle.vyrd_base.specs.Own.OwnRules.{own_view}
 use Rattle.vyrd_base.specs.Own.Programs.{Written}
+use Rattle.vyrd_base.specs.Own.Reader.{written_in}
 use Rattle.vyrd_base.specs.Own.Steps.{part_gives, part_words, view_of}
+use Rattle.vyrd_base.specs.Rules.{Charter, own, rules_by}
 use Rattle.vyrd_base.proofs.SumLaws.{own_part, other_part, amount_of-collected}
 use Rattle.vyrd_base.proofs.TestLaws.{apart_of}
-use Rattle.vyrd_view.specs.Decoded.{Gives, words_of, pairs_by}
+use Rattle.vyrd_view.specs.Decoded.{Gives, pairs_by}
 use Rattle.vyrd_view.specs.Laws.Sums.{given_map_push, given_flat_push, places_give}
 use Rattle.vyrd_view.proofs.DecodedLaws.{part_within}
 use Rattle.vyrd_own_spec.specs.Parts.{width_of}
@@ -28,13 +30,13 @@ module _ (f : ℕ → ℕ × ℕ) (q m amount : ℕ) (pair : ℕ × ℕ) where
   -- it gives to its own key
   pub place_given : amount ≡ given q (map f (numbers_below m)) → pair ≡ f m → pair.0 ≡ q
       → amount + pair.1 ≡ given q (map f (numbers_below (m + 1)))
-  place_given is here own =
+  place_given is here same =
       omega (
         arith,
         is,
         given_map_push q f m,
         ap (part_given q) here,
-        ap (λ k. part_given q (k, pair.1)) own,
+        ap (λ k. part_given q (k, pair.1)) same,
         own_part q pair.1,
       )
 
@@ -49,13 +51,6 @@ module _ (f : ℕ → ℕ × ℕ) (q m amount : ℕ) (pair : ℕ × ℕ) where
         ap (part_given q) here,
         other_part q pair.0 pair.1 (λ same. other (sym same)),
       )
-
--- a pair as it was decoded
-pub decoded : (gives : Gives) (words : List ℕ) (width part j n : ℕ) (pair : ℕ × ℕ) → n ≡ width
-    → pair ≡ gives part (slice_range words (part * n) (part * n + n)) j
-    → pair ≡ gives part (words_of width part words) j
-decoded gives words width part j n pair same is =
-    is ∙ ap (λ k. gives part (slice_range words (part * k) (part * k + k)) j) same
 
 -- ---- one part more
 
@@ -129,7 +124,7 @@ module _ (w : Written) (words : List ℕ) (whole : ℕ) where
           let within = part_within i (length words / w.words) w.words (omega arith) in
           omega (arith, is, turned, within)
 
-  pub whole_shown : whole ≡ length words / width_of w * width_of w
+  whole_shown : whole ≡ length words / width_of w * width_of w
       → own_view w (take whole words) ≡ own_view w words
   whole_shown is = by_test (w.words == 0) refl is
     where
@@ -142,10 +137,36 @@ module _ (w : Written) (words : List ℕ) (whole : ℕ) where
           view_kept (omega arith) all
 
 -- how many words all whole parts have
-pub whole_count : (h : Header) (w : Written) (n width parts a b : ℕ) → h.subject ≡ Own
+whole_count : (h : Header) (w : Written) (n width parts a b : ℕ) → h.subject ≡ Own
     → n ≡ plain_words h → width ≡ width_of w → parts ≡ h.size / width → a ≡ parts → b ≡ width
     → a * b ≡ n / width_of w * width_of w
 whole_count h w n width parts a b subject count wide many first second =
     let all : n ≡ h.size = count ∙ ap (λ s. plain_words_of s h.size) subject in
     ap (λ k. a * k) second ∙ ap (λ k. k * width) (first ∙ many)
     ∙ ap (λ k. h.size / k * k) wide ∙ ap (λ k. k / width_of w * width_of w) (sym all)
+
+-- ---- a charter's words
+
+-- so many of the words are those of all whole parts, and this is the view of the charter
+pub record AreWhole (w : Written) (charter : Charter) (words : List ℕ) (whole : ℕ) : Type 0 where
+  pub is : whole ≡ length words / width_of w * width_of w
+  pub seen : (all : List ℕ) → own_view w all ≡ (rules_by charter).view all
+
+module _ {h : Header} {lines : List (List ℕ)} {charter : Charter} {words : List ℕ}
+    {width parts a b : ℕ} (same : own h lines ≡ charter) (subject : h.subject ≡ Own)
+    (count : length words ≡ plain_words (rules_by charter).header)
+    (wide : width ≡ width_of (written_in lines)) (many : parts ≡ h.size / width)
+    (first : a ≡ parts) (second : b ≡ width) where
+  pub are_whole : AreWhole (written_in lines) charter words (a * b)
+  are_whole = record {
+    is = whole_count h (written_in lines) (length words) width parts a b subject
+        (count ∙ ap (λ c. plain_words (rules_by c).header) (sym same)) wide many first second;
+    seen = λ all. ap (λ c. (rules_by c).view all) same;
+  }
+
+-- they show what all words show
+pub whole_seen : {w : Written} {charter : Charter} {words : List ℕ} {whole : ℕ}
+    → AreWhole w charter words whole
+    → own_view w (take whole words) ≡ (rules_by charter).view words
+whole_seen {w} {charter} {words} {whole} known =
+    whole_shown w words whole known.is ∙ known.seen words

@@ -1,9 +1,8 @@
 -- What is answered about the bytes of a log: the line of its verdict, and behind it a line for each
 -- thing in the log that has to do with the verdict. The bytes are read in two ways: as a log of
 -- versions 1 and 2, whose structure is built in, and as one of version 3, which has a specification
--- in front. No log has a header for both, so one of them has nothing to say. Of a log with a
--- specification in front what its state has isn't said. `max_lines` is the reader's limit, at
--- least 1.
+-- in front. No log has a header for both, so one of them has nothing to say. `max_lines` is the
+-- reader's limit, at least 1.
 use Rattle.std.specs.Prelude.{ℕ, ◌+◌, Bool, false, ◌&&◌, List, [], ◌++◌, length, slice_index, is_some}
 use Rattle.std.specs.Option.{option_map_or}
 use Rattle.vyrd_base.specs.declared.header.Header.{Header}
@@ -11,7 +10,7 @@ use Rattle.vyrd_base.specs.declared.verdict.Verdict.{Verdict}
 use Rattle.vyrd_base.specs.LogVerdicts.{log_verdict, log_verdict_so_far}
 use Rattle.vyrd_base.specs.Reading.{Reading, reading}
 use Rattle.vyrd_base.specs.Own.Log.{OwnReading, own_reading}
-use Rattle.vyrd_base.specs.Rules.{own, rules_by, rules_of}
+use Rattle.vyrd_base.specs.Rules.{built_in, own}
 use Rattle.vyrd_base.specs.VerdictText.{verdict_text}
 use Rattle.vyrd_base.specs.Verdicts.{line_of}
 use Rattle.vyrd_witness.specs.ItemText.{items_text}
@@ -32,11 +31,11 @@ own_line_of read at = slice_index read.numbers (length read.starting + at)
 -- what is said of a verdict about a log with this header, in which this was read
 abbrev pub items_said : Reading → Verdict → Header → List ℕ
 items_said read verdict h = items_text (line_of read.starting)
-    (verdict_items (rules_of h) (line_of read.starting) read.starting read.entries verdict)
+    (verdict_items (built_in h) (line_of read.starting) read.starting read.entries verdict)
 
 abbrev pub own_items_said : OwnReading → Verdict → Header → List ℕ
-own_items_said read verdict h = items_text (own_line_of read) (verdict_items
-    (rules_by (own h read.lines)) (own_line_of read) read.starting read.entries verdict)
+own_items_said read verdict h = items_text (own_line_of read)
+    (verdict_items (own h read.lines) (own_line_of read) read.starting read.entries verdict)
 
 -- the same if a header was read, and otherwise nothing
 abbrev pub said_of : Reading → Verdict → List ℕ

@@ -28,7 +28,7 @@ pub(crate) fn verdict_items<E: Explains, L: Lines>(
     requires may_start { is_built_in (rules_by (E.charter shown.now)).header.subject ≡ true
         → may_start (rules_by (E.charter shown.now)).header starting.now ≡ true }
     requires few { length entries.now < 2 ^ 62 }
-    ensures { IfOk result (λ items. items.items ≡ verdict_items (rules_by (E.charter shown.now))
+    ensures { IfOk result (λ items. items.items ≡ verdict_items (E.charter shown.now)
         (L.line lines.now) starting.now entries.now verdict) }
 {
     match verdict {
@@ -53,8 +53,7 @@ fn violation_items<E: Explains, L: Lines>(
     requires may_start { is_built_in (rules_by (E.charter shown.now)).header.subject ≡ true
         → may_start (rules_by (E.charter shown.now)).header starting.now ≡ true }
     requires few { length entries.now < 2 ^ 62 }
-    ensures { IfOk result (λ items. items.items ≡ violation_items (rules_by (E.charter shown.now))
-        (L.line lines.now) starting.now
+    ensures { IfOk result (λ items. items.items ≡ violation_items (E.charter shown.now) (L.line lines.now) starting.now
         (front (rules_by (E.charter shown.now)).header entries.now) line why) }
 {
     let (front, _) = entries.split_at(front_len(alloc, shown.header(), entries)?);
@@ -93,7 +92,7 @@ fn fault_items<E: Explains>(
     requires kept { first_break (rules_by (E.charter shown.now)).header front.now ≡ None }
     requires few { length front.now < 2 ^ 62 }
     ensures { IfOk result (λ items. items.items
-        ≡ fault_items (rules_by (E.charter shown.now)) starting.now front.now at why) }
+        ≡ fault_items (E.charter shown.now) starting.now front.now at why) }
 {
     let items = shown_items(alloc, shown, starting, front, at, why)?;
     let of_state = shown.state_items(alloc, starting, front, at, why)?;

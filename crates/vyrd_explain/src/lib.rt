@@ -6,7 +6,6 @@
 //! violation these are the call and the return, and then what the words showed and what changed it,
 //! or what the specification's state has and which replies it allows, or what an observer would
 //! have answered from when on; of a broken rule what a write races with, and what is open there.
-//! What a specification of the user's own has in its state isn't said.
 //!
 //! The entries are kept, so its memory grows with the log. `laws` says when no further byte changes
 //! the answer.
@@ -17,12 +16,13 @@ mod explains;
 mod front;
 mod items;
 pub mod laws;
+mod own_amount;
 mod own_lines;
 mod own_reading;
 mod own_shown;
 mod own_text;
 mod reading;
-mod specified;
+mod structure;
 mod text;
 pub mod worked;
 

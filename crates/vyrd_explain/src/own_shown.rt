@@ -1,30 +1,32 @@
 //! What the words of a structure of the user's own show.
 
-ghost use Rattle.std.specs.Prelude.{◌≡◌, ◌*◌, ◌<◌, ◌≤◌, ◌^◌, length, IfOk};
+ghost use Rattle.std.specs.Prelude.{◌≡◌, IfOk};
 ghost use Rattle.std.specs.Arc.{arc_value};
 ghost use Rattle.vyrd_base.specs.declared.subject.Subject.TheVariants.{Own};
-ghost use Rattle.vyrd_base.specs.Amounts.{amount_of, given};
 ghost use Rattle.vyrd_base.specs.Rules.{own};
-ghost use Rattle.vyrd_explain.specs.PartPairs.{part_pairs};
-ghost use Rattle.vyrd_view.specs.Known.{view_by};
 
 use crate::explains::Explains;
+use crate::own_amount::{amount_after, amount_by};
 use std::alloc::{AllocError, Global};
 use std::marker::Model;
 use std::sync::Arc;
-use vyrd_base::{Entry, Header, StartWord, Subject, Why};
+use vyrd_base::{Entry, Header, StartWord, Why};
 use vyrd_own_spec::{OwnParts, Specification};
+use vyrd_own_states::{FromSpecification, own_reply_items};
+use vyrd_states::{after_items, observer_items};
 use vyrd_view::Decode;
 use vyrd_witness::{Item, Shown};
 
 /// What the words of a structure of the user's own show, by its specification. It is seen as its
 /// charter: the header and the specification's lines.
 ///
-/// The amount of a key is added up at each call, over all parts of the words: that takes time in
-/// proportion to the words, and no memory. Words behind the last whole part show nothing.
+/// The amount of a key is added up over all parts of the words: that takes time in proportion to
+/// the words, and no memory. After a change only the part of the changed word is looked at: that
+/// takes time and memory in proportion to a part. Words behind the last whole part show nothing.
 #[derive(Drop)]
 pub struct OwnShown {
     header: Header,
+    specification: Arc<Specification>,
     parts: OwnParts,
 }
 
@@ -39,7 +41,8 @@ impl Model for OwnShown {
     ghost view = { λ s. own s.header (arc_value s.parts.specification) };
 
     ghost invariant = { λ s. (s.header.subject ≡ Own) × (s.parts.header ≡ s.header)
-        × (s.parts.parts ≡ s.header.size / s.parts.width) };
+        × (s.parts.parts ≡ s.header.size / s.parts.width)
+        × (arc_value s.specification ≡ arc_value s.parts.specification) };
 }
 
 impl OwnShown {
@@ -53,8 +56,12 @@ impl OwnShown {
         requires subject { header.subject ≡ Own }
         ensures { IfOk result (λ s. s ≡ own header (arc_value specification)) }
     {
-        let parts = OwnParts::new(alloc, header, specification)?;
-        Ok(OwnShown { header, parts })
+        let parts = OwnParts::new(alloc, header, Arc::try_clone(&specification)?)?;
+        Ok(OwnShown {
+            header,
+            specification,
+            parts,
+        })
     }
 }
 
@@ -69,52 +76,39 @@ impl Shown for OwnShown {
         let whole = self.parts.parts() * self.parts.width();
         Ok(amount_by(&self.parts, &words[..whole], key))
     }
+
+    fn amount_after(
+        &self,
+        alloc: Global,
+        words: &[u64],
+        key: u64,
+        before: u128,
+        word: usize,
+        was: u64,
+    ) -> Result<u128, AllocError> {
+        let whole = self.parts.parts() * self.parts.width();
+        if word >= whole {
+            return Ok(before);
+        }
+        amount_after(alloc, &self.parts, &words[..whole], key, before, word, was)
+    }
 }
 
 impl Explains for OwnShown {
-    /// What the state of such a specification has isn't said.
     fn state_items(
         &self,
         alloc: Global,
-        _starting: &[StartWord],
-        _front: &[Entry],
-        _at: usize,
-        _why: Why,
+        starting: &[StartWord],
+        front: &[Entry],
+        at: usize,
+        why: Why,
     ) -> Result<Vec<Item>, AllocError> {
-        let subject = self.header.subject();
-        prove!(matches!(&subject, Subject::Own));
-        Ok(Vec::new(alloc))
-    }
-}
-
-/// What the parts show of the key.
-fn amount_by<D: Decode>(decoder: &D, words: &[u64], key: u64) -> u128
-    requires count { length words.now ≡ D.parts decoder.now * D.width decoder.now }
-    ensures { result ≡ amount_of (view_by (D.shows decoder.now) words.now) key }
-{
-    let mut amount = 0;
-    for part in 0..decoder.parts() {
-        amount += amount_of_part(decoder, part, words, key);
-    }
-    amount
-}
-
-/// What one part gives to the key.
-fn amount_of_part<D: Decode>(decoder: &D, part: usize, words: &[u64], key: u64) -> u128
-    requires part { part < D.parts decoder.now }
-    requires count { length words.now ≡ D.parts decoder.now * D.width decoder.now }
-    ensures given { result ≡ given key (part_pairs (D.width decoder.now) (D.places decoder.now)
-        (D.gives decoder.now) words.now part) }
-    ensures low { result ≤ 4 * 2 ^ 64 }
-{
-    let width = decoder.width();
-    let first = part * width;
-    let pairs = decoder.decode(part, &words[first..first + width]);
-    let mut amount = 0;
-    for place in 0..decoder.places() {
-        if pairs[place].0 == key {
-            amount += u128::from(pairs[place].1);
+        let specification = Arc::try_clone(&self.specification)?;
+        let begins = FromSpecification::new(self.header, specification);
+        match why {
+            Why::Reply(reply) => own_reply_items(alloc, &begins, starting, front, at, reply),
+            Why::View(key) => after_items(alloc, &begins, starting, front, at, key),
+            Why::Observer(_) => observer_items(alloc, &begins, starting, front, at),
         }
     }
-    amount
 }

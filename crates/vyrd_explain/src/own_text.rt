@@ -12,10 +12,10 @@ ghost use Rattle.vyrd_explain.specs.Explaining.{own_limit};
 use crate::items::verdict_items;
 use crate::own_lines::OwnLines;
 use crate::own_shown::OwnShown;
-use crate::specified::read_specification;
 use std::alloc::{AllocError, Global};
 use std::sync::Arc;
 use vyrd_base::{Entry, Header, Verdict};
+use vyrd_own_check::read_specification;
 use vyrd_own_log::OwnLogReader;
 use vyrd_witness::text_of;
 

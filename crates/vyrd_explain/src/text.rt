@@ -2,7 +2,7 @@
 
 ghost use Rattle.std.specs.Prelude.{◌≡◌, ◌<◌, ◌^◌, ℕ, List, length, IfOk, Some, true};
 ghost use Rattle.vyrd_base.specs.declared.header.Header.{Header};
-ghost use Rattle.vyrd_base.specs.Rules.{rules_of};
+ghost use Rattle.vyrd_base.specs.Rules.{built_in};
 ghost use Rattle.vyrd_base.specs.Starts.{may_start};
 ghost use Rattle.vyrd_base.specs.Subjects.{is_built_in};
 ghost use Rattle.vyrd_base.specs.Verdicts.{line_of};
@@ -12,10 +12,11 @@ ghost use Rattle.vyrd_explain.specs.Explained.{read_as, said_of};
 ghost use Rattle.vyrd_explain.specs.Verdicts.{verdict_items};
 
 use crate::items::verdict_items;
+use crate::structure::BuiltInStructure;
 use std::alloc::{AllocError, Global};
 use vyrd_base::{Entry, Header, StartWord, Verdict};
 use vyrd_text::LogReader;
-use vyrd_witness::{BuiltInShown, InRow, text_of};
+use vyrd_witness::{InRow, text_of};
 
 /// What is said of a verdict, given the reader of the log and the entries that were read.
 pub(crate) fn said_about(
@@ -52,10 +53,10 @@ fn said_text(
     requires may_start { may_start header starting.now ≡ true }
     requires few { length entries.now < 2 ^ 62 }
     ensures { IfOk result (λ text. text.items ≡ items_text (line_of starting.now)
-        (verdict_items (rules_of header) (line_of starting.now) starting.now entries.now
+        (verdict_items (built_in header) (line_of starting.now) starting.now entries.now
         verdict)) }
 {
-    let shown = BuiltInShown::new(header);
+    let shown = BuiltInStructure::new(header);
     let lines = InRow {
         starting: starting.len(),
     };

@@ -67,12 +67,26 @@ pub fn broken_rules()
         ≡ codes "malformed at line 2: start stands for no state\n" }
 {}
 
-/// A specification in front: what the words show by it, told by the lines of the text, in which a
-/// line with a note stands too. Of its state nothing is said.
+/// A specification in front: what the words show by it and what its state shows, told by the lines
+/// of the text, in which a line with a note stands too.
 #[tactic(auto, unfolding(crate::proofs::Opened::opened_answer))]
 pub fn a_specification_in_front()
     ensures { explained 16777216 (codes
         "vyrd 3 own 1 1\npart 1\n  shows 0 w0\nmethod add n\n  allow (reply == [0])\n    set [0] ([0] + n)\nlog\nstart 0 5\n0 call add 2\n# too much\n0 write 0 8\n0 commit\n0 return 5\nend\n")
         ≡ codes
-        "violation at line 12: view differs at key 0\ncall at line 9\nreply at line 13\nagreed at the start: key 0 amount 5\nwords after line 12: key 0 amount 8\nchange at line 11: word 0 from 5 to 8, in effect at line 11, key 0 amount 5 to 8\n" }
+        "violation at line 12: view differs at key 0\ncall at line 9\nreply at line 13\nagreed at the start: key 0 amount 5\nwords after line 12: key 0 amount 8\nchange at line 11: word 0 from 5 to 8, in effect at line 11, key 0 amount 5 to 8\nstate after line 12: key 0 amount 7\n" }
+{}
+
+/// Replies that a specification in front doesn't have: of one with a commit what its case reads, and
+/// what it allows; of an observer's what it would answer.
+#[tactic(auto, unfolding(crate::proofs::Opened::opened_answer))]
+pub fn replies_by_a_specification_in_front()
+    ensures refused { explained 16777216 (codes
+        "vyrd 3 own 0 1\nregister next 3\nlist waiting\nmethod take k\n  allow ((reply == next) and ({k} == 0))\n    set {k} 1\nlog\n0 call take 7\n0 commit\n0 return 4\nend\n")
+        ≡ codes
+        "violation at line 9: reply 4 not allowed\ncall at line 8\nreply at line 10\nstate before line 9: register 0 value 3\nstate before line 9: list 0 size 0 first none last none\nstate before line 9: hidden key 7 amount 0\nallowed reply 3\n" }
+    ensures observed { explained 16777216
+        (codes "vyrd 3 own 0 1\nregister r 3\nmethod get\n  answer r\nlog\n0 call get\n0 return 4\nend\n")
+        ≡ codes
+        "violation at line 7: observer reply 4 in no state\ncall at line 6\nreply at line 7\nanswer from line 6: 3\n" }
 {}

@@ -6,3 +6,4 @@ pub mod MarkLaws
 pub mod SetLaws
 pub mod ApartLaws
 pub mod QueueLaws
+pub mod ReadLaws

@@ -5,3 +5,4 @@ pub mod Apart
 pub mod Sets
 pub mod Samples
 pub mod Marks
+pub mod Reads

@@ -1,9 +1,11 @@
--- Methods of a counter.
-use Rattle.std.specs.Prelude.{[], ◌∷◌, codes, Some, None}
+-- Methods of a counter, and what expressions are worth.
+use Rattle.std.specs.Prelude.{ℕ, [], ◌∷◌, codes, Some, None}
 use Rattle.vyrd_base.specs.declared.own.op.Op.TheVariants.{And}
 use Rattle.vyrd_base.specs.Own.Expressions.{number, at, count, shown, infix_of, choice, most}
 use Rattle.vyrd_base.specs.Own.Programs.{of_shown, clear_shown, Method}
 use Rattle.vyrd_base.specs.Own.Samples.{same}
+use Rattle.vyrd_own.specs.declared.reads.Reads.TheVariants.{Shown, Nothing}
+use Rattle.vyrd_own.specs.declared.reads.Worth.{Worth}
 
 -- `method compare_and_set old new`
 --   `answer (if ([0] == old) then none else 0)`
@@ -35,3 +37,11 @@ clear_all = record {
   answer = None;
   cases = record { allow = same (at 0) count; changes = clear_shown ∷ [] } ∷ [];
 }
+
+-- a value that is no amount
+abbrev pub no_amount : ℕ → Worth
+no_amount n = record { value = n; reads = Nothing }
+
+-- the shown amount of a key
+abbrev pub shown_of : ℕ → ℕ → Worth
+shown_of key amount = record { value = amount; reads = Shown key }

@@ -7,6 +7,9 @@
 //! any state and any arguments, or that memory ran out; then the state is as it was. An expression
 //! is evaluated over a list of nodes, without memory; how the nodes make the expression is a matter
 //! of the layout (`specs/Layout`), of which the definitions know nothing.
+//!
+//! `put_worths` says what counts for whether a call may have a reply: what the expressions are
+//! worth by which that is decided, and which amounts of the state they read (`specs/Reads`).
 #![tactic(auto)]
 
 mod code;
@@ -17,6 +20,7 @@ mod node;
 mod ordered;
 mod program;
 mod queue;
+mod reads;
 mod shown;
 mod state;
 mod steps;
@@ -29,6 +33,7 @@ pub use code::Code;
 pub use few::answer_of_few;
 pub use node::Node;
 pub use program::{Case, Change, Method, Program, Show};
+pub use reads::{Reads, Worth, put_worths};
 pub use shown::ShownAmounts;
 pub use state::StateOf;
 pub use steps::{Room, answer, find_effects, step};

@@ -109,6 +109,13 @@ impl StateOf {
         &self.registers
     }
 
+    /// How many lists there are.
+    pub fn list_count(&self) -> usize
+        ensures { result ≡ length self.now.lists }
+    {
+        self.lists.len()
+    }
+
     /// The first of the list of that number.
     #[inline(always)]
     pub fn first(&self, i: usize) -> u64

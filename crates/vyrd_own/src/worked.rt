@@ -3,11 +3,12 @@
 
 ghost use Rattle.std.specs.Prelude.{◌≡◌, [], ◌∷◌, Some, None};
 ghost use Rattle.vyrd_base.specs.Own.Expressions.{value, least, greatest, number, most};
-ghost use Rattle.vyrd_base.specs.Own.Expressions.{infix_of};
+ghost use Rattle.vyrd_base.specs.Own.Expressions.{infix_of, choice, at, first, size};
 ghost use Rattle.vyrd_base.specs.declared.own.op.Op.TheVariants.{Plus, Minus, Over};
 ghost use Rattle.vyrd_base.specs.Own.Steps.{next_of, answer_of, start_of, part_gives, view_of};
 ghost use Rattle.vyrd_base.specs.Own.Samples.{queue, enqueue, dequeue, queued};
-ghost use Rattle.vyrd_own.specs.Samples.{compare_and_set, clear_all};
+ghost use Rattle.vyrd_own.specs.Reads.{counted, worths};
+ghost use Rattle.vyrd_own.specs.Samples.{compare_and_set, clear_all, no_amount, shown_of};
 ghost use Rattle.vyrd_base.specs.States.{showing};
 
 /// A queue gives back its elements in their order, each of them once.
@@ -61,4 +62,20 @@ pub fn values()
     ensures stops_at_most { value (showing []) [] (infix_of Plus (number most) (number 1)) ≡ most }
     ensures stops_at_0 { value (showing []) [] (infix_of Minus (number 3) (number 5)) ≡ 0 }
     ensures by_0 { value (showing []) [] (infix_of Over (number 3) (number 0)) ≡ 0 }
+{}
+
+/// What counts for a reply stands behind its own parts, and of a choice only the part counts that
+/// its test leads to.
+#[tactic(auto, unfolding(vyrd_base::proofs::OpenedOwn::opened_steps))]
+pub fn what_counts()
+    ensures not_set { worths queue compare_and_set (showing ((0, 7) ∷ [])) (5 ∷ 9 ∷ []) 1
+        ≡ no_amount 0 ∷ shown_of 0 7 ∷ no_amount 5 ∷ no_amount 0
+        ∷ no_amount 1 ∷ no_amount 1 ∷ no_amount 1 ∷ no_amount 0 ∷ [] }
+    ensures named_first { worths queue dequeue (queued ((5, 1) ∷ []) (5 ∷ [])) [] 8
+        ≡ no_amount 5 ∷ no_amount 1 ∷ no_amount 0 ∷ no_amount 1
+        ∷ no_amount 8 ∷ no_amount 5 ∷ no_amount 1 ∷ no_amount 6 ∷ no_amount 0 ∷ no_amount 0 ∷ [] }
+    ensures second { counted (showing []) (1 ∷ []) (choice (at 0) (size 0) (first 0))
+        ≡ at 0 ∷ size 0 ∷ choice (at 0) (size 0) (first 0) ∷ [] }
+    ensures third { counted (showing []) (0 ∷ []) (choice (at 0) (size 0) (first 0))
+        ≡ at 0 ∷ first 0 ∷ choice (at 0) (size 0) (first 0) ∷ [] }
 {}

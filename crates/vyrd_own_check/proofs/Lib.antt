@@ -4,6 +4,5 @@ pub mod ReadingFacts
 pub mod PieceLaws
 pub mod FedLaws
 pub mod CheckedLaws
-pub mod StartLaws
 pub mod SpecifiedLaws
 pub mod NumberLaws

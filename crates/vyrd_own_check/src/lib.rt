@@ -5,7 +5,8 @@
 //! rules that the log's own specification gives, and told by the lines of the text. At the input's
 //! end it answers the verdict about the whole. It keeps the specification, the starting words, an
 //! unfinished line, the entries of one part of a piece, where entries stand among notes, and what
-//! the judge keeps. [`own_verdict_of`] is the verdict about an input that lies in memory.
+//! the judge keeps. [`own_verdict_of`] is the verdict about an input that lies in memory, and
+//! [`read_specification`] the specification that a log's lines spell.
 #![tactic(auto)]
 
 mod checker;
@@ -16,3 +17,4 @@ mod starting;
 mod text_judge;
 
 pub use checker::{OwnChecker, own_verdict_of};
+pub use starting::read_specification;

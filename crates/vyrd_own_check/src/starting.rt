@@ -8,6 +8,7 @@ ghost use Rattle.vyrd_own.specs.Layout.{texts, written};
 ghost use Rattle.vyrd_own_check.specs.Checking.{IsMade};
 
 use std::alloc::{AllocError, Global};
+use std::sync::Arc;
 use vyrd_base::{Header, StartWord};
 use vyrd_judge::Judge;
 use vyrd_own::Program;
@@ -29,14 +30,16 @@ pub(crate) fn start_judge(
 {
     let words = words_at_start(alloc, header, start)?;
     let specification = read_specification(alloc, lines)?;
-    let Some(spec) = OwnSpec::start(alloc, header, specification, &words)? else {
+    let shared = Arc::new(alloc, specification)?;
+    let Some(spec) = OwnSpec::start(alloc, header, shared, &words)? else {
         return Ok(None);
     };
     Ok(Some(Judge::begin(alloc, header, start, &words, spec)?))
 }
 
-/// The specification that these lines spell. The reader of the log goes on with its own.
-fn read_specification(alloc: Global, lines: &[Vec<u8>]) -> Result<Specification, AllocError>
+/// The specification that these lines spell, without their line feeds and without the line `log`.
+/// It has lines of its own: the reader of a log goes on with those that it has read.
+pub fn read_specification(alloc: Global, lines: &[Vec<u8>]) -> Result<Specification, AllocError>
     ensures { IfOk result (λ specification. specification ≡ texts lines.now) }
 {
     let program = read_program(alloc, lines)?;

@@ -1,8 +1,8 @@
 -- What is said of a call by its number.
 use Rattle.std.proofs.Common.{◌≡◌, ℕ, zero, suc, ◌<◌, ◌≤◌, List, [], ◌∷◌, Option, Some, None, refl, ap, ◌∙◌}
-use Rattle.std.proofs.Common.{sym, arith, length, take}
-use Rattle.std.specs.Prelude.{map, option_map, option_and_then, slice_get, slice_index_or}
-use Rattle.std.specs.Option.{option_map_or}
+use Rattle.std.proofs.Common.{sym, arith, length, take, Bool, true, false}
+use Rattle.std.specs.Prelude.{map, option_map, option_and_then, slice_get, slice_index_or, if◌then◌else◌}
+use Rattle.std.specs.Option.{option_map_or, is_some}
 use Rattle.std.proofs.lemmas.List.{length-take}
 use Rattle.vyrd_base.specs.States.{State}
 use Rattle.vyrd_base.specs.Subjects.{own_number}
@@ -35,6 +35,19 @@ pub next_of_effects : (w : Written) (method : declared.Method) (args : Args) (re
     → effects_by w method args reply s ≡ o → next_by w method args reply s ≡ option_map (with_effects s) o
 next_of_effects w method args reply s o e =
     next_of_number w args reply s (own_number method) ∙ ap (option_map (with_effects s)) e
+
+-- a reply is allowed if the call does something by it, be it nothing
+pub allowed_is : (w : Written) (method : declared.Method) (args : Args) (reply : ℕ) (s : State)
+    (effects : List Effect) (allowed : Bool)
+    → effects_by w method args reply s ≡ (if allowed then Some effects else None)
+    → allowed ≡ is_some (next_by w method args reply s)
+allowed_is w method args reply s effects allowed is =
+    sym (ap is_some (next_of_effects w method args reply s _ is) ∙ by_test allowed)
+  where
+    by_test : (b : Bool)
+        → is_some (option_map (with_effects s) (if b then Some effects else None)) ≡ b
+    by_test true = refl
+    by_test false = refl
 
 -- a method that was found
 pub method_found : (methods : List program.Method) (i : ℕ) (m : program.Method) → i < length methods

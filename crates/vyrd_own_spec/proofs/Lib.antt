@@ -3,3 +3,4 @@ pub mod TouchLaws
 pub mod PartLaws
 pub mod StartLaws
 pub mod SmallLaws
+pub mod StandingLaws

@@ -3,10 +3,12 @@
 //! The central type is [`OwnSpec`]: a [`Specification`] that was read, with a state. It steps, answers
 //! and shows by the rules that the specification's lines give (`own_rules` of `vyrd_base`), so that
 //! `Judge` of `vyrd_judge` takes it as any other. A step that is refused, or for which memory runs
-//! out, leaves all as it was. The words are compared part by part, as the specification decodes them
+//! out, leaves all as it was. Without a step it says whether a reply is allowed, and what counts
+//! for that. The words are compared part by part, as the specification decodes them
 //! ([`OwnParts`]). Words that aren't a whole number of parts stand for no state.
 #![tactic(auto)]
 
+mod allowing;
 mod compared;
 pub mod laws;
 mod own_spec;

@@ -2,13 +2,16 @@
 
 ghost use Rattle.std.specs.Prelude.{◌≡◌, ◌≤◌, true, not, length, is_none, IfOk, IfSome};
 ghost use Rattle.std.specs.Arc.{arc_value};
+ghost use Rattle.std.specs.Option.{is_some};
 ghost use Rattle.vyrd_base.specs.declared.subject.Subject.TheVariants.{Own};
 ghost use Rattle.vyrd_base.specs.Own.OwnRules.{own_start, may_stand};
 ghost use Rattle.vyrd_base.specs.Own.Reader.{written_in};
-ghost use Rattle.vyrd_base.specs.Rules.{own};
+ghost use Rattle.vyrd_base.specs.Rules.{own, own_rules};
 ghost use Rattle.vyrd_own_spec.specs.Parts.{IsWhole};
 ghost use Rattle.vyrd_own_spec.specs.Touched.{touches};
+ghost use Rattle.vyrd_own_spec.specs.Counted.{worths_by};
 
+use crate::allowing::{allows, worths};
 use crate::compared::OwnCompared;
 use crate::parts::OwnParts;
 use crate::specification::Specification;
@@ -17,7 +20,7 @@ use crate::stepping::{answer, shows_nothing, step};
 use std::alloc::{AllocError, Global};
 use std::sync::Arc;
 use vyrd_base::{Args, Header, Method, View};
-use vyrd_own::{Room, StateOf};
+use vyrd_own::{Room, StateOf, Worth};
 use vyrd_spec::Spec;
 use vyrd_view::ByParts;
 
@@ -45,24 +48,23 @@ impl OwnSpec {
     pub fn start(
         alloc: Global,
         header: Header,
-        specification: Specification,
+        specification: Arc<Specification>,
         words: &[u64],
     ) -> Result<Option<OwnSpec>, AllocError>
         requires subject { header.subject ≡ Own }
         requires count { length words.now ≡ header.size }
         ensures header { IfOk result (λ found. IfSome found (λ s. s.header ≡ header)) }
         ensures lines { IfOk result
-            (λ found. IfSome found (λ s. arc_value s.specification ≡ specification)) }
+            (λ found. IfSome found (λ s. arc_value s.specification ≡ arc_value specification)) }
         ensures made { IfOk result (λ found. IfSome found (λ s. s.made ≡ 0)) }
         ensures state { IfOk result (λ found. IfSome found (λ s. s.state
-            ≡ own_start (written_in specification) words.now)) }
+            ≡ own_start (written_in (arc_value specification)) words.now)) }
         ensures none { IfOk result (λ found. is_none found
-            ≡ not (may_stand (written_in specification) words.now)) }
+            ≡ not (may_stand (written_in (arc_value specification)) words.now)) }
     {
         if !is_whole(&specification, words.len()) {
             return Ok(None);
         }
-        let specification = Arc::new(alloc, specification)?;
         let Some(shown) = shown_at_start(alloc, header, &specification, words)? else {
             return Ok(None);
         };
@@ -76,6 +78,45 @@ impl OwnSpec {
             touched: Vec::new(alloc),
             changes: false,
         }))
+    }
+
+    /// The state.
+    #[inline(always)]
+    pub fn state(&self) -> &StateOf
+        ensures { result.now ≡ self.now.state }
+    {
+        &self.state
+    }
+
+    /// Whether this state allows a call this reply. The state stays as it is.
+    pub fn allows(
+        &self,
+        alloc: Global,
+        method: Method,
+        args: Args,
+        reply: u64,
+    ) -> Result<bool, AllocError>
+        ensures { IfOk result (λ allowed. allowed ≡ is_some
+            ((own_rules self.now.header (written_in (arc_value self.now.specification))).next
+            method args reply self.now.state)) }
+    {
+        allows(alloc, &self.specification, method, args, reply, &self.state)
+    }
+
+    /// What counts for whether this state allows a call this reply: what the expressions are worth
+    /// by which that is decided, each behind its parts. It is nothing if there is no such method.
+    /// It costs what [`put_worths`](vyrd_own::put_worths) does.
+    pub fn worths(
+        &self,
+        alloc: Global,
+        method: Method,
+        args: Args,
+        reply: u64,
+    ) -> Result<Vec<Worth>, AllocError>
+        ensures { IfOk result (λ found. found.items ≡ worths_by
+            (written_in (arc_value self.now.specification)) method args reply self.now.state) }
+    {
+        worths(alloc, &self.specification, method, args, reply, &self.state)
     }
 }
 

@@ -54,7 +54,7 @@ pub(crate) fn step(
 }
 
 /// Finds out what a call does with its reply, and says whether the reply is allowed.
-fn plan(
+pub(crate) fn plan(
     program: &Program,
     method: Method,
     args: Args,
@@ -77,7 +77,7 @@ fn plan(
 
 /// All arguments.
 #[inline(always)]
-fn all_args(args: Args) -> [u64; 3]
+pub(crate) fn all_args(args: Args) -> [u64; 3]
     ensures { result ≡ args.a ∷ args.b ∷ args.c ∷ [] }
 {
     [u64::from(args.a), u64::from(args.b), u64::from(args.c)]
@@ -85,7 +85,7 @@ fn all_args(args: Args) -> [u64; 3]
 
 /// The first of them, as many as a method has.
 #[inline(always)]
-fn given(all: &[u64; 3], arity: usize) -> &[u64]
+pub(crate) fn given(all: &[u64; 3], arity: usize) -> &[u64]
     ensures { result.now ≡ take arity all.now }
 {
     &all[..arity.min(3)]

@@ -64,7 +64,7 @@ fn logs_with_what_has_to_do_with_their_verdicts(rt: HostRuntime) -> Result<(), F
             "own",
             OWN,
             1,
-            b"violation at line 10: view differs at key 0\ncall at line 9\nreply at line 11\nagreed at the start: key 0 amount 5\nwords after line 10: key 0 amount 5\n",
+            b"violation at line 10: view differs at key 0\ncall at line 9\nreply at line 11\nagreed at the start: key 0 amount 5\nwords after line 10: key 0 amount 5\nstate after line 10: key 0 amount 7\n",
         ),
     ];
     for (name, log, status, answer) in table {

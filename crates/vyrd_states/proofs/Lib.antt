@@ -4,3 +4,4 @@ pub mod ReplyLaws
 pub mod RunLaws
 pub mod StartLaws
 pub mod WindowLaws
+pub mod RefusedLaws

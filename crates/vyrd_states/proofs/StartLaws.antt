@@ -1,23 +1,21 @@
 -- The words at the start are small, so that a specification can start from them.
 use Rattle.std.proofs.Common.{◌≡◌, ℕ, zero, suc, ◌+◌, ◌<◌, ◌^◌, Bool, true, false, not, cond, ◌||◌}
-use Rattle.std.proofs.Common.{List, [], ◌∷◌, map, Option, Some, None, ap, ◌∙◌, sym, arith}
-use Rattle.std.specs.Prelude.{◌==◌, nat_le, All, unwrap_or}
+use Rattle.std.proofs.Common.{List, [], ◌∷◌, ◌++◌, map, Option, Some, None, ap, arith}
+use Rattle.std.specs.Prelude.{◌==◌, nat_le, All, unwrap_or, option_map, replicate}
 use Rattle.std.specs.Option.{option_or}
 use Rattle.std.proofs.lemmas.Bool.{not-true}
 use Rattle.std.proofs.lemmas.List.Elements.{All-nil, All-cons}
 use Rattle.vyrd_base.specs.declared.header.Header.{Header}
-use Rattle.vyrd_base.specs.declared.log.Entry.{Entry}
 use Rattle.vyrd_base.specs.declared.log.StartWord.{StartWord}
-use Rattle.vyrd_base.specs.Layout.{plain_words}
+use Rattle.vyrd_base.specs.Layout.{plain_words, lock_words}
 use Rattle.vyrd_base.specs.Places.{numbers_from, first_answer}
 use Rattle.vyrd_base.specs.Rules.{rules_of}
 use Rattle.vyrd_base.specs.Starts.{is_out_of_range, is_out_of_order, do_follow, may_start}
 use Rattle.vyrd_base.specs.Starts.{words_at_start, state_at_start}
-use Rattle.vyrd_base.specs.States.{State}
+use Rattle.vyrd_base.specs.States.{showing}
+use Rattle.vyrd_base.specs.Represented.{state_of_words}
 use Rattle.vyrd_base.specs.Words.{given_to, value_at_start, value_after}
 use Rattle.vyrd_base.proofs.TestLaws.{above_of, first_true, second_true, neither_true}
-use Rattle.vyrd_states.specs.Known.{state_then}
-use Rattle.vyrd_states.proofs.KnownLaws.{state_then-first}
 
 value_small : (h : Header) (last : Option StartWord) (starting : List StartWord) (w : ℕ)
     → do_follow h last starting ≡ true → value_at_start starting w < 2 ^ 63
@@ -60,10 +58,10 @@ pub words_small : (h : Header) (starting : List StartWord) → may_start h start
 words_small h starting may =
     all_small (value_after starting []) 0 (plain_words h) (λ w. start_small h starting w may)
 
--- what is found at the start is in the state there
-pub found_first : (h : Header) (starting : List StartWord) (front : List Entry) (words : List ℕ)
-    (o : Option State) → words ≡ words_at_start h starting → o ≡ (rules_of h).start words
-    → o ≡ state_then (rules_of h) starting front 0
+-- the state at the start of a structure that is built in
+pub begins_so : (h : Header) (starting : List StartWord) (words : List ℕ)
+    → words ≡ words_at_start h starting
+    → option_map showing (state_of_words h (words ++ replicate (lock_words h) 0))
+    ≡ state_at_start (rules_of h) starting
 unfolding state_at_start
-found_first h starting front words o same found =
-    found ∙ ap (rules_of h).start same ∙ sym (state_then-first (rules_of h) starting front)
+begins_so h starting words same = ap (rules_of h).start same

@@ -6,6 +6,7 @@ use Rattle.std.specs.Prelude.{◌==◌, ◌&&◌, option_map}
 use Rattle.std.proofs.lemmas.List.{length-take}
 use Rattle.vyrd_base.specs.declared.log.Entry.{Entry}
 use Rattle.vyrd_base.specs.declared.log.StartWord.{StartWord}
+use Rattle.vyrd_base.specs.declared.subject.Method.{Method}
 use Rattle.vyrd_base.specs.Callers.{Called, is_call, entries_before_call}
 use Rattle.vyrd_base.specs.Places.{newest_first, numbers_from}
 use Rattle.vyrd_base.specs.Rules.{Rules}
@@ -20,30 +21,30 @@ use Rattle.vyrd_states.proofs.CallLaws.{execution_is}
 use Rattle.vyrd_states.proofs.KnownLaws.{unknown_past}
 
 -- one answer more
-pub answers_more : (f : ℕ → Option ℕ) (last : Option ℕ) (position at reply : ℕ)
+pub answers_more : (m : Method) (f : ℕ → Option ℕ) (last : Option ℕ) (position at reply : ℕ)
     (items after all : List Item) → position < at → f position ≡ Some reply
-    → after ≡ items ++ answer_items position last (Some reply)
-    → items ++ answers_along f last (numbers_from position (at - position)) ≡ all
-    → after ++ answers_along f (Some reply) (numbers_from (position + 1) (at - (position + 1)))
+    → after ≡ items ++ answer_items m position last (Some reply)
+    → items ++ answers_along m f last (numbers_from position (at - position)) ≡ all
+    → after ++ answers_along m f (Some reply) (numbers_from (position + 1) (at - (position + 1)))
     ≡ all
-answers_more f last position at reply items after all low answers next so =
+answers_more m f last position at reply items after all low answers next so =
     let left : at - position ≡ suc (at - (position + 1)) = omega (arith, low) in
     let later = numbers_from (position + 1) (at - (position + 1)) in
-    ap (λ xs. xs ++ answers_along f (Some reply) later) next
-    ∙ append_assoc items (answer_items position last (Some reply))
-    (answers_along f (Some reply) later)
-    ∙ ap (λ o. items ++ (answer_items position last o ++ answers_along f o later)) (sym answers)
-    ∙ ap (λ n. items ++ answers_along f last (numbers_from position n)) (sym left)
+    ap (λ xs. xs ++ answers_along m f (Some reply) later) next
+    ∙ append_assoc items (answer_items m position last (Some reply))
+    (answers_along m f (Some reply) later)
+    ∙ ap (λ o. items ++ (answer_items m position last o ++ answers_along m f o later)) (sym answers)
+    ∙ ap (λ n. items ++ answers_along m f last (numbers_from position n)) (sym left)
     ∙ so
 
 -- no answer more
-no_answers : (f : ℕ → Option ℕ) (k n : ℕ) (before : Option ℕ)
-    → ((i : ℕ) → k ≤ i → i < k + n → f i ≡ None) → answers_along f before (numbers_from k n) ≡ []
-no_answers f k zero before none = refl
-no_answers f k (suc n) before none =
-    ap (λ o. answer_items k before o ++ answers_along f (f k) (numbers_from (k + 1) n))
+no_answers : (m : Method) (f : ℕ → Option ℕ) (k n : ℕ) (before : Option ℕ)
+    → ((i : ℕ) → k ≤ i → i < k + n → f i ≡ None) → answers_along m f before (numbers_from k n) ≡ []
+no_answers m f k zero before none = refl
+no_answers m f k (suc n) before none =
+    ap (λ o. answer_items m k before o ++ answers_along m f (f k) (numbers_from (k + 1) n))
     (none k (omega arith) (omega arith))
-    ∙ no_answers f (k + 1) n (f k) (λ i from to. none i (omega (arith, from)) (omega (arith, to)))
+    ∙ no_answers m f (k + 1) n (f k) (λ i from to. none i (omega (arith, from)) (omega (arith, to)))
 
 -- an answer in a state that is known
 pub answer_known : (r : Rules) (starting : List StartWord) (front : List Entry) (called : Called)
@@ -58,13 +59,13 @@ answer_known r starting front called position reply s known is =
 pub answers_end : (r : Rules) (starting : List StartWord) (front : List Entry) (called : Called)
     (last : Option ℕ) (n position at : ℕ) (items all : List Item) → n ≤ position + 1
     → at ≤ length front → state_then r starting front n ≡ None
-    → items ++ answers_along (answer_after r starting front called) last
+    → items ++ answers_along called.method (answer_after r starting front called) last
     (numbers_from position (at - position)) ≡ all
     → items ≡ all
 answers_end r starting front called last n position at items all low within none so =
     sym (append-nil items)
     ∙ ap (λ xs. items ++ xs)
-    (sym (no_answers (answer_after r starting front called) position (at - position) last silent))
+    (sym (no_answers called.method (answer_after r starting front called) position (at - position) last silent))
     ∙ so
   where
     silent : (i : ℕ) → position ≤ i → i < position + (at - position)

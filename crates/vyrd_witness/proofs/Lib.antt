@@ -10,6 +10,7 @@ pub mod StartWords
 pub mod EffectKinds
 pub mod AgreeLaws
 pub mod CommitLaws
+pub mod PartLaws
 pub mod TextLaws
 pub mod Opened
 pub mod BelowLaws

@@ -1,7 +1,10 @@
 -- One name whose unfolding opens the definitions of the text of items, so that a text computes.
 use Rattle.std.specs.Prelude.{ℕ}
 use Rattle.vyrd_witness.specs.ItemText.{line_words, amount_words, value_words, shown_words}
+use Rattle.vyrd_witness.specs.ItemText.{value_said, register_words, elements_words, hidden_words}
+use Rattle.vyrd_witness.specs.ItemText.{reply_words}
 
 unfoldable pub opened : ℕ
 unfolding line_words amount_words value_words shown_words
+    value_said register_words elements_words hidden_words reply_words
 opened = 0

@@ -1,13 +1,15 @@
 -- The one line that each item is written as. It is words and numbers alone, and names entries by
 -- their lines: `line` gives the line of the entry at a position.
-use Rattle.std.specs.Prelude.{ℕ, ◌++◌, List, flat_map, codes, decimal}
+use Rattle.std.specs.Prelude.{ℕ, ◌++◌, ◌==◌, List, flat_map, codes, decimal, if◌then◌else◌}
+use Rattle.vyrd_base.specs.Own.Expressions.{most}
 use Rattle.vyrd_base.specs.Spelling.{ended_line}
 use Rattle.vyrd_witness.specs.declared.change.Change.{Change}
 use Rattle.vyrd_witness.specs.declared.effect.Effect.{Effect}
 use Rattle.vyrd_witness.specs.declared.item.Item.{Item}
 use Rattle.vyrd_witness.specs.declared.item.Item.TheVariants.{Called, Replied, Agreed}
 use Rattle.vyrd_witness.specs.declared.item.Item.TheVariants.{AgreedAtStart, Shown, Changed}
-use Rattle.vyrd_witness.specs.declared.item.Item.TheVariants.{Before, After, Allowed, Answered}
+use Rattle.vyrd_witness.specs.declared.item.Item.TheVariants.{Before, Register, Elements, Hidden}
+use Rattle.vyrd_witness.specs.declared.item.Item.TheVariants.{After, Allowed, Answered, Unanswered}
 use Rattle.vyrd_witness.specs.declared.item.Item.TheVariants.{OpenCall, OpenBlock, Held, Passed}
 
 -- words, and the line of the entry at a position behind them
@@ -17,6 +19,25 @@ line_words line words at = words ++ decimal (line at)
 -- what is said of an amount of a key
 unfoldable pub amount_words : ℕ → ℕ → List ℕ
 amount_words key amount = codes ": key " ++ decimal key ++ codes " amount " ++ decimal amount
+
+-- a value of an expression: the greatest number of 64 bits is `none`
+unfoldable pub value_said : ℕ → List ℕ
+value_said value = if value == most then codes "none" else decimal value
+
+-- what is said of a register
+unfoldable pub register_words : ℕ → ℕ → List ℕ
+register_words number value =
+    codes ": register " ++ decimal number ++ codes " value " ++ value_said value
+
+-- what is said of a list
+unfoldable pub elements_words : ℕ → ℕ → ℕ → ℕ → List ℕ
+elements_words number size first last = codes ": list " ++ decimal number
+    ++ codes " size " ++ decimal size ++ codes " first " ++ value_said first
+    ++ codes " last " ++ value_said last
+
+-- what is said of a hidden amount of a key
+unfoldable pub hidden_words : ℕ → ℕ → List ℕ
+hidden_words key amount = codes ": hidden key " ++ decimal key ++ codes " amount " ++ decimal amount
 
 -- what is said of a reply
 unfoldable pub reply_words : List ℕ → ℕ → List ℕ
@@ -51,11 +72,18 @@ item_words line (Changed key c) =
     ++ line_words line (codes ", in effect at line ") c.effect.at ++ shown_words key c
 item_words line (Before at key amount) =
     line_words line (codes "state before line ") at ++ amount_words key amount
+item_words line (Register at number value) =
+    line_words line (codes "state before line ") at ++ register_words number value
+item_words line (Elements at number size first last) =
+    line_words line (codes "state before line ") at ++ elements_words number size first last
+item_words line (Hidden at key amount) =
+    line_words line (codes "state before line ") at ++ hidden_words key amount
 item_words line (After at key amount) =
     line_words line (codes "state after line ") at ++ amount_words key amount
 item_words line (Allowed reply) = reply_words (codes "allowed reply ") reply
 item_words line (Answered at reply) =
     line_words line (codes "answer from line ") at ++ reply_words (codes ": ") reply
+item_words line (Unanswered at) = line_words line (codes "answer from line ") at ++ codes ": none"
 item_words line (OpenCall at) = line_words line (codes "open call at line ") at
 item_words line (OpenBlock at) = line_words line (codes "open block at line ") at
 item_words line (Held at) = line_words line (codes "held by line ") at

@@ -1,7 +1,7 @@
 -- What has to do with a write that races: the writes of other callers' open blocks to its word, and
 -- those that took effect on the word behind the commit inside the writer's own block.
 use Rattle.std.specs.Prelude.{ℕ, ◌+◌, ◌==◌, ◌&&◌, not, List, [], ◌∷◌, ◌++◌, length, map, filter}
-use Rattle.std.specs.Prelude.{flat_map, Bool, false, Option, Some, None, if◌then◌else◌}
+use Rattle.std.specs.Prelude.{flat_map, Bool, true, false, Option, Some, None, if◌then◌else◌}
 use Rattle.std.specs.Option.{option_map_or}
 use Rattle.vyrd_base.specs.declared.header.Header.{Header}
 use Rattle.vyrd_base.specs.declared.log.Entry.{Entry}
@@ -26,6 +26,13 @@ abbrev pub last_of : ℕ → (Kind → Bool) → List Entry → Option ℕ
 last_of c is [] = None
 last_of c is (e ∷ earlier) =
     if e.caller == c && is e.kind then Some (length earlier) else last_of c is earlier
+
+-- What is the last one since an open after the entry at a position, given the last one before it.
+-- The entry is told by what it answers: `Some true` is one more, and `Some false` an open.
+abbrev pub last_after : Option Bool → ℕ → Option ℕ → Option ℕ
+last_after (Some true) at last = Some at
+last_after (Some false) at last = None
+last_after None at last = last
 
 -- the last write of another caller to the word, if the caller's open block holds it
 abbrev pub held_by : ℕ → ℕ → List Entry → ℕ → List Item

@@ -5,6 +5,7 @@ ghost use Rattle.vyrd_base.specs.Amounts.{amount_of};
 ghost use Rattle.vyrd_base.specs.Rules.{built_in};
 ghost use Rattle.vyrd_base.specs.Subjects.{is_built_in};
 
+use crate::after::told_after;
 use crate::shown::Shown;
 use std::alloc::{AllocError, Global};
 use std::marker::Model;
@@ -14,7 +15,9 @@ use vyrd_view::view_of;
 /// What the words of a built-in subject show, by the rules of a header. It is seen as the header.
 ///
 /// The amount of a key is looked up in the whole view: that takes time in proportion to the words,
-/// times the logarithm of the keys that they show, and memory in proportion to those keys.
+/// times the logarithm of the keys that they show, and memory in proportion to those keys. After a
+/// change it takes constant time where no other part has to be looked at: always for a multiset, and
+/// for a cache or buffers unless the key is one of the part's own.
 #[derive(Debug, Drop)]
 pub struct BuiltInShown {
     header: Header,
@@ -52,6 +55,21 @@ impl Shown for BuiltInShown {
     fn amount(&self, alloc: Global, words: &[u64], key: u64) -> Result<u128, AllocError> {
         let view = view_of(alloc, self.header, words)?;
         Ok(u128::from(amount_in(view.pairs(), key)))
+    }
+
+    fn amount_after(
+        &self,
+        alloc: Global,
+        words: &[u64],
+        key: u64,
+        before: u128,
+        word: usize,
+        was: u64,
+    ) -> Result<u128, AllocError> {
+        match told_after(self.header, words, key, before, word, was) {
+            Some(amount) => Ok(amount),
+            None => self.amount(alloc, words, key),
+        }
     }
 }
 

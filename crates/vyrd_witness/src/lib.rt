@@ -18,6 +18,7 @@
 //! of `vyrd_base`, applied to the log in which each write writes its own position (`Numbered`).
 #![tactic(auto)]
 
+mod after;
 mod built_in;
 mod change;
 mod effect;
@@ -27,6 +28,7 @@ mod items;
 pub mod laws;
 mod lines;
 mod opens;
+mod own_text;
 mod phase;
 mod races;
 mod shown;

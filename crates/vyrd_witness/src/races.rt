@@ -1,14 +1,15 @@
 //! What has to do with a write that races, item by item.
 
 ghost use Rattle.std.specs.Prelude.{◌≡◌, ◌≤◌, ◌<◌, ◌++◌, length, map, filter, IfOk, OnOk, IfSome};
-ghost use Rattle.std.specs.Prelude.{None, if◌then◌else◌};
-ghost use Rattle.vyrd_base.specs.Callers.{holds_word, has_inner_commit};
+ghost use Rattle.std.specs.Prelude.{None, unwrap_or, if◌then◌else◌};
+ghost use Rattle.vyrd_base.specs.Callers.{holds_word, has_inner_commit, open_or_close};
+ghost use Rattle.vyrd_base.specs.Callers.{write_or_open, commit_or_open};
 ghost use Rattle.vyrd_base.specs.Front.{first_break};
 ghost use Rattle.vyrd_base.specs.Places.{newest_first};
 ghost use Rattle.vyrd_base.specs.Words.{is_lone_commit};
 ghost use Rattle.vyrd_witness.specs.declared.item.Item.TheVariants.{Passed};
 ghost use Rattle.vyrd_witness.specs.Effects.{effects_along};
-ghost use Rattle.vyrd_witness.specs.Races.{last_of, is_write_to, held_by, held_items};
+ghost use Rattle.vyrd_witness.specs.Races.{last_of, last_after, is_write_to, held_by, held_items};
 ghost use Rattle.vyrd_witness.specs.Races.{is_of_other, passed_items, race_items};
 
 use crate::effect::Effect;
@@ -92,18 +93,34 @@ fn held_write(front: &[Entry], caller: u32, word: u32) -> Option<usize>
     let mut held = None;
     for (at, entry) in front.iter().enumerate() {
         if entry.caller == caller {
-            match entry.kind {
-                Kind::BlockOpen => {
-                    in_block = true;
-                    held = None;
-                }
-                Kind::BlockClose | Kind::BlockCommit => in_block = false,
-                Kind::Write(other, _) if other == word => held = Some(at),
-                _ => {}
-            }
+            in_block = block_after(entry.kind, in_block);
+            held = write_after(entry.kind, word, at, held);
         }
     }
     if in_block { held } else { None }
+}
+
+/// Whether a block is open after an entry of its caller, given whether one was before it.
+fn block_after(kind: Kind, in_block: bool) -> bool
+    ensures { result ≡ unwrap_or (open_or_close kind) in_block }
+{
+    match kind {
+        Kind::BlockOpen => true,
+        Kind::BlockClose | Kind::BlockCommit => false,
+        _ => in_block,
+    }
+}
+
+/// The last write to the word since the open, after an entry at a position, given the last one
+/// before it.
+fn write_after(kind: Kind, word: u32, at: usize, last: Option<usize>) -> Option<usize>
+    ensures { result ≡ last_after (write_or_open word kind) at last }
+{
+    match kind {
+        Kind::BlockOpen => None,
+        Kind::Write(other, _) if other == word => Some(at),
+        _ => last,
+    }
 }
 
 /// Puts the effects of other callers on the word at the end that came behind the commit inside the
@@ -138,18 +155,22 @@ fn inner_commit(front: &[Entry], caller: u32) -> Option<usize>
     let mut commit = None;
     for (at, entry) in front.iter().enumerate() {
         if entry.caller == caller {
-            match entry.kind {
-                Kind::BlockOpen => {
-                    in_block = true;
-                    commit = None;
-                }
-                Kind::BlockClose | Kind::BlockCommit => in_block = false,
-                Kind::Commit => commit = Some(at),
-                _ => {}
-            }
+            in_block = block_after(entry.kind, in_block);
+            commit = commit_after(entry.kind, at, commit);
         }
     }
     if in_block { commit } else { None }
+}
+
+/// The last lone commit since the open, after an entry at a position, given the last one before it.
+fn commit_after(kind: Kind, at: usize, last: Option<usize>) -> Option<usize>
+    ensures { result ≡ last_after (commit_or_open kind) at last }
+{
+    match kind {
+        Kind::BlockOpen => None,
+        Kind::Commit => Some(at),
+        _ => last,
+    }
 }
 
 /// The writes that take effect from a position on.

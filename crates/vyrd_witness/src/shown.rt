@@ -1,6 +1,6 @@
 //! What words show of a key.
 
-ghost use Rattle.std.specs.Prelude.{◌≡◌, length, IfOk};
+ghost use Rattle.std.specs.Prelude.{◌≡◌, ◌<◌, length, slice_set, IfOk};
 ghost use Rattle.vyrd_base.specs.Layout.{plain_words};
 ghost use Rattle.vyrd_base.specs.Rules.{Charter, rules_by};
 ghost use Rattle.vyrd_witness.specs.Changes.{amount_shown};
@@ -23,4 +23,25 @@ pub trait Shown: Sized {
         requires count { length words.now ≡ plain_words (rules_by (charter self.now)).header }
         ensures { IfOk result
             (λ amount. amount ≡ amount_shown (rules_by (charter self.now)) words.now key) };
+
+    /// The same after one of the words got its value, given what they showed of the key before it,
+    /// when that word had this other value. Unless an impl does better, they are asked anew.
+    fn amount_after(
+        &self,
+        alloc: Global,
+        words: &[u64],
+        key: u64,
+        before: u128,
+        word: usize,
+        was: u64,
+    ) -> Result<u128, AllocError>
+        requires count { length words.now ≡ plain_words (rules_by (charter self.now)).header }
+        requires within { word < length words.now }
+        requires before { before ≡ amount_shown (rules_by (charter self.now))
+            (slice_set words.now word was) key }
+        ensures { IfOk result
+            (λ amount. amount ≡ amount_shown (rules_by (charter self.now)) words.now key) }
+    {
+        self.amount(alloc, words, key)
+    }
 }

@@ -3,6 +3,7 @@
 ghost use Rattle.std.specs.Prelude.{◌≡◌, ◌++◌, ◌≤◌, ◌+◌, IfOk, OnOk, length, codes, decimal};
 ghost use Rattle.vyrd_base.specs.Spelling.{ended_line};
 ghost use Rattle.vyrd_witness.specs.declared.item.Item.TheVariants.{Changed, Answered, Passed};
+ghost use Rattle.vyrd_witness.specs.declared.item.Item.TheVariants.{Unanswered};
 ghost use Rattle.vyrd_witness.specs.ItemText.{line_words, amount_words, reply_words, word_words};
 ghost use Rattle.vyrd_witness.specs.ItemText.{value_words, shown_words};
 ghost use Rattle.vyrd_witness.specs.ItemText.{item_words, item_text, items_text};
@@ -11,6 +12,7 @@ use crate::change::Change;
 use crate::effect::Effect;
 use crate::item::Item;
 use crate::lines::Lines;
+use crate::own_text::{put_elements, put_hidden, put_register};
 use itoa::Buffer;
 use std::alloc::{AllocError, Global};
 use vyrd_text::LineBuffer;
@@ -46,11 +48,21 @@ fn put_words<L: Lines>(lines: &L, item: Item, text: &mut Vec<u8>) -> Result<(), 
         Item::Before { at, key, amount } => {
             put_state_at(lines, b"state before line ", at, key, amount, text)
         }
+        Item::Register { at, number, value } => put_register(lines, at, number, value, text),
+        Item::Elements {
+            at,
+            number,
+            size,
+            first,
+            last,
+        } => put_elements(lines, at, number, size, first, last, text),
+        Item::Hidden { at, key, amount } => put_hidden(lines, at, key, amount, text),
         Item::After { at, key, amount } => {
             put_state_at(lines, b"state after line ", at, key, amount, text)
         }
         Item::Allowed { reply } => put_reply(b"allowed reply ", reply, text),
         Item::Answered { at, reply } => put_answer(lines, at, reply, text),
+        Item::Unanswered { at } => put_unanswered(lines, at, text),
         Item::OpenCall { at } => put_line(lines, b"open call at line ", at, text),
         Item::OpenBlock { at } => put_line(lines, b"open block at line ", at, text),
         Item::Held { at } => put_line(lines, b"held by line ", at, text),
@@ -114,6 +126,16 @@ fn put_answer<L: Lines>(
     put_reply(b": ", reply, text)
 }
 
+/// Puts that no answer is right, and from which line on, at the end.
+fn put_unanswered<L: Lines>(lines: &L, at: usize, text: &mut Vec<u8>) -> Result<(), AllocError>
+    ensures { OnOk result (text.new.items
+        ≡ text.old.items ++ item_words (L.line lines.now) (Unanswered at)) }
+{
+    put_line(lines, b"answer from line ", at, text)?;
+    text.extend_from_slice(b": none")?;
+    Ok(())
+}
+
 /// Puts a write that took effect behind a commit at the end.
 fn put_passed<L: Lines>(lines: &L, effect: Effect, text: &mut Vec<u8>) -> Result<(), AllocError>
     ensures { OnOk result (text.new.items
@@ -142,7 +164,7 @@ fn put_change<L: Lines>(
 
 /// Puts words and the line of the entry at a position at the end.
 #[tactic(auto, unfolding(crate::specs::ItemText::line_words))]
-fn put_line<L: Lines>(
+pub(crate) fn put_line<L: Lines>(
     lines: &L,
     words: &[u8],
     at: usize,
@@ -214,7 +236,7 @@ fn put_shown(key: u64, change: Change, text: &mut Vec<u8>) -> Result<(), AllocEr
 }
 
 /// Puts words and the number behind them at the end of the line.
-fn push_word(words: &[u8], number: u64, line: &mut LineBuffer)
+pub(crate) fn push_word(words: &[u8], number: u64, line: &mut LineBuffer)
     requires { length line.old + length words.now + 20 ≤ 128 }
     ensures words { line.new ≡ line.old ++ words.now ++ decimal number }
     ensures len { length line.new ≤ length line.old + length words.now + 20 }

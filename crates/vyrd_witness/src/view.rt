@@ -6,7 +6,7 @@ ghost use Rattle.vyrd_base.specs.Front.{first_break};
 ghost use Rattle.vyrd_base.specs.Rules.{rules_by};
 ghost use Rattle.vyrd_witness.specs.ViewWitnesses.{IsViewWitness, commit_before, up_to};
 
-use crate::change::Change;
+use crate::change::{Change, Followed};
 use crate::effect::entry_at;
 use crate::shown::Shown;
 use crate::walk::Walk;
@@ -45,9 +45,9 @@ pub struct ViewWitness {
 /// Time: each entry up to the position is gone over once, and once more for each block that it
 /// stands in. Entries after the position are gone over for each block that is open there and has
 /// its commit inside it already: up to that block's end. An entry stands within at most one block
-/// of each caller. For each effect since the commit before, the amount of the key is asked of
-/// `shown` twice. Memory: the words, a few bytes for each caller, the writes of one block, the
-/// changes, and what `shown` takes.
+/// of each caller. The amount of the key is asked of `shown` at the commit before, and then once
+/// for each effect since that gives its word another value. Memory: the words, a few bytes for each
+/// caller, the writes of one block, the changes, and what `shown` takes.
 pub fn view_witness<S: Shown>(
     alloc: Global,
     shown: &S,
@@ -67,11 +67,14 @@ pub fn view_witness<S: Shown>(
     let mut walk = Walk::new(alloc, header, starting)?;
     walk.pass(alloc, header, front, from)?;
     let agreed = shown.amount(alloc, &walk.words, key)?;
-    let changes = walk.changes(alloc, shown, key, front, from, at + 1)?;
-    let shown_here = shown.amount(alloc, &walk.words, key)?;
+    let mut followed = Followed {
+        key,
+        amount: agreed,
+    };
+    let changes = walk.changes(alloc, shown, &mut followed, front, from, at + 1)?;
     Ok(ViewWitness {
         key,
-        shown: shown_here,
+        shown: followed.amount,
         since,
         agreed,
         changes,

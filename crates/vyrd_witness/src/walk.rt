@@ -7,11 +7,11 @@ ghost use Rattle.vyrd_base.specs.Layout.{plain_words};
 ghost use Rattle.vyrd_base.specs.Places.{newest_first};
 ghost use Rattle.vyrd_base.specs.Rules.{rules_by};
 ghost use Rattle.vyrd_base.specs.Starts.{words_at_start};
-ghost use Rattle.vyrd_witness.specs.Changes.{changes_in, words_through};
+ghost use Rattle.vyrd_witness.specs.Changes.{amount_shown, changes_in, words_through};
 ghost use Rattle.vyrd_witness.specs.Effects.{effects_along, effects_there};
 ghost use Rattle.vyrd_witness.specs.Phases.{ArePhases};
 
-use crate::change::{Change, apply, push_changes};
+use crate::change::{Change, Followed, apply, push_changes};
 use crate::effect::{Effect, effects_by, entry_at};
 use crate::phase::{Phase, phase_after};
 use crate::shown::Shown;
@@ -70,12 +70,12 @@ impl Walk {
     }
 
     /// Goes on from one place to another, and finds the effects on the way that change what the
-    /// words show of the key.
+    /// words show of the key that is followed.
     pub fn changes<S: Shown>(
         &mut self,
         alloc: Global,
         shown: &S,
-        key: u64,
+        followed: &mut Followed,
         front: &[Entry],
         from: usize,
         to: usize,
@@ -87,18 +87,29 @@ impl Walk {
             ≡ plain_words (rules_by (S.charter shown.now)).header }
         requires here { ArePhases (rules_by (S.charter shown.now)).header self.old.phases.items
             (newest_first (take from front.now)) }
+        requires shown { followed.old.amount ≡ amount_shown (rules_by (S.charter shown.now))
+            self.old.words.items followed.old.key }
         ensures changes { IfOk result (λ changes. changes.items
-            ≡ changes_in (rules_by (S.charter shown.now)) key self.old.words.items
+            ≡ changes_in (rules_by (S.charter shown.now)) followed.old.key self.old.words.items
             (effects_along front.now from to)) }
         ensures words { OnOk result (self.new.words.items
             ≡ words_through self.old.words.items (effects_along front.now from to)) }
         ensures count { OnOk result (vec_len self.new.words ≡ vec_len self.old.words) }
+        ensures there { OnOk result (followed.new.amount ≡ amount_shown
+            (rules_by (S.charter shown.now)) self.new.words.items followed.old.key) }
     {
         let header = shown.header();
         let mut changes = Vec::new(alloc);
         for at in from..to {
             let effects = self.step(alloc, header, front, at)?;
-            push_changes(alloc, shown, key, &mut self.words, &effects, &mut changes)?;
+            push_changes(
+                alloc,
+                shown,
+                followed,
+                &mut self.words,
+                &effects,
+                &mut changes,
+            )?;
         }
         Ok(changes)
     }

@@ -2,6 +2,7 @@
 //! has the case.
 
 ghost use Rattle.std.specs.Prelude.{◌≡◌, ◌∷◌, [], map, take, codes, Some, None};
+ghost use Rattle.vyrd_base.specs.Own.Expressions.{most};
 ghost use Rattle.vyrd_base.specs.Rules.{rules_of};
 ghost use Rattle.vyrd_base.specs.Samples.{alone, two, no_block, raced, write};
 ghost use Rattle.vyrd_base.specs.Verdicts.{line_of, verdict};
@@ -10,6 +11,8 @@ ghost use Rattle.vyrd_base.specs.declared.verdict.Verdict.TheVariants.{Violation
 ghost use Rattle.vyrd_base.specs.declared.verdict.Why.TheVariants.{View};
 ghost use Rattle.vyrd_witness.specs.declared.item.Item.TheVariants.{Called, Replied, Shown};
 ghost use Rattle.vyrd_witness.specs.declared.item.Item.TheVariants.{AgreedAtStart, Changed};
+ghost use Rattle.vyrd_witness.specs.declared.item.Item.TheVariants.{Register, Elements, Hidden};
+ghost use Rattle.vyrd_witness.specs.declared.item.Item.TheVariants.{Answered, Unanswered};
 ghost use Rattle.vyrd_witness.specs.declared.item.Item.TheVariants.{OpenCall, OpenBlock};
 ghost use Rattle.vyrd_witness.specs.declared.item.Item.TheVariants.{Held, Passed};
 ghost use Rattle.vyrd_witness.specs.Items.{view_items};
@@ -49,6 +52,16 @@ pub fn text_of_a_commit_inside_a_block()
     ensures { items_text (line_of []) (Called 0 ∷ Replied 7 ∷ AgreedAtStart 5 0 ∷ Shown 3 5 0
         ∷ map (Changed 5) shown_and_hidden) ≡ codes
         "call at line 2\nreply at line 9\nagreed at the start: key 5 amount 0\nwords after line 5: key 5 amount 0\nchange at line 6: word 0 from 0 to 2, in effect at line 5, key 5 amount 0 to 1\nchange at line 7: word 1 from 5 to 6, in effect at line 5, key 5 amount 1 to 0\n" }
+{}
+
+/// What is said of a state of a user's own specification: of a register, of one that is `none`, of
+/// a list, of an empty one, of a hidden amount, and that no answer is right. The greatest reply is a
+/// number as any other.
+#[tactic(auto, unfolding(vyrd_base::proofs::Opened::opened_text, crate::proofs::Opened::opened))]
+pub fn text_of_an_own_state()
+    ensures { items_text (line_of []) (Register 3 0 7 ∷ Register 3 1 most ∷ Elements 3 0 2 8 9
+        ∷ Elements 3 1 0 most most ∷ Hidden 3 5 4 ∷ Unanswered 1 ∷ Answered 1 most ∷ []) ≡ codes
+        "state before line 5: register 0 value 7\nstate before line 5: register 1 value none\nstate before line 5: list 0 size 2 first 8 last 9\nstate before line 5: list 1 size 0 first none last none\nstate before line 5: hidden key 5 amount 4\nanswer from line 3: none\nanswer from line 3: 18446744073709551615\n" }
 {}
 
 /// A write outside a block that shows too early at the commit of another caller.

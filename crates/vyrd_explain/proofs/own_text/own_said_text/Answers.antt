@@ -1,6 +1,6 @@
 use Rattle.std.proofs.Common.{◌≡◌, ℕ, ◌+◌, List, length, slice_index, ap, ◌∙◌}
 use Rattle.std.proofs.lemmas.Result.{IfOk-weaker}
-use Rattle.vyrd_base.specs.Rules.{own, rules_by}
+use Rattle.vyrd_base.specs.Rules.{own}
 use Rattle.vyrd_witness.specs.ItemText.{items_text}
 use Rattle.vyrd_explain.specs.Explained.{own_read_as, own_line_of}
 use Rattle.vyrd_explain.specs.Explaining.{own_limit}
@@ -20,6 +20,6 @@ returns c = λ bytes read entries numbers.
     ∙ c.lines.ensures.read bytes read) in
     IfOk-weaker c.text_of.result _ _ (λ text e. e
     ∙ ap (items_text line) (c.deref.ensures.value ∙ c.in_ok-items.ensures)
-    ∙ (λ i. items_text (lines i) (verdict_items (rules_by (charter i)) (lines i)
+    ∙ (λ i. items_text (lines i) (verdict_items (charter i) (lines i)
     (c.start-2.ensures.read bytes read i) (entries i) c.args.verdict)))
     c.text_of.ensures

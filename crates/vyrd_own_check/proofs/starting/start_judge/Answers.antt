@@ -6,7 +6,7 @@ use Rattle.vyrd_base.specs.Own.OwnRules.{own_start, may_stand}
 use Rattle.vyrd_base.specs.Own.Reader.{written_in}
 use Rattle.vyrd_own.specs.Layout.{texts}
 use Rattle.vyrd_words.proofs.StartWords.{length-words_at_start}
-use Rattle.vyrd_own_check.proofs.StartLaws.{own_plain, stands_for_none, stands_for}
+use Rattle.vyrd_own_spec.proofs.StandingLaws.{own_plain, stands_for_none, stands_for}
 use Rattle.vyrd_own_check.proofs.starting.start_judge.Goals as goal
 
 pub start-requires-clause-count : goal.start-requires-clause-count
@@ -16,17 +16,18 @@ start-requires-clause-count c =
 
 pub returns-in_default : goal.returns-in_default
 returns-in_default c =
+    let spelled = c.in_ok-shared.ensures.ok ∙ c.in_ok-specification.ensures in
     stands_for_none c.args.header (texts c.args.lines.now) c.args.start.now c.deref.result.now (c.deref.ensures.value ∙ c.in_ok-words.ensures)
     (sym (ap is_none c.in_default.is) ∙ c.in_ok-spec.ensures.none
-    ∙ ap (λ (lines : List (List ℕ)). not (may_stand (written_in lines) c.deref.result.now)) c.in_ok-specification.ensures)
+    ∙ ap (λ (lines : List (List ℕ)). not (may_stand (written_in lines) c.deref.result.now)) spelled)
 
 pub begin-requires-clause-state : goal.begin-requires-clause-state
 begin-requires-clause-state c =
     let spec = c.in-Some.spec in
     let known = rw c.in-Some.is at c.in_ok-spec.ensures in
-    let says = known.lines ∙ c.in_ok-specification.ensures in
-    (λ i. state_at_start (rules_by (own (known.header i) (says i))) c.args.start.now)
+    let spelled = c.in_ok-shared.ensures.ok ∙ c.in_ok-specification.ensures in
+    (λ i. state_at_start (rules_by (own (known.header i) ((known.lines ∙ spelled) i))) c.args.start.now)
     ∙ stands_for c.args.header (texts c.args.lines.now) c.args.start.now c.deref.result.now (c.deref.ensures.value ∙ c.in_ok-words.ensures)
-    (known.none ∙ ap (λ (lines : List (List ℕ)). not (may_stand (written_in lines) c.deref.result.now)) c.in_ok-specification.ensures)
+    (known.none ∙ ap (λ (lines : List (List ℕ)). not (may_stand (written_in lines) c.deref.result.now)) spelled)
     ∙ sym (ap Some (known.state
-    ∙ ap (λ (lines : List (List ℕ)). own_start (written_in lines) c.deref.result.now) c.in_ok-specification.ensures))
+    ∙ ap (λ (lines : List (List ℕ)). own_start (written_in lines) c.deref.result.now) spelled))

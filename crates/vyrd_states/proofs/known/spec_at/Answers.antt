@@ -1,29 +1,52 @@
-use Rattle.std.proofs.Common.{◌+◌, subst, arith}
-use Rattle.vyrd_base.specs.Rules.{rules_of}
-use Rattle.vyrd_spec.specs.AnySpecs.{header_in, state_in}
-use Rattle.vyrd_states.specs.Running.{IsKnown, LeadsTo, state_past}
-use Rattle.vyrd_states.proofs.RunLaws.{known_next, none_next, known_none}
+use Rattle.std.proofs.Common.{◌≡◌, ◌+◌, ◌∙◌, ap, subst, sym, arith}
+use Rattle.std.specs.Prelude.{IfSome}
+use Rattle.std.specs.Option.{option_map}
+use Rattle.vyrd_base.specs.Rules.{rules_by}
+use Rattle.vyrd_states.specs.Running.{LeadsTo, run_by, state_past}
+use Rattle.vyrd_states.proofs.RunLaws.{known_first, known_next, none_next, known_none, never_known}
 use Rattle.vyrd_states.proofs.known.spec_at.Goals as goal
 
 pub loop-at-init : goal.loop-at-init
-loop-at-init c =
-    subst (IsKnown c.args.header c.args.starting.now c.args.front.now 0) c.in-Some.is
-    (c.in_ok-spec.ensures c.args.front.now)
+loop-at-init g c =
+    let of = g.B.Running.Spec in
+    let begun = c.in_ok-spec.ensures in
+    known_first (g.B.Begins.charter c.args.begins.now) c.args.starting.now c.args.front.now
+    (run_by of.charter of.state of.made c.in-Some.spec)
+    (sym (ap (option_map of.state) c.in-Some.is) ∙ begun.state)
+    (subst (λ found. IfSome found (λ s. of.charter s ≡ g.B.Begins.charter c.args.begins.now))
+    c.in-Some.is begun.charter)
+    (subst (λ found. IfSome found (λ s. of.made s ≡ 0)) c.in-Some.is begun.made)
+
+pub returns-in_default : goal.returns-in_default
+returns-in_default g c =
+    let of = g.B.Running.Spec in
+    never_known (g.B.Begins.charter c.args.begins.now) c.args.starting.now c.args.front.now c.args.n
+    c.requires.within
+    (sym (ap (option_map of.state) c.in_default.is) ∙ c.in_ok-spec.ensures.state)
 
 pub returns-in_default-2 : goal.returns-in_default-2
-returns-in_default-2 c =
+returns-in_default-2 g c =
+    let of = g.B.Running.Spec in
+    let run = run_by of.charter of.state of.made in
     let spec = c.loop-at.spec in
-    known_none c.args.header c.args.starting.now c.args.front.now (c.loop-at.at + 1) c.args.n
-    (omega arith) c.requires.within
-    (none_next c.args.header c.args.starting.now c.args.front.now c.loop-at.at spec (omega arith)
+    let at = c.loop-at.at in
+    let charter = g.B.Begins.charter c.args.begins.now in
+    known_none charter c.args.starting.now c.args.front.now (at + 1) c.args.n (omega arith)
+    c.requires.within
+    (none_next charter c.args.starting.now c.args.front.now at (run spec) (omega arith)
     c.loop-at.invariant
-    (subst (LeadsTo spec (state_past (rules_of (header_in spec)) c.args.front.now c.loop-at.at
-    (state_in spec))) c.in_default-2.is c.in_ok-next.ensures))
+    (subst (λ found. LeadsTo (run spec)
+    (state_past (rules_by (of.charter spec)) c.args.front.now at (of.state spec))
+    (option_map run found)) c.in_default-2.is c.in_ok-next.ensures))
 
 pub loop-at-preserved : goal.loop-at-preserved
-loop-at-preserved c =
+loop-at-preserved g c =
+    let of = g.B.Running.Spec in
+    let run = run_by of.charter of.state of.made in
     let spec = c.loop-at.spec in
-    known_next c.args.header c.args.starting.now c.args.front.now c.loop-at.at spec
-    c.in-Some-2.next (omega arith) c.loop-at.invariant
-    (subst (LeadsTo spec (state_past (rules_of (header_in spec)) c.args.front.now c.loop-at.at
-    (state_in spec))) c.in-Some-2.is c.in_ok-next.ensures)
+    let at = c.loop-at.at in
+    known_next (g.B.Begins.charter c.args.begins.now) c.args.starting.now c.args.front.now at
+    (run spec) (run c.in-Some-2.next) (omega arith) c.loop-at.invariant
+    (subst (λ found. LeadsTo (run spec)
+    (state_past (rules_by (of.charter spec)) c.args.front.now at (of.state spec))
+    (option_map run found)) c.in-Some-2.is c.in_ok-next.ensures)

@@ -6,6 +6,7 @@ use Rattle.vyrd_states.proofs.ReplyLaws.{allowed_below}
 use Rattle.vyrd_states.proofs.replies.push_allowed.Given as goal
 
 abbrev pub invariant-loop-reply : goal.invariant-loop-reply
-invariant-loop-reply l = l.items.items ≡ l.initial.items.items
-    ++ allowed_below (rules_of l.fn.header) (called_by l.fn.call)
-    (state_then (rules_of l.fn.header) l.starting l.front l.at) l.reply
+invariant-loop-reply l =
+    let r = rules_of l.fn.begins.header in
+    l.items.items ≡ l.initial.items.items
+    ++ allowed_below r (called_by l.fn.call) (state_then r l.starting l.front l.at) l.reply

@@ -1,15 +1,14 @@
 use Rattle.std.proofs.Common.{[], ◌∷◌, ◌++◌, take, map, sym, ap, ◌∙◌}
-use Rattle.vyrd_base.specs.Rules.{rules_of}
+use Rattle.vyrd_base.specs.Rules.{rules_by}
 use Rattle.vyrd_base.proofs.FrontLaws.{take_past}
-use Rattle.vyrd_spec.specs.AnySpecs.{header_in, state_in}
 use Rattle.vyrd_witness.specs.declared.item.Item.TheVariants.{Before}
 use Rattle.vyrd_states.specs.Known.{amount_in}
 use Rattle.vyrd_states.proofs.replies.push_keys.Goals as goal
 
 pub returns : goal.returns
-returns c =
-    let r = rules_of (header_in c.args.spec.now) in
-    let s = state_in c.args.spec.now in
+returns g c =
+    let r = rules_by (g.S.Spec.charter c.args.spec.now) in
+    let s = g.S.Spec.state c.args.spec.now in
     let n = c.keys_named.result in
     c.loop-key.invariant
     ∙ ap (λ xs. c.args.items.now.items

@@ -11,12 +11,12 @@ use Rattle.vyrd_states.proofs.replies.reply_items.Goals.{in-Some+in_ok-push_befo
 
 pub push_allowed-requires-clause-has : goal.push_allowed-requires-clause-has
 push_allowed-requires-clause-has c =
-    execution_allowed c.args.header c.args.front.now c.args.at c.entry_at-caller.result.caller
+    execution_allowed c.args.begins.now.header c.args.front.now c.args.at c.entry_at-caller.result.caller
     c.in-Some.call c.requires.kept (sym c.execution_of.ensures ∙ c.in-Some.is)
 
 pub returns : goal.returns
 returns c =
-    let r = rules_of c.args.header in
+    let r = rules_of c.args.begins.now.header in
     let starting = c.args.starting.now in
     let front = c.args.front.now in
     let at = c.args.at in

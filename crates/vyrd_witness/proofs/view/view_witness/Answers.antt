@@ -39,8 +39,7 @@ returns g c =
     c.in_ok-changes.ensures.words in
     record {
       key_is = refl;
-      shown = c.in_ok-shown_here.ensures
-          ∙ ap (λ ws. amount_shown r ws key) (c.deref-2.ensures.value ∙ here);
+      shown = c.in_ok-changes.ensures.there ∙ ap (λ ws. amount_shown r ws key) here;
       since = c.commit_before-since.ensures.position;
       agreed = c.in_ok-agreed.ensures
           ∙ ap (λ ws. amount_shown r ws key) (c.deref.ensures.value ∙ there)

@@ -1,7 +1,7 @@
 use Rattle.std.proofs.Common.{◌≡◌, take, vec_len}
 use Rattle.vyrd_base.specs.Places.{newest_first}
 use Rattle.vyrd_base.specs.Rules.{rules_by}
-use Rattle.vyrd_witness.specs.Changes.{changes_in, words_through}
+use Rattle.vyrd_witness.specs.Changes.{amount_shown, changes_in, words_through}
 use Rattle.vyrd_witness.specs.Effects.{effects_along}
 use Rattle.vyrd_witness.specs.Phases.{ArePhases}
 use Rattle.vyrd_witness.proofs.walk.Walk.changes.Given as goal
@@ -13,6 +13,9 @@ invariant-loop-at g l = record {
   count : vec_len l.self.words ≡ vec_len l.fn.self.words;
   phases : ArePhases (rules_by (g.S.Shown.charter l.shown)).header l.self.phases.items
       (newest_first (take l.at l.front));
-  changes : l.changes.items ≡ changes_in (rules_by (g.S.Shown.charter l.shown)) l.key
+  key : l.followed.key ≡ l.fn.followed.key;
+  here : l.followed.amount
+      ≡ amount_shown (rules_by (g.S.Shown.charter l.shown)) l.self.words.items l.fn.followed.key;
+  changes : l.changes.items ≡ changes_in (rules_by (g.S.Shown.charter l.shown)) l.fn.followed.key
       l.fn.self.words.items (effects_along l.front l.from l.at);
 }

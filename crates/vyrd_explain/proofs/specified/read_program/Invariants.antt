@@ -1,8 +1,0 @@
-use Rattle.std.proofs.Common.{◌≡◌, take}
-use Rattle.vyrd_base.specs.Own.Reader.{nothing_read, read_lines}
-use Rattle.vyrd_own.specs.Layout.{texts}
-use Rattle.vyrd_own_text.specs.Meaning.{so_far}
-use Rattle.vyrd_explain.proofs.specified.read_program.Given as goal
-
-abbrev pub invariant-loop-line : goal.invariant-loop-line
-invariant-loop-line l = so_far l.reader ≡ read_lines nothing_read (texts (take l.line-index l.lines))

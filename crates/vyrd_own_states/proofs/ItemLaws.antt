@@ -1,0 +1,23 @@
+-- Items that are put one behind the other.
+use Rattle.std.proofs.Common.{◌≡◌, ℕ, ◌+◌, List, [], ◌∷◌, ◌++◌, map, ap, ◌∙◌, sym, append_assoc}
+use Rattle.std.proofs.lemmas.List.{map-append}
+use Rattle.vyrd_base.specs.Places.{numbers_below}
+use Rattle.vyrd_base.proofs.PlaceLaws.{numbers_below-push}
+use Rattle.vyrd_witness.specs.declared.item.Item.{Item}
+
+-- the item of one number more
+pub item_more : (f : ℕ → Item) (n : ℕ) (first before after : List Item) (item : Item)
+    → before ≡ first ++ map f (numbers_below n) → item ≡ f n → after ≡ before ++ item ∷ []
+    → after ≡ first ++ map f (numbers_below (n + 1))
+item_more f n first before after item so is next =
+    next ∙ (λ i. so i ++ is i ∷ [])
+    ∙ append_assoc first (map f (numbers_below n)) (f n ∷ [])
+    ∙ ap (λ xs. first ++ xs) (sym (ap (map f) (numbers_below-push n)
+    ∙ map-append f (numbers_below n) (n ∷ [])))
+
+-- four lists of them
+pub four_behind : (t a b c d : List Item) → t ++ a ++ b ++ c ++ d ≡ t ++ (a ++ b ++ c ++ d)
+four_behind t a b c d =
+    ap (λ xs. xs ++ c ++ d) (append_assoc t a b)
+    ∙ ap (λ xs. xs ++ d) (append_assoc t (a ++ b) c)
+    ∙ append_assoc t (a ++ b ++ c) d

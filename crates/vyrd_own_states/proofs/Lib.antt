@@ -1,0 +1,4 @@
+pub mod BeginLaws
+pub mod CaseLaws
+pub mod ItemLaws
+pub mod ReplyLaws

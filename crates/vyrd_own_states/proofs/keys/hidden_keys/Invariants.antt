@@ -1,0 +1,10 @@
+use Rattle.std.proofs.Common.{◌≡◌, [], drop}
+use Rattle.std.specs.Prelude.{filter_map}
+use Rattle.vyrd_own_states.specs.OwnReplies.{each_once, hidden_key}
+use Rattle.vyrd_own_states.proofs.keys.hidden_keys.Given as goal
+
+abbrev pub invariant-loop-worth : goal.invariant-loop-worth
+invariant-loop-worth l =
+    each_once l.keys.items
+    (filter_map (λ worth. hidden_key worth.reads) (drop l.worth-index l.worths))
+    ≡ each_once [] (filter_map (λ worth. hidden_key worth.reads) l.worths)

@@ -1,0 +1,255 @@
+-- What the words of a built-in subject show of a key, where one of them has changed: only what its
+-- part gives can be other than before.
+use Rattle.std.proofs.Common.{◌≡◌, ◌≢◌, ℕ, zero, suc, ◌+◌, ◌*◌, ◌/◌, ◌%◌, ◌<◌, ◌≤◌, Bool, true}
+use Rattle.std.proofs.Common.{false, cond, ◌||◌, List, [], ◌∷◌, length, map, set, refl, ap, ◌∙◌}
+use Rattle.std.proofs.Common.{sym, subst, arith, get_or-set_other}
+use Rattle.std.specs.Prelude.{◌==◌, flat_map, slice_index}
+use Rattle.std.proofs.lemmas.List.{set-get_or, length-set}
+use Rattle.std.proofs.Math.Nat.{div-add-mod, mod-lt}
+use Rattle.vyrd_base.specs.declared.header.Header.{Header}
+use Rattle.vyrd_base.specs.declared.subject.Subject.{Subject}
+use Rattle.vyrd_base.specs.declared.subject.Subject.TheVariants.{Multiset, Cache, Buffers}
+use Rattle.vyrd_base.specs.Amounts.{amount_of, collected, given, part_given}
+use Rattle.vyrd_base.specs.Cache.{chunk_at}
+use Rattle.vyrd_base.specs.Buffers.{is_buffer, buffer_at, text_of}
+use Rattle.vyrd_base.specs.Layout.{plain_words, plain_words_of}
+use Rattle.vyrd_base.specs.Multiset.{slot_parts}
+use Rattle.vyrd_base.specs.Places.{numbers_below}
+use Rattle.vyrd_base.specs.Rules.{rules_of}
+use Rattle.vyrd_base.specs.Views.{parts_of, view_of_words}
+use Rattle.vyrd_base.proofs.SumLaws.{amount_of-collected, given_at_most, other_part, part_at_most}
+use Rattle.vyrd_base.proofs.TestLaws.{same_of, apart_of, isnt_same, neither_true}
+use Rattle.vyrd_view.specs.Comparing.{AgreeElsewhere}
+use Rattle.vyrd_view.specs.Decoded.{Gives, words_of, pairs_by}
+use Rattle.vyrd_view.specs.Pairs.{chunk_amount, chunk_flaw, chunk_gives, buffer_gives}
+use Rattle.vyrd_view.specs.Laws.Sums.{given_flat_push, places_give}
+use Rattle.vyrd_view.specs.Laws.Chunks.{chunks_show}
+use Rattle.vyrd_view.specs.Laws.Buffers.{buffers_show}
+use Rattle.vyrd_view.proofs.DecodedLaws.{own_untouched}
+use Rattle.vyrd_witness.specs.Changes.{amount_shown}
+
+-- ---- what parts give together
+
+module _ (q : ℕ) (f g : ℕ → List (ℕ × ℕ)) where
+  -- one part more, of both
+  both_more : (n : ℕ)
+      → given q (flat_map f (numbers_below n)) ≡ given q (flat_map g (numbers_below n))
+      → given q (f n) ≡ given q (g n)
+      → given q (flat_map f (numbers_below (n + 1))) ≡ given q (flat_map g (numbers_below (n + 1)))
+  both_more n same here = omega (arith, same, here, given_flat_push q f n, given_flat_push q g n)
+
+  -- parts that give the same
+  pub all_alike : (n : ℕ) → ((i : ℕ) → i < n → given q (f i) ≡ given q (g i))
+      → given q (flat_map f (numbers_below n)) ≡ given q (flat_map g (numbers_below n))
+  all_alike zero same = refl
+  all_alike (suc n) same =
+      let one : n + 1 ≡ suc n = omega arith in
+      subst (λ k. given q (flat_map f (numbers_below k)) ≡ given q (flat_map g (numbers_below k)))
+      one (both_more n (all_alike n (λ i low. same i (omega (arith, low)))) (same n (omega arith)))
+
+  -- parts of which one may differ
+  pub one_apart : (p n : ℕ) → p < n → ((i : ℕ) → i ≢ p → given q (f i) ≡ given q (g i))
+      → given q (flat_map f (numbers_below n)) + given q (g p)
+      ≡ given q (flat_map g (numbers_below n)) + given q (f p)
+  one_apart p zero low same = absurd (omega (arith, low))
+  one_apart p (suc n) low same =
+      let one : n + 1 ≡ suc n = omega arith in
+      subst (λ k. given q (flat_map f (numbers_below k)) + given q (g p)
+      ≡ given q (flat_map g (numbers_below k)) + given q (f p)) one
+      (by_test (n == p) refl (λ lower. one_apart p n lower same))
+    where
+      by_test : (b : Bool) → (n == p) ≡ b
+          → (p < n → given q (flat_map f (numbers_below n)) + given q (g p)
+          ≡ given q (flat_map g (numbers_below n)) + given q (f p))
+          → given q (flat_map f (numbers_below (n + 1))) + given q (g p)
+          ≡ given q (flat_map g (numbers_below (n + 1))) + given q (f p)
+      by_test true e fewer =
+          let here : n ≡ p = same_of n p e in
+          let before = all_alike n (λ i lower. same i (λ at. omega (arith, lower, at, here))) in
+          omega (
+            arith,
+            before,
+            given_flat_push q f n,
+            given_flat_push q g n,
+            ap (λ k. given q (f k)) here,
+            ap (λ k. given q (g k)) here,
+          )
+      by_test false e fewer =
+          let other : n ≢ p = apart_of n p e in
+          omega (
+            arith,
+            fewer (omega (arith, low, other)),
+            same n other,
+            given_flat_push q f n,
+            given_flat_push q g n,
+          )
+
+-- ---- a multiset
+
+-- a slot gives 1 at most
+pub slot_at_most : (q : ℕ) (words : List ℕ) (i : ℕ) → given q (slot_parts words i) ≤ 1
+slot_at_most q words i = by_state (slice_index words (2 * i) == 2)
+  where
+    value : ℕ
+    value = slice_index words (2 * i + 1)
+
+    by_state : (b : Bool) → given q (cond {A = List (ℕ × ℕ)} b ((value, 1) ∷ []) []) ≤ 1
+    by_state true = omega (arith, part_at_most q value 1)
+    by_state false = omega arith
+
+-- the slots that the word isn't in
+slot_elsewhere : (words : List ℕ) (w v i : ℕ) → i ≢ w / 2
+    → slot_parts (set words w v) i ≡ slot_parts words i
+slot_elsewhere words w v i other =
+    let whole = div-add-mod w 2 in
+    let rest : w % 2 < 2 = mod-lt w (omega arith) in
+    let state : 2 * i ≢ w = λ at. other (omega (arith, at, whole, rest)) in
+    let value : 2 * i + 1 ≢ w = λ at. other (omega (arith, at, whole, rest)) in
+    ap (λ s. cond (s == 2) ((slice_index (set words w v) (2 * i + 1), 1) ∷ []) [])
+    (get_or-set_other words w (2 * i) v 0 state)
+    ∙ ap (λ x. cond (slice_index words (2 * i) == 2) ((x, 1) ∷ []) [])
+    (get_or-set_other words w (2 * i + 1) v 0 value)
+
+-- what the words of a multiset show is what its slots give
+shown_slots : (h : Header) (words : List ℕ) (q : ℕ) → h.subject ≡ Multiset
+    → amount_shown (rules_of h) words q
+    ≡ given q (flat_map (slot_parts words) (numbers_below (4 * h.size)))
+unfolding view_of_words
+shown_slots h words q is =
+    ap (λ s. amount_of (collected (parts_of s h.size words)) q) is
+    ∙ amount_of-collected (flat_map (slot_parts words) (numbers_below (4 * h.size))) q
+
+-- they don't show much
+pub few_shown : (h : Header) (words : List ℕ) (q : ℕ) → h.subject ≡ Multiset
+    → amount_shown (rules_of h) words q ≤ 4 * h.size
+few_shown h words q is =
+    omega (
+      arith,
+      shown_slots h words q is,
+      given_at_most (slot_parts words) 1 q 0 (4 * h.size) (slot_at_most q words),
+    )
+
+module _ (h : Header) (words : List ℕ) (q w was : ℕ) (is : h.subject ≡ Multiset) where
+  -- what the word's slot gave gives way to what it gives now
+  pub slot_turned : (old new before : ℕ) → length words ≡ plain_words h → w < length words
+      → before ≡ amount_shown (rules_of h) (set words w was) q
+      → old ≡ given q (slot_parts (set words w was) (w / 2))
+      → new ≡ given q (slot_parts (set words w (slice_index words w)) (w / 2))
+      → before + new ≡ amount_shown (rules_of h) words q + old
+  slot_turned old new before count within shown gave gives =
+      let all = count ∙ ap (λ s. plain_words_of s h.size) is in
+      let low : w / 2 < 4 * h.size =
+      omega (arith, all, within, div-add-mod w 2) in
+      let one = one_apart q (slot_parts (set words w was)) (slot_parts words) (w / 2) (4 * h.size)
+      low (λ i other. ap (given q) (slot_elsewhere words w was i other)) in
+      let now = gives ∙ ap (λ ws. given q (slot_parts ws (w / 2))) (set-get_or words w 0) in
+      let before_is = shown ∙ shown_slots h (set words w was) q is in
+      omega (arith, before_is, shown_slots h words q is, gave, now, one)
+
+-- ---- parts that give nothing to the key
+
+module _ (width places parts : ℕ) (gives : Gives) (words : List ℕ) (q w v : ℕ) where
+  abbrev by_part : List ℕ → ℕ → List (ℕ × ℕ)
+  by_part all i = map (gives i (words_of width i all)) (numbers_below places)
+
+  agree : AgreeElsewhere words (set words w v) (w ∷ [])
+  agree x untouched =
+      let both = neither_true (w == x) false untouched in
+      let other : w ≢ x = apart_of w x both.0 in
+      get_or-set_other words w x v 0 (λ same. other (sym same))
+
+  -- what they show is the same, whatever the word is
+  passed : length words ≡ parts * width
+      → ((own : List ℕ) → given q (map (gives (w / width) own) (numbers_below places)) ≡ 0)
+      → given q (pairs_by width places parts gives (set words w v))
+      ≡ given q (pairs_by width places parts gives words)
+  passed count none =
+      places_give width places gives (set words w v) q (by_part (set words w v)) (λ p. refl) parts
+      ∙ all_alike q (by_part (set words w v)) (by_part words) parts
+      (λ i low. by_test i low (i == w / width) refl)
+      ∙ sym (places_give width places gives words q (by_part words) (λ p. refl) parts)
+    where
+      nothing : (i : ℕ) (all : List ℕ) → i ≡ w / width → given q (by_part all i) ≡ 0
+      nothing i all at =
+          ap (λ k. given q (map (gives k (words_of width i all)) (numbers_below places))) at
+          ∙ none (words_of width i all)
+
+      by_test : (i : ℕ) → i < parts → (b : Bool) → (i == w / width) ≡ b
+          → given q (by_part (set words w v) i) ≡ given q (by_part words i)
+      by_test i low true e =
+          let at = same_of i (w / width) e in
+          nothing i (set words w v) at ∙ sym (nothing i words at)
+      by_test i low false e =
+          let other : i ≢ w / width = apart_of i (w / width) e in
+          let untouched = isnt_same (w / width) i (λ same. other (sym same)) in
+          ap (λ own. given q (map (gives i own) (numbers_below places)))
+          (own_untouched width i parts words (set words w v) (w ∷ []) low count
+          (length-set words w v ∙ count) agree (ap (λ b. b || false) untouched))
+
+-- a chunk whose keys are others
+chunk_gives_none : (size p q : ℕ) (own : List ℕ) → q ≢ p → q ≢ size + p
+    → given q (map (chunk_gives size p own) (numbers_below 2)) ≡ 0
+chunk_gives_none size p q own other past =
+    let sum : given q (map (chunk_gives size p own) (numbers_below 2))
+    ≡ part_given q (p, chunk_amount (chunk_at own 0))
+    + (part_given q (size + p, chunk_flaw (chunk_at own 0)) + 0) = refl in
+    omega (
+      arith,
+      sum,
+      other_part q p (chunk_amount (chunk_at own 0)) other,
+      other_part q (size + p) (chunk_flaw (chunk_at own 0)) past,
+    )
+
+-- a buffer whose keys are others
+buffer_gives_none : (size p q : ℕ) (own : List ℕ) → q ≢ p → q ≢ size + p
+    → given q (map (buffer_gives size p own) (numbers_below 1)) ≡ 0
+buffer_gives_none size p q own other past = by_test (is_buffer (buffer_at own 0))
+  where
+    text : ℕ
+    text = text_of (buffer_at own 0).character (buffer_at own 0).count
+
+    by_test : (b : Bool) → given q (cond {A = ℕ × ℕ} b (p, text) (size + p, 1) ∷ []) ≡ 0
+    by_test true = omega (arith, other_part q p text other)
+    by_test false = omega (arith, other_part q (size + p) 1 past)
+
+module _ (h : Header) (words : List ℕ) (q w was : ℕ) where
+  -- what pairs of all parts give is what is shown
+  shown_by : (subject : Subject) (pairs : List ℕ → List (ℕ × ℕ)) → h.subject ≡ subject
+      → ((all : List ℕ) → collected (pairs all) ≡ collected (parts_of subject h.size all))
+      → (all : List ℕ) → amount_shown (rules_of h) all q ≡ given q (pairs all)
+  unfolding view_of_words
+  shown_by subject pairs is show all =
+      ap (λ s. amount_of (collected (parts_of s h.size all)) q) is
+      ∙ ap (λ amounts. amount_of amounts q) (sym (show all)) ∙ amount_of-collected (pairs all) q
+
+  -- a word of a chunk whose keys are others
+  pub chunk_passed : (before : ℕ) → h.subject ≡ Cache → length words ≡ plain_words h
+      → before ≡ amount_shown (rules_of h) (set words w was) q
+      → (q == w / 5 || q == h.size + w / 5) ≡ false
+      → before ≡ amount_shown (rules_of h) words q
+  chunk_passed before is count shown apart =
+      let all = count ∙ ap (λ s. plain_words_of s h.size) is in
+      let pairs : List ℕ → List (ℕ × ℕ) = pairs_by 5 2 h.size (chunk_gives h.size) in
+      let show = shown_by Cache pairs is (chunks_show h.size) in
+      let both = neither_true (q == w / 5) (q == h.size + w / 5) apart in
+      shown ∙ show (set words w was)
+      ∙ passed 5 2 h.size (chunk_gives h.size) words q w was (omega (arith, all))
+      (λ own. chunk_gives_none h.size (w / 5) q own (apart_of q (w / 5) both.0)
+      (apart_of q (h.size + w / 5) both.1))
+      ∙ sym (show words)
+
+  -- and one of a buffer
+  pub buffer_passed : (before : ℕ) → h.subject ≡ Buffers → length words ≡ plain_words h
+      → before ≡ amount_shown (rules_of h) (set words w was) q
+      → (q == w / 8 || q == h.size + w / 8) ≡ false
+      → before ≡ amount_shown (rules_of h) words q
+  buffer_passed before is count shown apart =
+      let all = count ∙ ap (λ s. plain_words_of s h.size) is in
+      let pairs : List ℕ → List (ℕ × ℕ) = pairs_by 8 1 h.size (buffer_gives h.size) in
+      let show = shown_by Buffers pairs is (buffers_show h.size) in
+      let both = neither_true (q == w / 8) (q == h.size + w / 8) apart in
+      shown ∙ show (set words w was)
+      ∙ passed 8 1 h.size (buffer_gives h.size) words q w was (omega (arith, all))
+      (λ own. buffer_gives_none h.size (w / 8) q own (apart_of q (w / 8) both.0)
+      (apart_of q (h.size + w / 8) both.1))
+      ∙ sym (show words)

@@ -1,0 +1,34 @@
+use Rattle.std.proofs.Common.{◌≡◌, ◌+◌, ◌/◌, set, arith}
+use Rattle.vyrd_base.specs.Rules.{rules_of}
+use Rattle.vyrd_base.proofs.HeaderLaws.{size_in_32_bits}
+use Rattle.vyrd_witness.specs.Changes.{amount_shown}
+use Rattle.vyrd_witness.proofs.PartLaws.{slot_at_most, slot_turned, few_shown}
+use Rattle.vyrd_witness.proofs.after.amount_after.Goals as goal
+
+module _ (c : goal.After-given_with-new) where
+  turned : c.args.before + c.given_with-new.result
+      ≡ amount_shown (rules_of c.args.header) c.args.words.now c.args.key + c.given_with-old.result
+  turned = slot_turned c.args.header c.args.words.now c.args.key c.args.word c.args.was
+      c.requires.multiset c.given_with-old.result c.given_with-new.result c.args.before
+      c.requires.count c.requires.within c.requires.before c.given_with-old.ensures
+      c.given_with-new.ensures
+
+pub overflow_sub-result : goal.overflow_sub-result
+overflow_sub-result c = omega (arith, turned c)
+
+pub overflow_add-result : goal.overflow_add-result
+overflow_add-result c =
+    let h = c.args.header in
+    let words = c.args.words.now in
+    let key = c.args.key in
+    omega (
+      arith,
+      turned c,
+      few_shown h words key c.requires.multiset,
+      size_in_32_bits h,
+      c.given_with-old.ensures,
+      slot_at_most key (set words c.args.word c.args.was) (c.args.word / 2),
+    )
+
+pub returns : goal.returns
+returns c = omega (arith, turned c)
