@@ -1,9 +1,12 @@
 """The lines that `vyrd explain` has to write behind a verdict, worked out by the modules of tools/, which share nothing with it."""
 
 import re
+from typing import NamedTuple
 
+import steps
+from expressions import NONE, of_list
 from findings import sound_entries
-from steps import View
+from reasons import parts_at, worth
 from walk import Walk
 from words import State, Words, allowed, answer, keys_of
 
@@ -12,10 +15,7 @@ RACE, NO_STATE = ": block raced", ": start stands for no state"
 
 
 def lines_behind(log):
-    """The lines behind the verdict `log.answer`: none behind that of a log that is accepted, or whose header isn't read.
-
-    Of a log of version 3 they have nothing of the specification's state.
-    """
+    """The lines behind the verdict `log.answer`: none behind that of a log that is accepted, or whose header isn't read."""
     if not (log.subject or log.specification) or log.answer.startswith("accepted") or log.answer.endswith(NO_STATE):
         return []
     violation = VIOLATION.fullmatch(log.answer)
@@ -26,10 +26,8 @@ def lines_behind(log):
     past = Past(log, sound_entries(log))
     execution = past.executions[line]
     called = [f"call at line {execution.line}", f"reply at line {execution.return_line}"]
-    if log.specification:
-        return [*called, *(shown(past, line, number) if what.startswith("view") else [])]
     if what == "reply":
-        return [*called, *refused(past, execution)]
+        return [*called, *(refused_by_own if log.specification else refused)(past, execution)]
     if what == "observer reply":
         return [*called, *answers(past, execution)]
     return [*called, *shown(past, line, number), f"state after line {line}: {told(number, past.state([number], line))}"]
@@ -60,20 +58,41 @@ class Past:
         return Words(self.log.subject, self.log.size, self.log.starting())
 
     def state(self, keys, line):
-        """The specification's state at these keys, after the commits up to a line."""
-        state = State(self.words(), keys)
+        """The specification's state after the commits up to a line. One that is built in is known at these keys alone."""
+        state = OwnState(self.words()) if self.log.specification else State(self.words(), keys)
         for execution in self.walk.commits:
             if execution.commit_line <= line:
                 state.take(execution)
         return state
 
 
-class OwnWords(View):
+class OwnWords(steps.View):
     """The words of a log of version 3."""
 
     def amount(self, key):
         """What they show of a key."""
         return self.amounts().get(key, 0)
+
+
+class OwnState(steps.State):
+    """The state of the specification in front of a log of version 3."""
+
+    def __init__(self, words):
+        super().__init__(words.specification, words.amounts())
+        self.specification = words.specification
+
+    def __getitem__(self, key):
+        """What it shows of a key."""
+        return self.shown[key]
+
+    def call(self, execution):
+        """A call in this state, as the functions of tools/ take it."""
+        return self.specification, self.specification.by_name[execution.method], self, execution.arguments
+
+    def take(self, execution):
+        """The state after this call, by its reply."""
+        for effect in steps.step_of(*self.call(execution), execution.reply).effects:
+            self.do(effect)
 
 
 def told(key, amounts):
@@ -109,16 +128,73 @@ def refused(past, execution):
     return before + [f"allowed reply {reply}" for reply in sorted(replies)]
 
 
+def refused_by_own(past, execution):
+    """What the state of a specification in front has before a call's commit, and which of the replies tried it allows."""
+    line = execution.commit_line
+    state = past.state((), line - 1)
+    found = list(deciding(state, execution))
+    before = [f"register {number} value {worth(value)}" for number, value in enumerate(state.registers.values())]
+    before += [f"list {number} {ends_of(items)}" for number, items in enumerate(state.lists.values())]
+    before += [f"key {key} amount {state.shown[key]}" for key in keys_read("shown", found)]
+    before += [f"hidden key {key} amount {state.hidden[key]}" for key in keys_read("hidden", found)]
+    tried = dict.fromkeys([0, 1, 2, *(each.value for each in found)])
+    right = [reply for reply in tried if reply != NONE and steps.step_of(*state.call(execution), reply)]
+    return [*(f"state before line {line}: {each}" for each in before), *(f"allowed reply {reply}" for reply in right)]
+
+
+class Valued(NamedTuple):
+    """The kind and the value of an expression, and of an amount the key at which it is read."""
+
+    kind: str
+    value: int
+    key: int
+
+
+def deciding(state, execution):
+    """The expressions that count for whether a call may have its reply, with their values in a state."""
+    method = state.specification.by_name[execution.method]
+    names = {**steps.names_in(*state.call(execution)), "reply": execution.reply}
+    for whole in [*(let.value for let in method.lets), *(case.allow for case in method.cases)]:
+        for each in counted(whole, state, names):
+            key = each.parts[0].value(state, names) if each.kind in ("shown", "hidden") else None
+            yield Valued(each.kind, each.value(state, names), key)
+
+
+def counted(expression, state, names):
+    """The expressions that count for the value of one, from the left: each behind those that it is made of, itself last."""
+    for part in parts_at(expression, state, names):
+        yield from counted(part, state, names)
+    yield expression
+
+
+def keys_read(kind, found):
+    """The keys at which amounts of a kind are read, each once, in the order of first occurrence."""
+    return dict.fromkeys(each.key for each in found if each.kind == kind)
+
+
+def ends_of(items):
+    """How many elements a list has, and which ones stand at its ends."""
+    return f"size {len(items)} first {worth(of_list('first', items))} last {worth(of_list('last', items))}"
+
+
 def answers(past, execution):
     """What a call would be answered where it stands, and behind each later commit up to its return that changes that."""
-    key, lines, last = execution.arguments[0], [], None
+    lines, last = [], None
     commits = [line for line in past.commit_lines if execution.line < line < execution.return_line]
     for line in [execution.line, *commits]:
-        now = answer(past.log.subject, execution.method, past.state([key], line)[key])
+        now = answer_behind(past, line, execution)
         if now != last:
             lines.append(f"answer from line {line}: {now}")
         last = now
     return lines
+
+
+def answer_behind(past, line, execution):
+    """What a call would be answered in the state behind a line."""
+    state = past.state(execution.arguments[:1], line)
+    if past.log.specification:
+        return worth(steps.answer_of(*state.call(execution)))
+    return answer(past.log.subject, execution.method, state[execution.arguments[0]])
 
 
 def races(past):

@@ -184,6 +184,21 @@ OBSERVERS = [
         "violation at line 6: observer reply 1 in no state",
         "call at line 5\nreply at line 6\nanswer from line 5: 2",
     ),
+    # The greatest pair of a chunk is 2^64 - 1. Here that is an answer like any other, and not `none`.
+    (
+        """vyrd 1 cache 1 1
+0 call write 0 4294967295 4294967295
+0 write 1 4294967295
+0 write 2 4294967295
+0 write 0 2
+0 commit
+0 return 1
+0 call read 0
+0 return 0
+""",
+        "violation at line 9: observer reply 0 in no state",
+        "call at line 8\nreply at line 9\nanswer from line 8: 18446744073709551615",
+    ),
 ]
 BROKEN = [
     # Caller 0's block holds the word by its last write to it. The callers' open ones come in the order of the callers.
@@ -254,8 +269,8 @@ open call at line 6""",
     ("", "malformed at line 1: no end", ""),
 ]
 ACCEPTED = [("vyrd 1 multiset 1 1\nend\n", "accepted: 0 entries, 0 commits, 0 observers", "")]
-# Of version 3 nothing is told of the specification's state. Lines are those of the whole text.
-OWN = [
+# Of version 3. Lines are those of the whole text.
+OWN_VIEWS = [
     # Part 1 shows 2 of key 9 beside the 3 that part 0 shows.
     (
         """vyrd 3 own 4 2
@@ -280,18 +295,210 @@ start 1 9
 reply at line 16
 agreed at the start: key 9 amount 3
 words after line 15: key 9 amount 5
-change at line 14: word 3 from 0 to 9, in effect at line 14, key 9 amount 3 to 5""",
+change at line 14: word 3 from 0 to 9, in effect at line 14, key 9 amount 3 to 5
+state after line 15: key 9 amount 3""",
     ),
+    # The state has nothing left after the commit, and the words still show the 6 of word 1.
+    (
+        """vyrd 3 own 2 1
+part 1
+  shows part w0
+method empty
+  allow (reply == count)
+    clear
+log
+start 0 5
+start 1 6
+0 call empty
+0 write 0 0
+0 commit
+0 return 2
+""",
+        "violation at line 12: view differs at key 1",
+        """call at line 10
+reply at line 13
+agreed at the start: key 1 amount 6
+words after line 12: key 1 amount 6
+state after line 12: key 1 amount 0""",
+    ),
+]
+OWN_REPLIES = [
+    # A state without anything, and one reply.
     (
         "vyrd 3 own 0 1\nmethod m\n  allow (reply == 1)\nlog\n0 call m\n0 commit\n0 return 2\n",
         "violation at line 6: reply 2 not allowed",
-        "call at line 5\nreply at line 7",
+        "call at line 5\nreply at line 7\nallowed reply 1",
     ),
+    # The choice reads {7} and [107], and not {8}. What counts has the values 8 of the first `let`; 7, 30, 7, 100, 107, 0, 0 of the
+    # second; 30, 7, 10, 0, 30, 8, 1, 9, 0, 0 of the first case; and of the second one, among others, `none`, which it allows.
+    (
+        """vyrd 3 own 0 2
+let far 100
+register turn 4
+register held 0
+list waiting
+  holds 8
+  holds 9
+list spare
+hidden 7 30
+hidden 107 1
+method put k
+  allow (reply == 1)
+    set [k] (k + 3)
+    set held none
+    append waiting none
+method take k
+  let front (first waiting)
+  let there (if {k} then [(k + far)] else {front})
+  allow ((reply == [k]) or (reply == (front + 1)))
+  allow ((reply == 2) or (reply == (last spare)))
+log
+0 call put 7
+0 commit
+0 return 1
+1 call take 7
+1 commit
+1 return 30
+""",
+        "violation at line 26: reply 30 not allowed",
+        """call at line 25
+reply at line 27
+state before line 26: register 0 value 4
+state before line 26: register 1 value none
+state before line 26: list 0 size 3 first 8 last none
+state before line 26: list 1 size 0 first none last none
+state before line 26: key 107 amount 0
+state before line 26: key 7 amount 10
+state before line 26: hidden key 7 amount 30
+allowed reply 2
+allowed reply 10
+allowed reply 9""",
+    ),
+    # What stands in the second case counts too. Numbers are tried as well: the 40 is nothing but a number.
+    (
+        """vyrd 3 own 0 1
+hidden 9 1
+method m k
+  allow (reply == 40)
+  allow ((reply == (k + 5)) and {9})
+log
+0 call m 3
+0 commit
+0 return 6
+""",
+        "violation at line 8: reply 6 not allowed",
+        "call at line 7\nreply at line 9\nstate before line 8: hidden key 9 amount 1\nallowed reply 40\nallowed reply 8",
+    ),
+    # The other branch of a choice. The 6 is what the words show at the start; the call of caller 1 hasn't committed.
+    (
+        """vyrd 3 own 2 2
+part 1
+  shows part w0
+method swap k v
+  let old [k]
+  allow (if (v == 0) then (reply == {k}) else (reply == ([k] + {old})))
+    set [k] v
+log
+start 1 6
+0 call swap 1 9
+1 call swap 1 3
+0 write 1 9
+0 commit
+0 return 7
+""",
+        "violation at line 13: reply 7 not allowed",
+        """call at line 10
+reply at line 14
+state before line 13: key 1 amount 6
+state before line 13: hidden key 6 amount 0
+allowed reply 6""",
+    ),
+    # An amount whose key is an amount: [7] is 0, so {0} is read, and then {4}. The key 2 is that of the refused reply.
+    (
+        """vyrd 3 own 0 1
+hidden 0 4
+hidden 4 9
+method m
+  allow ((reply == ({{[7]}} + 1)) and (not [reply]))
+log
+0 call m
+0 commit
+0 return 2
+""",
+        "violation at line 8: reply 2 not allowed",
+        """call at line 7
+reply at line 9
+state before line 8: key 7 amount 0
+state before line 8: key 2 amount 0
+state before line 8: hidden key 0 amount 4
+state before line 8: hidden key 4 amount 9
+allowed reply 10""",
+    ),
+    # A key is a number also where it is `none`. The answer is no case, so [5] isn't read.
+    (
+        """vyrd 3 own 0 1
+list spare
+method take
+  answer [5]
+  allow ((not [(first spare)]) and (reply == (count + 3)))
+log
+0 call take
+0 commit
+0 return 0
+""",
+        "violation at line 8: reply 0 not allowed",
+        """call at line 7
+reply at line 9
+state before line 8: list 0 size 0 first none last none
+state before line 8: key 18446744073709551615 amount 0
+allowed reply 3""",
+    ),
+    # Nothing is allowed: `none` and one more is `none`.
+    (
+        "vyrd 3 own 0 1\nlist all\nmethod get\n  allow (reply == ((first all) + 1))\nlog\n0 call get\n0 commit\n0 return 0\n",
+        "violation at line 7: reply 0 not allowed",
+        "call at line 6\nreply at line 8\nstate before line 7: list 0 size 0 first none last none",
+    ),
+]
+OWN_OBSERVERS = [
     (
         "vyrd 3 own 0 1\nmethod get k\n  answer [k]\nlog\n0 call get 7\n# a note\n0 return 2\n",
         "violation at line 7: observer reply 2 in no state",
-        "call at line 5\nreply at line 7",
+        "call at line 5\nreply at line 7\nanswer from line 5: 0",
     ),
+    # The list is empty, then it has one element, two, one, and none.
+    (
+        """vyrd 3 own 0 3
+list waiting
+method put x
+  allow (reply == 1)
+    append waiting x
+method take
+  let any (length waiting)
+  answer (if any then none else 0)
+  allow (reply == ((first waiting) + 1))
+    drop first waiting
+log
+0 call put 5
+1 call take
+0 commit
+0 return 1
+0 call put 6
+0 commit
+0 return 1
+2 call take
+2 commit
+2 return 6
+2 call take
+2 commit
+1 return 3
+2 return 7
+""",
+        "violation at line 24: observer reply 3 in no state",
+        "call at line 13\nreply at line 24\nanswer from line 13: 0\nanswer from line 14: none\nanswer from line 23: 0",
+    ),
+]
+OWN_BROKEN = [
     (
         """vyrd 3 own 2 2
 method m
@@ -310,6 +517,9 @@ log
 ]
 
 
+CASES = [VIEWS, REPLIES, OBSERVERS, BROKEN, ACCEPTED, OWN_VIEWS, OWN_REPLIES, OWN_OBSERVERS, OWN_BROKEN]
+
+
 class Lines(unittest.TestCase):
     def assert_lines(self, text, answer, lines):
         with tempfile.TemporaryFile(buffering=0) as file:
@@ -317,7 +527,7 @@ class Lines(unittest.TestCase):
             self.assertEqual("\n".join(lines_behind(Log(file, "-", answer))), lines, text)
 
     def test_cases(self):
-        for cases in VIEWS, REPLIES, OBSERVERS, BROKEN, ACCEPTED, OWN:
+        for cases in CASES:
             for text, answer, lines in cases:
                 with self.subTest(answer=answer):
                     self.assert_lines(text, answer, lines)
@@ -348,9 +558,17 @@ class Explained(ScriptTest):
 
     def test_what_is_compared_is_counted(self):
         said = b"logs: 1 view differs at key\n"
-        said += b"lines: 1 agreed at the start: key, 1 call at line, 1 reply at line, 1 state after line, 1 words after line\n"
+        said += b"lines: 1 agreed at the start: key amount, 1 call at line, 1 reply at line, 1 state after line: key, "
+        said += b"1 words after line: key\n"
         said += b"explained: 1 logs are explained as they have to be, 0 otherwise\n"
         self.assert_ended(self.explained(VIEWS[0]), 0, said, [])
+
+    def test_what_a_state_has_is_counted_by_its_kinds(self):
+        said = b"logs: 1 reply not allowed in version 3\n"
+        said += b"lines: 3 allowed reply, 1 call at line, 1 reply at line, 1 state before line: hidden key, "
+        said += b"2 state before line: key, 2 state before line: list, 2 state before line: register\n"
+        said += b"explained: 1 logs are explained as they have to be, 0 otherwise\n"
+        self.assert_ended(self.explained(OWN_REPLIES[1]), 0, said, [])
 
     def test_the_first_difference_is_said_whole(self):
         text, answer, lines = REPLIES[0]
