@@ -1,16 +1,16 @@
-//! Which replies a state allows, and what counts for that.
+//! Which replies a state allows, what counts for that, and what a call then does.
 
-ghost use Rattle.std.specs.Prelude.{◌≡◌, IfOk};
+ghost use Rattle.std.specs.Prelude.{◌≡◌, IfOk, option_map};
 ghost use Rattle.std.specs.Option.{is_some};
 ghost use Rattle.vyrd_base.specs.Own.Reader.{written_in};
 ghost use Rattle.vyrd_own.specs.Layout.{written};
-ghost use Rattle.vyrd_own_spec.specs.Touched.{next_by};
+ghost use Rattle.vyrd_own_spec.specs.Touched.{next_by, effects_by};
 ghost use Rattle.vyrd_own_spec.specs.Counted.{worths_by};
 
 use crate::specification::Specification;
 use crate::stepping::{all_args, given, plan};
 use std::alloc::{AllocError, Global};
-use vyrd_base::{Args, Method};
+use vyrd_base::{Args, Effect, Method};
 use vyrd_own::{Program, Room, StateOf, Worth, put_worths};
 
 /// Whether a state allows a call this reply.
@@ -28,6 +28,27 @@ pub(crate) fn allows(
     let mut room = Room::new(alloc);
     let program = specification.program();
     plan(program, method, args, reply, state, &mut room)
+}
+
+/// What a call with this reply does to a state, or none if the state doesn't allow the reply.
+pub(crate) fn effects(
+    alloc: Global,
+    specification: &Specification,
+    method: Method,
+    args: Args,
+    reply: u64,
+    state: &StateOf,
+) -> Result<Option<Vec<Effect>>, AllocError>
+    ensures { IfOk result (λ found. option_map (λ effects. effects.items) found
+        ≡ effects_by (written_in specification.now) method args reply state.now) }
+{
+    let mut room = Room::new(alloc);
+    let program = specification.program();
+    if !plan(program, method, args, reply, state, &mut room)? {
+        return Ok(None);
+    }
+    let effects = room.effects.to_vec(alloc)?;
+    Ok(Some(effects))
 }
 
 /// What counts for whether a state allows a call this reply.

@@ -1,6 +1,6 @@
 //! The specification of the user's own.
 
-ghost use Rattle.std.specs.Prelude.{◌≡◌, ◌≤◌, true, not, length, is_none, IfOk, IfSome};
+ghost use Rattle.std.specs.Prelude.{◌≡◌, ◌≤◌, true, not, length, is_none, IfOk, IfSome, option_map};
 ghost use Rattle.std.specs.Arc.{arc_value};
 ghost use Rattle.std.specs.Option.{is_some};
 ghost use Rattle.vyrd_base.specs.declared.subject.Subject.TheVariants.{Own};
@@ -8,10 +8,10 @@ ghost use Rattle.vyrd_base.specs.Own.OwnRules.{own_start, may_stand};
 ghost use Rattle.vyrd_base.specs.Own.Reader.{written_in};
 ghost use Rattle.vyrd_base.specs.Rules.{own, own_rules};
 ghost use Rattle.vyrd_own_spec.specs.Parts.{IsWhole};
-ghost use Rattle.vyrd_own_spec.specs.Touched.{touches};
+ghost use Rattle.vyrd_own_spec.specs.Touched.{effects_by, touches};
 ghost use Rattle.vyrd_own_spec.specs.Counted.{worths_by};
 
-use crate::allowing::{allows, worths};
+use crate::allowing::{allows, effects, worths};
 use crate::compared::OwnCompared;
 use crate::parts::OwnParts;
 use crate::specification::Specification;
@@ -19,7 +19,7 @@ use crate::start::{KEYS, is_whole, shown_at_start};
 use crate::stepping::{answer, shows_nothing, step};
 use std::alloc::{AllocError, Global};
 use std::sync::Arc;
-use vyrd_base::{Args, Header, Method, View};
+use vyrd_base::{Args, Effect, Header, Method, View};
 use vyrd_own::{Room, StateOf, Worth};
 use vyrd_spec::Spec;
 use vyrd_view::ByParts;
@@ -101,6 +101,21 @@ impl OwnSpec {
             method args reply self.now.state)) }
     {
         allows(alloc, &self.specification, method, args, reply, &self.state)
+    }
+
+    /// What a call with this reply does to this state, one effect after the other, or none if the
+    /// state doesn't allow the reply. The state stays as it is.
+    pub fn effects(
+        &self,
+        alloc: Global,
+        method: Method,
+        args: Args,
+        reply: u64,
+    ) -> Result<Option<Vec<Effect>>, AllocError>
+        ensures { IfOk result (λ found. option_map (λ effects. effects.items) found ≡ effects_by
+            (written_in (arc_value self.now.specification)) method args reply self.now.state) }
+    {
+        effects(alloc, &self.specification, method, args, reply, &self.state)
     }
 
     /// What counts for whether this state allows a call this reply: what the expressions are worth

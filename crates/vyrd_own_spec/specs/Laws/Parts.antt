@@ -68,12 +68,12 @@ given_first q pairs (suc n) =
         )
 
 -- all of a list
-all_given : (q : ℕ) (pairs : List (ℕ × ℕ)) (n : ℕ) → length pairs ≤ n
+pub all_given : (q : ℕ) (pairs : List (ℕ × ℕ)) (n : ℕ) → length pairs ≤ n
     → given q (map (λ j. get_or pairs j (0, 0)) (numbers_below n)) ≡ given q pairs
 all_given q pairs n few = given_first q pairs n ∙ ap (given q) (all_taken pairs n few)
 
 -- nothing is given
-none_given : (q n : ℕ) → given q (map (λ j. let p : ℕ × ℕ = (0, 0) in p) (numbers_below n)) ≡ 0
+pub none_given : (q n : ℕ) → given q (map (λ j. let p : ℕ × ℕ = (0, 0) in p) (numbers_below n)) ≡ 0
 none_given q n = all_given q [] n (omega arith)
 
 none_shown : (k n : ℕ) → flat_map (λ i. let none : List (ℕ × ℕ) = [] in none) (numbers_from k n) ≡ []
@@ -85,7 +85,7 @@ flat_alike f g same [] = refl
 flat_alike f g same (n ∷ ns) = ap (λ xs. xs ++ flat_map f ns) (same n) ∙ ap (λ xs. g n ++ xs) (flat_alike f g same ns)
 
 -- a part gives to no more keys than there are lines
-few_gives : (w : Written) (part : ℕ) (words : List ℕ) → length (part_gives w part words) ≤ length w.shows
+pub few_gives : (w : Written) (part : ℕ) (words : List ℕ) → length (part_gives w part words) ≤ length w.shows
 unfolding part_gives
 few_gives w part words = by_test (list_all (λ word. word == 0) words)
   where
