@@ -11,8 +11,8 @@ pub mod EffectKinds
 pub mod AgreeLaws
 pub mod CommitLaws
 pub mod PartLaws
-pub mod TextLaws
-pub mod Opened
 pub mod BelowLaws
 pub mod RaceLaws
 pub mod PassedLaws
+pub mod NodeLaws
+pub mod GivenLaws

@@ -1,6 +1,7 @@
 pub mod Numbered
 pub mod Effects
 pub mod Changes
+pub mod Given
 pub mod ViewWitnesses
 pub mod Plain
 pub mod Leading
@@ -9,6 +10,5 @@ pub mod Written
 pub mod Samples
 pub mod Executions
 pub mod Items
-pub mod ItemText
 pub mod Opens
 pub mod Races

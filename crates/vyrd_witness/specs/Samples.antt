@@ -1,9 +1,9 @@
 -- Small logs of a multiset of one bucket whose views differ at the key 5, with the effects that
 -- changed it, and one of a write that races. Slot 0 has the words 0 and 1: its state, which is 2
--- where it is valid, and its value.
+-- where it is valid, and its value. And the words of a tree that is damaged.
 use Rattle.std.specs.Prelude.{ℕ, List, [], ◌∷◌, refl}
 use Rattle.vyrd_base.specs.declared.header.Header.{Header}
-use Rattle.vyrd_base.specs.declared.subject.Subject.TheVariants.{Multiset}
+use Rattle.vyrd_base.specs.declared.subject.Subject.TheVariants.{Multiset, Tree}
 use Rattle.vyrd_base.specs.declared.log.Kind.TheVariants.{BlockClose}
 use Rattle.vyrd_base.specs.declared.log.Entry.{Entry}
 use Rattle.vyrd_base.specs.Samples.{by, insert, delete, write, return, commit, begin}
@@ -29,6 +29,11 @@ abbrev pub replaced : List Entry
 replaced = insert 0 5 ∷ write 0 1 5 ∷ begin 0 ∷ commit 0 ∷ write 0 0 2 ∷ write 0 1 6
     ∷ by 0 BlockClose ∷ return 0 1 ∷ []
 
+-- an insert that fills two slots with its value
+abbrev pub filled_twice : List Entry
+filled_twice = insert 0 5 ∷ write 0 1 5 ∷ write 0 0 2 ∷ write 0 3 5 ∷ write 0 2 2 ∷ commit 0
+    ∷ return 0 1 ∷ []
+
 -- an effect of caller 0, by the positions of the write and of where it takes effect
 abbrev effect : ℕ → ℕ → ℕ → ℕ → Effect
 effect written at word value =
@@ -47,6 +52,10 @@ shown_and_hidden = change (effect 4 3 0 2) 0 0 1 ∷ change (effect 5 3 1 6) 5 1
 abbrev pub shown_too_early : List Change
 shown_too_early = change (effect 3 3 0 2) 1 0 1 ∷ []
 
+-- the writes that make the two slots valid
+abbrev pub shown_twice : List Change
+shown_twice = change (effect 2 2 0 2) 0 0 1 ∷ change (effect 4 4 2 2) 0 1 2 ∷ []
+
 -- another caller writes a word behind the commit inside a block, and then the block does
 abbrev pub passed : List Entry
 passed =
@@ -55,3 +64,13 @@ passed =
 -- the other caller's write to that word
 abbrev pub passing : Effect
 passing = record { written = 4; at = 4; caller = 1; word = 0; value = 1 }
+
+-- a tree of two nodes with one caller
+abbrev pub tree_of_two : Header
+tree_of_two = record { version = 2; subject = Tree; size = 2; callers = 1; within = refl }
+
+-- The words of such a tree: node 0 has the key 3 and its value 7, and leads to node 1. That has the
+-- key 4 and its value 8, and leads to itself.
+abbrev pub to_itself : List ℕ
+to_itself = 0 ∷ 1 ∷ 4 ∷ 1 ∷ 3 ∷ 0 ∷ 0 ∷ 0 ∷ 7 ∷ 0 ∷ 0 ∷ 0
+    ∷ 0 ∷ 1 ∷ 0 ∷ 1 ∷ 4 ∷ 0 ∷ 0 ∷ 0 ∷ 8 ∷ 0 ∷ 0 ∷ 0 ∷ 0 ∷ 1 ∷ []

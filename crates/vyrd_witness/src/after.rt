@@ -1,8 +1,8 @@
 //! What the words of a built-in subject show of a key after one of them has changed, by the part
 //! that the word is in.
 
-ghost use Rattle.std.specs.Prelude.{◌≡◌, ◌+◌, ◌*◌, ◌/◌, ◌==◌, ◌||◌, ◌<◌, ◌^◌, [], ◌∷◌, length};
-ghost use Rattle.std.specs.Prelude.{slice_set, IfSome, if◌then◌else◌};
+ghost use Rattle.std.specs.Prelude.{◌≡◌, ◌+◌, ◌*◌, ◌/◌, ◌==◌, ◌||◌, ◌<◌, ◌^◌, length};
+ghost use Rattle.std.specs.Prelude.{slice_set, IfSome};
 ghost use Rattle.vyrd_base.specs.Amounts.{given};
 ghost use Rattle.vyrd_base.specs.Layout.{plain_words};
 ghost use Rattle.vyrd_base.specs.Multiset.{slot_parts};
@@ -10,16 +10,8 @@ ghost use Rattle.vyrd_base.specs.Rules.{rules_of};
 ghost use Rattle.vyrd_base.specs.declared.subject.Subject.TheVariants.{Multiset};
 ghost use Rattle.vyrd_witness.specs.Changes.{amount_shown};
 
+use crate::given::{CHUNK_WORDS, SLOT_WORDS, given_by_slot};
 use vyrd_base::{BUFFER_WORDS, Header, Subject};
-
-/// How many words a slot of a multiset has: its state and its value.
-const SLOT_WORDS: usize = 2;
-
-/// The state of a slot that holds a value of the multiset.
-const VALID: u64 = 2;
-
-/// How many words a chunk of a cache has.
-const CHUNK_WORDS: usize = 5;
 
 /// What the words show of the key after one of them got its value, given what they showed before,
 /// when that word had this other value. It is told if no other part has to be looked at: always for
@@ -90,11 +82,4 @@ fn given_with(header: Header, words: &[u64], word: usize, value: u64, key: u64) 
     } else {
         given_by_slot(words[word - 1], value, key)
     }
-}
-
-/// What a slot of this state and value gives to the key.
-fn given_by_slot(state: u64, value: u64, key: u64) -> u128
-    ensures { result ≡ given key (if state == 2 then (value, 1) ∷ [] else []) }
-{
-    if state == VALID && key == value { 1 } else { 0 }
 }

@@ -1,23 +1,24 @@
 //! What the words of a built-in subject show.
 
 ghost use Rattle.std.specs.Prelude.{◌≡◌, true};
-ghost use Rattle.vyrd_base.specs.Amounts.{amount_of};
 ghost use Rattle.vyrd_base.specs.Rules.{built_in};
 ghost use Rattle.vyrd_base.specs.Subjects.{is_built_in};
 
 use crate::after::told_after;
+use crate::nodes::put_nodes;
+use crate::parts::{put_buffer, put_chunk, put_slots, sum_of};
 use crate::shown::Shown;
 use std::alloc::{AllocError, Global};
 use std::marker::Model;
-use vyrd_base::Header;
-use vyrd_view::view_of;
+use vyrd_base::{Header, Subject};
 
 /// What the words of a built-in subject show, by the rules of a header. It is seen as the header.
 ///
-/// The amount of a key is looked up in the whole view: that takes time in proportion to the words,
-/// times the logarithm of the keys that they show, and memory in proportion to those keys. After a
-/// change it takes constant time where no other part has to be looked at: always for a multiset, and
-/// for a cache or buffers unless the key is one of the part's own.
+/// The amount of a key is the sum of what the parts give to it. That takes one look at each slot of
+/// a multiset, at each node on a tree's chain of leaves, and at one chunk or buffer, since no other
+/// can give something to the key. It takes memory for the parts that do, and for a tree one byte
+/// for each of its nodes. The parts are found in the same time and memory. After a change the
+/// amount takes constant time unless the subject is a tree.
 #[derive(Debug, Drop)]
 pub struct BuiltInShown {
     header: Header,
@@ -53,8 +54,9 @@ impl Shown for BuiltInShown {
     }
 
     fn amount(&self, alloc: Global, words: &[u64], key: u64) -> Result<u128, AllocError> {
-        let view = view_of(alloc, self.header, words)?;
-        Ok(u128::from(amount_in(view.pairs(), key)))
+        let mut parts = Vec::new(alloc);
+        self.put_parts(alloc, words, key, &mut parts)?;
+        Ok(sum_of(&parts))
     }
 
     fn amount_after(
@@ -71,16 +73,21 @@ impl Shown for BuiltInShown {
             None => self.amount(alloc, words, key),
         }
     }
-}
 
-/// The amount that these pairs have for the key, 0 if there is none.
-fn amount_in(pairs: &[(u64, u64)], key: u64) -> u64
-    ensures { result ≡ amount_of pairs.now key }
-{
-    for pair in pairs {
-        if pair.0 == key {
-            return pair.1;
+    fn put_parts(
+        &self,
+        alloc: Global,
+        words: &[u64],
+        key: u64,
+        parts: &mut Vec<(usize, u128)>,
+    ) -> Result<(), AllocError> {
+        let size = self.header.size();
+        match self.header.subject() {
+            Subject::Multiset => put_slots(size, words, key, parts),
+            Subject::Cache => put_chunk(size, words, key, parts),
+            Subject::Tree => put_nodes(alloc, size as usize, words, key, parts),
+            Subject::Buffers => put_buffer(size, words, key, parts),
+            Subject::Own => Ok(()),
         }
     }
-    0
 }

@@ -2,9 +2,10 @@
 
 use crate::change::Change;
 use crate::effect::Effect;
+use vyrd_base::Effect as Doing;
 
 /// One item. Positions count the entries before, from 0.
-#[derive(Clone, Copy, Debug, PartialEq, Eq)]
+#[derive(Clone, Copy)]
 pub enum Item {
     /// Where the call stands of the execution that the verdict is about.
     Called {
@@ -28,6 +29,14 @@ pub enum Item {
     /// What they show of it at the fault, which stands there.
     Shown {
         at: usize,
+        key: u64,
+        amount: u128,
+    },
+    /// What one of their parts gives to the key there, of what they show of it. Parts are counted
+    /// from 0: slots, chunks, nodes, buffers, or the parts of a user's own specification.
+    Given {
+        at: usize,
+        part: usize,
         key: u64,
         amount: u128,
     },
@@ -100,5 +109,21 @@ pub enum Item {
     /// writer's block.
     Passed {
         effect: Effect,
+    },
+    /// A write that takes effect and changes nothing of what the words show, and what its word was
+    /// before it.
+    Wrote {
+        effect: Effect,
+        was: u64,
+    },
+    /// What the specification's step does at the commit that stands there.
+    Stepped {
+        at: usize,
+        doing: Doing,
+    },
+    /// What the last step does that sets what was told of the state before. Its commit stands there.
+    LastStepped {
+        at: usize,
+        doing: Doing,
     },
 }

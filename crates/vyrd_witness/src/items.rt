@@ -4,6 +4,7 @@ ghost use Rattle.std.specs.Prelude.{◌≡◌, ◌≢◌, ◌++◌, ◌<◌, [],
 ghost use Rattle.vyrd_base.specs.Front.{first_break};
 ghost use Rattle.vyrd_base.specs.Rules.{rules_by};
 ghost use Rattle.vyrd_witness.specs.declared.item.Item.TheVariants.{Changed};
+ghost use Rattle.vyrd_witness.specs.Given.{given_items};
 ghost use Rattle.vyrd_witness.specs.Items.{execution_items, called_items, agreed_item};
 ghost use Rattle.vyrd_witness.specs.Items.{witness_items, view_items};
 
@@ -18,8 +19,8 @@ use vyrd_base::{Entry, StartWord};
 
 /// What is said of a view that differs at a key, at the entry at a position of a front: where the
 /// execution was called and returns, what the words showed of the key at the commit before and show
-/// now, and each write since then that changed it. The front keeps all rules of shape, and begins
-/// with these starting words.
+/// now, which parts of them give that, and each write since then that changed it. The front keeps
+/// all rules of shape, and begins with these starting words.
 ///
 /// The only error is that memory has run out. Time and memory are those of `view_witness`.
 pub fn view_items<S: Shown>(
@@ -33,7 +34,7 @@ pub fn view_items<S: Shown>(
     requires within { at < length front.now }
     requires kept { first_break (rules_by (S.charter shown.now)).header front.now ≡ None }
     ensures { IfOk result (λ items. items.items
-        ≡ view_items (rules_by (S.charter shown.now)) starting.now front.now at key) }
+        ≡ view_items (S.charter shown.now) starting.now front.now at key) }
 {
     let witness = view_witness(alloc, shown, starting, front, at, key)?;
     let mut items = called_items(alloc, front, at)?;
@@ -63,7 +64,29 @@ fn push_witness(at: usize, witness: &ViewWitness, items: &mut Vec<Item>) -> Resu
     items.push(agreed_item(key, witness.since, witness.agreed))?;
     let amount = witness.shown;
     items.push(Item::Shown { at, key, amount })?;
+    push_given(at, key, &witness.parts, items)?;
     push_changes(key, &witness.changes, items)
+}
+
+/// Puts what parts give to the key at the end.
+fn push_given(
+    at: usize,
+    key: u64,
+    parts: &[(usize, u128)],
+    items: &mut Vec<Item>,
+) -> Result<(), AllocError>
+    ensures { OnOk result (items.new.items ≡ items.old.items ++ given_items at key parts.now) }
+{
+    for given in parts {
+        let (part, amount) = *given;
+        items.push(Item::Given {
+            at,
+            part,
+            key,
+            amount,
+        })?;
+    }
+    Ok(())
 }
 
 /// Puts changes at the end.

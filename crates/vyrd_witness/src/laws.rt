@@ -1,18 +1,18 @@
 //! Laws of the definitions of a witness, each a clause of a function that does nothing.
 
 ghost use Rattle.std.specs.Prelude.{◌≡◌, ◌≢◌, ◌↔◌, ◌+◌, ℕ, true, false, List, [], All, drop, take};
-ghost use Rattle.std.specs.Prelude.{slice_get, Some, None};
+ghost use Rattle.std.specs.Prelude.{flat_map, sum_by, slice_get, Some, None};
 ghost use Rattle.vyrd_base.specs.declared.header.Header.{Header};
 ghost use Rattle.vyrd_base.specs.declared.log.Entry.{Entry};
 ghost use Rattle.vyrd_base.specs.declared.log.Kind.TheVariants.{Write};
 ghost use Rattle.vyrd_base.specs.declared.log.StartWord.{StartWord};
 ghost use Rattle.vyrd_base.specs.declared.verdict.Why.TheVariants.{View};
-ghost use Rattle.vyrd_base.specs.Amounts.{amount_of};
+ghost use Rattle.vyrd_base.specs.Amounts.{amount_of, given};
 ghost use Rattle.vyrd_base.specs.Commits.{is_commit, commit_count, committed_at, state_after};
 ghost use Rattle.vyrd_base.specs.Entries.{place_of};
 ghost use Rattle.vyrd_base.specs.Faults.{fault_at};
 ghost use Rattle.vyrd_base.specs.Places.{newest_first};
-ghost use Rattle.vyrd_base.specs.Rules.{Rules};
+ghost use Rattle.vyrd_base.specs.Rules.{Rules, Charter, rules_by};
 ghost use Rattle.vyrd_base.specs.Samples.{by};
 ghost use Rattle.vyrd_base.specs.Shape.{is_held_by_other, is_raced};
 ghost use Rattle.vyrd_base.specs.States.{State};
@@ -20,6 +20,7 @@ ghost use Rattle.vyrd_base.specs.Words.{effects_at, is_passed};
 ghost use Rattle.vyrd_witness.specs.declared.effect.Effect.{Effect};
 ghost use Rattle.vyrd_witness.specs.Changes.{amount_shown, changes_in, words_through};
 ghost use Rattle.vyrd_witness.specs.Effects.{effects_by};
+ghost use Rattle.vyrd_witness.specs.Given.{parts_by_number, given_parts};
 ghost use Rattle.vyrd_witness.specs.Leading.{LeadTo};
 ghost use Rattle.vyrd_witness.specs.Plain.{plain_writes};
 ghost use Rattle.vyrd_witness.specs.Races.{held_items, passed_items, race_items};
@@ -45,6 +46,17 @@ pub fn changes_lead_to_what_is_shown()
     ensures { (r : Rules) (key : ℕ) (words : List ℕ) (effects : List Effect)
         → LeadTo (amount_shown r words key) (changes_in r key words effects)
         (amount_shown r (words_through words effects) key) }
+{}
+
+/// Together the parts of the words give what the words show of each key, and so do those that are
+/// told: none is left out.
+pub fn parts_give_what_is_shown()
+    ensures all { (c : Charter) (words : List ℕ) (key : ℕ)
+        → given key (flat_map (λ part. part.1) (parts_by_number c words))
+        ≡ amount_of ((rules_by c).view words) key }
+    ensures told { (c : Charter) (words : List ℕ) (key : ℕ)
+        → sum_by (λ part. part.1) (given_parts key (parts_by_number c words))
+        ≡ amount_of ((rules_by c).view words) key }
 {}
 
 /// After a commit that isn't a fault the words show of each key what the state has. So what the

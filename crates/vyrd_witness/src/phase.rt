@@ -7,7 +7,7 @@ use vyrd_base::Kind;
 
 /// What is kept of a caller.
 #[derive(Clone, Copy)]
-pub(crate) struct Phase {
+pub struct Phase {
     /// Whether a block of it is open.
     pub in_block: bool,
     /// Whether a lone commit stands in that block.

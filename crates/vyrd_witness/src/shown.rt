@@ -1,9 +1,10 @@
 //! What words show of a key.
 
-ghost use Rattle.std.specs.Prelude.{◌≡◌, ◌<◌, length, slice_set, IfOk};
+ghost use Rattle.std.specs.Prelude.{◌≡◌, ◌<◌, ◌++◌, length, slice_set, IfOk, OnOk};
 ghost use Rattle.vyrd_base.specs.Layout.{plain_words};
 ghost use Rattle.vyrd_base.specs.Rules.{Charter, rules_by};
 ghost use Rattle.vyrd_witness.specs.Changes.{amount_shown};
+ghost use Rattle.vyrd_witness.specs.Given.{parts_by_number, given_parts};
 
 use std::alloc::{AllocError, Global};
 use vyrd_base::Header;
@@ -44,4 +45,18 @@ pub trait Shown: Sized {
     {
         self.amount(alloc, words, key)
     }
+
+    /// Puts the parts of the words that give something to the key at the end, each by its number
+    /// and with what it gives. Together they give what the words show of the key (the law
+    /// `parts_give_what_is_shown`). The only error is that memory has run out.
+    fn put_parts(
+        &self,
+        alloc: Global,
+        words: &[u64],
+        key: u64,
+        parts: &mut Vec<(usize, u128)>,
+    ) -> Result<(), AllocError>
+        requires count { length words.now ≡ plain_words (rules_by (charter self.now)).header }
+        ensures { OnOk result (parts.new.items ≡ parts.old.items
+            ++ given_parts key (parts_by_number (charter self.now) words.now)) };
 }

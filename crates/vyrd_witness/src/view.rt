@@ -22,6 +22,10 @@ pub struct ViewWitness {
     pub key: u64,
     /// What the words show of it.
     pub shown: u128,
+    /// The parts of the words that give that, each by its number and with what it gives. Parts are
+    /// counted from 0: slots, chunks, nodes in the order of the chain, buffers, or the parts of a
+    /// user's own specification.
+    pub parts: Vec<(usize, u128)>,
     /// The position of the commit before, `None` if there is none.
     pub since: Option<usize>,
     /// What the words showed of the key there, or at the start.
@@ -46,8 +50,9 @@ pub struct ViewWitness {
 /// stands in. Entries after the position are gone over for each block that is open there and has
 /// its commit inside it already: up to that block's end. An entry stands within at most one block
 /// of each caller. The amount of the key is asked of `shown` at the commit before, and then once
-/// for each effect since that gives its word another value. Memory: the words, a few bytes for each
-/// caller, the writes of one block, the changes, and what `shown` takes.
+/// for each effect since that gives its word another value; at the end the parts are asked for.
+/// Memory: the words, a few bytes for each caller, the writes of one block, the changes, the parts,
+/// and what `shown` takes.
 pub fn view_witness<S: Shown>(
     alloc: Global,
     shown: &S,
@@ -59,7 +64,7 @@ pub fn view_witness<S: Shown>(
     requires within { at < length front.now }
     requires kept { first_break (rules_by (S.charter shown.now)).header front.now ≡ None }
     ensures { IfOk result
-        (IsViewWitness (rules_by (S.charter shown.now)) starting.now front.now at key) }
+        (IsViewWitness (S.charter shown.now) starting.now front.now at key) }
 {
     let header = shown.header();
     let since = commit_before(front, at);
@@ -72,9 +77,12 @@ pub fn view_witness<S: Shown>(
         amount: agreed,
     };
     let changes = walk.changes(alloc, shown, &mut followed, front, from, at + 1)?;
+    let mut parts = Vec::new(alloc);
+    shown.put_parts(alloc, &walk.words, key, &mut parts)?;
     Ok(ViewWitness {
         key,
         shown: followed.amount,
+        parts,
         since,
         agreed,
         changes,

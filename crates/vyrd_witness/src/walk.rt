@@ -21,14 +21,16 @@ use vyrd_base::{Entry, Header, StartWord};
 /// The plain words at a place of a front that keeps all rules, and what each caller is in the
 /// middle of there.
 #[derive(Drop)]
-pub(crate) struct Walk {
+pub struct Walk {
+    /// The words.
     pub words: Vec<u64>,
-    /// By caller.
+    /// What each caller is in the middle of.
     pub phases: Vec<Phase>,
 }
 
 impl Walk {
-    /// The place before the first entry.
+    /// The place before the first entry. It takes memory for the words, and a few bytes for each
+    /// caller.
     pub fn new(alloc: Global, header: Header, starting: &[StartWord]) -> Result<Walk, AllocError>
         ensures words { IfOk result
             (λ w. w.words.items ≡ words_at_start header starting.now) }
@@ -45,7 +47,7 @@ impl Walk {
     }
 
     /// Goes on from the first place to another, and lets all effects take place on the way.
-    pub fn pass(
+    pub(crate) fn pass(
         &mut self,
         alloc: Global,
         header: Header,
@@ -71,7 +73,7 @@ impl Walk {
 
     /// Goes on from one place to another, and finds the effects on the way that change what the
     /// words show of the key that is followed.
-    pub fn changes<S: Shown>(
+    pub(crate) fn changes<S: Shown>(
         &mut self,
         alloc: Global,
         shown: &S,
@@ -116,7 +118,7 @@ impl Walk {
 
     /// Goes on from one place to another, and finds all effects on the way. It doesn't let them
     /// take place.
-    pub fn effects(
+    pub(crate) fn effects(
         &mut self,
         alloc: Global,
         header: Header,
@@ -141,8 +143,12 @@ impl Walk {
     }
 
     /// The writes that take effect at the entry at a place, the first to do so first. The callers
-    /// are then seen as they are after it; the words stay as they are.
-    fn step(
+    /// are then seen as they are after it; the words stay as they are. The front keeps all rules of
+    /// shape.
+    ///
+    /// It goes over the entries of the block that ends there, or has its commit there. It takes
+    /// memory for the block's writes. The only error is that memory has run out.
+    pub fn step(
         &mut self,
         alloc: Global,
         header: Header,

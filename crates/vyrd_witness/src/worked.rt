@@ -1,27 +1,26 @@
 //! Witnesses of small logs, worked out by the definitions. Each function does nothing: its contract
 //! has the case.
 
-ghost use Rattle.std.specs.Prelude.{◌≡◌, ◌∷◌, [], map, take, codes, Some, None};
-ghost use Rattle.vyrd_base.specs.Own.Expressions.{most};
-ghost use Rattle.vyrd_base.specs.Rules.{rules_of};
+ghost use Rattle.std.specs.Prelude.{◌≡◌, ◌+◌, ◌^◌, ◌∷◌, [], map, take, Some, None};
+ghost use Rattle.vyrd_base.specs.Rules.{built_in, rules_of};
 ghost use Rattle.vyrd_base.specs.Samples.{alone, two, no_block, raced, write};
-ghost use Rattle.vyrd_base.specs.Verdicts.{line_of, verdict};
+ghost use Rattle.vyrd_base.specs.Verdicts.{verdict};
 ghost use Rattle.vyrd_base.specs.declared.verdict.Rule.TheVariants.{BlockRaced};
 ghost use Rattle.vyrd_base.specs.declared.verdict.Verdict.TheVariants.{Violation, Malformed};
 ghost use Rattle.vyrd_base.specs.declared.verdict.Why.TheVariants.{View};
-ghost use Rattle.vyrd_witness.specs.declared.item.Item.TheVariants.{Called, Replied, Shown};
+ghost use Rattle.vyrd_witness.specs.declared.item.Item.TheVariants.{Called, Replied, Shown, Given};
 ghost use Rattle.vyrd_witness.specs.declared.item.Item.TheVariants.{AgreedAtStart, Changed};
-ghost use Rattle.vyrd_witness.specs.declared.item.Item.TheVariants.{Register, Elements, Hidden};
-ghost use Rattle.vyrd_witness.specs.declared.item.Item.TheVariants.{Answered, Unanswered};
 ghost use Rattle.vyrd_witness.specs.declared.item.Item.TheVariants.{OpenCall, OpenBlock};
 ghost use Rattle.vyrd_witness.specs.declared.item.Item.TheVariants.{Held, Passed};
+ghost use Rattle.vyrd_witness.specs.Given.{given_parts, parts_by_number};
 ghost use Rattle.vyrd_witness.specs.Items.{view_items};
-ghost use Rattle.vyrd_witness.specs.ItemText.{items_text};
 ghost use Rattle.vyrd_witness.specs.Samples.{second, kept, replaced, shown_and_hidden};
 ghost use Rattle.vyrd_witness.specs.Samples.{shown_too_early, second_of_two, passed, passing};
+ghost use Rattle.vyrd_witness.specs.Samples.{filled_twice, shown_twice, tree_of_two, to_itself};
 ghost use Rattle.vyrd_witness.specs.Opens.{open_items};
 ghost use Rattle.vyrd_witness.specs.Races.{race_items};
-ghost use Rattle.vyrd_witness.specs.ViewWitnesses.{amount_then, changes_along, commit_before};
+ghost use Rattle.vyrd_witness.specs.ViewWitnesses.{amount_then, parts_then, changes_along};
+ghost use Rattle.vyrd_witness.specs.ViewWitnesses.{commit_before};
 
 /// A delete that leaves the value in its slot: nothing changed the key since the commit before, so
 /// the write is missing.
@@ -31,6 +30,7 @@ pub fn missing_write()
     ensures since { commit_before kept 6 ≡ Some 3 }
     ensures agreed { amount_then (rules_of alone) [] kept 4 5 ≡ 1 }
     ensures shown { amount_then (rules_of alone) [] kept 7 5 ≡ 1 }
+    ensures parts { parts_then (built_in alone) [] kept 7 5 ≡ (0, 1) ∷ [] }
     ensures changes { changes_along (rules_of alone) [] kept 4 7 5 ≡ [] }
 {}
 
@@ -41,27 +41,32 @@ pub fn commit_inside_a_block()
     ensures since { commit_before replaced 3 ≡ None }
     ensures agreed { amount_then (rules_of second) [] replaced 0 5 ≡ 0 }
     ensures shown { amount_then (rules_of second) [] replaced 4 5 ≡ 0 }
+    ensures parts { parts_then (built_in second) [] replaced 4 5 ≡ [] }
     ensures changes { changes_along (rules_of second) [] replaced 0 4 5 ≡ shown_and_hidden }
-    ensures items { view_items (rules_of second) [] replaced 3 5
+    ensures items { view_items (built_in second) [] replaced 3 5
         ≡ Called 0 ∷ Replied 7 ∷ AgreedAtStart 5 0 ∷ Shown 3 5 0 ∷ map (Changed 5) shown_and_hidden }
 {}
 
-/// What is said of it, line by line.
-#[tactic(auto, unfolding(vyrd_base::proofs::Opened::opened_text, crate::proofs::Opened::opened))]
-pub fn text_of_a_commit_inside_a_block()
-    ensures { items_text (line_of []) (Called 0 ∷ Replied 7 ∷ AgreedAtStart 5 0 ∷ Shown 3 5 0
-        ∷ map (Changed 5) shown_and_hidden) ≡ codes
-        "call at line 2\nreply at line 9\nagreed at the start: key 5 amount 0\nwords after line 5: key 5 amount 0\nchange at line 6: word 0 from 0 to 2, in effect at line 5, key 5 amount 0 to 1\nchange at line 7: word 1 from 5 to 6, in effect at line 5, key 5 amount 1 to 0\n" }
+/// An insert that fills two slots with its value, each of which gives 1 to it.
+#[tactic(auto, unfolding(vyrd_base::proofs::Opened::opened))]
+pub fn two_slots_filled()
+    ensures verdict { verdict (rules_of alone) [] filled_twice ≡ Violation 7 (View 5) }
+    ensures shown { amount_then (rules_of alone) [] filled_twice 6 5 ≡ 2 }
+    ensures parts { parts_then (built_in alone) [] filled_twice 6 5 ≡ (0, 1) ∷ (1, 1) ∷ [] }
+    ensures items { view_items (built_in alone) [] filled_twice 5 5
+        ≡ Called 0 ∷ Replied 6 ∷ AgreedAtStart 5 0 ∷ Shown 5 5 2
+        ∷ Given 5 0 5 1 ∷ Given 5 1 5 1 ∷ map (Changed 5) shown_twice }
 {}
 
-/// What is said of a state of a user's own specification: of a register, of one that is `none`, of
-/// a list, of an empty one, of a hidden amount, and that no answer is right. The greatest reply is a
-/// number as any other.
-#[tactic(auto, unfolding(vyrd_base::proofs::Opened::opened_text, crate::proofs::Opened::opened))]
-pub fn text_of_an_own_state()
-    ensures { items_text (line_of []) (Register 3 0 7 ∷ Register 3 1 most ∷ Elements 3 0 2 8 9
-        ∷ Elements 3 1 0 most most ∷ Hidden 3 5 4 ∷ Unanswered 1 ∷ Answered 1 most ∷ []) ≡ codes
-        "state before line 5: register 0 value 7\nstate before line 5: register 1 value none\nstate before line 5: list 0 size 2 first 8 last 9\nstate before line 5: list 1 size 0 first none last none\nstate before line 5: hidden key 5 amount 4\nanswer from line 3: none\nanswer from line 3: 18446744073709551615\n" }
+/// A tree whose second node leads back to itself. Each node gives its entry, and the second one
+/// damage besides.
+pub fn link_to_the_node_itself()
+    ensures first { given_parts 3 (parts_by_number (built_in tree_of_two) to_itself)
+        ≡ (0, 2 ^ 32 + 7) ∷ [] }
+    ensures second { given_parts 4 (parts_by_number (built_in tree_of_two) to_itself)
+        ≡ (1, 2 ^ 32 + 8) ∷ [] }
+    ensures damage { given_parts (2 ^ 33) (parts_by_number (built_in tree_of_two) to_itself)
+        ≡ (1, 1) ∷ [] }
 {}
 
 /// A write outside a block that shows too early at the commit of another caller.
@@ -71,6 +76,7 @@ pub fn write_of_another_caller()
     ensures since { commit_before no_block 5 ≡ None }
     ensures agreed { amount_then (rules_of two) [] no_block 0 5 ≡ 0 }
     ensures shown { amount_then (rules_of two) [] no_block 6 5 ≡ 1 }
+    ensures parts { parts_then (built_in two) [] no_block 6 5 ≡ (0, 1) ∷ [] }
     ensures changes { changes_along (rules_of two) [] no_block 0 6 5 ≡ shown_too_early }
 {}
 

@@ -1,6 +1,7 @@
 use Rattle.std.proofs.Common.{ap, ◌∙◌, ◌++◌, ◌∷◌, [], map}
 use Rattle.std.specs.Option.{option_map_or}
 use Rattle.vyrd_witness.specs.declared.item.Item.TheVariants.{Shown, Changed}
+use Rattle.vyrd_witness.specs.Given.{given_items}
 use Rattle.vyrd_witness.specs.Items.{agreed_item, witness_items, execution_items, execution_at}
 use Rattle.vyrd_witness.proofs.items.view_items.Goals as goal
 
@@ -12,4 +13,4 @@ returns g c =
     ∙ ap (λ xs. xs ++ witness_items at c.in_ok-witness.witness) c.in_ok-items.ensures
     ∙ (λ i. option_map_or execution_items (execution_at c.args.front.now at) []
     ++ (agreed_item (w.key_is i) (w.since i) (w.agreed i) ∷ Shown at (w.key_is i) (w.shown i)
-    ∷ map (Changed (w.key_is i)) (w.changes i)))
+    ∷ (given_items at (w.key_is i) (w.parts i) ++ map (Changed (w.key_is i)) (w.changes i))))

@@ -1,8 +1,9 @@
-use Rattle.std.proofs.Common.{◌≤◌, ◌+◌, ap, refl, sym, ◌∙◌, arith, length, subst}
-use Rattle.vyrd_base.specs.Rules.{Rules, rules_by}
+use Rattle.std.proofs.Common.{◌≤◌, ◌+◌, ◌++◌, ap, refl, sym, ◌∙◌, arith, length, subst}
+use Rattle.vyrd_base.specs.Rules.{Rules, Charter, rules_by}
 use Rattle.vyrd_base.specs.Starts.{words_at_start}
 use Rattle.vyrd_witness.specs.Changes.{amount_shown, changes_in}
 use Rattle.vyrd_witness.specs.Effects.{effects_along}
+use Rattle.vyrd_witness.specs.Given.{given_parts, parts_by_number}
 use Rattle.vyrd_witness.specs.ViewWitnesses.{amount_then, changes_along, up_to}
 use Rattle.vyrd_witness.proofs.CommitLaws.{up_to_low}
 use Rattle.vyrd_witness.proofs.EffectLaws.{words_reached}
@@ -19,7 +20,8 @@ pass-requires-clause-count g c = omega (
 
 pub returns : goal.returns
 returns g c =
-    let r : Rules = rules_by (g.S.Shown.charter c.args.shown.now) in
+    let charter : Charter = g.S.Shown.charter c.args.shown.now in
+    let r : Rules = rules_by charter in
     let starting = c.args.starting.now in
     let front = c.args.front.now in
     let at = c.args.at in
@@ -40,6 +42,11 @@ returns g c =
     record {
       key_is = refl;
       shown = c.in_ok-changes.ensures.there ∙ ap (λ ws. amount_shown r ws key) here;
+      parts = c.in_ok-put_parts.ensures
+          ∙ ap (λ xs. xs ++ given_parts key (parts_by_number charter c.deref-2.result.now))
+          c.new-parts.ensures.items
+          ∙ ap (λ ws. given_parts key (parts_by_number charter ws))
+          (c.deref-2.ensures.value ∙ here);
       since = c.commit_before-since.ensures.position;
       agreed = c.in_ok-agreed.ensures
           ∙ ap (λ ws. amount_shown r ws key) (c.deref.ensures.value ∙ there)

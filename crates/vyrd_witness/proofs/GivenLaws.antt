@@ -1,0 +1,288 @@
+-- Which parts give something to a key, and that together they give what is shown.
+use Rattle.std.proofs.Common.{◌≡◌, ◌≢◌, ℕ, zero, suc, ◌+◌, ◌-◌, ◌*◌, ◌/◌, ◌<◌, ◌≤◌, ◌^◌, Bool}
+use Rattle.std.proofs.Common.{true, false, cond, not, ◌&&◌, List, [], ◌∷◌, ◌++◌, length, refl}
+use Rattle.std.proofs.Common.{ap, ◌∙◌, sym, arith}
+use Rattle.std.specs.Prelude.{◌==◌, nat_lt, flat_map, sum_by}
+use Rattle.std.proofs.lemmas.List.{append-nil, append_assoc}
+use Rattle.std.proofs.lemmas.List.Folds.{flat_map-map}
+use Rattle.std.proofs.lemmas.List.Sums.{sum_by-append, sum_by-cons}
+use Rattle.vyrd_base.specs.declared.header.Header.{Header}
+use Rattle.vyrd_base.specs.declared.subject.Subject.{Subject}
+use Rattle.vyrd_base.specs.declared.subject.Subject.TheVariants.{Multiset, Cache, Tree, Buffers}
+use Rattle.vyrd_base.specs.declared.subject.Subject.TheVariants.{Own}
+use Rattle.vyrd_base.specs.Amounts.{Amounts, amount_of, collected, given, part_given}
+use Rattle.vyrd_base.specs.Buffers.{buffer_at, buffer_parts, is_buffer, text_of}
+use Rattle.vyrd_base.specs.Cache.{Chunk, chunk_at, chunk_parts, is_chunk, cached_pair, stored_pair}
+use Rattle.vyrd_base.specs.Multiset.{slot_parts}
+use Rattle.vyrd_base.specs.Own.OwnRules.{own_view}
+use Rattle.vyrd_base.specs.Own.Programs.{Written}
+use Rattle.vyrd_base.specs.Own.Reader.{written_in}
+use Rattle.vyrd_base.specs.Own.Steps.{part_gives, part_words, view_of}
+use Rattle.vyrd_base.specs.Places.{numbers_from, numbers_below}
+use Rattle.vyrd_base.specs.Rules.{Charter, built_in, own, rules_by, rules_of}
+use Rattle.vyrd_base.specs.Views.{parts_of, view_of_words}
+use Rattle.vyrd_base.proofs.AddedLaws.{parts-push}
+use Rattle.vyrd_base.proofs.HeaderLaws.{size_in_32_bits}
+use Rattle.vyrd_base.proofs.PartLaws.{slots_at_most}
+use Rattle.vyrd_base.proofs.SumLaws.{amount_of-collected, given-append, other_part}
+use Rattle.vyrd_base.proofs.TestLaws.{same_of, apart_of, below_of, not_below_of}
+use Rattle.vyrd_view.specs.Pairs.{chunk_gives, buffer_gives}
+use Rattle.vyrd_view.specs.Decoded.{pairs_by}
+use Rattle.vyrd_view.specs.Laws.Buffers.{buffers_fit, buffers_show}
+use Rattle.vyrd_view.specs.Laws.Chunks.{chunks_fit, chunks_show}
+use Rattle.vyrd_view.proofs.DecodedLaws.{pairs_given}
+use Rattle.vyrd_witness.specs.Changes.{amount_shown}
+use Rattle.vyrd_witness.specs.Given.{numbered, parts_of_subject, parts_of_own, parts_by_number}
+use Rattle.vyrd_witness.specs.Given.{told, given_parts}
+use Rattle.vyrd_witness.proofs.NodeLaws.{chain_is, chain_fits}
+
+-- ---- parts in a row
+
+-- the parts of n in a row that give something
+pub given_numbered : (q : ℕ) (gives : ℕ → List (ℕ × ℕ)) (n : ℕ)
+    → given_parts q (numbered gives n)
+    ≡ flat_map (λ i. told i (given q (gives i))) (numbers_below n)
+given_numbered q gives n =
+    flat_map-map {B = ℕ × List (ℕ × ℕ)} (λ part. told part.0 (given q part.1))
+    (λ i. (i, gives i)) (numbers_below n)
+
+-- one part more
+pub one_more : (f : ℕ → List (ℕ × ℕ)) (n : ℕ) (old before now more : List (ℕ × ℕ))
+    → before ≡ old ++ flat_map f (numbers_below n) → now ≡ before ++ more → more ≡ f n
+    → now ≡ old ++ flat_map f (numbers_below (n + 1))
+one_more f n old before now more so_far put gives =
+    let upto : List (ℕ × ℕ) = flat_map f (numbers_below n) in
+    put ∙ ap (λ xs. xs ++ more) so_far ∙ append_assoc old upto more
+    ∙ ap (λ xs. old ++ (upto ++ xs)) gives ∙ ap (λ xs. old ++ xs) (sym (parts-push f n))
+
+module _ (f : ℕ → List (ℕ × ℕ)) where
+  -- none of these numbers gives anything
+  none_of : (k n : ℕ) → ((i : ℕ) → k ≤ i → i < k + n → f i ≡ [])
+      → flat_map f (numbers_from k n) ≡ []
+  none_of k zero each = refl
+  none_of k (suc n) each =
+      ap (λ xs. xs ++ flat_map f (numbers_from (k + 1) n)) (each k (omega arith) (omega arith))
+      ∙ none_of (k + 1) n (λ i from to. each i (omega (arith, from)) (omega (arith, to)))
+
+  -- one of them alone may give something
+  one_of : (p k n : ℕ) → k ≤ p → p < k + n → ((i : ℕ) → i < k + n → i ≢ p → f i ≡ [])
+      → flat_map f (numbers_from k n) ≡ f p
+  one_of p k zero from to others = absurd (omega (arith, from, to))
+  one_of p k (suc n) from to others = by_test (k == p) refl
+      (λ above. one_of p (k + 1) n above (omega (arith, to))
+      (λ i below. others i (omega (arith, below))))
+    where
+      rest : List (ℕ × ℕ)
+      rest = flat_map f (numbers_from (k + 1) n)
+
+      by_test : (b : Bool) → (k == p) ≡ b → (k + 1 ≤ p → rest ≡ f p)
+          → flat_map f (numbers_from k (suc n)) ≡ f p
+      by_test true e more =
+          let here : k ≡ p = same_of k p e in
+          ap (λ xs. f k ++ xs) (none_of (k + 1) n (λ i above below.
+          others i (omega (arith, below)) (λ same. absurd (omega (arith, same, here, above)))))
+          ∙ append-nil (f k) ∙ ap f here
+      by_test false e more =
+          let apart : k ≢ p = apart_of k p e in
+          ap (λ xs. xs ++ rest) (others k (omega arith) apart) ∙ more (omega (arith, from, apart))
+
+-- ---- parts that give to two keys alone
+
+-- the number whose part alone can give to the key
+abbrev pub home_of : ℕ → ℕ → ℕ
+home_of size q = cond (nat_lt q size) q (q - size)
+
+apart_from_home : (size q i : ℕ) → i < size → i ≢ home_of size q → (q ≢ i) × (q ≢ size + i)
+apart_from_home size q i low = by_test (nat_lt q size) refl
+  where
+    by_test : (b : Bool) → nat_lt q size ≡ b → i ≢ cond b q (q - size)
+        → (q ≢ i) × (q ≢ size + i)
+    by_test true e other =
+        let below = below_of q size e in
+        (λ same. other (sym same), λ same. absurd (omega (arith, same, below)))
+    by_test false e other =
+        let above = not_below_of q size e in (
+          λ same. absurd (omega (arith, same, above, low)),
+          λ same. other (omega (arith, same)),
+        )
+
+module _ (size q : ℕ) (gives : ℕ → List (ℕ × ℕ))
+    (none : (i : ℕ) → q ≢ i → q ≢ size + i → given q (gives i) ≡ 0) where
+  nothing : (i : ℕ) → i < size → i ≢ home_of size q → told i (given q (gives i)) ≡ []
+  nothing i low other =
+      let apart = apart_from_home size q i low other in
+      ap (told i) (none i apart.0 apart.1)
+
+  -- the part at home
+  pub at_home : (p : ℕ) → p ≡ home_of size q → p < size
+      → told p (given q (gives p)) ≡ given_parts q (numbered gives size)
+  at_home p is low = sym (given_numbered q gives size
+      ∙ one_of (λ i. told i (given q (gives i))) p 0 size (omega arith) (omega (arith, low))
+      (λ i below other. nothing i (omega (arith, below)) (λ same. other (same ∙ sym is))))
+
+  -- and if there is none
+  pub no_home : (p : ℕ) → p ≡ home_of size q → size ≤ p → [] ≡ given_parts q (numbered gives size)
+  no_home p is high = sym (given_numbered q gives size
+      ∙ none_of (λ i. told i (given q (gives i))) 0 size
+      (λ i above below. nothing i (omega (arith, below))
+      (λ same. absurd (omega (arith, same, is, high, below)))))
+
+-- a chunk whose keys are others
+pub chunk_elsewhere : (size q : ℕ) (words : List ℕ) (i : ℕ) → q ≢ i → q ≢ size + i
+    → given q (chunk_parts size i (chunk_at words i)) ≡ 0
+chunk_elsewhere size q words i other past = by_chunk (is_chunk c)
+  where
+    c : Chunk
+    c = chunk_at words i
+
+    shown : ℕ
+    shown = cond (c.state == 0) (stored_pair c) (cached_pair c)
+
+    own : part_given q (i, shown) ≡ 0
+    own = other_part q i shown other
+
+    by_flaw : (b : Bool)
+        → given q ((i, cond (c.state == 0) (stored_pair c) (cached_pair c))
+        ∷ cond {A = List (ℕ × ℕ)} b ((size + i, 1) ∷ []) []) ≡ 0
+    by_flaw true = omega (arith, own, other_part q (size + i) 1 past)
+    by_flaw false = omega (arith, own)
+
+    by_chunk : (b : Bool)
+        → given q (cond {A = List (ℕ × ℕ)} (not b) ((size + i, 2) ∷ [])
+        ((i, cond (c.state == 0) (stored_pair c) (cached_pair c))
+        ∷ cond {A = List (ℕ × ℕ)} (c.state == 1 && not (cached_pair c == stored_pair c))
+        ((size + i, 1) ∷ []) [])) ≡ 0
+    by_chunk true = by_flaw (c.state == 1 && not (cached_pair c == stored_pair c))
+    by_chunk false = omega (arith, other_part q (size + i) 2 past)
+
+-- a buffer whose keys are others
+pub buffer_elsewhere : (size q : ℕ) (words : List ℕ) (i : ℕ) → q ≢ i → q ≢ size + i
+    → given q (buffer_parts size i (buffer_at words i)) ≡ 0
+buffer_elsewhere size q words i other past = by_buffer (is_buffer (buffer_at words i))
+  where
+    text : ℕ
+    text = text_of (buffer_at words i).character (buffer_at words i).count
+
+    by_buffer : (b : Bool)
+        → given q (cond {A = List (ℕ × ℕ)} b ((i, text) ∷ []) ((size + i, 1) ∷ [])) ≡ 0
+    by_buffer true = omega (arith, other_part q i text other)
+    by_buffer false = omega (arith, other_part q (size + i) 1 past)
+
+-- ---- what parts give together
+
+-- what all parts give
+abbrev pub all_given : List (ℕ × List (ℕ × ℕ)) → List (ℕ × ℕ)
+all_given parts = flat_map (λ part. part.1) parts
+
+all_numbered : (gives : ℕ → List (ℕ × ℕ)) (n : ℕ)
+    → all_given (numbered gives n) ≡ flat_map gives (numbers_below n)
+all_numbered gives n =
+    flat_map-map {B = ℕ × List (ℕ × ℕ)} (λ part. part.1) (λ i. (i, gives i)) (numbers_below n)
+
+-- the parts of a subject, without their numbers
+parts_are : (s : Subject) (size : ℕ) (words : List ℕ)
+    → all_given (parts_of_subject s size words) ≡ parts_of s size words
+parts_are Multiset size words = all_numbered (slot_parts words) (4 * size)
+parts_are Cache size words = all_numbered (λ n. chunk_parts size n (chunk_at words n)) size
+parts_are Tree size words = chain_is size words size [] 0
+parts_are Buffers size words = all_numbered (λ n. buffer_parts size n (buffer_at words n)) size
+parts_are Own size words = refl
+
+own_parts_give : (w : Written) (words : List ℕ) (q : ℕ)
+    → given q (all_given (parts_of_own w words)) ≡ amount_of (own_view w words) q
+unfolding view_of
+own_parts_give w words q = by_words (w.words == 0)
+  where
+    gives : ℕ → List (ℕ × ℕ)
+    gives n = part_gives w n (part_words w words n)
+
+    by_words : (b : Bool)
+        → given q (all_given (cond {A = List (ℕ × List (ℕ × ℕ))} b []
+        (numbered (λ n. part_gives w n (part_words w words n)) (length words / w.words))))
+        ≡ amount_of (cond {A = Amounts} b []
+        (collected (flat_map (λ n. part_gives w n (part_words w words n))
+        (numbers_below (length words / w.words))))) q
+    by_words true = refl
+    by_words false =
+        ap (given q) (all_numbered gives (length words / w.words))
+        ∙ sym (amount_of-collected (flat_map gives (numbers_below (length words / w.words))) q)
+
+-- together the parts give what is shown
+pub parts_give : (c : Charter) (words : List ℕ) (q : ℕ)
+    → given q (all_given (parts_by_number c words)) ≡ amount_of ((rules_by c).view words) q
+unfolding view_of_words
+parts_give (built_in h) words q =
+    ap (given q) (parts_are h.subject h.size words)
+    ∙ sym (amount_of-collected (parts_of h.subject h.size words) q)
+parts_give (own h lines) words q = own_parts_give (written_in lines) words q
+
+-- ---- the sum of what they give
+
+sum_told : (part amount : ℕ) → sum_by (λ p. p.1) (told part amount) ≡ amount
+sum_told part amount = by_test (amount == 0) refl
+  where
+    alone : amount + 0 ≡ amount
+    alone = omega arith
+
+    by_test : (b : Bool) → (amount == 0) ≡ b
+        → sum_by (λ p. p.1) (cond {A = List (ℕ × ℕ)} b [] ((part, amount) ∷ [])) ≡ amount
+    by_test true e = sym (same_of amount 0 e)
+    by_test false e = sum_by-cons (λ (p : ℕ × ℕ). p.1) (part, amount) [] ∙ alone
+
+-- those that give something give all of it
+pub sum_given : (q : ℕ) (parts : List (ℕ × List (ℕ × ℕ)))
+    → sum_by (λ p. p.1) (given_parts q parts) ≡ given q (all_given parts)
+sum_given q [] = refl
+sum_given q (part ∷ parts) =
+    omega (
+      arith,
+      sum_by-append (λ (p : ℕ × ℕ). p.1) (told part.0 (given q part.1)) (given_parts q parts),
+      sum_told part.0 (given q part.1),
+      sum_given q parts,
+      given-append q part.1 (all_given parts),
+    )
+
+-- and so what is shown
+pub told_give : (c : Charter) (words : List ℕ) (q : ℕ)
+    → sum_by (λ p. p.1) (given_parts q (parts_by_number c words))
+    ≡ amount_of ((rules_by c).view words) q
+told_give c words q = sum_given q (parts_by_number c words) ∙ parts_give c words q
+
+-- what the words of a built-in subject show fits 128 bits
+fits : (s : Subject) (size : ℕ) (words : List ℕ) (q : ℕ) → size < 2 ^ 32
+    → amount_of (collected (parts_of s size words)) q < 2 ^ 128
+fits Multiset size words q small = omega (arith, slots_at_most words (4 * size) q, small)
+fits Cache size words q small =
+    let pairs : List (ℕ × ℕ) = pairs_by 5 2 size (chunk_gives size) words in
+    let is =
+    ap (λ a. amount_of a q) (sym (chunks_show size words)) ∙ amount_of-collected pairs q in
+    omega (arith, is, chunks_fit size pairs q (pairs_given 5 2 size (chunk_gives size) words))
+fits Tree size words q small =
+    omega (
+      arith,
+      amount_of-collected (parts_of Tree size words) q,
+      chain_fits size words q size [] 0,
+      small,
+    )
+fits Buffers size words q small =
+    let pairs : List (ℕ × ℕ) = pairs_by 8 1 size (buffer_gives size) words in
+    let is =
+    ap (λ a. amount_of a q) (sym (buffers_show size words)) ∙ amount_of-collected pairs q in
+    omega (arith, is, buffers_fit size pairs q (pairs_given 8 1 size (buffer_gives size) words))
+fits Own size words q small = omega arith
+
+module _ (h : Header) (words : List ℕ) (q : ℕ) (old new parts : List (ℕ × ℕ)) (none : old ≡ [])
+    (put : new ≡ old ++ given_parts q (parts_by_number (built_in h) words))
+    (same : parts ≡ new) where
+  -- parts that were put into an empty list
+  are : parts ≡ given_parts q (parts_by_number (built_in h) words)
+  are = same ∙ put ∙ ap (λ xs. xs ++ given_parts q (parts_by_number (built_in h) words)) none
+
+  -- what the parts that give something give together is what is shown
+  pub sum_shown : sum_by (λ p. p.1) parts ≡ amount_shown (rules_of h) words q
+  sum_shown = ap (sum_by (λ p. p.1)) are ∙ told_give (built_in h) words q
+
+  -- and that fits
+  pub sum_fits : sum_by (λ p. p.1) parts < 2 ^ 128
+  unfolding view_of_words
+  sum_fits = omega (arith, sum_shown, fits h.subject h.size words q (size_in_32_bits h))

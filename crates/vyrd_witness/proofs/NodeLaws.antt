@@ -1,0 +1,168 @@
+-- What the nodes of a tree's chain give, one after the other.
+use Rattle.std.proofs.Common.{◌≡◌, ℕ, zero, suc, ◌+◌, ◌-◌, ◌*◌, ◌^◌, ◌<◌, ◌≤◌, min, Bool, true}
+use Rattle.std.proofs.Common.{false, cond, not, ◌&&◌, ◌||◌, List, [], ◌∷◌, ◌++◌, length, refl, ap}
+use Rattle.std.proofs.Common.{◌∙◌, sym, subst, get_or, set, replicate, arith}
+use Rattle.std.specs.Prelude.{◌==◌, flat_map}
+use Rattle.std.proofs.lemmas.List.{append-nil, append_assoc}
+use Rattle.vyrd_base.specs.Amounts.{given}
+use Rattle.vyrd_base.specs.Tree.{count_of, right_of, node_parts, damage, chain_parts_from}
+use Rattle.vyrd_base.proofs.PartLaws.{node_parts-places, places_at_most, parts_after}
+use Rattle.vyrd_base.proofs.SumLaws.{given-append, one_at_most}
+use Rattle.vyrd_view.proofs.ChainLaws.{Marks, marked, none_marked}
+use Rattle.vyrd_witness.specs.Given.{leads_back, link_parts, chain_from, told, given_parts}
+
+-- ---- without their numbers
+
+-- the nodes give what the chain does
+pub chain_is : (size : ℕ) (words : List ℕ) (left : ℕ) (seen : List ℕ) (n : ℕ)
+    → flat_map (λ part. part.1) (chain_from size words left seen n)
+    ≡ chain_parts_from size words left seen n
+chain_is size words zero seen n = refl
+chain_is size words (suc left) seen n =
+    append_assoc (node_parts words n) (link_parts size words seen n) _
+    ∙ ap (λ xs. node_parts words n ++ xs)
+    (by_tests (right_of words n == 0) (leads_back size words seen n)
+    (chain_is size words left (n ∷ seen) (right_of words n)))
+  where
+    by_tests : (ends back : Bool)
+        → flat_map (λ part. part.1) (chain_from size words left (n ∷ seen) (right_of words n))
+        ≡ chain_parts_from size words left (n ∷ seen) (right_of words n)
+        → cond {A = List (ℕ × ℕ)} (not ends && back) damage []
+        ++ flat_map (λ part. part.1) (cond {A = List (ℕ × List (ℕ × ℕ))} (not ends && not back)
+        (chain_from size words left (n ∷ seen) (right_of words n)) [])
+        ≡ parts_after size words left seen n ends back
+    by_tests true back more = refl
+    by_tests false true more = refl
+    by_tests false false more = more
+
+-- ---- how much they give
+
+-- a node gives little
+pub node_low : (words : List ℕ) (n q : ℕ) → given q (node_parts words n) ≤ 2 ^ 35
+node_low words n q =
+    let few : min (count_of words n) 4 ≤ 4 = omega arith in
+    omega (
+      arith,
+      ap (given q) (node_parts-places words n),
+      places_at_most words n (min (count_of words n) 4) q,
+      few,
+    )
+
+-- and so does the chain
+pub chain_fits : (size : ℕ) (words : List ℕ) (q left : ℕ) (seen : List ℕ) (n : ℕ)
+    → given q (chain_parts_from size words left seen n) ≤ left * (2 ^ 35 + 1)
+chain_fits size words q zero seen n = omega arith
+chain_fits size words q (suc left) seen n =
+    omega (
+      arith,
+      given-append q (node_parts words n) (parts_after size words left seen n
+          (right_of words n == 0) (leads_back size words seen n)),
+      node_low words n q,
+      by_tests (right_of words n == 0) (leads_back size words seen n)
+          (chain_fits size words q left (n ∷ seen) (right_of words n)),
+    )
+  where
+    by_tests : (ends back : Bool)
+        → given q (chain_parts_from size words left (n ∷ seen) (right_of words n))
+        ≤ left * (2 ^ 35 + 1)
+        → given q (parts_after size words left seen n ends back) ≤ left * (2 ^ 35 + 1) + 1
+    by_tests true back more = omega arith
+    by_tests false true more = omega (arith, one_at_most q (2 ^ 33) 1)
+    by_tests false false more = omega (arith, more)
+
+-- ---- a walk along the chain
+
+-- what was put so far, with the chain from this node on, is what is to be put
+pub record NodeWalk (size : ℕ) (words : List ℕ) (q : ℕ) (old put : List (ℕ × ℕ)) (flags : List Bool)
+    (left node : ℕ) : Type 0 where
+  pub seen : List ℕ
+  pub marks : Marks size flags seen
+  pub rest : put ++ given_parts q (chain_from size words left seen node)
+      ≡ old ++ given_parts q (chain_from size words size [] 0)
+
+-- at the start
+pub walk_begins : (size : ℕ) (words : List ℕ) (q : ℕ) (old : List (ℕ × ℕ)) (flags : List Bool)
+    → flags ≡ replicate size false → NodeWalk size words q old old flags size 0
+walk_begins size words q old flags none = record {
+  seen = [];
+  marks = λ n. ap (λ s. get_or s n true) none ∙ none_marked size n;
+  rest = refl;
+}
+
+-- before the last turn a node is left
+pub walk_left : (size : ℕ) (words : List ℕ) (q : ℕ) (old put : List (ℕ × ℕ)) (flags : List Bool)
+    (turn n : ℕ) → turn < size → NodeWalk size words q old put flags (size - turn) n
+    → NodeWalk size words q old put flags (suc (size - (turn + 1))) n
+walk_left size words q old put flags turn n more walk =
+    let one : size - turn ≡ suc (size - (turn + 1)) = omega arith in
+    subst (λ left. NodeWalk size words q old put flags left n) one walk
+
+-- no node is left
+pub walk_over : (size : ℕ) (words : List ℕ) (q : ℕ) (old put : List (ℕ × ℕ)) (flags : List Bool)
+    (n : ℕ) → NodeWalk size words q old put flags 0 n
+    → put ≡ old ++ given_parts q (chain_from size words size [] 0)
+walk_over size words q old put flags n walk = sym (append-nil put) ∙ walk.rest
+
+module _ (size : ℕ) (words : List ℕ) (q : ℕ) (old put now : List (ℕ × ℕ)) (flags : List Bool)
+    (left n : ℕ) (walk : NodeWalk size words q old put flags (suc left) n) (ends back : Bool)
+    (own link : ℕ) (within : n < length flags) (is_end : (right_of words n == 0) ≡ ends)
+    (is_back : get_or (set flags n true) (right_of words n) true ≡ back)
+    (own_is : own ≡ given q (node_parts words n))
+    (link_is : link ≡ given q (cond {A = List (ℕ × ℕ)} (not ends && back) damage []))
+    (more : now ≡ put ++ told n (own + link)) where
+  now_marked : Marks size (set flags n true) (n ∷ walk.seen)
+  now_marked = marked size n flags walk.seen within walk.marks
+
+  test_is : leads_back size words walk.seen n ≡ back
+  test_is = sym (now_marked (right_of words n)) ∙ is_back
+
+  amount_is : own + link ≡ given q (node_parts words n ++ link_parts size words walk.seen n)
+  amount_is =
+      ap (λ k. k + link) own_is ∙ ap (λ k. given q (node_parts words n) + k) (link_is
+      ∙ sym (ap (λ e. given q (cond {A = List (ℕ × ℕ)} (not e && leads_back size words walk.seen n)
+      damage [])) is_end
+      ∙ ap (λ b. given q (cond {A = List (ℕ × ℕ)} (not ends && b) damage [])) test_is))
+      ∙ sym (given-append q (node_parts words n) (link_parts size words walk.seen n))
+
+  -- the chain behind the node
+  abbrev behind : Bool → Bool → List (ℕ × List (ℕ × ℕ))
+  behind e b = cond {A = List (ℕ × List (ℕ × ℕ))} (not e && not b)
+      (chain_from size words left (n ∷ walk.seen) (right_of words n)) []
+
+  onward : now ++ given_parts q (behind ends back)
+      ≡ old ++ given_parts q (chain_from size words size [] 0)
+  onward =
+      let here : List (ℕ × ℕ) =
+      told n (given q (node_parts words n ++ link_parts size words walk.seen n)) in
+      ap (λ xs. xs ++ given_parts q (behind ends back)) (more ∙ ap (λ k. put ++ told n k) amount_is)
+      ∙ append_assoc put here (given_parts q (behind ends back))
+      ∙ ap (λ rest. put ++ (here ++ given_parts q rest))
+      (sym (ap (λ e. behind e (leads_back size words walk.seen n)) is_end
+      ∙ ap (behind ends) test_is))
+      ∙ walk.rest
+
+  -- the chain stops there
+  pub walk_stops : (ends || back) ≡ true
+      → now ≡ old ++ given_parts q (chain_from size words size [] 0)
+  walk_stops stops = sym (append-nil now)
+      ∙ ap (λ rest. now ++ given_parts q rest) (sym (none ends back stops)) ∙ onward
+    where
+      none : (e b : Bool) → (e || b) ≡ true → behind e b ≡ []
+      none true b so = refl
+      none false true so = refl
+      none false false so = cc
+
+  -- and there it goes on
+  pub walk_on : (ends || back) ≡ false
+      → NodeWalk size words q old now (set flags n true) left (right_of words n)
+  walk_on on = record {
+    seen = n ∷ walk.seen;
+    marks = now_marked;
+    rest = ap (λ rest. now ++ given_parts q rest) (sym (goes ends back on)) ∙ onward;
+  }
+    where
+      goes : (e b : Bool) → (e || b) ≡ false
+          → behind e b ≡ chain_from size words left (n ∷ walk.seen) (right_of words n)
+      goes true b so = cc
+      goes false true so = cc
+      goes false false so = refl
