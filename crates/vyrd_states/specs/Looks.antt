@@ -1,6 +1,6 @@
 -- Which keys of the state a call looks at: those that decide which replies it may have, or what it
 -- answers.
-use Rattle.std.specs.Prelude.{ℕ, List, [], ◌∷◌}
+use Rattle.std.specs.Prelude.{ℕ, ◌==◌, List, [], ◌∷◌, if◌then◌else◌}
 use Rattle.vyrd_base.specs.declared.subject.Method.{Method}
 use Rattle.vyrd_base.specs.declared.subject.Method.TheVariants.{Multiset as OfMultiset}
 use Rattle.vyrd_base.specs.declared.subject.Method.TheVariants.{Cache as OfCache, Tree as OfTree}
@@ -14,17 +14,21 @@ use Rattle.vyrd_base.specs.declared.buffers.BuffersMethod.{BuffersMethod}
 use Rattle.vyrd_base.specs.declared.buffers.BuffersMethod.TheVariants.{Append, AppendFrom, Cut}
 use Rattle.vyrd_base.specs.declared.buffers.BuffersMethod.TheVariants.{Length, Read}
 
+-- two keys, each of them once
+abbrev pub pair_keys : ℕ → ℕ → List ℕ
+pair_keys a b = if a == b then a ∷ [] else a ∷ b ∷ []
+
 -- the elements that are named
 abbrev pub multiset_keys : MultisetMethod → Args → List ℕ
 multiset_keys Insert args = args.a ∷ []
-multiset_keys InsertPair args = args.a ∷ args.b ∷ []
+multiset_keys InsertPair args = pair_keys args.a args.b
 multiset_keys Delete args = args.a ∷ []
 multiset_keys Lookup args = args.a ∷ []
 
 -- the buffer, and the one whose text is appended
 abbrev pub buffers_keys : BuffersMethod → Args → List ℕ
 buffers_keys Append args = args.a ∷ []
-buffers_keys AppendFrom args = args.a ∷ args.b ∷ []
+buffers_keys AppendFrom args = pair_keys args.a args.b
 buffers_keys Cut args = args.a ∷ []
 buffers_keys Length args = args.a ∷ []
 buffers_keys Read args = args.a ∷ []

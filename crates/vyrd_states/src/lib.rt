@@ -26,5 +26,6 @@ mod windows;
 pub use after::after_items;
 pub use begins::{Begins, FromHeader};
 pub use known::{entry_at, spec_at};
+pub use looks::keys_named;
 pub use replies::reply_items;
 pub use windows::observer_items;

@@ -87,7 +87,7 @@ fn push_keys<S: Spec>(
         ++ before_items (rules_by (S.charter spec.now)) at (S.state spec.now) (called_by call)) }
 {
     let keys = [u64::from(call.args.a), u64::from(call.args.b)];
-    for key in &keys[..keys_named(call.method)] {
+    for key in &keys[..keys_named(call.method, call.args)] {
         let key = *key;
         let amount = spec.amount(key);
         items.push(Item::Before { at, key, amount })?;

@@ -16,4 +16,4 @@ returns g c =
     (take_past (take n (c.from.result ∷ c.from-2.result ∷ [])) c.loop-key.key-index
     c.loop-key.auto.key-index-end c.loop-key-test.false
     ∙ (λ i. take n (c.from.ensures i ∷ c.from-2.ensures i ∷ []))
-    ∙ sym (c.keys_named.ensures.keys c.args.call.args))
+    ∙ sym c.keys_named.ensures.keys)
