@@ -1,1 +1,2 @@
 pub mod OwnReplies
+pub mod PartPairs

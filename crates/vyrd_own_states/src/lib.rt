@@ -7,14 +7,20 @@
 //! that is called read it, and which of the numbers that stand in these cases it allows as replies.
 //! Each is the value of a definition over the states that a verdict is defined by. `laws` says what
 //! the cases are worth themselves.
+//!
+//! An [`OwnShown`] tells what the words of such a structure show of a key. `own_amount` adds that
+//! up, part by part.
 #![tactic(auto)]
 
 mod begins;
 mod keys;
 pub mod laws;
 mod once;
+pub mod own_amount;
+mod own_shown;
 mod replies;
 mod states;
 
 pub use begins::FromSpecification;
+pub use own_shown::OwnShown;
 pub use replies::own_reply_items;

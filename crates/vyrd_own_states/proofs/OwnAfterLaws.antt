@@ -1,0 +1,33 @@
+-- What own words show after one of them has changed, of all whole parts.
+use Rattle.std.proofs.Common.{◌≡◌, ℕ, ◌*◌, ◌/◌, ◌<◌, ◌≤◌, List, length-set, set, take, ap, ◌∙◌, sym}
+use Rattle.std.proofs.lemmas.List.{take-set-le}
+use Rattle.std.proofs.Math.Seq.{take-set-lt}
+use Rattle.vyrd_base.specs.Amounts.{amount_of}
+use Rattle.vyrd_base.specs.Own.OwnRules.{own_view}
+use Rattle.vyrd_base.specs.Own.Programs.{Written}
+use Rattle.vyrd_base.specs.Rules.{Charter, rules_by}
+use Rattle.vyrd_own_spec.specs.Parts.{width_of}
+use Rattle.vyrd_own_states.proofs.OwnShownLaws.{AreWhole, whole_seen}
+
+module _ {p : Written} {charter : Charter} {words : List ℕ} {whole : ℕ}
+    (known : AreWhole p charter words whole) (q w v before : ℕ)
+    (is : before ≡ amount_of ((rules_by charter).view (set words w v)) q) where
+  -- the same of the words with the other value
+  changed_whole : AreWhole p charter (set words w v) whole
+  changed_whole = record {
+    is = known.is ∙ ap (λ n. n / width_of p * width_of p) (sym (length-set words w v));
+    seen = known.seen;
+  }
+
+  -- a word behind them shows nothing
+  pub behind_whole : whole ≤ w → before ≡ amount_of ((rules_by charter).view words) q
+  behind_whole past =
+      is ∙ ap (λ view. amount_of view q)
+      (sym (whole_seen changed_whole) ∙ ap (own_view p) (take-set-le whole words w v past)
+      ∙ whole_seen known)
+
+  -- one of theirs can be changed among them
+  pub among_whole : w < whole → before ≡ amount_of (own_view p (set (take whole words) w v)) q
+  among_whole low =
+      is ∙ ap (λ view. amount_of view q)
+      (sym (whole_seen changed_whole) ∙ ap (own_view p) (take-set-lt whole words w v low))

@@ -1,0 +1,80 @@
+-- What the parts of own words give, each by its number.
+use Rattle.std.proofs.Common.{◌≡◌, ℕ, ◌+◌, ◌*◌, ◌/◌, ◌<◌, ◌≤◌, Bool, true, false, cond, List, []}
+use Rattle.std.proofs.Common.{◌∷◌, ◌++◌, length, take, refl, ap, ◌∙◌, sym, arith}
+use Rattle.std.specs.Prelude.{◌==◌, flat_map, slice_range, slice_index_or}
+use Rattle.vyrd_base.specs.declared.header.Header.{Header}
+use Rattle.vyrd_base.specs.declared.subject.Subject.TheVariants.{Own}
+use Rattle.vyrd_base.specs.Amounts.{given}
+use Rattle.vyrd_base.specs.Layout.{plain_words, plain_words_of}
+use Rattle.vyrd_base.specs.Own.Programs.{Written}
+use Rattle.vyrd_base.specs.Own.Reader.{written_in}
+use Rattle.vyrd_base.specs.Own.Steps.{part_gives, part_words}
+use Rattle.vyrd_base.specs.Places.{numbers_below}
+use Rattle.vyrd_base.specs.Rules.{Charter, own, rules_by}
+use Rattle.vyrd_view.specs.Decoded.{words_of}
+use Rattle.vyrd_view.proofs.DecodedLaws.{part_within}
+use Rattle.vyrd_own_spec.specs.Parts.{width_of, own_gives, AreFew}
+use Rattle.vyrd_own_spec.specs.Laws.Parts.{all_given, none_given, few_gives}
+use Rattle.vyrd_witness.specs.Given.{numbered, given_parts, parts_by_number, told}
+use Rattle.vyrd_witness.proofs.GivenLaws.{given_numbered}
+use Rattle.vyrd_own_states.specs.PartPairs.{own_pairs, part_pairs}
+use Rattle.vyrd_own_states.proofs.OwnShownLaws.{flat_alike, part_kept}
+
+-- parts that give nothing
+none_told : (f : ℕ → List (ℕ × ℕ)) (ns : List ℕ) → ((i : ℕ) → f i ≡ []) → flat_map f ns ≡ []
+none_told f [] none = refl
+none_told f (n ∷ ns) none = ap (λ xs. xs ++ flat_map f ns) (none n) ∙ none_told f ns none
+
+module _ (w : Written) (words : List ℕ) (width places parts whole q : ℕ)
+    (few : AreFew w width places parts) (many : parts ≡ length words / width)
+    (all : whole ≡ parts * width) where
+  -- a part among the words of all whole parts
+  same_words : width ≡ w.words → (i : ℕ) → i < parts
+      → words_of width i (take whole words) ≡ part_words w words i
+  same_words is i low =
+      let taken : List ℕ = take whole words in
+      let turned : i * width ≡ width * i = omega arith in
+      let within : i * width + width ≤ whole = omega (arith, all, part_within i parts width low) in
+      ap (λ k. slice_range taken k (k + width)) turned
+      ∙ ap (λ k. slice_range taken (k * i) (k * i + k)) is
+      ∙ part_kept w words whole i (omega (arith, within, turned, ap (λ k. k * i) is, is))
+
+  told_as : (b : Bool) → (w.words == 0) ≡ b → width ≡ cond b 1 w.words
+      → flat_map (λ i. told i (given q (own_pairs places
+      (λ j. cond {A = ℕ × ℕ} b (0, 0)
+      (slice_index_or (part_gives w i (words_of width i (take whole words))) j (0, 0))))))
+      (numbers_below parts)
+      ≡ given_parts q (cond b []
+      (numbered (λ n. part_gives w n (part_words w words n)) (length words / w.words)))
+  told_as true e is = none_told _ (numbers_below parts) (λ i. ap (told i) (none_given q places))
+  told_as false e is =
+      flat_alike _ (λ i. told i (given q (part_gives w i (part_words w words i)))) 0 parts
+      (λ i from low. ap (told i)
+      (all_given q (part_gives w i (words_of width i (take whole words))) places
+      (omega (arith, few_gives w i (words_of width i (take whole words)), few.shows))
+      ∙ ap (λ own. given q (part_gives w i own)) (same_words is i (omega (arith, low)))))
+      ∙ ap (λ n. flat_map (λ i. told i (given q (part_gives w i (part_words w words i))))
+      (numbers_below n)) (many ∙ ap (λ k. length words / k) is)
+      ∙ sym (given_numbered q (λ n. part_gives w n (part_words w words n))
+      (length words / w.words))
+
+module _ {h : Header} {lines : List (List ℕ)} {charter : Charter} (words : List ℕ)
+    {width places parts a b : ℕ} (same : own h lines ≡ charter) (subject : h.subject ≡ Own)
+    (count : length words ≡ plain_words (rules_by charter).header)
+    (wide : width ≡ width_of (written_in lines))
+    (few : AreFew (written_in lines) width places parts) (many : parts ≡ h.size / width)
+    (first : a ≡ parts) (second : b ≡ width) (q : ℕ) where
+  -- the parts that give something to a key, as they are decoded
+  pub own_parts_told : given_parts q (numbered
+      (part_pairs width places (own_gives (written_in lines)) (take (a * b) words)) parts)
+      ≡ given_parts q (parts_by_number charter words)
+  own_parts_told =
+      let w : Written = written_in lines in
+      let all : length words ≡ h.size =
+      count ∙ ap (λ c. plain_words (rules_by c).header) (sym same)
+      ∙ ap (λ s. plain_words_of s h.size) subject in
+      given_numbered q (part_pairs width places (own_gives w) (take (a * b) words)) parts
+      ∙ told_as w words width places parts (a * b) q few
+      (many ∙ ap (λ n. n / width) (sym all))
+      (ap (λ k. k * b) first ∙ ap (λ k. parts * k) second) (w.words == 0) refl wide
+      ∙ ap (λ c. given_parts q (parts_by_number c words)) same

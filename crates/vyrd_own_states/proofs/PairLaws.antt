@@ -1,0 +1,75 @@
+-- What the pairs of parts give to a key, one place and one part after the other.
+use Rattle.std.proofs.Common.{◌≡◌, ℕ, ◌+◌, ◌*◌, ◌<◌, List, map, get_or, refl, ap, ◌∙◌, sym, arith}
+use Rattle.std.specs.Prelude.{◌≢◌, flat_map, slice_range}
+use Rattle.vyrd_base.specs.Amounts.{Amounts, amount_of, collected, given, part_given}
+use Rattle.vyrd_base.specs.Places.{numbers_below}
+use Rattle.vyrd_base.proofs.PlaceLaws.{map_alike}
+use Rattle.vyrd_base.proofs.SumLaws.{own_part, other_part, amount_of-collected}
+use Rattle.vyrd_view.specs.Decoded.{Gives, pairs_by}
+use Rattle.vyrd_view.specs.Laws.Sums.{given_map_push, given_flat_push, places_give}
+use Rattle.vyrd_own_states.specs.PartPairs.{own_pairs, pairs_in, part_pairs}
+
+-- ---- one place more
+
+module _ (f : ℕ → ℕ × ℕ) (q m amount : ℕ) (pair : ℕ × ℕ) where
+  -- it gives to its own key
+  pub place_given : amount ≡ given q (map f (numbers_below m)) → pair ≡ f m → pair.0 ≡ q
+      → amount + pair.1 ≡ given q (map f (numbers_below (m + 1)))
+  place_given is here same =
+      omega (
+        arith,
+        is,
+        given_map_push q f m,
+        ap (part_given q) here,
+        ap (λ k. part_given q (k, pair.1)) same,
+        own_part q pair.1,
+      )
+
+  -- and nothing to another
+  pub place_passed : amount ≡ given q (map f (numbers_below m)) → pair ≡ f m → pair.0 ≢ q
+      → amount ≡ given q (map f (numbers_below (m + 1)))
+  place_passed is here other =
+      omega (
+        arith,
+        is,
+        given_map_push q f m,
+        ap (part_given q) here,
+        other_part q pair.0 pair.1 (λ same. other (sym same)),
+      )
+
+-- ---- one part more
+
+module _ (width places : ℕ) (gives : Gives) (words : List ℕ) (q part amount : ℕ) where
+  pub part_added : (more : ℕ)
+      → amount ≡ given q (flat_map (part_pairs width places gives words) (numbers_below part))
+      → more ≡ given q (part_pairs width places gives words part)
+      → amount + more
+      ≡ given q (flat_map (part_pairs width places gives words) (numbers_below (part + 1)))
+  part_added more is new =
+      omega (arith, is, new, given_flat_push q (part_pairs width places gives words) part)
+
+  -- what all parts give to a key is its amount
+  pub all_parts : (parts : ℕ) (view : Amounts) → part ≡ parts
+      → amount ≡ given q (flat_map (part_pairs width places gives words) (numbers_below part))
+      → collected (pairs_by width places parts gives words) ≡ view → amount ≡ amount_of view q
+  all_parts parts view end is shown =
+      let pairs : ℕ → List (ℕ × ℕ) = part_pairs width places gives words in
+      is ∙ ap (λ n. given q (flat_map pairs (numbers_below n))) end
+      ∙ sym (places_give width places gives words q pairs (λ p. refl) parts)
+      ∙ sym (amount_of-collected (pairs_by width places parts gives words) q)
+      ∙ ap (λ s. amount_of s q) shown
+
+-- ---- pairs as they are decoded
+
+-- what decoded pairs give is what their part gives
+pub part_decoded : (width places : ℕ) (gives : Gives) (words : List ℕ) (q part n w : ℕ)
+    (pairs : List (ℕ × ℕ)) → n ≡ places → w ≡ width
+    → ((j : ℕ) → j < places
+    → get_or pairs j (0, 0) ≡ gives part (slice_range words (part * w) (part * w + w)) j)
+    → given q (pairs_in n pairs) ≡ given q (part_pairs width places gives words part)
+part_decoded width places gives words q part n w pairs few wide is =
+    ap (λ k. given q (pairs_in k pairs)) few
+    ∙ ap (given q) (map_alike (λ j. get_or pairs j (0, 0))
+    (gives part (slice_range words (part * w) (part * w + w))) places is)
+    ∙ ap (λ k. given q (own_pairs places (gives part
+    (slice_range words (part * k) (part * k + k))))) wide

@@ -1,0 +1,152 @@
+-- What words show after one of them has changed: only what its part gives can be other than before.
+use Rattle.std.proofs.Common.{◌≡◌, ◌≢◌, ℕ, ◌+◌, ◌-◌, ◌*◌, ◌/◌, ◌<◌, ◌≤◌, Bool, true, false, List}
+use Rattle.std.proofs.Common.{length, length-set, set, take, drop, refl, ap, ◌∙◌, sym, arith}
+use Rattle.std.specs.Prelude.{nat_lt, flat_map, map, slice_range}
+use Rattle.std.proofs.lemmas.List.{drop-set-lt, drop-set-add, take-set-le}
+use Rattle.std.proofs.Math.Seq.{take-set-lt}
+use Rattle.std.proofs.Math.Nat.{mod-add-div', mod-lt, mul-le-mul_right}
+use Rattle.vyrd_base.specs.Amounts.{Amounts, amount_of, collected, given}
+use Rattle.vyrd_base.specs.Places.{numbers_below}
+use Rattle.vyrd_base.proofs.TestLaws.{below_of, not_below_of}
+use Rattle.vyrd_view.specs.Decoded.{Gives, words_of, pairs_by}
+use Rattle.vyrd_view.proofs.DecodedLaws.{part_of_within}
+use Rattle.vyrd_witness.proofs.PartLaws.{one_apart}
+use Rattle.vyrd_own_states.specs.PartPairs.{own_pairs, part_pairs}
+use Rattle.vyrd_own_states.proofs.PairLaws.{all_parts}
+
+-- ---- the words of a part
+
+module _ (width : ℕ) (words : List ℕ) (w v : ℕ) (some : 1 ≤ width) where
+  -- where a word's part begins
+  begins : w / width * width ≤ w
+  begins = omega (arith, mod-add-div' w width)
+
+  -- and how far behind that the word is
+  offset_low : w - w / width * width < width
+  offset_low = omega (arith, mod-add-div' w width, mod-lt w some)
+
+  -- the part that the word is in
+  own_changed : words_of width (w / width) (set words w v)
+      ≡ set (words_of width (w / width) words) (w - w / width * width) v
+  own_changed =
+      let from : ℕ = w / width * width in
+      let k : ℕ = w - from in
+      let at : w ≡ from + k = omega (arith, begins) in
+      let inside : k < from + width - from = omega (arith, offset_low) in
+      ap (λ n. take (from + width - from) (drop from (set words n v))) at
+      ∙ ap (take (from + width - from)) (drop-set-add from words k v)
+      ∙ take-set-lt (from + width - from) (drop from words) k v inside
+
+  -- a part that begins behind it, and one that ends before it
+  behind : (i : ℕ) → w < i * width → words_of width i (set words w v) ≡ words_of width i words
+  behind i low = ap (take (i * width + width - i * width)) (drop-set-lt (i * width) words w v low)
+
+  ahead : (i : ℕ) → i * width + width ≤ w
+      → words_of width i (set words w v) ≡ words_of width i words
+  ahead i high =
+      let from : ℕ = i * width in
+      let k : ℕ = w - from in
+      let at : w ≡ from + k = omega (arith, high) in
+      let past : from + width - from ≤ k = omega (arith, high) in
+      ap (λ n. take (from + width - from) (drop from (set words n v))) at
+      ∙ ap (take (from + width - from)) (drop-set-add from words k v)
+      ∙ take-set-le (from + width - from) (drop from words) k v past
+
+  -- so all parts that it isn't in have the words of before
+  others_kept : (i : ℕ) → i ≢ w / width
+      → words_of width i (set words w v) ≡ words_of width i words
+  others_kept i other = by_order (nat_lt i (w / width)) refl
+    where
+      by_order : (b : Bool) → nat_lt i (w / width) ≡ b
+          → words_of width i (set words w v) ≡ words_of width i words
+      by_order true e =
+          let lower : i + 1 ≤ w / width = omega (arith, below_of i (w / width) e) in
+          let up : (i + 1) * width ≤ w / width * width = mul-le-mul_right width lower in
+          let next : (i + 1) * width ≡ i * width + width = omega arith in
+          ahead i (omega (arith, up, next, begins))
+      by_order false e =
+          let higher : w / width + 1 ≤ i =
+          omega (arith, not_below_of i (w / width) e, other) in
+          let up : (w / width + 1) * width ≤ i * width = mul-le-mul_right width higher in
+          let next : (w / width + 1) * width ≡ w / width * width + width = omega arith in
+          behind i (omega (arith, up, next, begins, offset_low))
+
+-- what the part of a word gives, if the word is given another value in a copy of the part's words
+pub given_with : (width places : ℕ) (gives : Gives) (words : List ℕ) (q w v n amount : ℕ)
+    (copied own : List ℕ) → 1 ≤ width → n ≡ width
+    → copied ≡ slice_range words (w / n * n) (w / n * n + n) → own ≡ set copied (w - w / n * n) v
+    → amount ≡ given q (own_pairs places (gives (w / n) own))
+    → amount ≡ given q (part_pairs width places gives (set words w v) (w / width))
+given_with width places gives words q w v n amount copied own some same copy is gave =
+    gave ∙ ap (λ all. given q (own_pairs places (gives (w / n) all)))
+    (is ∙ ap (λ all. set all (w - w / n * n) v) copy)
+    ∙ ap (λ k. given q (own_pairs places (gives (w / k)
+    (set (slice_range words (w / k * k) (w / k * k + k)) (w - w / k * k) v)))) same
+    ∙ ap (λ all. given q (own_pairs places (gives (w / width) all)))
+    (sym (own_changed width words w v some))
+
+-- ---- what the parts give
+
+module _ (width places parts : ℕ) (gives : Gives) (words : List ℕ) (q w was : ℕ) where
+  -- what the words show is what all parts give
+  all_given : (all : List ℕ) (view : Amounts)
+      → collected (pairs_by width places parts gives all) ≡ view
+      → given q (flat_map (part_pairs width places gives all) (numbers_below parts))
+      ≡ amount_of view q
+  all_given all view shown =
+      all_parts width places gives all q parts
+      (given q (flat_map (part_pairs width places gives all) (numbers_below parts))) parts view
+      refl refl shown
+
+  -- what the word's part gave gives way to what it gives now
+  pub part_turned : (old new before n : ℕ) (view : List ℕ → Amounts) → 1 ≤ width → n ≡ width
+      → length words ≡ parts * width → w < length words
+      → ((all : List ℕ) → length all ≡ parts * width
+      → collected (pairs_by width places parts gives all) ≡ view all)
+      → before ≡ amount_of (view (set words w was)) q
+      → old ≡ given q (part_pairs width places gives (set words w was) (w / width))
+      → new ≡ given q (part_pairs width places gives words (w / n))
+      → before + new ≡ amount_of (view words) q + old
+  part_turned old new before n view some same count within shown is gave gives_now =
+      let earlier : List ℕ = set words w was in
+      let low : w / width < parts = part_of_within w parts width (omega (arith, count, within)) in
+      let one = one_apart q (part_pairs width places gives earlier)
+      (part_pairs width places gives words) (w / width) parts low
+      (λ i other. ap (λ own. given q (map (gives i own) (numbers_below places)))
+      (others_kept width words w was some i other)) in
+      omega (
+        arith,
+        is,
+        gave,
+        gives_now,
+        ap (λ k. given q (part_pairs width places gives words (w / k))) same,
+        one,
+        all_given earlier (view earlier) (shown earlier (length-set words w was ∙ count)),
+        all_given words (view words) (shown words count),
+      )
+
+  -- the same of the word's new value, by what its part gave and gives
+  pub part_gives_way : (old new : ℕ) (later : List ℕ) (view : List ℕ → Amounts) → 1 ≤ width
+      → length words ≡ parts * width → w < length words
+      → ((all : List ℕ) → length all ≡ parts * width
+      → collected (pairs_by width places parts gives all) ≡ view all)
+      → later ≡ set words w was
+      → old ≡ given q (part_pairs width places gives words (w / width))
+      → new ≡ given q (part_pairs width places gives later (w / width))
+      → amount_of (view words) q + new ≡ amount_of (view later) q + old
+  part_gives_way old new later view some count within shown turned gave gives_now =
+      let low : w / width < parts = part_of_within w parts width (omega (arith, count, within)) in
+      let long : length later ≡ parts * width =
+      ap length turned ∙ length-set words w was ∙ count in
+      let one = one_apart q (part_pairs width places gives words)
+      (part_pairs width places gives later) (w / width) parts low
+      (λ i other. ap (λ own. given q (map (gives i own) (numbers_below places)))
+      (sym (ap (words_of width i) turned ∙ others_kept width words w was some i other))) in
+      omega (
+        arith,
+        gave,
+        gives_now,
+        one,
+        all_given words (view words) (shown words count),
+        all_given later (view later) (shown later long),
+      )

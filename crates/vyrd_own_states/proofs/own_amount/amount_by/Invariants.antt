@@ -1,0 +1,15 @@
+use Rattle.std.proofs.Common.{◌≡◌, ◌*◌, ◌≤◌, ◌^◌}
+use Rattle.std.specs.Prelude.{flat_map}
+use Rattle.vyrd_base.specs.Amounts.{given}
+use Rattle.vyrd_base.specs.Places.{numbers_below}
+use Rattle.vyrd_own_states.specs.PartPairs.{part_pairs}
+use Rattle.vyrd_own_states.proofs.own_amount.amount_by.Given as goal
+
+abbrev pub invariant-loop-part : goal.invariant-loop-part
+invariant-loop-part g l =
+    let d = g.D.Decode in record {
+      given : l.amount ≡ given l.key (flat_map
+          (part_pairs (d.width l.decoder) (d.places l.decoder) (d.gives l.decoder) l.words)
+          (numbers_below l.part));
+      low : l.amount ≤ l.part * (4 * 2 ^ 64);
+    }
