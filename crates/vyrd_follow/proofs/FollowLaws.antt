@@ -1,0 +1,81 @@
+-- What is said of a front, one entry further.
+use Rattle.std.proofs.Common.{◌≡◌, ℕ, ◌+◌, ◌<◌, List, [], ◌++◌, length, take, drop, Option, Some}
+use Rattle.std.proofs.Common.{None, refl, ap, ◌∙◌, sym, arith, append_assoc}
+use Rattle.std.specs.Prelude.{IfSome, option_map, flat_map}
+use Rattle.std.specs.Option.{option_map_or}
+use Rattle.std.proofs.lemmas.Grind.{flat_map-append}
+use Rattle.vyrd_base.specs.declared.header.Header.{Header}
+use Rattle.vyrd_base.specs.declared.log.Entry.{Entry}
+use Rattle.vyrd_base.specs.declared.log.StartWord.{StartWord}
+use Rattle.vyrd_base.specs.Layout.{plain_words}
+use Rattle.vyrd_base.specs.Places.{newest_first, numbers_below}
+use Rattle.vyrd_base.specs.Rules.{Charter, rules_by}
+use Rattle.vyrd_base.specs.Starts.{state_at_start}
+use Rattle.vyrd_base.specs.States.{State}
+use Rattle.vyrd_base.specs.Words.{effects, value_after}
+use Rattle.vyrd_base.proofs.PlaceLaws.{length_below}
+use Rattle.vyrd_item_text.specs.ItemText.{item_text, items_text}
+use Rattle.vyrd_states.specs.Running.{IsKnown, run_by}
+use Rattle.vyrd_states.proofs.RunLaws.{known_first, never_known}
+use Rattle.vyrd_witness.specs.declared.item.Item.{Item}
+use Rattle.vyrd_witness.specs.Changes.{words_through}
+use Rattle.vyrd_witness.specs.Effects.{effects_by, effects_there}
+use Rattle.vyrd_witness.specs.ViewWitnesses.{words_then}
+use Rattle.vyrd_witness.proofs.BelowLaws.{below_next}
+use Rattle.vyrd_witness.proofs.EffectLaws.{entry_there, words_next}
+use Rattle.vyrd_follow.specs.Following.{agreed_items, start_items}
+
+-- the words
+pub words_on : (h : Header) (starting : List StartWord) (front : List Entry) (at : ℕ)
+    → at < length front
+    → words_through (words_then h starting front at) (effects_there front at)
+    ≡ words_then h starting front (at + 1)
+words_on h starting front at low =
+    let there = entry_there front at low in
+    ap (λ o. words_through (words_then h starting front at)
+    (option_map_or (effects_by front at) o [])) there.1
+    ∙ words_next h starting front at there.0 there.1
+
+pub length_then : (h : Header) (starting : List StartWord) (front : List Entry) (at : ℕ)
+    → length (words_then h starting front at) ≡ plain_words h
+length_then h starting front at =
+    length_below (value_after starting (effects (newest_first (take at front)) (drop at front)))
+    (plain_words h)
+
+-- what runs at the start
+pub known_start : {S : Type 0} (charter : S → Charter) (state : S → State) (made : S → ℕ)
+    (c : Charter) (starting : List StartWord) (front : List Entry) (spec : Option S)
+    → option_map state spec ≡ state_at_start (rules_by c) starting
+    → IfSome spec (λ s. charter s ≡ c) → IfSome spec (λ s. made s ≡ 0)
+    → IsKnown c starting front 0 (option_map (run_by charter state made) spec)
+known_start charter state made c starting front None begins same none =
+    never_known c starting front 0 (omega arith) begins
+known_start charter state made c starting front (Some s) begins same none =
+    known_first c starting front (run_by charter state made s) begins same none
+
+-- and what is said of it
+pub start_is : {S : Type 0} (charter : S → Charter) (state : S → State) (c : Charter)
+    (starting : List StartWord) (spec : Option S)
+    → option_map state spec ≡ state_at_start (rules_by c) starting
+    → IfSome spec (λ s. charter s ≡ c)
+    → option_map_or (λ s. agreed_items ((rules_by (charter s)).shown (state s))) spec []
+    ≡ start_items (rules_by c) starting
+start_is charter state c starting None begins same =
+    ap (λ o. option_map_or (λ s. agreed_items ((rules_by c).shown s)) o []) begins
+start_is charter state c starting (Some s) begins same =
+    ap (λ d. agreed_items ((rules_by d).shown (state s))) same
+    ∙ ap (λ o. option_map_or (λ t. agreed_items ((rules_by c).shown t)) o []) begins
+
+-- the lines
+pub text_next : (line : ℕ → ℕ) (first : List ℕ) (start : List Item) (f : ℕ → List Item) (at : ℕ)
+    (text next : List ℕ) (items : List Item)
+    → text ≡ first ++ items_text line (start ++ flat_map f (numbers_below at)) → items ≡ f at
+    → next ≡ text ++ items_text line items
+    → next ≡ first ++ items_text line (start ++ flat_map f (numbers_below (at + 1)))
+text_next line first start f at text next items so here push =
+    let before = start ++ flat_map f (numbers_below at) in
+    push ∙ (λ i. so i ++ items_text line (here i))
+    ∙ append_assoc first (items_text line before) (items_text line (f at))
+    ∙ ap (λ xs. first ++ xs) (sym (flat_map-append (item_text line) before (f at)))
+    ∙ ap (λ xs. first ++ items_text line xs)
+    (below_next f at start before (before ++ f at) refl refl)

@@ -1,0 +1,111 @@
+-- The last step that set something, one effect more.
+use Rattle.std.proofs.Common.{◌≡◌, ℕ, zero, suc, ◌+◌, ◌-◌, ◌<◌, Bool, true, false, cond, List}
+use Rattle.std.proofs.Common.{[], ◌∷◌, ◌++◌, length, take, drop, map, set, get_or, Option, Some}
+use Rattle.std.proofs.Common.{None, refl, ap, ◌∙◌, sym, arith, append-nil, append_assoc, replicate}
+use Rattle.std.specs.Prelude.{filter, filter_map, slice_get, option_map}
+use Rattle.std.specs.List.{cons_option, flat_map}
+use Rattle.std.proofs.lemmas.List.{map-append, length-append, flat_map_more}
+use Rattle.std.proofs.lemmas.List.Elements.{filter-append}
+use Rattle.vyrd_base.specs.declared.log.Entry.{Entry}
+use Rattle.vyrd_base.specs.declared.log.StartWord.{StartWord}
+use Rattle.vyrd_base.specs.declared.own.effect.Effect.{Effect}
+use Rattle.vyrd_base.specs.Own.Methods.{last_in}
+use Rattle.vyrd_base.specs.Places.{numbers_below}
+use Rattle.vyrd_base.specs.Rules.{Charter}
+use Rattle.vyrd_base.proofs.ListLaws.{slice_get-last}
+use Rattle.vyrd_base.proofs.PlaceLaws.{numbers_below-push}
+use Rattle.vyrd_witness.specs.declared.item.Item.{Item}
+use Rattle.vyrd_witness.specs.declared.item.Item.TheVariants.{LastStepped}
+use Rattle.vyrd_follow.specs.declared.thing.Thing.{Thing}
+use Rattle.vyrd_follow.specs.Doings.{done_at}
+use Rattle.vyrd_follow.specs.LastSteps.{does_set, placed_at, done_before, last_setting, last_of}
+use Rattle.vyrd_follow.specs.LastSteps.{last_item}
+
+last_in-push : (xs : List (ℕ × Effect)) (x : ℕ × Effect) → last_in (xs ++ x ∷ []) ≡ Some x
+last_in-push xs x =
+    let last : length (xs ++ x ∷ []) - 1 ≡ length xs = omega (arith, length-append xs (x ∷ [])) in
+    ap (slice_get (xs ++ x ∷ [])) last ∙ slice_get-last xs x
+
+-- one effect more is the last, if it sets the thing
+setting-push : (told : Thing) (done : List (ℕ × Effect)) (x : ℕ × Effect)
+    → last_setting told (done ++ x ∷ [])
+    ≡ cond (does_set told x.1) (Some x) (last_setting told done)
+setting-push told done x =
+    ap last_in (filter-append (λ step. does_set told step.1) done (x ∷ []))
+    ∙ by_test (does_set told x.1)
+  where
+    before : List (ℕ × Effect)
+    before = filter (λ step. does_set told step.1) done
+
+    by_test : (b : Bool) → last_in (before ++ cond b (x ∷ []) [])
+        ≡ cond b (Some x) (last_in before)
+    by_test true = last_in-push before x
+    by_test false = ap last_in (append-nil before)
+
+pub last_of-push : (told : Thing) (done : List (ℕ × Effect)) (at : ℕ) (doing : Effect)
+    → last_of (done ++ (at, doing) ∷ []) told
+    ≡ cond (does_set told doing) (Some (LastStepped at doing)) (last_of done told)
+last_of-push told done at doing =
+    ap (option_map (λ step. LastStepped step.0 step.1)) (setting-push told done (at, doing))
+    ∙ by_test (does_set told doing)
+  where
+    by_test : (b : Bool) → option_map (λ step. LastStepped step.0 step.1)
+        (cond b (Some (at, doing)) (last_setting told done))
+        ≡ cond b (Some (LastStepped at doing)) (last_of done told)
+    by_test true = refl
+    by_test false = refl
+
+-- the next of what a step does
+placed_more : (before : List (ℕ × Effect)) (at : ℕ) (done : List Effect) (doing : Effect)
+    → before ++ map (placed_at at) (done ++ doing ∷ [])
+    ≡ (before ++ map (placed_at at) done) ++ (at, doing) ∷ []
+placed_more before at done doing =
+    ap (λ xs. before ++ xs) (map-append (placed_at at) done (doing ∷ []))
+    ∙ sym (append_assoc before (map (placed_at at) done) ((at, doing) ∷ []))
+
+pub noted_next : (told : Thing) (before : List (ℕ × Effect)) (at : ℕ) (done : List Effect)
+    (doing : Effect) (found next : Option Item)
+    → found ≡ last_of (before ++ map (placed_at at) done) told
+    → next ≡ cond (does_set told doing) (Some (LastStepped at doing)) found
+    → next ≡ last_of (before ++ map (placed_at at) (done ++ doing ∷ [])) told
+noted_next told before at done doing found next so is =
+    is ∙ ap (cond (does_set told doing) (Some (LastStepped at doing))) so
+    ∙ sym (last_of-push told (before ++ map (placed_at at) done) at doing)
+    ∙ ap (λ steps. last_of steps told) (sym (placed_more before at done doing))
+
+-- a list in which one element more is that of another function
+pub one_more_set : {A B : Type 0} (f g : A → B) (xs : List A) (i : ℕ) (d : A) → i < length xs
+    → set (map g (take i xs) ++ map f (drop i xs)) i (g (get_or xs i d))
+    ≡ map g (take (i + 1) xs) ++ map f (drop (i + 1) xs)
+one_more_set f g [] i d low = absurd (omega (arith, low))
+one_more_set f g (x ∷ xs) zero d low = refl
+one_more_set f g (x ∷ xs) (suc i) d low =
+    let more : suc (i + 1) ≡ suc i + 1 = omega arith in
+    ap (λ ys. g x ∷ ys) (one_more_set f g xs i d (omega (arith, low)))
+    ∙ ap (λ n. map g (take n (x ∷ xs)) ++ map f (drop n (x ∷ xs))) more
+
+pub here_still : {A B : Type 0} (f g : A → B) (xs : List A) (i : ℕ) (d : A) (e : B) → i < length xs
+    → get_or (map g (take i xs) ++ map f (drop i xs)) i e ≡ f (get_or xs i d)
+here_still f g [] i d e low = absurd (omega (arith, low))
+here_still f g (x ∷ xs) zero d e low = refl
+here_still f g (x ∷ xs) (suc i) d e low = here_still f g xs i d e (omega (arith, low))
+
+-- what is there of what a function may give
+pub there_in : {A B : Type 0} (f : A → Option B) (xs : List A)
+    → filter_map (λ o. o) (map f xs) ≡ filter_map f xs
+there_in f [] = refl
+there_in f (x ∷ xs) = ap (cons_option (f x)) (there_in f xs)
+
+-- before the first step nothing is set
+pub none_set : (items : List Item) → replicate (length items) None ≡ map (last_item []) items
+none_set [] = refl
+none_set (item ∷ items) = ap (λ xs. None ∷ xs) (none_set items)
+
+-- what is done before one position more
+pub done_next : (c : Charter) (starting : List StartWord) (front : List Entry) (p : ℕ)
+    → done_before c starting front p ++ map (placed_at p) (done_at c starting front p)
+    ≡ done_before c starting front (p + 1)
+done_next c starting front p =
+    flat_map_more (λ q. map (placed_at q) (done_at c starting front q)) [] (numbers_below p) p
+    ∙ ap (flat_map (λ q. map (placed_at q) (done_at c starting front q)))
+    (sym (numbers_below-push p))

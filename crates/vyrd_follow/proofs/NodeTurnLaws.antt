@@ -1,0 +1,97 @@
+-- The keys that a write to a node turns, from those that the node gives to.
+use Rattle.std.proofs.Common.{◌≡◌, ◌≢◌, ℕ, ◌+◌, ◌*◌, ◌/◌, ◌%◌, ◌^◌, ◌<◌, ◌≤◌, Bool, true, false}
+use Rattle.std.proofs.Common.{not}
+use Rattle.std.proofs.Common.{length, map, get_or, set, take, refl, ap, ◌∙◌, sym, arith}
+use Rattle.std.proofs.Common.{List, []}
+use Rattle.std.specs.Prelude.{◌==◌, filter}
+use Rattle.std.proofs.lemmas.List.{take_all}
+use Rattle.vyrd_base.specs.declared.header.Header.{Header}
+use Rattle.vyrd_base.specs.declared.subject.Subject.TheVariants.{Tree}
+use Rattle.vyrd_base.specs.Amounts.{Amounts, IsAmounts, amount_of, keys_of}
+use Rattle.vyrd_base.specs.Tree.{node_word}
+use Rattle.vyrd_base.specs.Views.{view_of_words}
+use Rattle.vyrd_base.proofs.DifferenceLaws.{is_in}
+use Rattle.vyrd_base.proofs.TestLaws.{same_of, apart_of, is_same}
+use Rattle.vyrd_view.specs.Chains.{is_on_chain}
+use Rattle.vyrd_view.proofs.NodeLaws.{marked_within}
+use Rattle.vyrd_follow.specs.Doings.{differ_at}
+use Rattle.vyrd_follow.specs.Turns.{turned_to, turns}
+use Rattle.vyrd_follow.proofs.DifferenceLaws.{differences_are, differences_of, key_among, keys_rise}
+use Rattle.vyrd_follow.proofs.DifferenceLaws.{true_false}
+use Rattle.vyrd_follow.proofs.TreeLaws.{node_turned, node_none, word_before}
+
+-- no key turns
+pub no_turns : (from to : Amounts) → ((q : ℕ) → amount_of from q ≡ amount_of to q)
+    → [] ≡ turns from to
+no_turns from to same = ap (map (turned_to to)) (differences_are from to [] tt
+    (λ q. sym (ap not (is_same (amount_of from q) (amount_of to q) (same q)))))
+
+-- those of these keys that turn
+abbrev pub turns_among : Amounts → Amounts → Amounts → List (ℕ × ℕ)
+turns_among from to keys = map (turned_to to) (filter (differ_at from to) (keys_of keys))
+
+-- ---- all keys that a node gives to
+
+module _ (h : Header) (w was : ℕ) (words : List ℕ) (is : h.subject ≡ Tree) (some : 0 < h.size)
+    (unlinked : w % 12 ≢ 3) (within : w < length words) (low : w / 12 < h.size)
+    (on : is_on_chain h.size words (w / 12) ≡ true) (keys : Amounts) (formed : IsAmounts keys)
+    (has_was : amount_of keys was ≢ 0) (has_damage : amount_of keys (2 ^ 33) ≢ 0)
+    (has_entries : (j : ℕ) → j < 4 → amount_of keys (node_word words (w / 12) (4 + j)) ≢ 0) where
+  others_stay : (q : ℕ) → amount_of keys q ≡ 0
+      → amount_of (view_of_words h (set words w was)) q ≡ amount_of (view_of_words h words) q
+  others_stay q none =
+      let not_was : q ≢ was = λ e. has_was (ap (amount_of keys) (sym e) ∙ none) in
+      let sound : q ≢ 2 ^ 33 = λ e. has_damage (ap (amount_of keys) (sym e) ∙ none) in
+      let entries = λ (j : ℕ) (few : j < 4) (e : q ≡ node_word words (w / 12) (4 + j)).
+      has_entries j few (ap (amount_of keys) (sym e) ∙ none) in
+      omega (
+        arith,
+        node_turned h w was words q is some unlinked low on,
+        node_none q words (w / 12) entries sound,
+        node_none q (set words w was) (w / 12) (λ j few. word_before words w was
+            (12 * (w / 12) + (4 + j)) q within not_was (entries j few)) sound,
+      )
+
+  -- the turns among them are all turns
+  pub node_turns_all : turns_among (view_of_words h (set words w was)) (view_of_words h words) keys
+      ≡ turns (view_of_words h (set words w was)) (view_of_words h words)
+  node_turns_all = ap (map (turned_to (view_of_words h words)))
+      (differences_of (view_of_words h (set words w was)) (view_of_words h words) (keys_of keys)
+      (keys_rise keys formed.rising) (λ q isnt. by_test q isnt (amount_of keys q == 0) refl))
+    where
+      by_test : (q : ℕ) → is_in q (keys_of keys) ≡ false → (b : Bool) → (amount_of keys q == 0) ≡ b
+          → amount_of (view_of_words h (set words w was)) q ≡ amount_of (view_of_words h words) q
+      by_test q isnt true e = others_stay q (same_of (amount_of keys q) 0 e)
+      by_test q isnt false e = true_false (is_in q (keys_of keys))
+          (key_among keys q (apart_of (amount_of keys q) 0 e)) isnt
+
+  -- once all of these keys were looked at
+  pub all_found : (shown items : Amounts) (found : List (ℕ × ℕ)) (i : ℕ)
+      → shown ≡ view_of_words h (set words w was) → items ≡ keys → length items ≤ i
+      → found ≡ turns_among shown (view_of_words h words) (take i items)
+      → found ≡ turns shown (view_of_words h words)
+  all_found shown items found i shows all end is =
+      is ∙ ap (turns_among shown (view_of_words h words)) (take_all i items end ∙ all)
+      ∙ ap (λ s. turns_among s (view_of_words h words) keys) shows ∙ node_turns_all
+      ∙ ap (λ s. turns s (view_of_words h words)) (sym shows)
+
+-- ---- marks
+
+module _ (size s : ℕ) (words : List ℕ) (marks seen : List Bool) (n : ℕ) (b : Bool)
+    (same : s ≡ size) (is : seen ≡ marks)
+    (each : (m : ℕ) → m < s → get_or marks m false ≡ is_on_chain s words m)
+    (here : b ≡ get_or seen n false) where
+  has_mark : n < size → is_on_chain size words n ≡ b
+  has_mark low =
+      ap (λ k. is_on_chain k words n) (sym same) ∙ sym (each n (omega (arith, low, same)))
+      ∙ ap (λ ms. get_or ms n false) (sym is) ∙ sym here
+
+  pub marks_off : b ≡ false → n < size → is_on_chain size words n ≡ false
+  marks_off off low = has_mark low ∙ off
+
+  pub marks_low : length marks ≡ s → b ≡ true → n < size
+  marks_low count on =
+      omega (arith, same, count, ap length is, marked_within seen n (sym here ∙ on))
+
+  pub marks_on : length marks ≡ s → b ≡ true → is_on_chain size words n ≡ true
+  marks_on count on = has_mark (marks_low count on) ∙ on

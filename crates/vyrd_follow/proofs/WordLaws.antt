@@ -1,0 +1,18 @@
+-- What the part of a word gives, as it was decoded from the words of all parts.
+use Rattle.std.proofs.Common.{◌≡◌, ℕ, ◌/◌, List, take, ap, ◌∙◌}
+use Rattle.vyrd_base.specs.Amounts.{given}
+use Rattle.vyrd_own_states.specs.PartPairs.{pairs_in, part_pairs}
+use Rattle.vyrd_view.specs.Decoded.{Gives}
+
+module _ (width places : ℕ) (gives : Gives) (q w whole : ℕ) (all : List ℕ) where
+  pub given_there : (n m k : ℕ) (pairs found : List (ℕ × ℕ)) (there : List ℕ) → pairs ≡ found
+      → n ≡ places → m ≡ whole → there ≡ all → k ≡ width
+      → given q (pairs_in places found)
+      ≡ given q (part_pairs width places gives (take m there) (w / k))
+      → given q (pairs_in n pairs)
+      ≡ given q (part_pairs width places gives (take whole all) (w / width))
+  given_there n m k pairs found there same few many is wide gave =
+      ap (λ ps. given q (pairs_in n ps)) same ∙ ap (λ j. given q (pairs_in j found)) few ∙ gave
+      ∙ ap (λ j. given q (part_pairs width places gives (take j there) (w / k))) many
+      ∙ ap (λ words. given q (part_pairs width places gives (take whole words) (w / k))) is
+      ∙ ap (λ j. given q (part_pairs width places gives (take whole all) (w / j))) wide

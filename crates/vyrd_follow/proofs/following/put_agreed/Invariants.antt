@@ -1,0 +1,6 @@
+use Rattle.std.proofs.Common.{◌≡◌, ◌++◌, take}
+use Rattle.vyrd_follow.specs.Following.{agreed_items}
+use Rattle.vyrd_follow.proofs.following.put_agreed.Given as goal
+
+abbrev pub invariant-loop-key : goal.invariant-loop-key
+invariant-loop-key l = l.items.items ≡ l.fn.items.items ++ agreed_items (take l.key-index l.pairs)

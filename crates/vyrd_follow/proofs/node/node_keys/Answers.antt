@@ -1,0 +1,32 @@
+use Rattle.std.proofs.Common.{◌≢◌, ◌+◌, sym, subst, arith}
+use Rattle.std.proofs.lemmas.Result.{IfOk-weaker}
+use Rattle.vyrd_base.specs.Amounts.{amount_of}
+use Rattle.vyrd_base.specs.Tree.{node_word}
+use Rattle.vyrd_follow.proofs.NodeKeyLaws.{entries_there, there_then, first_there, second_there}
+use Rattle.vyrd_follow.proofs.node.node_keys.Goals as goal
+
+pub loop-j-preserved : goal.loop-j-preserved
+loop-j-preserved c =
+    entries_there c.args.words.now c.args.node c.loop-j.j c.loop-j.keys c.set.new.self
+    c.in_ok-set.ensures.ok c.loop-j.invariant
+
+pub returns-clause-was : goal.returns-clause-was
+returns-clause-was c =
+    IfOk-weaker c.view.result _ _ (λ keys is. subst (λ s. amount_of s c.args.was ≢ 0) (sym is)
+    (first_there c.loop-j.keys c.set-2.new.self c.set-3.new.self c.args.was 8589934592
+    c.in_ok-set-2.ensures.ok c.in_ok-set-3.ensures.ok)) c.view.ensures
+
+pub returns-clause-damage : goal.returns-clause-damage
+returns-clause-damage c =
+    IfOk-weaker c.view.result _ _ (λ keys is. subst (λ s. amount_of s 8589934592 ≢ 0) (sym is)
+    (second_there c.set-2.new.self c.set-3.new.self 8589934592 c.in_ok-set-3.ensures.ok))
+    c.view.ensures
+
+pub returns-clause-entries : goal.returns-clause-entries
+returns-clause-entries c =
+    IfOk-weaker c.view.result _ _ (λ keys is j low.
+    subst (λ s. amount_of s (node_word c.args.words.now c.args.node (4 + j)) ≢ 0) (sym is)
+    (there_then c.loop-j.keys c.set-2.new.self c.set-3.new.self c.args.was 8589934592
+    (node_word c.args.words.now c.args.node (4 + j)) c.in_ok-set-2.ensures.ok
+    c.in_ok-set-3.ensures.ok (c.loop-j.invariant j (omega (arith, low, c.loop-j-test.false)))))
+    c.view.ensures

@@ -1,0 +1,8 @@
+use Rattle.std.proofs.Common.{◌≢◌, ℕ, ◌+◌, ◌<◌}
+use Rattle.vyrd_base.specs.Amounts.{amount_of}
+use Rattle.vyrd_base.specs.Tree.{node_word}
+use Rattle.vyrd_follow.proofs.node.node_keys.Given as goal
+
+abbrev pub invariant-loop-j : goal.invariant-loop-j
+invariant-loop-j l =
+    (j : ℕ) → j < l.j → amount_of l.keys (node_word l.words l.node (4 + j)) ≢ 0

@@ -1,0 +1,9 @@
+pub mod Doings
+pub mod Following
+pub mod LastSteps
+pub mod Turns
+pub mod WordsBy
+pub mod NextKeys
+pub mod KeptWords
+pub mod Samples
+pub mod Nodes
