@@ -3,8 +3,8 @@
 use Rattle.std.specs.Prelude.{ℕ}
 use Rattle.vyrd_base.proofs.Opened.{opened_text}
 use Rattle.vyrd_log_check.proofs.Opened.{opened_log}
-use Rattle.vyrd_witness.specs.ItemText.{reply_words, word_words}
-use Rattle.vyrd_witness.proofs.Opened.{opened as opened_items}
+use Rattle.vyrd_item_text.specs.ItemText.{reply_words, word_words}
+use Rattle.vyrd_item_text.proofs.Opened.{opened as opened_items}
 use Rattle.vyrd_explain.specs.Explained.{explained}
 
 unfoldable pub opened_answer : ℕ

@@ -11,6 +11,7 @@ use Rattle.vyrd_log_check.proofs.LengthFacts.{bytes_short}
 use Rattle.vyrd_log_check.proofs.LengthLaws.{undecided_is_short}
 use Rattle.vyrd_log_check.proofs.LogLasts.{log_verdict_lasts, log_verdict_stands, nothing_yet}
 use Rattle.vyrd_log_check.proofs.OwnLengths.{own_bytes_short}
+use Rattle.vyrd_explain.specs.declared.about.About.{About}
 use Rattle.vyrd_explain.specs.Explained.{read_as, own_read_as, explanation, explained, is_settled}
 
 -- there is something
@@ -53,16 +54,17 @@ verdict_lasts max bytes more low high e =
     ∙ sym (ap (log_verdict max) (sym (append-nil bytes))
     ∙ log_verdict_stands max bytes [] s.verdict low high s.stands)
 
-pub text_lasts : (max : ℕ) (bytes more : List ℕ) → 1 ≤ max → max ≤ 268435456
-    → is_settled max bytes ≡ true → explained max (bytes ++ more) ≡ explained max bytes
+pub text_lasts : (about : About) (max : ℕ) (bytes more : List ℕ) → 1 ≤ max → max ≤ 268435456
+    → is_settled max bytes ≡ true
+    → explained about max (bytes ++ more) ≡ explained about max bytes
 unfolding explained
-text_lasts max bytes more low high e =
+text_lasts about max bytes more low high e =
     let s = settled max bytes e in
     let read = (reading_grows max false bytes more low).grown.fault s.fault s.stops in
     let own_read =
     (reading_grown max false bytes more low high).fault s.own_fault s.own_stops in
     let verdict = verdict_lasts max bytes more low high e in
-    λ i. explanation (read i) (own_read i) (verdict i)
+    λ i. explanation about (read i) (own_read i) (verdict i)
 
 pub ruleset lasting = (verdict_lasts, text_lasts)
 

@@ -24,6 +24,7 @@ use Rattle.vyrd_own_log.specs.ReaderView.{state_in}
 use Rattle.vyrd_own_log.specs.States.{header_at}
 use Rattle.vyrd_own_log.proofs.GrownLaws.{reading_formed}
 use Rattle.vyrd_log_check.specs.Checking.{HasChecked}
+use Rattle.vyrd_explain.specs.declared.about.About.{About}
 use Rattle.vyrd_explain.specs.Explained.{read_as, own_read_as, explanation, explained, is_settled}
 use Rattle.vyrd_explain.specs.Explaining.{ExplainerState, HasTaken, own_limit}
 
@@ -58,12 +59,13 @@ settled_is max first other bytes v stops own_stops limit own_limit is faulty own
     && (own_faulty ∙ ap (λ m. is_some (own_read_as m bytes).fault) own_limit) i)
 
 -- the answer, by what was read and what the verdict is
-pub explained_is : (max first other : ℕ) (bytes : List ℕ) (v : Verdict) → first ≡ max
+pub explained_is : (about : About) (max first other : ℕ) (bytes : List ℕ) (v : Verdict) → first ≡ max
     → other ≡ max → v ≡ log_verdict max bytes
-    → explanation (read_as first bytes) (own_read_as other bytes) v ≡ explained max bytes
+    → explanation about (read_as first bytes) (own_read_as other bytes) v
+    ≡ explained about max bytes
 unfolding explained
-explained_is max first other bytes v limit own_limit is =
-    λ i. explanation (read_as (limit i) bytes) (own_read_as (own_limit i) bytes) (is i)
+explained_is about max first other bytes v limit own_limit is =
+    λ i. explanation about (read_as (limit i) bytes) (own_read_as (own_limit i) bytes) (is i)
 
 -- the header that the reader keeps is that of a built-in subject
 pub kept_built_in : (e : ExplainerState) → ∥ ((bytes : List ℕ) × HasTaken e bytes) ∥₁

@@ -2,4 +2,3 @@ pub mod Verdicts
 pub mod Explained
 pub mod Explaining
 pub mod ExplainerView
-pub mod PartPairs

@@ -25,13 +25,14 @@ use Rattle.vyrd_states.specs.Known.{after_items}
 use Rattle.vyrd_states.specs.Replies.{reply_items}
 use Rattle.vyrd_states.specs.Windows.{observer_items}
 use Rattle.vyrd_own_states.specs.OwnReplies.{own_reply_items}
+use Rattle.vyrd_follow.specs.LastSteps.{last_items}
 
 -- what the words show, where a fault is that the views differ, and of any fault where the execution
 -- was called and returns
-abbrev pub shown_items : Rules → List StartWord → List Entry → ℕ → Why → List Item
-shown_items r starting front at (Reply reply) = called_items front at
-shown_items r starting front at (View key) = view_items r starting front at key
-shown_items r starting front at (Observer reply) = called_items front at
+abbrev pub shown_items : Charter → List StartWord → List Entry → ℕ → Why → List Item
+shown_items c starting front at (Reply reply) = called_items front at
+shown_items c starting front at (View key) = view_items c starting front at key
+shown_items c starting front at (Observer reply) = called_items front at
 
 -- what the specification's state before a commit says of a reply that it refuses
 abbrev pub refused_items : Charter → List StartWord → List Entry → ℕ → ℕ → List Item
@@ -39,16 +40,21 @@ refused_items (built_in h) starting front at reply = reply_items (rules_of h) st
 refused_items (own h lines) starting front at reply =
     own_reply_items h (written_in lines) starting front at reply
 
+-- what is told of that state, and behind it which step before was the last that set it
+abbrev pub refused_with_last : Charter → List StartWord → List Entry → ℕ → List Item → List Item
+refused_with_last c starting front at items = items ++ last_items c starting front at items
+
 -- what the specification's state says of a fault
 abbrev pub state_items : Charter → List StartWord → List Entry → ℕ → Why → List Item
-state_items c starting front at (Reply reply) = refused_items c starting front at reply
+state_items c starting front at (Reply reply) =
+    refused_with_last c starting front at (refused_items c starting front at reply)
 state_items c starting front at (View key) = after_items (rules_by c) starting front at key
 state_items c starting front at (Observer reply) = observer_items (rules_by c) starting front at
 
 -- what is said of a fault at a position of a front
 abbrev pub fault_items : Charter → List StartWord → List Entry → ℕ → Why → List Item
 fault_items c starting front at why =
-    shown_items (rules_by c) starting front at why ++ state_items c starting front at why
+    shown_items c starting front at why ++ state_items c starting front at why
 
 -- the position of the entry of a front that stands on a line, if one does; `line` gives the line of
 -- the entry at a position

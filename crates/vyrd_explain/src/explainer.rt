@@ -8,6 +8,7 @@ ghost use Rattle.vyrd_log_check.specs.Checking.{most_lines};
 ghost use Rattle.vyrd_explain.specs.Explained.{explained, is_settled};
 ghost use Rattle.vyrd_explain.specs.Explaining.{HasTaken, limit_of};
 
+use crate::about::About;
 use crate::own_reading::own_read_on;
 use crate::own_text::own_said_about;
 use crate::reading::read_on;
@@ -19,17 +20,17 @@ use vyrd_log_check::LogChecker;
 use vyrd_own_log::OwnLogReader;
 use vyrd_text::{LogReader, write_verdict};
 
-/// A verdict, and what is answered about it.
+/// A verdict, and what is answered about its log.
 #[derive(Debug, Drop)]
 pub struct Explained {
     /// The verdict.
     pub verdict: Verdict,
-    /// Its line, and a line for each thing that has to do with it.
+    /// Its line, and a line for each thing that is told behind it.
     pub text: Vec<u8>,
 }
 
-/// Takes in the bytes of a log, which may come in pieces of any size, and explains its verdict at
-/// their end.
+/// Takes in the bytes of a log, which may come in pieces of any size, and at their end explains its
+/// verdict, or tells what changes along the log.
 ///
 /// It keeps what a [`LogChecker`] keeps, and the starting words and entries that were read, 24
 /// bytes for each entry. Of a log with a specification in front these are 8 bytes more, for the
@@ -120,24 +121,27 @@ impl Explainer {
         Ok(verdict.is_some() && both_stop)
     }
 
-    /// The verdict about all bytes, and what is answered about it, if the input ends here.
+    /// The verdict about all bytes, and what is answered about it or about the log, if the input
+    /// ends here.
     ///
     /// The time is in proportion to the entries, and for each of them to the callers at most, and
-    /// what is said takes besides what the calls of `vyrd_witness` and `vyrd_states` take.
-    pub fn finish(&self) -> Result<Explained, AllocError>
+    /// what is said takes besides what the calls of `vyrd_witness`, `vyrd_states` and `vyrd_follow`
+    /// take.
+    pub fn finish(&self, about: About) -> Result<Explained, AllocError>
         ensures verdict { (bytes : List ℕ) → HasTaken self.now bytes
             → IfOk result (λ e. e.verdict ≡ log_verdict (limit_of self.now) bytes) }
         ensures text { (bytes : List ℕ) → HasTaken self.now bytes
-            → IfOk result (λ e. e.text.items ≡ explained (limit_of self.now) bytes) }
+            → IfOk result (λ e. e.text.items ≡ explained about (limit_of self.now) bytes) }
         ensures has_failed { self.now.has_failed ≡ true → is_err result ≡ true }
     {
         if self.has_failed {
             return Err(AllocError);
         }
         let verdict = self.checker.finish()?;
-        let said = said_about(self.alloc, &self.reader, &self.entries, verdict)?;
+        let said = said_about(self.alloc, about, &self.reader, &self.entries, verdict)?;
         let own_said = own_said_about(
             self.alloc,
+            about,
             &self.own,
             &self.own_entries,
             &self.numbers,

@@ -13,7 +13,8 @@ use crate::explains::Explains;
 use crate::front::front_len;
 use std::alloc::{AllocError, Global};
 use vyrd_base::{Entry, Header, Rule, StartWord, Verdict, Why};
-use vyrd_witness::{Item, Lines, called_items, open_items, race_items, view_items};
+use vyrd_item_text::Lines;
+use vyrd_witness::{Item, called_items, open_items, race_items, view_items};
 
 /// What is said of a verdict about the entries of a log that begins with these words. The entries
 /// stand on these lines.
@@ -112,7 +113,7 @@ fn shown_items<E: Explains>(
     requires within { at < length front.now }
     requires kept { first_break (rules_by (E.charter shown.now)).header front.now ≡ None }
     ensures { IfOk result (λ items. items.items
-        ≡ shown_items (rules_by (E.charter shown.now)) starting.now front.now at why) }
+        ≡ shown_items (E.charter shown.now) starting.now front.now at why) }
 {
     match why {
         Why::View(key) => view_items(alloc, shown, starting, front, at, key),

@@ -2,7 +2,7 @@
 
 ghost use Rattle.std.specs.Prelude.{◌≡◌, ◌+◌, ℕ, slice_index};
 
-use vyrd_witness::Lines;
+use vyrd_item_text::Lines;
 
 /// The lines of entries, as they were numbered.
 #[derive(Clone, Copy)]

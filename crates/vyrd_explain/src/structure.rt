@@ -5,9 +5,10 @@ ghost use Rattle.vyrd_base.specs.Rules.{built_in};
 ghost use Rattle.vyrd_base.specs.Subjects.{is_built_in};
 
 use crate::explains::Explains;
+use crate::last::with_last;
 use std::alloc::{AllocError, Global};
 use vyrd_base::{Entry, Header, StartWord, Why};
-use vyrd_states::{FromHeader, after_items, observer_items, reply_items};
+use vyrd_states::{Begins, FromHeader, after_items, observer_items, reply_items};
 use vyrd_witness::{BuiltInShown, Item, Shown};
 
 /// The structure of a header whose subject is built in.
@@ -38,6 +39,16 @@ impl Shown for BuiltInStructure {
         BuiltInShown::new(self.header).amount(alloc, words, key)
     }
 
+    fn put_parts(
+        &self,
+        alloc: Global,
+        words: &[u64],
+        key: u64,
+        parts: &mut Vec<(usize, u128)>,
+    ) -> Result<(), AllocError> {
+        BuiltInShown::new(self.header).put_parts(alloc, words, key, parts)
+    }
+
     fn amount_after(
         &self,
         alloc: Global,
@@ -62,7 +73,11 @@ impl Explains for BuiltInStructure {
     ) -> Result<Vec<Item>, AllocError> {
         let begins = FromHeader::new(self.header);
         match why {
-            Why::Reply(_) => reply_items(alloc, &begins, starting, front, at),
+            Why::Reply(_) => {
+                let items = reply_items(alloc, &begins, starting, front, at)?;
+                let spec = begins.begin(alloc, starting)?;
+                with_last(alloc, spec, starting, front, at, items)
+            }
             Why::View(key) => after_items(alloc, &begins, starting, front, at, key),
             Why::Observer(_) => observer_items(alloc, &begins, starting, front, at),
         }

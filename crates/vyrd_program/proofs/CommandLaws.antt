@@ -24,7 +24,7 @@ answer_outside asked.Movers n (inl low) = inl (omega (arith, low))
 answer_outside asked.Movers n (inr ten) = inr (omega (arith, ten))
 answer_outside asked.Batch n (inl low) = inl low
 answer_outside asked.Batch n (inr eleven) = inr (omega (arith, eleven))
-answer_outside asked.Explain n low = inl low
+answer_outside (asked.Tell about) n low = inl low
 
 no_answer : (form : Form) (n : ℕ) → 3 ≤ n → n ≤ 6 → IsAnswerStatus (Some form) n → ⊥
 no_answer form n low high answered = elim (answer_outside form n answered) [

@@ -5,6 +5,7 @@ use Rattle.vyrd_base.specs.declared.verdict.Verdict.{Verdict}
 use Rattle.vyrd_base.specs.Devices.{SourceKnown, IsAtEnd}
 use Rattle.vyrd_base.specs.LogVerdicts.{log_verdict}
 use Rattle.vyrd_log_check.specs.Checking.{IsLimit}
+use Rattle.vyrd_explain.specs.declared.about.About.{About}
 use Rattle.vyrd_explain.specs.Explained.{explained, is_settled}
 use Rattle.vyrd_explain.specs.Explaining.{ExplainerState, HasTaken, limit_of}
 use Rattle.vyrd_explain.proofs.SettledLaws.{settled_stays, nothing_settled, verdict_lasts, text_lasts, unsettled_is_short}
@@ -116,33 +117,33 @@ longest_settled max before now explainer count low so_far longest =
     absurd (omega (arith, unsettled_is_short max so_far.bytes low so_far.unsettled, so_far.many, longest))
 
 -- What is said of what was taken is what is said of the whole input.
-says_whole : (max : ℕ) (before after : SourceKnown) (bytes : List ℕ) → IsLimit max → IsTaken before.rest bytes after.rest
-    → IsAtEnd after ⊎ (is_settled max bytes ≡ true) → IfSome before.rest (SaysWhole max bytes)
-says_whole max before after bytes within told enough =
-    subst (λ input. IfSome input (SaysWhole max bytes)) (sym told) (by_rest after.rest (by_end enough))
+says_whole : (about : About) (max : ℕ) (before after : SourceKnown) (bytes : List ℕ) → IsLimit max → IsTaken before.rest bytes after.rest
+    → IsAtEnd after ⊎ (is_settled max bytes ≡ true) → IfSome before.rest (SaysWhole about max bytes)
+says_whole about max before after bytes within told enough =
+    subst (λ input. IfSome input (SaysWhole about max bytes)) (sym told) (by_rest after.rest (by_end enough))
   where
     by_end : IsAtEnd after ⊎ (is_settled max bytes ≡ true) → IfSome after.rest (λ left. left ≡ []) ⊎ (is_settled max bytes ≡ true)
     by_end (inl ended) = inl ended.none
     by_end (inr settled) = inr settled
 
     by_rest : (rest : Option (List ℕ)) → IfSome rest (λ left. left ≡ []) ⊎ (is_settled max bytes ≡ true)
-        → IfSome (option_map (λ left. bytes ++ left) rest) (SaysWhole max bytes)
+        → IfSome (option_map (λ left. bytes ++ left) rest) (SaysWhole about max bytes)
     by_rest None enough = tt
     by_rest (Some left) (inl none) =
         let same : bytes ≡ bytes ++ left = sym (ap (λ left. bytes ++ left) none ∙ no_more_bytes bytes) in
-        record { verdict = ap (log_verdict max) same; text = ap (explained max) same }
+        record { verdict = ap (log_verdict max) same; text = ap (explained about max) same }
     by_rest (Some left) (inr settled) = record {
       verdict = sym (verdict_lasts max bytes left within.low within.high settled);
-      text = sym (text_lasts max bytes left within.low within.high settled);
+      text = sym (text_lasts about max bytes left within.low within.high settled);
     }
 
 -- the answer, of what was taken
-pub explain_answered : (max : ℕ) (before after : SourceKnown) (explainer : ExplainerState) (status : ℕ) (v : Verdict) (text : List ℕ) → IsLimit max
+pub explain_answered : (about : About) (max : ℕ) (before after : SourceKnown) (explainer : ExplainerState) (status : ℕ) (v : Verdict) (text : List ℕ) → IsLimit max
     → (t : IsLogTaken max before after explainer) → status ≡ status_of v → v ≡ log_verdict (limit_of explainer) t.bytes
-    → text ≡ explained (limit_of explainer) t.bytes → AnswersExplain max before.rest status text
-explain_answered max before after explainer status v text within t status_is verdict_is text_is = record {
+    → text ≡ explained about (limit_of explainer) t.bytes → AnswersExplain about max before.rest status text
+explain_answered about max before after explainer status v text within t status_is verdict_is text_is = record {
   taken = t.bytes;
-  whole = says_whole max before after t.bytes within t.told t.enough;
+  whole = says_whole about max before after t.bytes within t.told t.enough;
   status_is = status_is ∙ ap status_of verdict_is ∙ ap (λ max. status_of (log_verdict max t.bytes)) t.limit;
-  text_is = text_is ∙ ap (λ max. explained max t.bytes) t.limit;
+  text_is = text_is ∙ ap (λ max. explained about max t.bytes) t.limit;
 }

@@ -29,7 +29,7 @@ IsAnswerStatus (Some (asked.Run show)) status = IsRunStatus status
 IsAnswerStatus (Some (asked.Gen n)) status = IsGenStatus status
 IsAnswerStatus (Some asked.Movers) status = IsMoversStatus status
 IsAnswerStatus (Some asked.Batch) status = IsBatchStatus status
-IsAnswerStatus (Some asked.Explain) status = status ≤ 2
+IsAnswerStatus (Some (asked.Tell about)) status = status ≤ 2
 
 -- This status and this text are those of an answer to the input.
 abbrev pub IsAnswer : Option Form → Option (List ℕ) → ℕ → List ℕ → Type 0
@@ -40,7 +40,8 @@ IsAnswer (Some (asked.Run show)) input status text = AnswersRun show input statu
 IsAnswer (Some (asked.Gen n)) input status text = IsGenAnswer n status text
 IsAnswer (Some asked.Movers) input status text = AnswersMovers input status text
 IsAnswer (Some asked.Batch) input status text = AnswersBatch input status text
-IsAnswer (Some asked.Explain) input status text = AnswersExplain most_explained input status text
+IsAnswer (Some (asked.Tell about)) input status text =
+    AnswersExplain about most_explained input status text
 
 -- whether the source is read
 abbrev pub reads : Option Form → Bool
@@ -51,7 +52,7 @@ reads (Some (asked.Run show)) = true
 reads (Some (asked.Gen n)) = false
 reads (Some asked.Movers) = true
 reads (Some asked.Batch) = true
-reads (Some asked.Explain) = true
+reads (Some (asked.Tell about)) = true
 
 -- The statuses that a call may end with: an answer's, 4 where the source is read, 5, and 6 if more
 -- is done than to write the usage line.
@@ -72,7 +73,7 @@ IsEnough (Some asked.Movers) status before after =
     IsInputTaken longest_history 10 status before after
 IsEnough (Some asked.Batch) status before after =
     IsInputTaken longest_batch_input 11 status before after
-IsEnough (Some asked.Explain) status before after = IsExplainTaken most_explained before after
+IsEnough (Some (asked.Tell about)) status before after = IsExplainTaken most_explained before after
 
 -- And no more than that: of a log at most one read more, and of all other inputs no byte more.
 abbrev pub IsNoFurther : Option Form → SourceKnown → SourceKnown → Type 0
@@ -83,7 +84,7 @@ IsNoFurther (Some (asked.Run show)) before after = IsFewTaken longest_input befo
 IsNoFurther (Some (asked.Gen n)) before after = ⊤
 IsNoFurther (Some asked.Movers) before after = IsFewTaken longest_history before after
 IsNoFurther (Some asked.Batch) before after = IsFewTaken longest_batch_input before after
-IsNoFurther (Some asked.Explain) before after = IsExplainNoFurther most_explained before after
+IsNoFurther (Some (asked.Tell about)) before after = IsExplainNoFurther most_explained before after
 
 -- the sink has taken the text of an answer with this status
 pub record HasAnswered (form : Option Form) (input : Option (List ℕ)) (status : ℕ)

@@ -1,8 +1,9 @@
--- What `explain` answers about an input, and what it takes of it.
+-- What `explain` and `follow` answer about an input, and what they take of it.
 use Rattle.std.specs.Prelude.{◌≡◌, ◌⊎◌, ◌≤◌, ◌+◌, ◌*◌, ℕ, true, List, ◌++◌, length, Option}
 use Rattle.std.specs.Prelude.{IfSome}
 use Rattle.vyrd_base.specs.Devices.{SourceKnown, IsAtEnd}
 use Rattle.vyrd_base.specs.LogVerdicts.{log_verdict}
+use Rattle.vyrd_explain.specs.declared.about.About.{About}
 use Rattle.vyrd_explain.specs.Explained.{explained, is_settled}
 use Rattle.vyrd_explain.specs.Explaining.{ExplainerState, HasTaken, limit_of}
 use Rattle.vyrd_program.specs.Inputs.{IsTaken, longest_read}
@@ -18,18 +19,18 @@ abbrev pub longest_explained : ℕ → ℕ
 longest_explained max = 201 * max + 1
 
 -- What is said of these bytes is what is said of the whole input.
-pub record SaysWhole (max : ℕ) (taken input : List ℕ) : Type 0 where
+pub record SaysWhole (about : About) (max : ℕ) (taken input : List ℕ) : Type 0 where
   pub verdict : log_verdict max taken ≡ log_verdict max input
-  pub text : explained max taken ≡ explained max input
+  pub text : explained about max taken ≡ explained about max input
 
 -- The status and the text of an answer to an input. If its bytes are told, what was taken says what
 -- they say.
-pub record AnswersExplain (max : ℕ) (input : Option (List ℕ)) (status : ℕ)
+pub record AnswersExplain (about : About) (max : ℕ) (input : Option (List ℕ)) (status : ℕ)
     (text : List ℕ) : Type 0 where
   pub taken : List ℕ
-  pub whole : IfSome input (SaysWhole max taken)
+  pub whole : IfSome input (SaysWhole about max taken)
   pub status_is : status ≡ status_of (log_verdict max taken)
-  pub text_is : text ≡ explained max taken
+  pub text_is : text ≡ explained about max taken
 
 -- Enough was taken of a source: all to its end, or enough that nothing further changes the answer.
 pub record IsExplainTaken (max : ℕ) (before after : SourceKnown) : Type 0 where

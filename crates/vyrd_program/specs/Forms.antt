@@ -6,20 +6,22 @@ use Rattle.std.specs.Str.{bytes_eq}
 use Rattle.std.specs.Borrow.{Bor}
 use Rattle.vyrd_base.specs.Lines.{number_of}
 use Rattle.vyrd_memory.specs.Bounds.{most_ops}
+use Rattle.vyrd_explain.specs.declared.about.About.TheVariants.{Fault, Changes}
 use Rattle.vyrd_program.specs.declared.show.Show.{Show}
 use Rattle.vyrd_program.specs.declared.show.Show.TheVariants.{Verdict, Log, History}
 use Rattle.vyrd_program.specs.declared.form.Form.{Form}
 use Rattle.vyrd_program.specs.declared.form.Form.TheVariants.{Check, Step, Run, Gen, Movers, Batch}
-use Rattle.vyrd_program.specs.declared.form.Form.TheVariants.{Explain}
+use Rattle.vyrd_program.specs.declared.form.Form.TheVariants.{Tell}
 
--- one word: `check`, `step`, `run`, `movers`, `batch` or `explain`
+-- one word: `check`, `step`, `run`, `movers`, `batch`, `explain` or `follow`
 abbrev pub one_word : List ℕ → Option Form
 one_word word = if bytes_eq word (codes "check") then Some Check
     else (if bytes_eq word (codes "step") then Some (Step Verdict)
     else (if bytes_eq word (codes "run") then Some (Run Verdict)
     else (if bytes_eq word (codes "movers") then Some Movers
     else (if bytes_eq word (codes "batch") then Some Batch
-    else (if bytes_eq word (codes "explain") then Some Explain else None)))))
+    else (if bytes_eq word (codes "explain") then Some (Tell Fault)
+    else (if bytes_eq word (codes "follow") then Some (Tell Changes) else None))))))
 
 -- whether a word is the one spelling of a number from 1 to 200,000
 abbrev pub is_count : List ℕ → Bool

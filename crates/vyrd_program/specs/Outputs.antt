@@ -22,4 +22,4 @@ status_of (Malformed line rule) = 2
 abbrev pub usage_line : List ℕ
 usage_line =
     codes "usage: vyrd check | step [--log|--history] | run [--log|--history] | gen N"
-    ++ codes " | movers | batch | explain\n"
+    ++ codes " | movers | batch | explain | follow\n"

@@ -51,6 +51,6 @@ pub(crate) fn carry_out<R: Threads + Wait + Sync, S: Source, G: Gate>(
         Form::Gen { count } => answer_generated(alloc, count),
         Form::Movers => movers(alloc, source),
         Form::Batch => batch(rt, alloc, source),
-        Form::Explain => explain(alloc, MOST_EXPLAINED, source),
+        Form::Tell { about } => explain(alloc, about, MOST_EXPLAINED, source),
     }
 }

@@ -1,4 +1,4 @@
-//! What `explain` answers.
+//! What `explain` and `follow` answer.
 
 ghost use Rattle.std.specs.Prelude.{◌≡◌, ◌≤◌, ◌⊎◌, ◌==◌, false, [], OnOk};
 ghost use Rattle.vyrd_base.specs.Devices.{AfterReads};
@@ -13,7 +13,7 @@ use crate::read_input::read_more;
 use crate::read_log::ReadFault;
 use std::alloc::Global;
 use vyrd_base::Source;
-use vyrd_explain::Explainer;
+use vyrd_explain::{About, Explainer};
 
 /// How many lines a log may have that the program explains. Its entries are kept, some 24 bytes for
 /// each, so these take up to 400 MB.
@@ -23,18 +23,20 @@ pub(crate) const MOST_EXPLAINED: u64 = 16_777_216;
 const LONGEST_LINE: usize = 201;
 
 /// The answer to a log of at most `max_lines` lines: the line of its verdict, and a line for each
-/// thing in the log that has to do with it; or nothing after a failed read or out of memory.
+/// thing in the log that has to do with it, or that changes along the log; or nothing after a failed
+/// read or out of memory.
 ///
 /// It takes no more of the source once nothing further can change the answer: the verdict stands,
 /// and a line is no line of a log. Behind a violation it reads on, for what comes later may have to
 /// do with it.
-pub fn explain<S: Source>(alloc: Global, max_lines: u64, source: &mut S) -> Answer
+pub fn explain<S: Source>(alloc: Global, about: About, max_lines: u64, source: &mut S) -> Answer
     requires low { 1 ≤ max_lines }
     requires high { max_lines ≤ most_lines }
     requires unended { (S.known source.old).ended ≡ false }
     ensures statuses { (result.status ≤ 2) ⊎ (result.status ≡ 4) ⊎ (result.status ≡ 6) }
     ensures answers { result.status ≤ 2
-        → AnswersExplain max_lines (S.known source.old).rest result.status result.text.items }
+        → AnswersExplain about max_lines (S.known source.old).rest result.status
+        result.text.items }
     ensures consumed { result.status ≤ 2
         → IsExplainTaken max_lines (S.known source.old) (S.known source.new) }
     ensures no_further { IsExplainNoFurther max_lines (S.known source.old) (S.known source.new) }
@@ -43,7 +45,7 @@ pub fn explain<S: Source>(alloc: Global, max_lines: u64, source: &mut S) -> Answ
 {
     let mut explainer = Explainer::new(alloc, max_lines);
     match take_log(alloc, max_lines, &mut explainer, source) {
-        Ok(()) => match explainer.finish() {
+        Ok(()) => match explainer.finish(about) {
             Ok(said) => Answer {
                 status: status_of(said.verdict),
                 text: said.text,

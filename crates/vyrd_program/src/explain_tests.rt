@@ -1,11 +1,14 @@
-//! What the top call explains of logs.
+//! What the top call explains of logs, and what it tells of what changes along them.
 
 use crate::case::{BYTE_BY_BYTE, Case, SHORT_WRITE, failing};
 use crate::explain::explain;
 use std::test::*;
 use vyrd_base::MemorySource;
+use vyrd_explain::About;
 
 const EXPLAIN: &[&str] = &["explain"];
+
+const FOLLOW: &[&str] = &["follow"];
 
 const ACCEPTED: &[u8] =
     b"vyrd 1 multiset 1 1\n0 call insert 5\n0 write 1 5\n0 write 0 1\n0 open\n0 write 0 2\n0 close commit\n0 return 1\nend\n";
@@ -19,6 +22,16 @@ const DELETED_NOTHING: &[u8] = b"vyrd 1 multiset 1 1\n0 call delete 5\n0 commit\
 
 const DELETED_NOTHING_SAID: &[u8] =
     b"violation at line 3: reply 1 not allowed\ncall at line 2\nreply at line 4\nstate before line 3: key 5 amount 0\nallowed reply 0\n";
+
+/// An insert, and a delete that says that it found nothing.
+const FOUND_NOTHING: &[u8] =
+    b"vyrd 1 multiset 1 1\n0 call insert 5\n0 write 1 5\n0 open\n0 write 0 2\n0 close commit\n0 return 1\n0 call delete 5\n0 commit\n0 return 0\nend\n";
+
+const FOUND_NOTHING_SAID: &[u8] =
+    b"violation at line 9: reply 0 not allowed\ncall at line 8\nreply at line 10\nstate before line 9: key 5 amount 1\nallowed reply 1\nlast step at line 6: key 5 amount 1\n";
+
+const FOUND_NOTHING_FOLLOWED: &[u8] =
+    b"violation at line 9: reply 0 not allowed\nwrite at line 3: word 1 from 0 to 5, in effect at line 3\nchange at line 5: word 0 from 0 to 2, in effect at line 6, key 5 amount 0 to 1\nstep at line 6: key 5 amount 1\n";
 
 const OBSERVED: &[u8] =
     b"vyrd 1 multiset 1 2\n0 call delete 5\n0 commit\n1 call lookup 5\n1 return 7\n0 return 0\nend\n";
@@ -49,7 +62,7 @@ fn explained<'a>(name: &'a str, input: &'a [u8], status: u8, answer: &'a [u8]) -
 
 #[test]
 fn logs_with_what_has_to_do_with_their_verdicts(rt: HostRuntime) -> Result<(), Fail> {
-    let table: [(&str, &[u8], u8, &[u8]); 6] = [
+    let table: [(&str, &[u8], u8, &[u8]); 7] = [
         (
             "accepted",
             ACCEPTED,
@@ -58,17 +71,58 @@ fn logs_with_what_has_to_do_with_their_verdicts(rt: HostRuntime) -> Result<(), F
         ),
         ("view", UNWRITTEN, 1, UNWRITTEN_SAID),
         ("reply", DELETED_NOTHING, 1, DELETED_NOTHING_SAID),
+        (
+            "reply of a second call",
+            FOUND_NOTHING,
+            1,
+            FOUND_NOTHING_SAID,
+        ),
         ("observer", OBSERVED, 1, OBSERVED_SAID),
         ("race", RACED, 2, RACED_SAID),
         (
             "own",
             OWN,
             1,
-            b"violation at line 10: view differs at key 0\ncall at line 9\nreply at line 11\nagreed at the start: key 0 amount 5\nwords after line 10: key 0 amount 5\nstate after line 10: key 0 amount 7\n",
+            b"violation at line 10: view differs at key 0\ncall at line 9\nreply at line 11\nagreed at the start: key 0 amount 5\nwords after line 10: key 0 amount 5\npart 0 after line 10: key 0 amount 5\nstate after line 10: key 0 amount 7\n",
         ),
     ];
     for (name, log, status, answer) in table {
         explained(name, log, status, answer).assert_over(&rt, rt.alloc(), &BYTE_BY_BYTE)?;
+    }
+    Ok(())
+}
+
+/// A log under `follow`, and what the program answers to it.
+fn followed<'a>(name: &'a str, input: &'a [u8], status: u8, answer: &'a [u8]) -> Case<'a> {
+    Case {
+        name,
+        words: FOLLOW,
+        input,
+        status,
+        answer,
+    }
+}
+
+#[test]
+fn what_changes_along_logs(rt: HostRuntime) -> Result<(), Fail> {
+    let table: [(&str, &[u8], u8, &[u8]); 4] = [
+        (
+            "accepted",
+            ACCEPTED,
+            0,
+            b"accepted: 7 entries, 1 commits, 0 observers\nwrite at line 3: word 1 from 0 to 5, in effect at line 3\nwrite at line 4: word 0 from 0 to 1, in effect at line 4\nchange at line 6: word 0 from 1 to 2, in effect at line 7, key 5 amount 0 to 1\nstep at line 7: key 5 amount 1\n",
+        ),
+        ("reply", FOUND_NOTHING, 1, FOUND_NOTHING_FOLLOWED),
+        ("race", RACED, 2, b"malformed at line 6: block raced\n"),
+        (
+            "own",
+            OWN,
+            1,
+            b"violation at line 10: view differs at key 0\nagreed at the start: key 0 amount 5\nstep at line 10: key 0 amount 7\n",
+        ),
+    ];
+    for (name, log, status, answer) in table {
+        followed(name, log, status, answer).assert_over(&rt, rt.alloc(), &BYTE_BY_BYTE)?;
     }
     Ok(())
 }
@@ -124,7 +178,7 @@ fn each_write_of_what_is_explained_fails_once(rt: HostRuntime) -> Result<(), Fai
 #[test]
 fn explained_log_of_too_many_lines(rt: HostRuntime) -> Result<(), Fail> {
     let mut source = MemorySource::new(rt.alloc(), DELETED_NOTHING, 16, &[])?;
-    let answer = explain(rt.alloc(), 3, &mut source);
+    let answer = explain(rt.alloc(), About::Fault, 3, &mut source);
     let said = b"malformed at line 4: too many lines\nopen call at line 2\n".as_slice();
     assert_eq!(rt; (answer.status, answer.text.as_slice()), (2, said));
     Ok(())

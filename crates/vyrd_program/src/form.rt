@@ -8,13 +8,14 @@ ghost use Rattle.vyrd_program.specs.Forms.{form_said, one_word, shown_by, shown_
 ghost use Rattle.vyrd_program.specs.Forms.{is_count};
 
 use crate::show::Show;
+use vyrd_explain::About;
 use vyrd_text::read_u32;
 
 /// The most operations that are generated.
 const MOST_OPS: u32 = 200_000;
 
 /// What the words ask for.
-#[derive(Clone, Copy, Debug, PartialEq, Eq)]
+#[derive(Clone, Copy)]
 pub enum Form {
     /// `check`: the verdict about a log.
     Check,
@@ -30,8 +31,9 @@ pub enum Form {
     Movers,
     /// `batch`: the verdicts about the logs of a batch.
     Batch,
-    /// `explain`: the verdict about a log, and what in the log has to do with it.
-    Explain,
+    /// `explain` or `follow`: the verdict about a log, and what in the log has to do with it, or
+    /// what changes along the log.
+    Tell { about: About },
 }
 
 /// The form of the words that stand after the program's name, if they have one.
@@ -61,7 +63,12 @@ fn one_word(word: &str) -> Option<Form>
         }),
         "movers" => Some(Form::Movers),
         "batch" => Some(Form::Batch),
-        "explain" => Some(Form::Explain),
+        "explain" => Some(Form::Tell {
+            about: About::Fault,
+        }),
+        "follow" => Some(Form::Tell {
+            about: About::Changes,
+        }),
         _ => None,
     }
 }

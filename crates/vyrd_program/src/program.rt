@@ -32,7 +32,7 @@ const MAX_LINES: u64 = 268_435_456;
 
 /// The usage line.
 const USAGE_LINE: &[u8] =
-    b"usage: vyrd check | step [--log|--history] | run [--log|--history] | gen N | movers | batch | explain\n";
+    b"usage: vyrd check | step [--log|--history] | run [--log|--history] | gen N | movers | batch | explain | follow\n";
 
 /// How a call of the program ended.
 #[derive(Debug, Drop)]
@@ -59,7 +59,8 @@ pub struct Ended {
 /// text, judges them on as many threads as there are processors, and writes a line for each log's
 /// verdict, in the order of the logs, and one that counts them. `explain` reads a log of at most
 /// 16,777,216 lines and writes its verdict's line, and then a line for each thing in the log that
-/// has to do with the verdict. All other words are answered with the usage line, and the source is
+/// has to do with the verdict; `follow` writes a line for each thing that changes along the log in
+/// place of these. All other words are answered with the usage line, and the source is
 /// left alone. All output is made before its first byte is written.
 pub fn vyrd<R: Threads + Wait + Sync, S: Source, K: Sink, G: Gate>(
     rt: &R,

@@ -7,7 +7,7 @@ use std::test::*;
 const CHECK: &[&str] = &["check"];
 
 const USAGE: &[u8] =
-    b"usage: vyrd check | step [--log|--history] | run [--log|--history] | gen N | movers | batch | explain\n";
+    b"usage: vyrd check | step [--log|--history] | run [--log|--history] | gen N | movers | batch | explain | follow\n";
 
 /// An insert that fills a slot, and commits as the slot becomes valid.
 fn insert_with_its_writes() -> Case<'static> {

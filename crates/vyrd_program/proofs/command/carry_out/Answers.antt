@@ -95,21 +95,21 @@ returns-in-Batch-clause-no_further g c = subst (λ form. IsNoFurther (Some form)
 pub returns-in-Batch-clause-untouched : goal.returns-in-Batch-clause-untouched
 returns-in-Batch-clause-untouched g c = λ isnt. absurd (reads_on c.args.form asked.Batch c.in-Batch.is refl isnt)
 
-pub returns-in-Explain-clause-statuses : goal.returns-in-Explain-clause-statuses
-returns-in-Explain-clause-statuses g c = subst (λ form. IsStatus (Some form) c.explain.result.status) (sym c.in-Explain.is) (read_status asked.Explain c.explain.result.status refl c.explain.ensures.statuses)
+pub returns-in-Tell-clause-statuses : goal.returns-in-Tell-clause-statuses
+returns-in-Tell-clause-statuses g c = subst (λ form. IsStatus (Some form) c.explain.result.status) (sym c.in-Tell.is) (read_status (asked.Tell c.in-Tell.about) c.explain.result.status refl c.explain.ensures.statuses)
 
-pub returns-in-Explain-clause-answer : goal.returns-in-Explain-clause-answer
-returns-in-Explain-clause-answer g c =
+pub returns-in-Tell-clause-answer : goal.returns-in-Tell-clause-answer
+returns-in-Tell-clause-answer g c =
     subst (λ form. IsAnswerStatus (Some form) c.explain.result.status → IsAnswer (Some form) (g.S.Source.known c.args.source.now).rest c.explain.result.status c.explain.result.text.items)
-    (sym c.in-Explain.is) c.explain.ensures.answers
+    (sym c.in-Tell.is) c.explain.ensures.answers
 
-pub returns-in-Explain-clause-consumed : goal.returns-in-Explain-clause-consumed
-returns-in-Explain-clause-consumed g c =
+pub returns-in-Tell-clause-consumed : goal.returns-in-Tell-clause-consumed
+returns-in-Tell-clause-consumed g c =
     subst (λ form. IsAnswerStatus (Some form) c.explain.result.status → IsEnough (Some form) c.explain.result.status (g.S.Source.known c.args.source.now) (g.S.Source.known c.explain.new.source))
-    (sym c.in-Explain.is) c.explain.ensures.consumed
+    (sym c.in-Tell.is) c.explain.ensures.consumed
 
-pub returns-in-Explain-clause-no_further : goal.returns-in-Explain-clause-no_further
-returns-in-Explain-clause-no_further g c = subst (λ form. IsNoFurther (Some form) (g.S.Source.known c.args.source.now) (g.S.Source.known c.explain.new.source)) (sym c.in-Explain.is) c.explain.ensures.no_further
+pub returns-in-Tell-clause-no_further : goal.returns-in-Tell-clause-no_further
+returns-in-Tell-clause-no_further g c = subst (λ form. IsNoFurther (Some form) (g.S.Source.known c.args.source.now) (g.S.Source.known c.explain.new.source)) (sym c.in-Tell.is) c.explain.ensures.no_further
 
-pub returns-in-Explain-clause-untouched : goal.returns-in-Explain-clause-untouched
-returns-in-Explain-clause-untouched g c = λ isnt. absurd (reads_on c.args.form asked.Explain c.in-Explain.is refl isnt)
+pub returns-in-Tell-clause-untouched : goal.returns-in-Tell-clause-untouched
+returns-in-Tell-clause-untouched g c = λ isnt. absurd (reads_on c.args.form (asked.Tell c.in-Tell.about) c.in-Tell.is refl isnt)

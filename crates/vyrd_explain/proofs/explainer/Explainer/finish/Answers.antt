@@ -44,7 +44,7 @@ returns-clause-text c = λ bytes given.
     ∙ c.in_ok-own_said.ensures bytes t.own_read (c.deref-2.ensures.value ∙ t.own_entries)
     (c.deref-3.ensures.value ∙ t.numbers) in
     c.in_ok-text.ensures ∙ (λ i. verdict_text c.in_ok-verdict.verdict ++ said i ++ own_said i)
-    ∙ explained_is inside.checker.max_lines inside.reader.max_lines (own_limit inside.own) bytes
+    ∙ explained_is c.args.about inside.checker.max_lines inside.reader.max_lines (own_limit inside.own) bytes
     c.in_ok-verdict.verdict c.self.invariant.limit c.self.invariant.own
     (c.in_ok-verdict.ensures.verdict bytes t.checked)
-    ∙ ap (λ (e : ExplainerState). explained e.checker.max_lines bytes) c.self.view_is
+    ∙ ap (λ (e : ExplainerState). explained c.args.about e.checker.max_lines bytes) c.self.view_is
