@@ -1,14 +1,17 @@
-"""The lines that `vyrd explain` has to write behind a verdict, worked out by the modules of tools/, which share nothing with it."""
+"""The lines that `vyrd explain` has to write behind a verdict, worked out by the modules of reference/, which share nothing with it."""
 
 import re
 from typing import NamedTuple
 
 import steps
-from expressions import NONE, of_list
-from findings import sound_entries
+from doings import specified
+from evaluation import of_list
+from expressions import NONE
+from fronts import front, starting
+from parted import amounts_of, words_at_start
 from reasons import parts_at, worth
 from walk import Walk
-from words import State, Words, allowed, answer, keys_of
+from words import State, allowed, answer, keys_of
 
 VIOLATION = re.compile("violation at line ([0-9]+): (reply|view differs at key|observer reply) ([0-9]+).*")
 RACE, NO_STATE = ": block raced", ": start stands for no state"
@@ -19,11 +22,10 @@ def lines_behind(log):
     if not (log.subject or log.specification) or log.answer.startswith("accepted") or log.answer.endswith(NO_STATE):
         return []
     violation = VIOLATION.fullmatch(log.answer)
+    past = Past(log)
     if not violation:
-        before = Past(log, (entry for entry in log.entries() if entry.line < log.marked_line))
-        return [*(races(before) if log.answer.endswith(RACE) else []), *left_open(before)]
+        return [*(races(past) if log.answer.endswith(RACE) else []), *left_open(past)]
     line, what, number = int(violation[1]), violation[2], int(violation[3])
-    past = Past(log, sound_entries(log))
     execution = past.executions[line]
     called = [f"call at line {execution.line}", f"reply at line {execution.return_line}"]
     if what == "reply":
@@ -34,12 +36,12 @@ def lines_behind(log):
 
 
 class Past:
-    """A walk along entries that keep the rules of shape, at least up to where the verdict stands."""
+    """A walk along the entries that keep the rules of shape."""
 
-    def __init__(self, log, entries):
+    def __init__(self, log):
         self.log, self.walk = log, Walk()
         self.executions, self.commit_lines, self.opened = {}, [], {}  # by line; in their order; by caller
-        for entry in entries:
+        for entry in front(log):
             self.executions[entry.line] = self.walk.take(entry)
             if entry.commits:
                 self.commit_lines.append(entry.line)
@@ -53,9 +55,7 @@ class Past:
 
     def words(self):
         """The words at the start."""
-        if self.log.specification:
-            return OwnWords(self.log.specification, self.log.starting())
-        return Words(self.log.subject, self.log.size, self.log.starting())
+        return words_at_start(self.log, starting(self.log))
 
     def state(self, keys, line):
         """The specification's state after the commits up to a line. One that is built in is known at these keys alone."""
@@ -64,14 +64,6 @@ class Past:
             if execution.commit_line <= line:
                 state.take(execution)
         return state
-
-
-class OwnWords(steps.View):
-    """The words of a log of version 3."""
-
-    def amount(self, key):
-        """What they show of a key."""
-        return self.amounts().get(key, 0)
 
 
 class OwnState(steps.State):
@@ -86,7 +78,7 @@ class OwnState(steps.State):
         return self.shown[key]
 
     def call(self, execution):
-        """A call in this state, as the functions of tools/ take it."""
+        """A call in this state, as the functions of reference/ take it."""
         return self.specification, self.specification.by_name[execution.method], self, execution.arguments
 
     def take(self, execution):
@@ -100,7 +92,7 @@ def told(key, amounts):
 
 
 def shown(past, line, key):
-    """What the words showed of a key at the commit before a line, what they show on it, and the writes between that changed it."""
+    """What the words showed of a key at the commit before a line, what they show on it, by which parts, and what changed it."""
     since = max((commit for commit in past.commit_lines if commit < line), default=0)
     words, changes = past.words(), []
     agreed = words.amount(key)
@@ -116,16 +108,18 @@ def shown(past, line, key):
             changes.append(f"{change}, key {key} amount {before} to {words.amount(key)}")
     where = f"at line {since}" if since else "at the start"
     now = f"words after line {line}: key {key} amount {words.amount(key)}"
-    return [f"agreed {where}: key {key} amount {agreed}", now, *changes]
+    parts = [f"part {part} after line {line}: key {key} amount {amount}" for part, amount in words.parts_with(key)]
+    return [f"agreed {where}: key {key} amount {agreed}", now, *parts, *changes]
 
 
 def refused(past, execution):
     """What the state before a call's commit has of the keys that it looks at, and the replies that it allows."""
-    keys, line = keys_of(execution), execution.commit_line
+    keys, line = list(dict.fromkeys(keys_of(execution))), execution.commit_line
     state = past.state(keys, line - 1)
     replies = allowed(past.log.subject, execution, keys[0], state).split(" or ")
     before = [f"state before line {line}: {told(key, state)}" for key in keys]
-    return before + [f"allowed reply {reply}" for reply in sorted(replies)]
+    right = [f"allowed reply {reply}" for reply in sorted(replies)]
+    return [*before, *right, *last_steps(past, line, [("shown", key) for key in keys])]
 
 
 def refused_by_own(past, execution):
@@ -133,13 +127,26 @@ def refused_by_own(past, execution):
     line = execution.commit_line
     state = past.state((), line - 1)
     found = list(deciding(state, execution))
-    before = [f"register {number} value {worth(value)}" for number, value in enumerate(state.registers.values())]
-    before += [f"list {number} {ends_of(items)}" for number, items in enumerate(state.lists.values())]
-    before += [f"key {key} amount {state.shown[key]}" for key in keys_read("shown", found)]
-    before += [f"hidden key {key} amount {state.hidden[key]}" for key in keys_read("hidden", found)]
+    before = {("register", n): f"register {n} value {worth(value)}" for n, value in enumerate(state.registers.values())}
+    before |= {("list", n): f"list {n} {ends_of(items)}" for n, items in enumerate(state.lists.values())}
+    before |= {("shown", key): f"key {key} amount {state.shown[key]}" for key in keys_read("shown", found)}
+    before |= {("hidden", key): f"hidden key {key} amount {state.hidden[key]}" for key in keys_read("hidden", found)}
     tried = dict.fromkeys([0, 1, 2, *(each.value for each in found)])
     right = [reply for reply in tried if reply != NONE and steps.step_of(*state.call(execution), reply)]
-    return [*(f"state before line {line}: {each}" for each in before), *(f"allowed reply {reply}" for reply in right)]
+    told_before = (f"state before line {line}: {each}" for each in before.values())
+    return [*told_before, *(f"allowed reply {reply}" for reply in right), *last_steps(past, line, before)]
+
+
+def last_steps(past, line, cells):
+    """What of a state the steps before a line have set, each with the last step that did."""
+    specification, last = specified(past.log, amounts_of(past.words())), {}
+    for execution in past.walk.commits:
+        if execution.commit_line >= line:
+            break
+        for doing in specification.step(execution):
+            set_by_it = (cell for cell in cells if doing.does_set(cell))
+            last.update((cell, f"last step at line {execution.commit_line}: {doing.told}") for cell in set_by_it)
+    return [last[cell] for cell in cells if cell in last]
 
 
 class Valued(NamedTuple):

@@ -1,14 +1,16 @@
 """Tests of explained. The lines of each case were worked out by hand, from the definitions of crates/vyrd_explain/specs."""
 
+import os
 import random
-import re
 import sys
 import tempfile
 import unittest
+from unittest.mock import patch
 
+from samples import EFFECTS
 from scripts import EXAMPLES, ScriptTest, module_of
 
-sys.path[:0] = [str(EXAMPLES), str(EXAMPLES.parent / "tools")]
+sys.path[:0] = [str(EXAMPLES), str(EXAMPLES / "reference"), str(EXAMPLES.parent / "tools")]
 
 from explaining import lines_behind
 from logtext import Log
@@ -49,6 +51,7 @@ end
 reply at line 15
 agreed at line 5: key 6 amount 0
 words after line 10: key 6 amount 1
+part 0 after line 10: key 6 amount 1
 change at line 13: word 1 from 5 to 6, in effect at line 10, key 6 amount 0 to 1
 state after line 10: key 6 amount 0""",
     ),
@@ -73,10 +76,11 @@ state after line 10: key 6 amount 0""",
 reply at line 13
 agreed at line 7: key 0 amount 8589934593
 words after line 12: key 0 amount 8589934595
+part 0 after line 12: key 0 amount 8589934595
 change at line 10: word 1 from 1 to 3, in effect at line 10, key 0 amount 8589934593 to 8589934595
 state after line 12: key 0 amount 8589934593""",
     ),
-    # The right word of node 0 leads back to it: that is damage, which no state has. The key is 2^33.
+    # The right word of node 0 leads past the nodes: that is damage, which no state has. The key is 2^33.
     (
         "vyrd 1 tree 2 1\n0 call insert 1 2\n0 write 4 1\n0 write 8 2\n0 write 1 1\n0 write 3 9\n0 commit\n0 return 1\n",
         "violation at line 7: view differs at key 8589934592",
@@ -84,8 +88,37 @@ state after line 12: key 0 amount 8589934593""",
 reply at line 8
 agreed at the start: key 8589934592 amount 0
 words after line 7: key 8589934592 amount 1
+part 0 after line 7: key 8589934592 amount 1
 change at line 6: word 3 from 0 to 9, in effect at line 6, key 8589934592 amount 0 to 1
 state after line 7: key 8589934592 amount 0""",
+    ),
+    # Node 1 is in no chain. Node 2 leads back to itself, and its value isn't below 2^32: 2 of what is damaged. Node 0's key isn't
+    # either.
+    (
+        """vyrd 2 tree 3 1
+0 call delete 1
+0 write 1 1
+0 write 4 4294967296
+0 write 13 1
+0 write 16 4294967296
+0 write 3 2
+0 write 25 1
+0 write 32 4294967296
+0 write 27 2
+0 commit
+0 return 0
+""",
+        "violation at line 11: view differs at key 8589934592",
+        """call at line 2
+reply at line 12
+agreed at the start: key 8589934592 amount 0
+words after line 11: key 8589934592 amount 3
+part 0 after line 11: key 8589934592 amount 1
+part 2 after line 11: key 8589934592 amount 2
+change at line 4: word 4 from 0 to 4294967296, in effect at line 4, key 8589934592 amount 0 to 1
+change at line 9: word 32 from 0 to 4294967296, in effect at line 9, key 8589934592 amount 1 to 2
+change at line 10: word 27 from 0 to 2, in effect at line 10, key 8589934592 amount 2 to 3
+state after line 11: key 8589934592 amount 0""",
     ),
 ]
 REPLIES = [
@@ -104,13 +137,12 @@ REPLIES = [
         "violation at line 8: reply 1 not allowed",
         "call at line 7\nreply at line 9\nstate before line 8: key 5 amount 0\nallowed reply 0",
     ),
-    # Both values are looked at, also where they are the same one.
+    # Two values that are the same one are one key.
     (
         "vyrd 1 multiset 1 1\n0 call insert_pair 5 5\n0 commit\n0 return 2\n",
         "violation at line 3: reply 2 not allowed",
         """call at line 2
 reply at line 4
-state before line 3: key 5 amount 0
 state before line 3: key 5 amount 0
 allowed reply 0
 allowed reply 1""",
@@ -150,6 +182,83 @@ allowed reply 0""",
         "vyrd 1 buffers 1 1\n0 call cut 0 3\n0 commit\n0 return 0\n",
         "violation at line 3: reply 0 not allowed",
         "call at line 2\nreply at line 4\nstate before line 3: key 0 amount 0\nallowed reply 1",
+    ),
+    # The 5 was inserted twice, and deleted once since; the 7 was inserted once.
+    (
+        """vyrd 1 multiset 1 2
+0 call insert 5
+0 open
+0 write 1 5
+0 write 0 2
+0 close commit
+0 return 1
+1 call insert_pair 5 7
+1 open
+1 write 3 7
+1 write 2 2
+1 write 5 5
+1 write 4 2
+1 close commit
+1 return 1
+0 call delete 5
+0 open
+0 write 0 0
+0 close commit
+0 return 1
+0 call insert_pair 7 5
+0 commit
+0 return 2
+""",
+        "violation at line 22: reply 2 not allowed",
+        """call at line 21
+reply at line 23
+state before line 22: key 7 amount 1
+state before line 22: key 5 amount 1
+allowed reply 0
+allowed reply 1
+last step at line 14: key 7 amount 1
+last step at line 19: key 5 amount 1""",
+    ),
+    # The step on line 8 writes the same pair once more, and sets nothing.
+    (
+        """vyrd 1 cache 1 1
+0 call write 0 1 0
+0 write 1 1
+0 write 0 2
+0 commit
+0 return 1
+0 call write 0 1 0
+0 commit
+0 return 1
+0 call flush 0
+0 commit
+0 return 0
+""",
+        "violation at line 11: reply 0 not allowed",
+        """call at line 10
+reply at line 12
+state before line 11: key 0 amount 1
+allowed reply 1
+last step at line 5: key 0 amount 1""",
+    ),
+    # A buffer that is appended to itself is one key too.
+    (
+        """vyrd 1 buffers 1 1
+0 call append 0 65
+0 write 1 65
+0 write 0 1
+0 commit
+0 return 1
+0 call append_from 0 0
+0 commit
+0 return 0
+""",
+        "violation at line 8: reply 0 not allowed",
+        """call at line 7
+reply at line 9
+state before line 8: key 0 amount 66
+allowed reply 1
+last step at line 5: key 0 amount 66""",
     ),
 ]
 OBSERVERS = [
@@ -295,6 +404,8 @@ start 1 9
 reply at line 16
 agreed at the start: key 9 amount 3
 words after line 15: key 9 amount 5
+part 0 after line 15: key 9 amount 3
+part 1 after line 15: key 9 amount 2
 change at line 14: word 3 from 0 to 9, in effect at line 14, key 9 amount 3 to 5
 state after line 15: key 9 amount 3""",
     ),
@@ -319,6 +430,7 @@ start 1 6
 reply at line 13
 agreed at the start: key 1 amount 6
 words after line 12: key 1 amount 6
+part 1 after line 12: key 1 amount 6
 state after line 12: key 1 amount 0""",
     ),
 ]
@@ -372,7 +484,10 @@ state before line 26: key 7 amount 10
 state before line 26: hidden key 7 amount 30
 allowed reply 2
 allowed reply 10
-allowed reply 9""",
+allowed reply 9
+last step at line 23: register 1 value none
+last step at line 23: list 0 append none
+last step at line 23: key 7 amount 10""",
     ),
     # What stands in the second case counts too. Numbers are tried as well: the 40 is nothing but a number.
     (
@@ -452,6 +567,26 @@ reply at line 9
 state before line 8: list 0 size 0 first none last none
 state before line 8: key 18446744073709551615 amount 0
 allowed reply 3""",
+    ),
+    # Each kind of effect. [7] is 5 until all is cleared, and [8] was never set: that it is 0 was set by the same step.
+    (
+        EFFECTS,
+        "violation at line 29: reply 9 not allowed",
+        """call at line 28
+reply at line 30
+state before line 29: register 0 value 4
+state before line 29: list 0 size 2 first 9 last 7
+state before line 29: list 1 size 0 first none last none
+state before line 29: key 7 amount 0
+state before line 29: key 8 amount 0
+state before line 29: hidden key 7 amount 18446744073709551615
+allowed reply 0
+last step at line 23: register 0 value 4
+last step at line 23: list 0 prepend 9
+last step at line 26: list 1 clear
+last step at line 26: clear
+last step at line 26: clear
+last step at line 23: hidden key 7 amount 18446744073709551615""",
     ),
     # Nothing is allowed: `none` and one more is `none`.
     (
@@ -533,71 +668,93 @@ class Lines(unittest.TestCase):
                     self.assert_lines(text, answer, lines)
 
 
-# A checker that finds one thing in every log, plays every workload alike, and says what stands in the file `said` behind it.
+# A checker that finds one thing in every log, plays every workload alike, and says what stands in a file for each form.
 CHECKER = """case $1 in
     step) printf 'vyrd 1 multiset 1 1\\n0 call lookup 5\\n0 return 0\\nend\\naccepted: and so on\\n'; exit 0 ;;
     check) cat >/dev/null; cat answer; exit "$(cat status)" ;;
-    explain) cat >/dev/null; cat answer lines; exit "$(cat status)" ;;
+    batch) python3 -B batch.py; exit "$(cat status)" ;;
+    explain|follow) cat >/dev/null; cat answer $1; exit "$(cat status)" ;;
 esac
 exit 3"""
+BATCH = """import sys
+said, count = sys.stdin.buffer.read().removeprefix(b"batch\\n"), 0
+while said != b"end\\n":
+    size = int(said.split(b"\\n")[0].split()[1])
+    said, count = said[len(b"log \\n") + len(str(size)) + size:], count + 1
+print("".join(f"log {place}: {open('answer').read()}" for place in range(count)) + f"batch: {count} logs")
+"""
 
 
 class Explained(ScriptTest):
     def setUp(self):
         super().setUp()
+        self.file("batch.py", BATCH)
         self.checker = self.program("checker", f"cd '{self.folder}'", CHECKER)
 
-    def explained(self, case, *words, **others):
+    def explained(self, case, *words, follow="", **others):
         """Runs the script over the log of a case, or with other words, where the program says what the case says."""
         text, answer, lines = case
         self.file("log", text)
         self.file("answer", f"{answer}\n")
-        self.file("lines", f"{lines}\n" if lines else "")
+        self.file("explain", f"{lines}\n" if lines else "")
+        self.file("follow", f"{follow}\n" if follow else "")
         self.file("status", str(["accepted", "violation", "malformed"].index(answer.split()[0].rstrip(":"))))
         return self.run_script("explained", *(words or ["log"]), **{"vyrd": self.checker, **others})
 
     def test_what_is_compared_is_counted(self):
         said = b"logs: 1 view differs at key\n"
-        said += b"lines: 1 agreed at the start: key amount, 1 call at line, 1 reply at line, 1 state after line: key, "
+        said += b"lines of explain: 1 agreed at the start: key amount, 1 call at line, 1 reply at line, 1 state after line: key, "
         said += b"1 words after line: key\n"
-        said += b"explained: 1 logs are explained as they have to be, 0 otherwise\n"
-        self.assert_ended(self.explained(VIEWS[0]), 0, said, [])
+        said += b"lines of follow: 1 step at line: key amount\n"
+        said += b"explained: 1 logs are explained and followed as they have to be, 0 otherwise\n"
+        self.assert_ended(self.explained(VIEWS[0], follow="step at line 3: key 5 amount 1"), 0, said, [])
 
     def test_what_a_state_has_is_counted_by_its_kinds(self):
         said = b"logs: 1 reply not allowed in version 3\n"
-        said += b"lines: 3 allowed reply, 1 call at line, 1 reply at line, 1 state before line: hidden key, "
-        said += b"2 state before line: key, 2 state before line: list, 2 state before line: register\n"
-        said += b"explained: 1 logs are explained as they have to be, 0 otherwise\n"
-        self.assert_ended(self.explained(OWN_REPLIES[1]), 0, said, [])
+        said += b"lines of explain: 3 allowed reply, 1 call at line, 1 last step at line: key amount, "
+        said += b"1 last step at line: list append, 1 last step at line: register value, 1 reply at line, "
+        said += b"1 state before line: hidden key, 2 state before line: key, 2 state before line: list, "
+        said += b"2 state before line: register\n"
+        said += b"lines of follow: 1 step at line: key amount, 1 step at line: list append, 1 step at line: register value\n"
+        said += b"explained: 1 logs are explained and followed as they have to be, 0 otherwise\n"
+        steps = ["key 7 amount 10", "register 1 value none", "list 0 append none"]
+        follow = "\n".join(f"step at line 23: {step}" for step in steps)
+        self.assert_ended(self.explained(OWN_REPLIES[1], follow=follow), 0, said, [])
 
     def test_the_first_difference_is_said_whole(self):
         text, answer, lines = REPLIES[0]
         ran = self.explained((text, answer, lines.replace("allowed reply 0", "allowed reply 1")), "log", "log")
         told = f"{answer}\n{lines}\n"
-        said = f"log: the status 1, and\n{told.replace('allowed reply 0', 'allowed reply 1')}wanted: the status 1, and\n{told}"
-        said += f"of this log:\n{text}logs: \nlines: \nexplained: 0 logs are explained as they have to be, 1 otherwise\n"
+        said = f"log: explain has the status 1, and\n{told.replace('allowed reply 0', 'allowed reply 1')}"
+        said += f"wanted: the status 1, and\n{told}of this log:\n{text}logs: \nlines of explain: \nlines of follow: \n"
+        said += "explained: 0 logs are explained and followed as they have to be, 1 otherwise\n"
         self.assert_ended(ran, 1, said.encode(), [])
 
     def test_other_lines_are_differences(self):
         text, answer, lines = REPLIES[0]
+        self.assertEqual(self.explained(REPLIES[0]).returncode, 0)
         for others in ("", lines + "\n", lines.upper(), "\n".join(lines.split("\n")[::-1])):
             self.assertEqual(self.explained((text, answer, others)).returncode, 1)
+        ran = self.explained(REPLIES[0], follow="step at line 3: key 5 amount 1")
+        self.assertEqual(ran.returncode, 1)
+        self.assertIn(b"log: follow has the status 1, and\n", ran.stdout)
 
     def test_another_status_is_a_difference(self):
-        ends_with_2 = CHECKER.replace("lines; exit", "lines; exit 2; exit")
-        self.checker = self.program("checker", f"cd '{self.folder}'", ends_with_2)
-        ran = self.explained(REPLIES[0])
-        self.assertEqual(ran.returncode, 1)
-        self.assertIn(b"log: the status 2, and\n", ran.stdout)
+        for form, place in (("explain", "explain|follow) "), ("follow", "explain|follow) [ $1 = explain ] || ")):
+            ends_with_2 = CHECKER.replace("explain|follow) ", f"{place}{{ cat >/dev/null; cat answer $1; exit 2; }}; ")
+            self.checker = self.program("checker", f"cd '{self.folder}'", ends_with_2)
+            ran = self.explained(REPLIES[0])
+            self.assertEqual(ran.returncode, 1)
+            self.assertIn(f"log: {form} has the status 2, and\n".encode(), ran.stdout)
 
     def test_all_logs_that_are_there_and_some_that_are_drawn(self):
-        ran = self.explained(ACCEPTED[0], "--logs", "60", "--seed", "2")
-        self.assertEqual((ran.returncode, ran.stderr), (0, b""))
+        self.explained(ACCEPTED[0])
+        with patch.dict(os.environ, {"VYRD": str(self.checker)}):
+            logs = [text for _, text in module_of(EXAMPLES / "explained").all_logs(60, 2)]
         kept = len(list((EXAMPLES / "logs").glob("*.log"))) + len(list((EXAMPLES / "workloads").glob("*.work")))
         own = len(list((EXAMPLES.parent / "specifications/logs").glob("*/*.log")))
-        counts = re.match(rb"logs: ([0-9]+) accepted, ([0-9]+) accepted in version 3\n", ran.stdout)
-        self.assertEqual(int(counts[1]) + int(counts[2]), kept + own + 60)
-        self.assertTrue(own < int(counts[2]) < own + 60)
+        self.assertEqual(len(logs), kept + own + 60)
+        self.assertTrue(own < len([text for text in logs if text.startswith("vyrd 3 own ")]) < own + 60)
 
     def test_what_ends_it(self):
         self.assert_ended(self.explained(VIEWS[0], "missing"), 64, b"", ["missing can't be read"])
@@ -605,7 +762,9 @@ class Explained(ScriptTest):
         self.assert_ended(self.explained(VIEWS[0], "-x"), 64, b"", ["there is no option -x"])
         self.assert_ended(self.explained(VIEWS[0], vyrd="/missing"), 70, b"", ["can't be run: /missing"])
         without = self.program("without", "exit 3")
-        self.assert_ended(self.explained(VIEWS[0], vyrd=without), 70, b"", ["explains nothing, and ends with 3"])
+        self.assert_ended(self.explained(VIEWS[0], vyrd=without), 70, b"", ["gives no verdicts about a batch, and ends with 3"])
+        knows_one = self.program("knows-one", f"cd '{self.folder}'", CHECKER.replace("explain|follow", "explain"))
+        self.assert_ended(self.explained(VIEWS[0], vyrd=knows_one), 70, b"", ["doesn't follow logs, and ends with 3"])
 
     def test_files_of_all_kinds(self):
         bad = ("", "malformed at line 1: bad header", "")

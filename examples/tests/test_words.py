@@ -8,7 +8,7 @@ from scripts import EXAMPLES, ScriptTest
 
 WITHOUT_WORDS = ["all", "compare", "caught", "flat", "own/check", "no_memory/try"]
 ASKING = ["compare", "explained", "caught", "flat", "own/check", "real/check", "no_memory/try", "documents", "measure"]
-USAGE = "usage: vyrd check | step [--log|--history] | run [--log|--history] | gen N | movers | batch | explain"
+USAGE = "usage: vyrd check | step [--log|--history] | run [--log|--history] | gen N | movers | batch | explain | follow"
 VIOLATION = "violation at line 7: reply 1 not allowed"
 
 
@@ -48,11 +48,11 @@ class Compare(ScriptTest):
     def test_output_and_status_are_compared(self):
         table = f"a.log\tcheck\t1\t{VIOLATION}\n"
         right = self.compare(table, f"echo '{VIOLATION}'", "exit 1")
-        self.assert_ended(right, 0, b"examples: 21 passed, 0 failed\n", [])
+        self.assert_ended(right, 0, b"examples: 22 passed, 0 failed\n", [])
         for wrong in (f"echo '{VIOLATION}'; exit 0", f"printf '{VIOLATION}'; exit 1", "echo accepted; exit 1", "exit 70"):
             ran = self.compare(table, wrong)
             self.assertEqual(ran.returncode, 1)
-            self.assertIn(b"examples: 20 passed, 1 failed\n", ran.stdout)
+            self.assertIn(b"examples: 21 passed, 1 failed\n", ran.stdout)
 
 
 class Caught(ScriptTest):
@@ -165,8 +165,8 @@ class All(ScriptTest):
         scripts += ["examples/flat", "examples/documents", "tools/tests/run", "tools/tests/browser", "examples/many/check"]
         for script in scripts:
             self.program(script, f'echo {script} >>"{self.folder}/ran"', "exit 0")
-        for tests in ("examples/tests", "specifications/tests", "loggers/tests"):
-            (self.folder / tests).mkdir()
+        for tests in ("examples/tests", "examples/reference/tests", "specifications/tests", "loggers/tests"):
+            (self.folder / tests).mkdir(parents=True)
         for failing, status in ((None, 0), (scripts[0], 1), (scripts[-1], 1)):
             if failing:
                 self.program(failing, f'echo {failing} >>"{self.folder}/ran"', "exit 3")
