@@ -11,6 +11,7 @@ from logtext import Log
 
 NO_VERDICT = 70  # the checker ended as if there were a verdict, and gave none
 LONGEST_ANSWER = 200
+TOO_LONG = "malformed at line 16777217: too many lines"  # what other forms than `check` say of a longer log
 VERDICTS = {0: "accepted: ", 1: "violation at line ", 2: "malformed at line "}
 
 NUMBER = "[0-9]{1,20}"
@@ -55,6 +56,42 @@ def without_verdict(status):
 def other_log():
     """What ends a script where the answer can't be about the log."""
     return Ended("this log isn't the one that the answer is about")
+
+
+class Told:
+    """What `explain` or `follow` says of a log: the verdict, and behind it the lines that are iterated over.
+
+    The verdict is the one about the log that is known, if one is known. All is said by the time it is made, so that the file of
+    the log can be read again.
+    """
+
+    def __init__(self, form, log):
+        self.file = temporary()
+        status = check([form], log.file, self.file)
+        self.file.seek(0)
+        self.verdict = next(self._lines(), "")
+        if not is_verdict(status, self.verdict):
+            raise without_verdict(status)
+        known = log.answer or ""
+        if known.startswith(tuple(VERDICTS.values())) and known != self.verdict:
+            too_long = Ended(f"{form} takes no log of more than 16,777,216 lines")
+            raise too_long if self.verdict == TOO_LONG else other_log()
+
+    def __iter__(self):
+        self.file.seek(0)
+        lines = self._lines()
+        next(lines)
+        return lines
+
+    def _lines(self):
+        with open(self.file.fileno(), encoding="latin-1", newline="\n", closefd=False) as lines:
+            for line in lines:
+                yield line.removesuffix("\n")
+
+
+def unknown_line(form, line):
+    """What ends a script that has to read a line of the program which it doesn't know."""
+    return Ended(f"the checker says under {form} what isn't known here: {line[:LONGEST_ANSWER]}", NO_VERDICT)
 
 
 def answered(names):

@@ -1,23 +1,21 @@
-"""What each line of a log changes: in the words, in what they show, and in the specification's state.
+"""What each line of a log changes: in the words, in what they show, and in the specification's state, as `vyrd follow` says it.
 
-All that tools/page shows of states are these rows. What reads them plays them on and back, and knows no structure.
+All that tools/page shows of states are these rows. What reads them plays them on and back, and knows no structure. Nothing is
+worked out here but the places of the elements of lists, and at which keys something is cleared.
 """
 
-from collections import Counter
 from typing import NamedTuple
 
-from amounts import shown_by
-from findings import sound_entries
-from logtext import words_in
-from steps import State, View, step_of
-from walk import Walk
-from words import PART_WORDS, Words, after, allowed, keys_of
+from followed import Agreed, Followed, Write
+from logtext import line_named
 
 # What changes: words by their numbers, shown amounts by their keys, what the specification has by the same keys, its hidden
 # amounts, its registers by their places in the specification, and the elements of lists by LISTS_APART times a place, which
 # rises from the front to the end, with the list's own place in the specification.
 TRACKS = WORDS, SHOWN, HAS, HIDDEN, REGISTERS, LISTS = ("words", "shown", "has", "hidden", "registers", "lists")
 LISTS_APART = 16
+
+OF_KIND = {"key": HAS, "hidden key": HIDDEN, "register": REGISTERS}
 
 
 class Change(NamedTuple):
@@ -34,156 +32,97 @@ class Change(NamedTuple):
 
 
 class Changes:
-    """The changes of a log, those of each track in the order of their lines. `until` is the last line that could be followed."""
+    """The changes of a log, those of each track in the order of their lines. `until` is the last line that is followed."""
 
     def __init__(self, log):
-        self.log, self.words = log, words_in(log.subject, log.size) if log.subject else 0
-        starting = log.starting()
-        self.until = self._last_line() if log.subject else 0
-        self.states = None
-        if self.until:
-            self.states = (OwnStates if log.specification else States)(log, starting)
-
-    def _last_line(self):
-        """The last line that could be followed: what is malformed has no meaning from its fault on."""
-        if (self.log.answer or "").startswith("malformed"):
-            return self.log.marked_line - 1
-        return float("inf")
+        self.log, self.until, self.followed = log, 0, None
+        if log.subject:
+            self.followed = Followed(log)
+            self.until = last_followed(self.followed.verdict)
+        said = log.specification
+        self.lists = [Places(place, items) for place, items in enumerate(said.lists.values())] if said else []
+        self.has = set()  # the keys at which the specification has something
+        self.last = None  # the lines of the last write: one that changes more than one key is told for each
 
     def __iter__(self):
-        if not self.states:
+        if not self.until:
             return
-        yield from self.states.at_start()
-        walk = Walk()
-        for entry in sound_entries(self.log):
-            if entry.line > self.until or (entry.kind == "write" and entry.numbers[0] >= self.words):
-                self.until = min(self.until, entry.line - 1)
-                break
-            walk.take(entry)
-            if walk.effects or walk.commits:
-                yield from self._known(walk)
-        walk.end()
-        yield from self._known(walk)
+        yield from self._at_start()
+        for told in self.followed:
+            if isinstance(told, Agreed):
+                yield Change(SHOWN, 0, *told)
+                yield self._has(0, *told)
+            elif isinstance(told, Write):
+                yield from self._write(told)
+            else:
+                yield from self._step(told.line, told.doing)
 
-    def _known(self, walk):
-        """The changes that are known by now."""
-        while effect := walk.next_effect():
-            line = effect.at.line
-            for write in effect.writes:
-                word, value = write.numbers
-                yield Change(WORDS, line, word, value, write.line)
-                for key, amount in self.states.write(word, value).items():
-                    yield Change(SHOWN, line, key, amount)
-        while execution := walk.next_commit():
-            if execution.return_line:
-                line = execution.commit_line
-                for track, at, value in self.states.commit(execution):
-                    yield Change(track, line, at, value)
-
-
-class States:
-    """The words of a built-in structure with what they show, and the specification's state."""
-
-    def __init__(self, log, starting):
-        self.subject, self.fault = log.subject, log.marked_line or float("inf")
-        self.words = Words(log.subject, log.size, starting)
-        self.shown = shown_by(self.words, PART_WORDS[log.subject])
-        self.amounts = Counter(self.shown.amounts)
-
-    def at_start(self):
-        """What there is at the start."""
-        for word, value in self.words.values.items():
+    def _at_start(self):
+        """What the text says of the start: words, and what the specification of the user's own begins with."""
+        said = self.log.specification
+        for word, value in self.log.starting().items():
             yield Change(WORDS, 0, word, value)
-        for key, amount in self.shown.amounts.items():
-            yield Change(SHOWN, 0, key, amount)
-            yield Change(HAS, 0, key, amount)
-
-    def write(self, word, value):
-        """Writes a word, and gives the keys whose shown amounts that changes, with these."""
-        return self.shown.write(word, value)
-
-    def commit(self, execution):
-        """What a commit changes in the state. A reply that isn't allowed is one at the fault or behind it, and changes nothing."""
-        keys, replied = dict.fromkeys(keys_of(execution)), str(execution.reply)
-        if execution.commit_line >= self.fault:
-            right = [allowed(self.subject, execution, key, self.amounts).split(" or ") for key in keys]
-            if not all(replied in replies for replies in right):
-                return
-        amounts = {key: after(self.subject, execution, key, self.amounts) for key in keys}
-        for key, amount in amounts.items():
-            if amount != self.amounts[key]:
-                self.amounts[key] = amount
-                yield HAS, key, amount
-
-
-class OwnStates:
-    """The words of a log of version 3 with what they show by its specification, and the specification's state."""
-
-    def __init__(self, log, starting):
-        self.said, self.view = log.specification, View(log.specification, starting)
-        self.shown = shown_by(self.view, self.said.part) if self.said.part else None
-        self.state = State(self.said, self.shown.amounts if self.shown else ())
-        self.registers = {name: place for place, name in enumerate(self.said.registers)}
-        self.lists = {name: place for place, name in enumerate(self.said.lists)}
-        self.fronts = dict.fromkeys(self.lists, 0)  # the place of the first element of each list
-
-    def at_start(self):
-        """What there is at the start."""
-        for word, value in self.view.values.items():
-            yield Change(WORDS, 0, word, value)
-        for key, amount in self.shown.amounts.items() if self.shown else ():
-            yield Change(SHOWN, 0, key, amount)
-            yield Change(HAS, 0, key, amount)
-        for key, amount in self.state.hidden.by_key.items():
+        for key, amount in dict(said.hidden).items() if said else ():
             yield Change(HIDDEN, 0, key, amount)
-        for name, value in self.state.registers.items():
-            yield Change(REGISTERS, 0, self.registers[name], value)
-        for name, items in self.state.lists.items():
-            for place, item in enumerate(items):
-                yield Change(LISTS, 0, self._element(name, place), item)
+        for place, value in enumerate(said.registers.values() if said else ()):
+            yield Change(REGISTERS, 0, place, value)
+        for places in self.lists:
+            yield from (Change(LISTS, 0, at, value) for at, value in places.at_start())
 
-    def _element(self, name, place):
-        return LISTS_APART * place + self.lists[name]
+    def _write(self, told):
+        """A write that takes effect, once, and what it changes at a key."""
+        if (told.line, told.at) != self.last:
+            self.last = told.line, told.at
+            yield Change(WORDS, told.at, told.word, told.value, told.line)
+        if told.key is not None:
+            yield Change(SHOWN, told.at, told.key, told.amount)
 
-    def write(self, word, value):
-        """Writes a word, and gives the keys whose shown amounts that changes, with these."""
-        if self.shown:
-            return self.shown.write(word, value)
-        self.view[word] = value
-        return {}
-
-    def commit(self, execution):
-        """What a commit changes in the state, by the case that allows its reply. Where none does, nothing."""
-        method = self.said.by_name[execution.method]
-        step = step_of(self.said, method, self.state, execution.arguments, execution.reply)
-        for effect in step.effects if step else ():
-            yield from self._changed(effect)
-            self.state.do(effect)
-
-    def _changed(self, effect):
-        """What a line of a case is going to change."""
-        kind, target = effect.cell
-        if kind == "list":
-            yield from self._changed_in_list(effect.change.kind, target, effect.value)
-        elif kind == "register":
-            yield REGISTERS, self.registers[target], effect.value
-        elif target is not None:
-            yield SHOWN_OR_HIDDEN[kind], target, effect.value
+    def _step(self, line, doing):
+        """What a step does."""
+        if doing.kind == "list":
+            yield from (Change(LISTS, line, at, value) for at, value in self.lists[doing.number].changed(doing))
+        elif doing.kind is None:
+            yield from [self._has(line, key, 0) for key in sorted(self.has)]
+        elif doing.kind == "key":
+            yield self._has(line, doing.number, doing.value)
         else:
-            yield from [(HAS, key, 0) for key in self.state.shown.by_key]
+            yield Change(OF_KIND[doing.kind], line, doing.number, doing.value)
 
-    def _changed_in_list(self, kind, name, value):
-        first, length = self.fronts[name], len(self.state.lists[name])
-        gone = {"drop first": [first], "drop last": [first + length - 1], "clear": range(first, first + length)}
-        if kind == "append":
-            yield LISTS, self._element(name, first + length), value
-        elif kind == "prepend":
-            self.fronts[name] = first - 1
-            yield LISTS, self._element(name, first - 1), value
-        elif length:
-            self.fronts[name] += kind == "drop first"
-            for place in gone[kind]:
-                yield LISTS, self._element(name, place), None
+    def _has(self, line, key, amount):
+        """What the specification has at a key from a line on."""
+        (self.has.add if amount else self.has.discard)(key)
+        return Change(HAS, line, key, amount)
 
 
-SHOWN_OR_HIDDEN = {"shown": HAS, "hidden": HIDDEN}
+def last_followed(verdict):
+    """The last line that is followed: what is malformed has no meaning from its fault on."""
+    return line_named(verdict) - 1 if verdict.startswith("malformed") else float("inf")
+
+
+class Places:
+    """Where the elements of a list stand: so many, from the place of the first one on."""
+
+    def __init__(self, number, items):
+        self.number, self.items, self.first, self.length = number, items, 0, len(items)
+
+    def at_start(self):
+        """The elements with which it begins, by their places."""
+        return [(self._place(place), value) for place, value in enumerate(self.items)]
+
+    def changed(self, doing):
+        """The places at which a step changes it, with the elements that stand there then."""
+        last = self.first + self.length - 1
+        if doing.verb == "append":
+            self.length += 1
+            return [(self._place(last + 1), doing.value)]
+        if doing.verb == "prepend":
+            self.first, self.length = self.first - 1, self.length + 1
+            return [(self._place(self.first), doing.value)]
+        every = range(self.first, last + 1)
+        gone = {"drop first": every[:1], "drop last": every[-1:], "clear": every}[doing.verb]
+        self.first += len(gone) if doing.verb == "drop first" else 0
+        self.length -= len(gone)
+        return [(self._place(place), None) for place in gone]
+
+    def _place(self, place):
+        return LISTS_APART * place + self.number

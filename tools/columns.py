@@ -5,7 +5,7 @@ import sys
 import zlib
 from array import array
 
-from reasons import worth
+from expressions import worth
 
 HELD = 1 << 14  # numbers that wait until they are packed together
 LEVEL, GZIP = 6, 31  # how hard zlib tries, and the form of what it writes

@@ -1,15 +1,14 @@
-"""What there is to say of an answer: what of the log has to do with a violation or with a broken rule, found and then printed."""
-
-import re
-from typing import NamedTuple
+"""What there is to say of an answer, in sentences: what the program says has to do with it, by the names and the calls of the log."""
 
 from answers import other_log
-from findings import MOST, Findings, Last, Marked, ObserverFindings, marked_in
+from calls import along
+from explained import Explained, Last
+from expressions import worth
 from logtext import shown
-from ownsayings import RULES_OF_OWN, explain_own, explain_start, findings_of, name_of_word, say_notes
-from sayings import of_later_call, say_call, some_of, taking_effect
-from walk import Walk
-from words import Words, after, allowed, keys_of, meant, source_of, told
+from names import amount_at, meant, name_of_part, name_of_word, told
+from ownsayings import RULES_OF_OWN, done_by, held_by, say_method, say_notes, say_steps, say_words_of_parts
+from sayings import say_call, say_commits, say_title, say_writes, some_of, with_reply
+from violations import OBSERVER, VIEW, Violation
 
 RULES = {
     "caller out of range": "the header has fewer callers; they count from 0",
@@ -38,154 +37,137 @@ RULES = {
 }
 
 
-class Violation(NamedTuple):
-    """The execution that a violation is about, the key at which two views differ, if they do, and what was found on walks."""
-
-    marked: Marked
-    key: int
-    found: object
-
-
-def say_writes(log, marked, found):
-    """All writes to the slots, chunks, buffers or nodes' words that the call had written, from its call on, by whomever."""
-    if not marked.words:
+def say_own_writes(violation):
+    """All writes to the slots, chunks, buffers, nodes or parts that the call had written, from its call on, by whomever."""
+    if not violation.own.count:
         print("\nIt had written nothing by then")
         return
-    print("\nWrites from its call on to what it wrote itself")
-    name = Words(log.subject, log.size, {}).name
-    for write, at, before, value in some_of(found.own):
-        word, written = write.numbers
-        is_state = log.subject == "multiset" and word % 2 == 0
-        holds = f", its value is {value}" if is_state else ""
-        effect = taking_effect(write, at) if at.kind == "commit" else ""
-        said = f"{name(word)} {before} -> {written}{holds}{effect}{of_later_call(write, log.marked_line)}"
-        print(f"  line {write.line}: caller {write.caller}, {said}")
+    print("\nWrites from its call on to the parts that it wrote itself")
+    say_writes(violation, violation.own)
 
 
-def say_commits(title, commits, most=MOST):
-    print(f"\n{title}" + ("" if commits.count else ": none"))
-    for e in some_of(commits, most):
-        replied = f"with reply {e.reply}" if e.return_line else "which didn't return"
-        print(f"  line {e.commit_line}: caller {e.caller}, `{e}` {replied}")
+def say_parts(violation):
+    """The parts of the words that show the key."""
+    log, said = violation.log, violation.said
+    say_title(f"Parts of the words that show key {said.key}", said.parts)
+    for part, amount in some_of(said.parts):
+        print(f"  {name_of_part(log, part)}: {told(log.subject, log.size, said.key, amount)}")
 
 
-def say_start(log, found, key):
-    """What a log that begins with words shows of the key at its start."""
-    if log.starting():
-        print(f"\nAt the start the words show {key} {told(log.subject, log.size, key, found.at_start[key])}")
+def say_key(violation):
+    """Both views were equal at the commit before. What the call makes of the key, and what the words show."""
+    log, said = violation.log, violation.said
+
+    def say(amount):
+        return amount_at(log, said.key, amount)
+
+    print(f"\nKey {said.key}" + ("" if log.specification else f": {meant(log.subject, log.size, said.key)}"))
+    at_last = f"on line {said.agreed}, at the commit before" if said.agreed else "at the start"
+    print(f"  {at_last}, both views show {say(said.before) if log.specification else f'it {say(said.before)}'}")
+    shows = say(said.shown) if log.specification else f"it {say(said.shown)}"
+    print(f"  this call makes that {say(said.has)}; the words show {shows}")
 
 
-def say_changes(log, key, history):
-    """The writes that took effect after a line and changed what the words show at the key."""
-    since = f"since line {history.since}" if history.since else "since the start"
-    changes, name = history.changes, history.words.name
-    print(f"\nWrites {since} that changed what the words show at key {key}" + ("" if changes.count else ": none"))
-    for write, at, before, amount, now in some_of(changes):
-        word, value = write.numbers
-        shows = f"shown {told(log.subject, log.size, key, amount)} -> {told(log.subject, log.size, key, now)}"
-        change = f"{name(word)} {before} -> {value}{taking_effect(write, at)}"
-        print(f"  line {write.line}: caller {write.caller}, {change}; {shows}{of_later_call(write, log.marked_line)}")
-
-
-def say_outside(log, found):
-    """The nodes of a tree that the call wrote and which aren't in the chain at the fault. Gives whether there are any."""
-    name, outside = found.history.words.name, list(found.outside())
-    if outside:
-        print("\nNodes that it wrote outside the chain, where what they have isn't shown")
-    for node, write, taken_out in outside:
-        isnt = f"node {node}, which line {write.line} writes, isn't in the chain from node 0"
-        if not taken_out:
-            print(f"  {isnt}, and never was")
-            continue
-        by, at, before = taken_out
-        change = f"{name(by.numbers[0])} {before} -> {by.numbers[1]}{taking_effect(by, at)}"
-        later = of_later_call(by, log.marked_line)
-        call = f"caller {by.caller}{later}" if later else f"caller {by.caller}: `{by.execution}`"
-        print(f"  {isnt}: line {by.line} took it out ({call}, {change})")
-    return outside != []
-
-
-def explain_view(log, marked, key, found):
-    """Both views were equal at the commit before. What changed the key since then, in words and by the call."""
-    execution, last, source = marked.execution, marked.last_commit, source_of(marked.execution)
-    before, now = found.history.before, found.history.watched.amount
-    wanted = after(log.subject, execution, key, found.state)
-
-    def say(key, amount):
-        return told(log.subject, log.size, key, amount)
-
-    print(f"\nKey {key}: {meant(log.subject, log.size, key)}")
-    at_last = f"on line {last}, at the commit before" if last else "at the start"
-    print(f"  {at_last}, both views show it {say(key, before)}")
-    print(f"  this call makes that {say(key, wanted)}; the words show it {say(key, now)}")
-    say_changes(log, key, found.history)
-    if not say_outside(log, found) and not found.history.changes.count:
+def say_changes(violation):
+    """The writes since the commit before that changed what the words show at the key."""
+    said = violation.said
+    since = f"since line {said.agreed}" if said.agreed else "since the start"
+    say_title(f"Writes {since} that changed what the words show at key {said.key}", said.changes)
+    say_writes(violation, said.changes)
+    if not said.changes.count:
         print("  So a write is missing or changed nothing, or the commit stands at the wrong place.")
-    if not found.history.changes.count or log.subject != "tree":
-        say_writes(log, marked, found)
-    say_commits(f"Commits before it that name {key}", found.naming[key], 3)
-    if source not in (None, key):
-        say_commits(f"Commits before it that name {source}", found.naming[source], 3)
-        print(f"  After them the specification has {source} {say(source, found.state[source])}.")
 
 
-def explain_reply(log, marked, found):
-    """What the commits before it make of the key that the call names, and which replies that allows."""
-    execution = marked.execution
-    for key in dict.fromkeys(keys_of(execution)):
-        say_start(log, found, key)
-        say_commits(f"Commits before it that name {key}", found.naming[key])
-        state = told(log.subject, log.size, key, found.state[key])
-        right = allowed(log.subject, execution, key, found.state)
-        print(f"  After them the specification has {key} {state}: allowed is {right}.")
-    say_writes(log, marked, found)
+def explain_view(violation):
+    """What changed the key since both views were equal, in words and by the call."""
+    is_own = violation.log.specification is not None
+    if is_own:
+        say_steps(violation)
+    say_key(violation)
+    (say_words_of_parts if is_own else say_parts)(violation)
+    say_changes(violation)
+    say_own_writes(violation)
+    for key, commits in violation.naming.items():
+        if key == violation.key or violation.execution.method == "append_from":
+            say_commits(f"Commits before it that name {key}", commits, 3)
 
 
-def explain_observer(log, found):
-    """Which replies are right in the states from the call to the return, and what wrote to the key's words then."""
-    key, within = found.key, Last()
-    for execution, _ in found.within.items:
-        within.add(execution)
-    within.count = found.within.count
-    say_start(log, found, key)
-    say_commits(f"Commits before its call that name {key}", found.naming[key])
-    print(f"  After them the right reply is {found.right_at_call}.")
-    say_commits(f"Commits between its call and its return that name {key}", within)
-    for execution, right in found.within.items:
-        print(f"  After line {execution.commit_line} the right reply is {right}.")
+def say_state(violation):
+    """What the state has before the commit, and which replies it allows."""
+    log, said = violation.log, violation.said
+    empty = "" if said.state else ": it has no register and no list, and no amount is read"
+    print(f"\nThe state before line {violation.line}{empty}")
+    for held in said.state:
+        if log.specification:
+            print(f"  {held_by(log.specification, held)}")
+        else:
+            print(f"  {meant(log.subject, log.size, held.number)}: {amount_at(log, held.number, held.value)}")
+    if log.specification:
+        say_method(log, violation.execution, True)
+    right = " or ".join(map(str, said.allowed))
+    print(f"  Allowed would be {right}." if right else "  Of the replies that were tried none would be allowed.")
+
+
+def say_last_steps(violation):
+    """The steps that set last what the state has."""
+    log, steps = violation.log, Last()
+    for step in violation.said.steps:
+        steps.add(step)
+    say_title("The last steps before it that changed what is there", steps)
+    for line, doing in some_of(steps):
+        if log.specification:
+            done = done_by(log.specification, doing)
+        else:
+            done = f"{meant(log.subject, log.size, doing.number)}: {amount_at(log, doing.number, doing.value)}"
+        print(f"  line {line}: {with_reply(violation.calls[line][1])}: {done}")
+
+
+def explain_reply(violation):
+    """What the state has of what the call looks at, which replies that allows, and what made it so."""
+    say_state(violation)
+    say_last_steps(violation)
+    for key, commits in violation.naming.items():
+        say_commits(f"Commits before it that name {key}", commits, 3)
+    if not violation.log.specification:
+        say_own_writes(violation)
+
+
+def explain_observer(violation):
+    """Which replies are right from the call to the return, and what wrote to the key's words."""
+    log, key = violation.log, violation.key
+    print("\nWhat it may reply: what is right somewhere between its call and its return")
+    for line, right in some_of(violation.said.answers):
+        at_call = line == violation.said.call
+        after = "from its call on" if at_call else f"after line {line}, {with_reply(violation.calls[line][1])}"
+        print(f"  {after}: {said_reply(log, violation.execution, right)}")
+    if log.specification:
+        say_method(log, violation.execution, False)
+        return
+    say_commits(f"Commits before its call that name {key}", violation.naming[key])
     later = Last()
-    if found.later:
-        later.add(found.later)
+    if violation.later:
+        later.add(violation.later)
     say_commits(f"The first commit after its return that names {key}", later)
-    say_changes(log, key, found.history)
+    say_title(f"Writes before its return that changed what the words show at key {key}", violation.turns)
+    say_writes(violation, violation.turns)
 
 
-def violation_in(log):
-    """What there is of a violation. Where the answer can't be about the log, the script ends and says so."""
-    marked = marked_in(log)
+def said_reply(log, execution, reply):
+    """A reply, and what it means where it is a pair or a text in one number."""
     if log.specification:
-        return Violation(marked, None, findings_of(log, marked))
-    view, keys = re.search("view differs at key ([0-9]+)", log.answer), list(dict.fromkeys(keys_of(marked.execution)))
-    if view:
-        return Violation(marked, int(view[1]), Findings(log, marked, int(view[1]), [int(view[1]), *keys]))
-    if "observer" in log.answer:
-        return Violation(marked, None, ObserverFindings(log, marked))
-    return Violation(marked, None, Findings(log, marked, keys[0], keys))
+        return worth(reply)
+    means = f": {told(log.subject, log.size, execution.arguments[0], reply)}" if execution.method == "read" else ""
+    return f"{reply}{means}"
 
 
-def explain_violation(log, violation):
+def explain_violation(violation):
     """Says what was found of a violation."""
-    marked, key, found = violation
+    log = violation.log
     print(log.answer)
-    say_call(marked.execution)
+    say_call(violation.execution)
     if log.specification:
-        explain_own(log, marked, found)
-    elif key is not None:
-        explain_view(log, marked, key, found)
-    elif "observer" in log.answer:
-        explain_observer(log, found)
-    else:
-        explain_reply(log, marked, found)
+        say_notes(log, (violation.said.call, violation.line, violation.said.reply))
+    {VIEW: explain_view, OBSERVER: explain_observer}.get(violation.kind, explain_reply)(violation)
 
 
 def meaning_of(log, rule):
@@ -195,48 +177,48 @@ def meaning_of(log, rule):
 
 
 def explain_malformed(log):
-    """The rule in a sentence, the line, and what that caller was in the middle of."""
+    """The rule in a sentence, the line, what is open there, and what that caller was in the middle of."""
     rule, line = log.answer.split(": ", 1)[1], log.marked_line
     written = line_of(log, line, rule)
     entry = log.entry(line, written[0]) if written else None
+    said = Explained(log)
     print(log.answer)
     if written:
         print(f"\n  line {line}: {shown(*written)}")
     print(f"\n  {rule}: {meaning_of(log, rule)}")
-    if rule in ("no end", "no line feed"):
-        say_open_calls(log, line)
-    elif rule == "call not returned":
-        for execution in walk_to(log, line).executions.values():
-            print(f"  caller {execution.caller} called `{shown(str(execution))}` on line {execution.line}")
-    elif rule == "start stands for no state" and log.specification:
-        explain_start(log)
-    elif rule == "start stands for no state" and log.subject:
-        for fault in Words(log.subject, log.size, log.starting()).faults():
-            print(f"  {fault}")
-    elif rule == "block raced" and log.subject and entry and entry.kind == "write":
-        say_race(log, entry)
-    elif entry and rule != "bad entry":
+    if said.held or said.passed.count:
+        say_race(log, entry, said)
+    say_open_calls(log, said.open)
+    if entry and rule not in ("bad entry", "block raced"):
         say_lines_before(log, entry)
     say_notes(log, (line,))
 
 
-def say_open_calls(log, line):
-    """The calls that are open before a line at which the input ends, in their order, each with its last entry."""
-    walk, last = Walk(), {}
-    for entry in log.entries():
-        if entry.line >= line:
+def calls_on(log, lines):
+    """The callers and the executions of these lines by the line, and by the caller its last entry before the named line."""
+    calls, last = {}, {}
+    for entry, execution in along(log) if lines else ():
+        if entry.line >= log.marked_line:
             break
-        walk.take(entry)
-        walk.commits.clear()
-        walk.effects.clear()
         last[entry.caller] = entry
-    if walk.executions:
+        if entry.line in lines:
+            calls[entry.line] = entry.caller, execution
+    return calls, last
+
+
+def say_open_calls(log, found):
+    """The calls that are open before the named line, each with its last entry."""
+    calls, last = calls_on(log, {each.line for each in found})
+    if found:
         print("\nThe calls that are open there")
-    for caller, execution in walk.executions.items():
-        entry = last[caller]
-        said = f"  caller {caller}: `{shown(str(execution))}`, called on line {execution.line}"
-        if execution.commit_line:
+    for line, block in found:
+        caller, execution = calls[line]
+        said = f"  caller {caller}: `{shown(str(execution))}`, called on line {line}"
+        if execution.commit_line and execution.commit_line < log.marked_line:
             said += f", committed on line {execution.commit_line}"
+        if block:
+            said += f", with a block open from line {block} on"
+        entry = last[caller]
         if entry.kind == "call":
             print(f"{said}, with nothing after it")
             continue
@@ -255,19 +237,6 @@ def line_of(log, named, rule):
     return None
 
 
-def walk_to(log, line):
-    """The walk up to before a line."""
-    walk = Walk()
-    for entry in log.entries():
-        if entry.line >= line:
-            break
-        walk.take(entry)
-        walk.commits.clear()
-        while walk.next_effect():
-            pass
-    return walk
-
-
 def say_lines_before(log, entry):
     """The lines of the entry's caller before it."""
     own = Last()
@@ -276,41 +245,29 @@ def say_lines_before(log, entry):
             break
         if other.caller == entry.caller:
             own.add(other)
-    print(f"\nThe lines of caller {entry.caller} before it" + ("" if own.count else ": none"))
+    say_title(f"The lines of caller {entry.caller} before it", own)
     for other in some_of(own):
         print(f"  line {other.line}: {other.caller} {shown(other.text)}")
 
 
-def say_race(log, entry):
-    """The writes of other callers to the same word that make the race."""
-    word, name = entry.numbers[0], name_of_word(log, entry.numbers[0])
-    walk = walk_to(log, entry.line)
-    for caller, block in walk.blocks.items():
-        for write in block.writes:
-            if caller != entry.caller and write.numbers[0] == word:
-                print(f"  caller {caller} wrote that word, {name}, on line {write.line}, in a block that is still open")
-    own = walk.blocks.get(entry.caller)
-    if own and own.effect:
-        say_passing(entry, name, own.effect.at.line, walk.effects)
-
-
-def say_passing(entry, name, commit_line, effects):
-    """The writes to the word that took effect after the commit inside the writer's open block: these wait behind it."""
-    passed = Last()
-    for effect in effects:
-        for write in effect.writes or () if effect.at.line > commit_line else ():
-            if write.caller != entry.caller and write.numbers[0] == entry.numbers[0]:
-                passed.add((write, effect.at))
-    for write, at in some_of(passed):
-        print(f"  caller {write.caller} wrote that word, {name}, on line {write.line}{taking_effect(write, at)}")
-        block = f"where the writes of caller {entry.caller}'s block take effect"
-        print(f"  that is behind line {commit_line}, {block}")
+def say_race(log, entry, said):
+    """Who else wrote the word: in a block that is still open, or behind the commit inside the writer's own block."""
+    passed = list(said.passed.items)
+    calls, _ = calls_on(log, {*said.held, *(each.line for each in passed)})
+    name = name_of_word(log, entry.numbers[0])
+    for line in said.held:
+        print(f"  caller {calls[line][0]} wrote that word, {name}, on line {line}, in a block that is still open")
+    for each in some_of(said.passed):
+        effect = f", in effect on line {each.at}" if each.at != each.line else ""
+        print(f"  caller {calls[each.line][0]} wrote that word, {name}, on line {each.line}{effect}")
+    if passed:
+        print(f"  that is behind the commit inside caller {entry.caller}'s block, where the writes of that take effect")
 
 
 def explain(log):
     """Says what there is to say of the answer."""
     if log.answer.startswith("violation"):
-        explain_violation(log, violation_in(log))
+        explain_violation(Violation(log))
     elif log.answer.startswith("malformed"):
         explain_malformed(log)
     else:

@@ -1,9 +1,8 @@
-"""Expressions of a specification of the user's own: which text spells one, and what it is worth in a state.
+"""Expressions of a specification of the user's own: which text spells one. Here they are read, and not evaluated.
 
 They are those of crates/vyrd_base/specs/Own: each has one spelling, so that an expression keeps the text that it was read from.
 """
 
-import operator
 import re
 from typing import NamedTuple
 
@@ -24,34 +23,15 @@ A_NUMBER, AN_EXPRESSION, A_LIST, A_REGISTER = "a number", "an expression", "the 
 A_NEW_NAME = "a new name"
 
 
-def capped(operation):
-    """An operation that stops at the greatest number."""
-    return lambda a, b: min(operation(a, b), NONE)
-
-
-def flag(test):
-    """A test as an operation: 1 for what holds and 0 for what doesn't."""
-    return lambda a, b: int(test(a, b))
-
-
 # The operations, in the order in which they are looked for.
-OPERATIONS = {
-    "+": capped(operator.add),
-    "-": lambda a, b: max(a - b, 0),
-    "*": capped(operator.mul),
-    "/": lambda a, b: a // b if b else 0,
-    "%": lambda a, b: a % b if b else 0,
-    "==": flag(operator.eq),
-    "!=": flag(operator.ne),
-    "<": flag(operator.lt),
-    "<=": flag(operator.le),
-    ">": flag(operator.gt),
-    ">=": flag(operator.ge),
-    "and": flag(lambda a, b: bool(a and b)),
-    "or": flag(lambda a, b: bool(a or b)),
-}
+OPERATIONS = ("+", "-", "*", "/", "%", "==", "!=", "<", "<=", ">", ">=", "and", "or")
 COMPARISONS = ("==", "!=", "<", "<=", ">", ">=")
 OF_AMOUNTS, OF_LISTS = ("least", "greatest"), ("first", "last", "length")
+
+
+def worth(value):
+    """A number as a specification spells it."""
+    return "none" if value == NONE else str(value)
 
 
 class Refused(Exception):
@@ -80,42 +60,6 @@ class Expression:
 
     def __str__(self):
         return self.text
-
-    def value(self, state, names):
-        """What it is worth in a state, where these names have these values."""
-        kind = self.kind
-        if kind == "number":
-            return self.word
-        if kind == "name":
-            return names[self.word]
-        if kind == "count":
-            return len(state.shown)
-        if kind in OF_LISTS:
-            return of_list(kind, state.lists[self.word])
-        values = [part.value(state, names) for part in self.parts]
-        if kind in OPERATIONS:
-            return OPERATIONS[kind](*values)
-        if kind == "if":
-            return values[1] if values[0] else values[2]
-        if kind == "not":
-            return int(not values[0])
-        return of_amounts(kind, values[0], state)
-
-
-def of_list(kind, items):
-    """What is said of a list."""
-    if kind == "length":
-        return len(items)
-    return items[0 if kind == "first" else -1] if items else NONE
-
-
-def of_amounts(kind, key, state):
-    """What is said of amounts, by a key."""
-    if kind == "shown":
-        return state.shown[key]
-    if kind == "hidden":
-        return state.hidden[key]
-    return state.shown.least_from(key) if kind == "least" else state.shown.greatest_to(key)
 
 
 class Reading:

@@ -99,8 +99,7 @@ class Log:
     @property
     def marked_line(self):
         """The line that the answer names, or None."""
-        named = re.search(r"at line (\d+)", self.answer or "")
-        return int(named[1]) if named else None
+        return line_named(self.answer or "")
 
     def lines(self):
         """All lines, as lines_of gives them."""
@@ -133,6 +132,12 @@ class Log:
             if int(start[1]) < words_in(self.subject, self.size):
                 words[int(start[1])] = int(start[2])
         return words
+
+
+def line_named(answer):
+    """The line that an answer names, or None."""
+    named = re.search("at line ([0-9]+)", answer)
+    return int(named[1]) if named else None
 
 
 def lines_of(file, name):

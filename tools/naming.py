@@ -1,9 +1,9 @@
 """Which lines of a log have to do with some keys: those of the executions that are called with one, or that write one."""
 
+from calls import Execution
 from command import tell
 from logtext import START
-from walk import Execution
-from words import PART_WORDS, keys_of
+from names import PART_WORDS, keys_of
 
 
 def lines_naming(log, keys):

@@ -7,9 +7,8 @@ from typing import NamedTuple
 
 from answers import other_log
 from command import MISUSE, Ended
-from findings import is_sound
+from followed import Followed
 from logtext import HEADER, START
-from walk import Walk
 
 END = "end\n"
 BEFORE, AT_START = (-1, 0), (0, 0)  # where no write takes effect
@@ -47,7 +46,8 @@ class Less(NamedTuple):
 class Parts:
     """The header, the specification, the starting lines and the units of a log, up to the fault and what is still open there.
 
-    Notes go. Where a specification has the fault, all is kept up to there, and nothing of what comes after.
+    Notes go. Where a specification has the fault, all is kept up to there, and nothing of what comes after. Where writes take effect
+    is what `vyrd follow` says.
     """
 
     def __init__(self, log):
@@ -57,10 +57,11 @@ class Parts:
         self.texts, self.lines, self.owners = [], array("Q"), array("I")
         self.units, self.marked, self.marked_place = [], None, None
         self.staying = set()  # the units that never go: the one that is at fault, and calls that are open where the input ends
-        self._open, self._walk = {}, Walk()
+        self._open = {}
         self._compare(log.subject)
         self._read()
         self._compare(self.marked is not None)
+        self._take_effects()
         self._sort()
 
     def _read(self):
@@ -85,6 +86,11 @@ class Parts:
             elif self.fault in OF_START or not self._take(line, text, is_ended):
                 break
         self._end()
+
+    @property
+    def is_violation(self):
+        """Whether the fault is one of a call."""
+        return self.verdict == "violation"
 
     def _is_fault_behind_front(self):
         """Whether the fault isn't one of a specification."""
@@ -117,19 +123,14 @@ class Parts:
             self.units.append(Unit(entry.numbers[0] if entry and entry.kind == "call" and entry.numbers else None))
             if entry and entry.kind == "call":
                 self._open[entry.caller] = number
-                self._compare(is_sound(self.log, entry))
         if line == self.line:
             self.marked, self.marked_place = number, len(self.texts)
         self.units[number].places.append(len(self.texts))
         self.texts.append(text)
         self.lines.append(line)
         self.owners.append(number)
-        if entry:
-            self._walk.take(entry)
-            self._walk.commits.clear()
-            self._take_effects()
-            if entry.kind == "return":
-                self._open.pop(entry.caller, None)
+        if entry and entry.kind == "return":
+            self._open.pop(entry.caller, None)
 
     def _compare(self, can_be):
         """Ends the script where a violation can't be about such a log."""
@@ -137,15 +138,15 @@ class Parts:
             raise other_log()
 
     def _take_effects(self):
-        """Puts the writes that are in effect now to their units."""
-        while effect := self._walk.next_effect():
-            for write in effect.writes if effect.at.line <= self.line else ():
-                owner = self.owners[self._place_of(write.line)]
-                self.units[owner].writes.append(Write((effect.at.line, write.line), *write.numbers))
-
-    def _place_of(self, line):
-        """The place of a line that was kept."""
-        return bisect_left(self.lines, line)
+        """Puts the writes that take effect up to the fault to their units, each once."""
+        last = None
+        for write in Followed(self.log).writes() if self.log.subject and self.texts else ():
+            if write.at > self.line:
+                break
+            place = bisect_left(self.lines, write.line)
+            if (write.line, write.at) != last and place < len(self.lines) and self.lines[place] == write.line:
+                self.units[self.owners[place]].writes.append(Write((write.at, write.line), write.word, write.value))
+            last = write.line, write.at
 
     def _end(self):
         """What stands behind the entries, where that is the fault."""
@@ -172,13 +173,18 @@ class Parts:
             start[word] = (value, AT_START)
         return Less(tuple(range(len(self.units))), start)
 
-    def only_marked(self):
-        """What the fault is about, and nothing else."""
-        return Less((self.marked,), {})
-
     def places(self, less):
         """The places of the lines that are left, in their order."""
         return sorted(place for number in less.units for place in self.units[number].places)
+
+    def own_lines(self, less):
+        """The lines that the call at fault has in the log that is left."""
+        own, first = set(self.units[self.marked].places), 2 + len(self.front) + len(present(less.start))
+        return {first + number for number, place in enumerate(self.places(less)) if place in own}
+
+    def own_lines_at_first(self):
+        """Those that it has in the log that was given."""
+        return {self.lines[place] for place in self.units[self.marked].places}
 
     def entries(self, less):
         """The entries that are left, with the lines that they have in the whole log."""
@@ -231,6 +237,11 @@ class Parts:
     def _answered(self, lines, line):
         text = "\n".join(lines) + ("" if self.fault == "no line feed" else "\n") + self.ending
         return text, f"{self.verdict} at line {line}: {self.fault}"
+
+
+def present(start):
+    """The words that aren't 0."""
+    return [word for word, (value, _) in sorted(start.items()) if value]
 
 
 def without(less, gone):

@@ -124,6 +124,12 @@ class Specification:
                 return
         reading.refuse()
 
+    def why_not_filled(self, words):
+        """Why so many words are no whole number of parts, or None if they are one."""
+        if self.part and words % self.part:
+            return f"the header has {words} words, and parts of {self.part} words don't fill them"
+        return None
+
     def names_known(self):
         """The names that stand outside methods."""
         return (*self.constants, *self.registers, *self.lists)

@@ -1,15 +1,15 @@
-"""What of the words that a log begins with can be left out, so that those which stay stand for a state of the structure."""
+"""What of the words that a log begins with may be left out, so that those which stay may stand for a state of the structure.
 
-from parts import AT_START
-from words import PART_WORDS, Words
+These are guesses: the program judges each log that is made of them.
+"""
+
+from collections import Counter
+
+from names import PART_WORDS
+from parts import AT_START, present
 
 # The words of a tree's node by their offset: the entries are their count, the keys and the values.
 BOUND, RIGHT, ENTRIES, VALUES = 2, 3, (1, *range(4, 12)), range(8, 12)
-
-
-def present(start):
-    """The words that aren't 0."""
-    return [word for word, (value, _) in sorted(start.items()) if value]
 
 
 def parts_of(subject, size, start, part=0):
@@ -35,8 +35,8 @@ def leaves_alone(size, start, written):
 
     Its nodes are those up to the last leaf that is written. What was an inner node becomes an empty leaf behind the others.
     """
-    words = Words("tree", size, {word: value for word, (value, _) in start.items()})
-    chain, _ = words.chain()
+    words = Counter({word: value for word, (value, _) in start.items()})
+    chain = linked(size, words)
     last = max(node for node in chain if node in written or node == 0)
     leaves = [node for node in chain if node <= last]
     nodes = leaves + [node for node in range(last + 1) if node not in set(leaves)]
@@ -50,3 +50,12 @@ def leaves_alone(size, start, written):
         if place + 1 < len(nodes):
             values[12 * node + BOUND], values[12 * node + RIGHT] = low, nodes[place + 1]
     return {word: (value, start.get(word, (0, AT_START))[1]) for word, value in values.items() if value}
+
+
+def linked(size, words):
+    """The nodes to which the right words lead, from node 0 on."""
+    nodes, node = [], 0
+    while node < size and node not in nodes:
+        nodes.append(node)
+        node = words[12 * node + RIGHT]
+    return nodes

@@ -1,23 +1,20 @@
 """How a table of the words looks: what their parts are called, and what stands in which column."""
 
-from words import CHUNK, NODE, PART_WORDS, ROOM
+from names import CHUNK, NODE, PART_WORDS, ROOM
 
 STATES = {"multiset": ["free", "reserved", "valid"], "cache": ["absent", "clean", "dirty"]}
-COUNT, RIGHT = 1, 3  # of a node's fields
-ENTRIES = 4
+ENTRIES = 4  # of a node
 
 
 def table_of(log):
     """The table of a log's words: the name of a part and of its fields, and the columns, each a name with some fields.
 
-    A field with a place shows nothing where that isn't below the number in the field `count`: an entry past a count, or the value
-    of a slot that isn't valid. `states` are the names of numbers in field 0, `link` is the field with the next part, and `beside`
-    has names of words that are in no part.
+    `states` are the names of numbers in field 0, and `beside` has names of words that are in no part.
     """
     if log.specification:
         return own_table(log.specification.part)
     table = {"multiset": slots, "cache": chunks, "tree": nodes, "buffers": texts}[log.subject](log.size)
-    return {"places": [], "count": 0, "states": STATES.get(log.subject, []), "link": None, "beside": {}, **table}
+    return {"states": STATES.get(log.subject, []), "beside": {}, **table}
 
 
 def plain(fields):
@@ -28,14 +25,12 @@ def plain(fields):
 def own_table(of_part):
     """That of a log of version 3."""
     part, fields = ("part", [f"w{place}" for place in range(of_part)]) if of_part else ("word", ["value"])
-    table = {"part": part, "fields": fields, "columns": plain(fields), "places": [], "count": 0}
-    return {**table, "states": [], "link": None, "beside": {}}
+    return {"part": part, "fields": fields, "columns": plain(fields), "states": [], "beside": {}}
 
 
 def slots(_):
-    """A slot shows its value where its state is 2."""
     fields = ["state", "value"]
-    return {"part": "slot", "fields": fields, "columns": plain(fields), "places": [None, 1]}
+    return {"part": "slot", "fields": fields, "columns": plain(fields)}
 
 
 def chunks(_):
@@ -50,9 +45,6 @@ def nodes(size):
         "part": "node",
         "fields": fields,
         "columns": plain(NODE) + entries,
-        "places": [None] * first + [*range(ENTRIES)] * 2,
-        "count": COUNT,
-        "link": RIGHT,
         "beside": {each * size: "the root", each * size + 1: "the count of nodes in use"},
     }
 
@@ -60,4 +52,4 @@ def nodes(size):
 def texts(_):
     fields = ["count", *(f"character {place}" for place in range(ROOM))]
     columns = [["count", 0], *([str(place), place + 1] for place in range(ROOM))]
-    return {"part": "buffer", "fields": fields, "columns": columns, "places": [None, *range(ROOM)]}
+    return {"part": "buffer", "fields": fields, "columns": columns}

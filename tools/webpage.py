@@ -13,12 +13,13 @@ from pathlib import Path
 from changes import TRACKS, Changes
 from columns import Bytes, Column, Numbers, Rising, great_numbers, texts_of
 from command import harmless, unread
-from explanation import explain, explain_violation, violation_in
+from explanation import explain, explain_violation
 from logtext import OBSERVERS, START, words_in
+from names import DAMAGE, told
 from naming import named_by
 from summary import summary_of
 from tables import table_of
-from words import DAMAGE, told
+from violations import Violation
 
 PARTS = Path(__file__).resolve().parent / "page_parts"
 SCRIPTS = ("columns.js", "model.js", "lanes.js", "panels.js", "page.js")
@@ -181,7 +182,7 @@ def findings_of(log, violation):
     said = io.StringIO()
     with contextlib.redirect_stdout(said):
         if violation:
-            explain_violation(log, violation)
+            explain_violation(violation)
         else:
             explain(log)
     return [section.split("\n") for section in said.getvalue().strip("\n").split("\n\n")[1:]]
@@ -191,7 +192,7 @@ class Page:
     """The page of a log. All of it is made before any of it is written."""
 
     def __init__(self, log, name):
-        violation = violation_in(log) if (log.answer or "").startswith("violation") else None
+        violation = Violation(log) if (log.answer or "").startswith("violation") else None
         findings, great = findings_of(log, violation), great_numbers()
         summary = summary_of(log, violation)
         lines, states = Lines(log, great), States(log, great)

@@ -52,6 +52,7 @@ class Model {
     this.commits = later(columns.commits);
     this.returns = later(columns.returns);
     this.looks = columns.looks;
+    this.knownUntil = Math.min(...this.commits.filter((line, call) => line && !this.returns[call]), Infinity);
     this.commitLines = this.commits.filter(line => line).sort();
     this.callOf = new Int32Array(this.count + 2).fill(-1);
     this.callsIn = this.callers.map(() => []);
@@ -134,11 +135,14 @@ class Model {
   orderOf(line) { return placeOf(this.commitLines, line) + 1; }
   isCommit(line) { return this.callOf[line] >= 0 && this.commits[this.callOf[line]] === line; }
 
+  isBehind(line) { return Boolean(this.fault) && line > this.fault; }
+  isRefused(line) { return line === this.fault && !/view differs/.test(this.answer); }
+
+  /** Whether it is known what the specification's step does at a commit, also if it changes nothing. */
+  isKnown(line) { return !this.isBehind(line) && !this.isRefused(line) && line < this.knownUntil; }
+
   /** Whether both views are compared after a line. A reply that isn't allowed leaves the specification where it was. */
-  isCompared(line) {
-    const isFault = line === this.fault && !/view differs/.test(this.answer);
-    return this.compares && this.isCommit(line) && !isFault && line <= this.until && !(this.fault < line && this.fault);
-  }
+  isCompared(line) { return this.compares && this.isCommit(line) && this.isKnown(line) && line <= this.until; }
 
   /** A call in one line: what it is, and where it begins, commits and returns. */
   tellCall(call) {

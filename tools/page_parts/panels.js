@@ -135,7 +135,8 @@ class Panels {
 
   tellWrite(line) {
     const {model} = this, effect = model.effectOf(line);
-    if (!effect) return line > model.until ? NOT_FOLLOWED : "not in effect: its block is still open";
+    if (!effect && line > model.until) return NOT_FOLLOWED;
+    if (!effect) return "not in effect: its block isn't ended" + (model.isBehind(line) ? ", or the log is wrong behind the fault" : "");
     const [word, old, now] = model.writeOf(line);
     const nothing = (old === ABSENT ? 0 : old) === now ? ", which changes nothing" : "";
     return model.tellWord(word, [old, now]) + nothing + (effect === line ? "" : `, in effect on line ${effect}`);
@@ -156,7 +157,7 @@ class Panels {
     const move = ([old, now]) => now === ABSENT ? `loses ${model.numberText(old)}` : `gets ${model.numberText(now)}`;
     texts(lists, (place, items) => `${model.lists[listOf(place)]} ${move(items)}`);
     if (line > model.until) return NOT_FOLLOWED;
-    return listed(said, 4) || "changes nothing in the specification";
+    return listed(said, 4) || (model.isKnown(line) ? "changes nothing in the specification" : "what it does isn't known here");
   }
 
   // The views
@@ -203,6 +204,7 @@ class Panels {
     const {model, line} = this, {fault, until} = model;
     if (fault && line > fault) return "Behind the fault nothing is judged.";
     if (line > until) return `The log is wrong: these are of line ${until}.`;
+    if (line >= model.knownUntil) return `The state isn't known from line ${model.knownUntil} on: that commit's call doesn't return.`;
     if (!model.compares) return "The specification compares no words: replies alone are judged.";
     if (model.isCompared(line)) return `Compared here, at commit ${model.orderOf(line)}.`;
     if (line === fault && model.isCommit(line)) return "The reply isn't allowed: the specification stays as it was before.";
@@ -261,9 +263,9 @@ class Panels {
     if (panel.hidden) return;
     const {fields, columns, beside} = model.table, changed = model.tracks.words.of(this.line);
     const {parts, pinned} = this.partsOf(changed);
-    const seen = some(parts, pinned, MOST_PARTS), chain = this.chain();
-    const cells = number => columns.map(([, ...inside]) => this.partCell(number, inside, changed));
-    const rows = seen.map(number => make("tr", "", this.partName(number, chain), cells(number)));
+    const seen = some(parts, pinned, MOST_PARTS), {part} = model.table;
+    const cells = number => columns.map(([, ...inside]) => this.cell(inside.map(field => number * fields.length + field), changed));
+    const rows = seen.map(number => make("tr", "", make("th", "", `${part} ${number}`), cells(number)));
     if (seen.length > FEW && pinned.size) rows[pinned.size - 1]?.classList.add("last");
     for (const word of Object.keys(beside).map(Number)) {
       const cell = this.cell([word], changed);
@@ -286,20 +288,6 @@ class Panels {
     return {parts, pinned};
   }
 
-  /** The name of a part. Of a leaf outside of the chain it says so: what that has isn't shown. */
-  partName(number, chain) {
-    const {part, fields} = this.model.table, {now} = this.model.tracks.words;
-    const isLost = chain && !chain.has(number) && !now.get(number * fields.length);
-    return make("th", "", `${part} ${number}`, isLost ? make("small", "lost", "no link leads here") : "");
-  }
-
-  partCell(number, inside, changed) {
-    const {fields, places, count: counts} = this.model.table, {now} = this.model.tracks.words, first = number * fields.length;
-    const cell = this.cell(inside.map(field => first + field), changed), place = places[inside[0]] ?? null;
-    if (place !== null && place >= (now.get(first + counts) || 0)) cell.classList.add("past");
-    return cell;
-  }
-
   /** A cell with some words, and what they were before where the line changes them. */
   cell(words, changed) {
     const {model} = this, {now} = model.tracks.words, old = word => changed.has(word) ? changed.get(word)[0] : now.get(word) ?? 0;
@@ -307,15 +295,5 @@ class Panels {
     const before = words.map(word => model.valueName(word, old(word))).join(": ");
     const isNews = before !== after && !/^0(: 0)?$/.test(before);
     return make("td", words.some(word => changed.has(word)) ? "new" : "", isNews ? [make("s", "", before), " "] : "", after);
-  }
-
-  /** The parts to which links lead, from the first one on, if parts have a link. */
-  chain() {
-    const {link, fields} = this.model.table, {now} = this.model.tracks.words;
-    if (link === null) return null;
-    const parts = new Set();
-    const next = part => now.get(part * fields.length + link) || 0;
-    for (let part = 0; !parts.has(part) && part < this.model.size; part = next(part)) parts.add(part);
-    return parts;
   }
 }

@@ -6,10 +6,12 @@ import sys
 import tempfile
 import unittest
 from pathlib import Path
+from unittest.mock import patch
 
 sys.dont_write_bytecode = True
 TOOLS = Path(__file__).resolve().parent.parent
 SECONDS = 120  # in which each run has to end, on a machine with other work too
+BUILT = ("crates/vyrd_program/out/vyrd_program", "out/vyrd_not_proved")
 
 # An insert that wrote nothing: its commit on line 3 shows no 5. More may stand after line 4.
 FAULT = "vyrd 1 multiset 1 1\n0 call insert 5\n0 commit\n0 return 1\n"
@@ -23,6 +25,8 @@ Key 5: the element 5
   at the start, both views show it not at all
   this call makes that once; the words show it not at all
 
+Parts of the words that show key 5: none
+
 Writes since the start that changed what the words show at key 5: none
   So a write is missing or changed nothing, or the commit stands at the wrong place.
 
@@ -33,6 +37,26 @@ Commits before it that name 5: none
 LOOK = "0 call lookup 6\n0 return 0\n"
 
 
+def program():
+    """The program: the one that VYRD names, or one that is built in this repository, or None."""
+    named = [os.environ["VYRD"]] if os.environ.get("VYRD") else [str(TOOLS.parent / path) for path in BUILT]
+    return next((path for path in named if os.access(path, os.X_OK)), None)
+
+
+PROGRAM, NO_PROGRAM = program(), "no program is built"
+
+
+class ProgramTest(unittest.TestCase):
+    """A test that asks the program by itself, without a script. It is skipped where there is none."""
+
+    def setUp(self):
+        if not PROGRAM:
+            self.skipTest(NO_PROGRAM)
+        taken = patch.dict(os.environ, {"VYRD": PROGRAM})
+        taken.start()
+        self.addCleanup(taken.stop)
+
+
 class Said:
     """What a run said, and its status; that of a signal is negative."""
 
@@ -41,7 +65,7 @@ class Said:
 
 
 class ScriptTest(unittest.TestCase):
-    """A test with a folder of its own, in which scripts are run. No test runs the real checker."""
+    """A test with a folder of its own, in which scripts are run. There is no checker, if a test doesn't say which it takes."""
 
     def setUp(self):
         folder = tempfile.TemporaryDirectory()
@@ -55,6 +79,12 @@ class ScriptTest(unittest.TestCase):
         path.write_bytes(text if isinstance(text, bytes) else text.encode("latin-1"))
         return str(path)
 
+    def take_program(self):
+        """Makes the program the checker. The test is skipped where there is none."""
+        if not PROGRAM:
+            self.skipTest(NO_PROGRAM)
+        self.environment["VYRD"] = PROGRAM
+
     def checker(self, script):
         """Makes a shell script the checker."""
         path = self.write("checker", f"#!/bin/sh\n{script}\n")
@@ -64,6 +94,12 @@ class ScriptTest(unittest.TestCase):
     def checker_says(self, answer, status):
         """Makes a checker that reads the first bytes of its input, as one does whose verdict stands early."""
         self.checker(f"head -c 100 > /dev/null\nprintf '%s' '{answer}'\nexit {status}")
+
+    def checker_says_of(self, status, **said):
+        """Makes a checker that says a text under each form, as `check`, `explain` and `follow`, whatever its input is."""
+        for form, text in said.items():
+            self.write(f"said.{form}", text)
+        self.checker(f'cat > /dev/null\ncat "${{0%/*}}/said.$1"\nexit {status}')
 
     def run_script(self, name, *words, given=b"", **options):
         """Runs a script of tools/ in the folder, with these bytes on standard input unless `stdin` says another."""

@@ -86,9 +86,10 @@ class Names(ScriptTest):
             self.assertEqual(self.run_script(name, "-", given=JUDGED).out, self.run_script(name, given=JUDGED).out)
 
     def test_a_file_that_comes_only_once_is_read_as_any_other(self):
-        self.checker("cat > /dev/null\nprintf 'violation at line 3: view differs at key 5\\n'\nexit 1")
+        self.take_program()
         path = self.write("fault.log", FAULT + "end\n")
         wanted = self.run_script("explain", path).out
+        self.assertEqual(wanted.count("\n"), 17)
         command = ["bash", "-c", f"'{TOOLS / 'explain'}' <(cat '{path}')"]
         ran = subprocess.run(command, env=self.environment, capture_output=True, text=True, check=False)
         self.assertEqual((ran.stdout, ran.returncode), (wanted, 0))
@@ -120,7 +121,8 @@ class Output(ScriptTest):
         self.assertEqual((ran.stdout, ran.stderr), ("0 call lookup 5\n141\n", "hunt: caught in run 1\n"))
 
     def test_a_full_disk_is_said(self):
-        self.checker("cat\nprintf 'violation at line 3: reply 1 not allowed\\n'\nexit 1")
+        explain = f"{FAULT_ANSWER}call at line 2\nreply at line 4\nagreed at the start: key 5 amount 0\n"
+        self.checker(f"[ $1 != run ] || cat\n[ $1 = explain ] && printf '{explain}' || printf '{FAULT_ANSWER}'\nexit 1")
         for name in SCRIPTS:
             with open("/dev/full", "wb") as full:
                 said = self.run_script(name, given=JUDGED, stdout=full)

@@ -8,23 +8,21 @@ import gzip
 import hashlib
 import io
 import json
+import os
 import random
 import re
 import subprocess
-import sys
 import time
 import unittest
 from array import array
 from html.parser import HTMLParser
-from pathlib import Path
+from unittest.mock import patch
 
-from amounts import shown_by
 from columns import SAFE
 from command import temporary
-from logtext import Log, words_in
-from support import FAULT, FAULT_ANSWER, QUEUE, QUEUE_RUN, TOOLS, ScriptTest
+from logtext import Log
+from support import FAULT, FAULT_ANSWER, QUEUE, QUEUE_RUN, TOOLS, ProgramTest, ScriptTest
 from webpage import Page
-from words import DAMAGE, PART_WORDS, Words
 
 EXAMPLES = TOOLS.parent / "examples"
 SPECIFICATIONS = TOOLS.parent / "specifications"
@@ -133,14 +131,26 @@ def own_examples():
         yield front + path.read_bytes(), answer
 
 
-class Safe(unittest.TestCase):
-    """Whatever bytes a log has, they are data in its page."""
+class Safe(ScriptTest):
+    """Whatever bytes a log has, and whatever the answer about it, they are data in its page."""
 
     def setUp(self):
-        self.wanted = page_of(BEGIN, None).parts.elements
+        super().setUp()
+        self.checker("cat > /dev/null\ncat \"${0%/*}/answer\"\nexit $(cat \"${0%/*}/status\")")
+        taken = patch.dict(os.environ, self.environment)
+        taken.start()
+        self.addCleanup(taken.stop)
+        self.wanted = self.page_of(BEGIN, None).parts.elements
+
+    def page_of(self, text, answer, name="a.log"):
+        """A page by a checker that says this answer."""
+        said = answer or "accepted: 0 entries, 0 commits, 0 observers"
+        self.write("answer", f"{said}\n")
+        self.write("status", "0" if said.startswith("accepted") else "2")
+        return page_of(text, answer, name)
 
     def assert_safe(self, text, answer, name="a.log"):
-        page = page_of(text, answer, name)
+        page = self.page_of(text, answer, name)
         self.assertEqual(page.parts.elements, self.wanted)
         self.assertEqual(page.columns["text"], text)
         self.assertEqual(page.data["answer"], answer)
@@ -148,7 +158,7 @@ class Safe(unittest.TestCase):
         return page
 
     def test_the_policy_lets_a_page_run_its_own_script_alone(self):
-        page = page_of(BEGIN, None)
+        page = self.page_of(BEGIN, None)
         header = ("http-equiv", "Content-Security-Policy")
         policy = next(dict(attributes)["content"] for _, attributes in page.parts.elements if header in attributes)
         digests = (hashlib.sha256(text.encode()).digest() for text in (page.script, page.parts.texts["style"][0]))
@@ -189,7 +199,7 @@ class Safe(unittest.TestCase):
             self.assert_safe(bytes(bad), None if chance.random() < 0.5 else "accepted: 1 entries, 0 commits, 0 observers")
 
 
-class Views(unittest.TestCase):
+class Views(ProgramTest):
     """What the page plays is what the verdict says: both views are equal at each commit before the fault."""
 
     def assert_agrees(self, text, answer):
@@ -221,27 +231,8 @@ class Views(unittest.TestCase):
     def test_the_examples_of_version_3(self):
         self.assertGreater(sum(self.assert_agrees(*each) for each in own_examples()), 250)
 
-    def test_all_amounts_are_those_of_each_key(self):
-        """Words that chance writes: what is kept at all keys is what the words give at each."""
-        chance = random.Random(1)
-        for subject, greatest in (("multiset", 3), ("cache", 3), ("tree", 3), ("buffers", 8)):
-            values = [*range(greatest), 255, 1 << 32, 1 << 33]
-            for _ in range(12):
-                words = Words(subject, 2, {chance.randrange(words_in(subject, 2)): chance.choice(values) for _ in range(4)})
-                self.compare(subject, words, [(chance.randrange(words_in(subject, 2)), chance.choice(values)) for _ in range(60)])
 
-    def compare(self, subject, words, writes):
-        kept = shown_by(words, PART_WORDS[subject])
-        keys = range(4) if subject in ("cache", "buffers") else {*range(9), 255, DAMAGE, 1 << 32}
-        for word, value in writes:
-            before = {key: kept.amounts.get(key, 0) for key in keys}
-            changed = kept.write(word, value)
-            for key in keys:
-                self.assertEqual(kept.amounts.get(key, 0), words.amount(key), (subject, key))
-                self.assertEqual(changed.get(key, before[key]), words.amount(key), (subject, key))
-
-
-class Followed(unittest.TestCase):
+class Followed(ProgramTest):
     """Single rows of what the page plays, worked out by hand from the logs."""
 
     def assert_changes(self, page, track, wanted):
@@ -284,13 +275,6 @@ class Followed(unittest.TestCase):
         self.assert_changes(page, "has", [])
         self.assertEqual(page.data["summary"]["texts"], ["1", "0"])
 
-    def test_an_observer_that_commits_changes_nothing(self):
-        """No log with a verdict before it has one, but an answer may be another log's."""
-        accepted = "accepted: 3 entries, 1 commits, 0 observers"
-        for subject, method in (("buffers", "length"), ("buffers", "read"), ("multiset", "lookup"), ("tree", "lookup"), ("cache", "read")):
-            log = f"vyrd 1 {subject} 1 1\n0 call {method} 0\n0 commit\n0 return 1\nend\n"
-            self.assert_changes(page_of(log.encode(), accepted), "has", [])
-
     def test_calls_that_only_look(self):
         log = b"vyrd 1 multiset 1 1\n0 call lookup 5\n0 return 0\n0 call insert 5\nend\n"
         self.assertEqual([*page_of(log, None)["looks"]], [1, 0])
@@ -303,7 +287,8 @@ class Followed(unittest.TestCase):
         self.assert_changes(page_of(log.encode(), None), "words", [(3, 1, str(SAFE)), (4, 2, str(SAFE - 1))])
 
     def test_a_malformed_log_is_followed_up_to_its_fault(self):
-        page = page_of(FAULT.encode() + b"0 write 0 2\nend\n", "malformed at line 5: no call open")
+        log = FAULT.replace("return 1", "return 0").encode() + b"0 write 0 2\nend\n"
+        page = page_of(log, "malformed at line 5: no call open")
         self.assertEqual((page.data["until"], page.data["summary"]["sentence"].split(":")[0]), (4, "The log itself is wrong on line 5"))
         for text, rule in ((b"vyrd 1 multiset 0 1\n", "bad header"), (b"", "no end")):
             self.assertEqual(page_of(text, f"malformed at line 1: {rule}").data["until"], 0)
@@ -322,27 +307,30 @@ class Script(ScriptTest):
         return Opened(said.out.encode("latin-1"))
 
     def test_an_answer_behind_the_log_and_a_checker(self):
+        self.take_program()
         page = self.opened(self.run_script("page", given=FAULT + "end\n" + FAULT_ANSWER))
         self.assertEqual((page.data["fault"], page.data["name"], page.data["answer"]), (3, "a log", FAULT_ANSWER.strip()))
         sections = [section[0] for section in page.data["findings"]]
         self.assertEqual(sections[:2], ["The call", "Key 5: the element 5"])
-        self.checker_says(FAULT_ANSWER, 1)
         page = self.opened(self.run_script("page", "--", self.write("-q.log", FAULT + "end\n")))
         self.assertEqual((page.data["fault"], page.data["name"], page.columns["text"].decode()), (3, "-q.log", FAULT + "end\n"))
 
     def test_a_log_without_an_answer_and_one_cut_off(self):
+        self.take_program()
         page = self.opened(self.run_script("page", given=FAULT))
         self.assertEqual((page.data["fault"], page.data["summary"]["sentence"]), (None, "There is no verdict about this log."))
         page = self.opened(self.run_script("page", given=FAULT[:-4] + "malformed at line 4: no line feed\n"))
         self.assertIn(["The calls that are open there"], [section[:1] for section in page.data["findings"]])
 
     def test_a_slow_pipe(self):
+        self.take_program()
         self.write("run", FAULT + FAULT_ANSWER)
         command = f"(head -c 30 run; sleep 0.3; tail -c +31 run) | '{TOOLS / 'page'}'"
         ran = subprocess.run(["sh", "-c", command], cwd=self.folder, env=self.environment, capture_output=True, check=False)
         self.assertEqual((Opened(ran.stdout).columns["text"], ran.returncode), (FAULT.encode(), 0))
 
     def test_refusals_are_one_sentence_each(self):
+        self.take_program()
         given = FAULT + "end\n"
         other = "page: this log isn't the one that the answer is about"
         wrong = "violation at line 2: reply 1 not allowed", "violation at line 3: reply 7 not allowed"
@@ -356,6 +344,7 @@ class Script(ScriptTest):
         self.checker("exit 6")
         path = self.write("a.log", given)
         self.assert_refused(self.run_script("page", path), "page: the checker ended with status 6 and gave no verdict", 6)
+        self.take_program()
         with open("/dev/full", "wb") as full:
             said = self.run_script("page", given=given + FAULT_ANSWER, stdout=full)
         self.assertEqual((said.error, said.status), ("page: this could not be written: No space left on device\n", 5))
@@ -368,7 +357,9 @@ class Script(ScriptTest):
     def test_100000_lines_take_seconds_and_little_memory(self):
         look = "0 call lookup 6\n0 return 0\n"
         path = self.write("long.log", "vyrd 1 multiset 1 1\n" + look * 50_000 + FAULT.partition("\n")[2] + "end\n")
-        self.checker_says("violation at line 100003: view differs at key 5\n", 1)
+        answer = "violation at line 100003: view differs at key 5\n"
+        explain = f"{answer}call at line 100002\nreply at line 100004\nagreed at the start: key 5 amount 0\n"
+        self.checker_says_of(1, check=answer, explain=explain, follow=answer)
         begun = time.monotonic()
         limited = f"ulimit -v 150000; exec '{TOOLS / 'page'}' '{path}'"
         ran = subprocess.run(["bash", "-c", limited], env=self.environment, capture_output=True, check=False)

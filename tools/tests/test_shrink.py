@@ -13,12 +13,14 @@ from support import FAULT, FAULT_ANSWER, TOOLS, ScriptTest
 
 CHECKER = r'''#!/usr/bin/env -S python3 -I -S
 import collections, sys
-with open("checks", "a") as checks:
-    checks.write("check\n")
+form, told, last = sys.argv[1], [], {}  # told: what follow says; last: by the key the line of the last step
+if form == "check":
+    with open("checks", "a") as checks:
+        checks.write("check\n")
 text = sys.stdin.buffer.read().decode("latin-1")
 lines = text.split("\n")
-def end(answer, status):
-    print(answer)
+def end(answer, status, *behind):
+    print(answer, *(told if form == "follow" else behind if form == "explain" else ()), sep="\n")
     sys.exit(status)
 def malformed(line, rule):
     end(f"malformed at line {line}: {rule}", 2)
@@ -37,7 +39,14 @@ while head[1] == "2" and lines[at].startswith("start "):
     at += 1
 def shown():
     return collections.Counter(words[w + 1] for w in list(words) if w % 2 == 0 and words[w] == 2)
-replies = {}
+def write(word, value, line, at):
+    old, before = words[word], shown()
+    words[word] = value
+    said = f"at line {line}: word {word} from {old} to {value}, in effect at line {at}"
+    keys = [key for key in sorted(set(before) | set(shown())) if before[key] != shown()[key]]
+    told.extend(f"change {said}, key {key} amount {before[key]} to {shown()[key]}" for key in keys)
+    if not keys:
+        told.append(f"write {said}")
 def reply_of(at):
     caller = lines[at].split(" ")[0]
     for place in range(at, len(lines)):
@@ -45,6 +54,7 @@ def reply_of(at):
             return int(lines[place].split()[2])
     return None
 spec, blocks, past = shown(), {}, {}
+told.extend(f"agreed at the start: key {key} amount {spec[key]}" for key in sorted(spec))
 def right(state, call):
     return int(state[call[1]] > 0)
 for at in range(at, len(lines)):
@@ -68,37 +78,45 @@ for at in range(at, len(lines)):
         malformed(at + 1, "no call open")
     if kind == "call":
         calls[caller] = (fields[2], int(fields[3]))
-        past[caller] = {right(spec, calls[caller])}
+        past[caller] = {right(spec, calls[caller]): at + 1}
     elif kind == "write":
-        if any(other != caller and any(w == fields[2] for w, _ in block) for other, block in blocks.items()):
+        if any(other != caller and any(w == fields[2] for w, *_ in block) for other, block in blocks.items()):
             malformed(at + 1, "block raced")
         if caller in blocks:
-            blocks[caller].append((fields[2], int(fields[3])))
+            blocks[caller].append((fields[2], int(fields[3]), at + 1))
         else:
-            words[int(fields[2])] = int(fields[3])
+            write(int(fields[2]), int(fields[3]), at + 1, at + 1)
     elif kind == "open":
         blocks[caller] = []
     elif kind == "return":
         call = calls.pop(caller)
         if call[0] == "lookup" and int(fields[2]) not in past[caller]:
-            end(f"violation at line {at + 1}: observer reply {fields[2]} in no state", 1)
+            answers = [f"answer from line {line}: {answer}" for answer, line in past[caller].items()]
+            end(f"violation at line {at + 1}: observer reply {fields[2]} in no state", 1, *answers)
     if kind in ("close", "close commit"):
-        for word, value in blocks.pop(caller):
-            words[int(word)] = value
+        for word, value, line in blocks.pop(caller):
+            write(int(word), value, line, at + 1)
     if kind in ("commit", "close commit"):
         method, x = calls[caller]
         reply = reply_of(at)
         if reply is None:
             continue
         if method == "delete" and reply != right(spec, (method, x)):
-            end(f"violation at line {at + 1}: reply {reply} not allowed", 1)
+            behind = [f"state before line {at + 1}: key {x} amount {spec[x]}", f"allowed reply {right(spec, (method, x))}"]
+            behind += [f"last step at line {last[x]}: key {x} amount {spec[x]}"] if x in last else []
+            end(f"violation at line {at + 1}: reply {reply} not allowed", 1, *behind)
         spec[x] += reply * (1 if method == "insert" else -1)
+        if reply:
+            told.append(f"step at line {at + 1}: key {x} amount {spec[x]}")
+            last[x] = at + 1
         now = shown()
         for key in sorted(set(spec) | set(now)):
             if spec[key] != now[key]:
-                end(f"violation at line {at + 1}: view differs at key {key}", 1)
+                differ = f"agreed at the start: key {key} amount 0", f"words after line {at + 1}: key {key} amount {now[key]}"
+                end(f"violation at line {at + 1}: view differs at key {key}", 1, *differ,
+                    f"state after line {at + 1}: key {key} amount {spec[key]}")
         for other, call in calls.items():
-            past[other].add(right(spec, call))
+            past[other].setdefault(right(spec, call), at + 1)
 '''
 
 
@@ -135,7 +153,7 @@ class ShrinkTest(ScriptTest):
     def answer(self, text):
         """What the checker says of a log."""
         given = text.encode("latin-1")
-        ran = subprocess.run([self.folder / "checker"], input=given, cwd=self.folder, capture_output=True, check=False)
+        ran = subprocess.run([self.folder / "checker", "check"], input=given, cwd=self.folder, capture_output=True, check=False)
         return ran.stdout.decode().strip()
 
     def checks(self):
