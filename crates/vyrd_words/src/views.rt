@@ -433,10 +433,38 @@ fn put<L: Ledger>(
     ensures steps { steps.new + 2 * place
         ≤ steps.old + length changed.now + 2 * length writes.old.items }
 {
+    if let [word] = changed {
+        put_one(
+            writes,
+            place,
+            Write::new(*word, words[*word as usize]),
+            steps,
+        );
+        return;
+    }
     let behind = writes.len() - place;
     turn(writes, place, steps);
     put_last(writes, changed, words, steps);
     turn(writes, behind, steps);
+}
+
+/// One write comes at this place. There is room for it. Those on one side of the place give way, the
+/// fewer of the two, and once: two turns would move them twice.
+fn put_one<L: Ledger>(
+    writes: &mut VecDeque<Write>,
+    place: usize,
+    write: Write,
+    steps: &mut Steps<L>,
+)
+    requires place { place ≤ length writes.old.items }
+    requires room { deque_len writes.old < deque_capacity writes.old }
+    ensures writes { writes.new.items ≡ insert writes.old.items place write }
+    ensures steps { steps.new + 2 * place ≤ steps.old + 1 + 2 * length writes.old.items }
+{
+    steps.add(1 + place.min(writes.len() - place));
+    let Ok(()) = writes.insert(place, write) else {
+        unreachable!()
+    };
 }
 
 /// The first writes come last. It goes by the shorter way round: those writes are moved, or the
