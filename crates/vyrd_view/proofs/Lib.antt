@@ -9,6 +9,7 @@ pub mod WalkLaws
 pub mod TreePairLaws
 pub mod ShowingTree
 pub mod CurrentLaws
+pub mod DifferingLaws
 pub mod ReadyLaws
 pub mod HomeLaws
 pub mod SidedLaws

@@ -21,12 +21,26 @@ use Rattle.vyrd_view.proofs.ShowingTree.{places_give}
 use Rattle.vyrd_view.proofs.CurrentLaws.{node_untouched, chain_untouched, end_untouched}
 use Rattle.vyrd_view.proofs.CurrentLaws.{first_is_marked, no_node, end_is_whole}
 
+-- what is kept of a tree's words has a place for each entry of a node, and one for the chain's end
+pub tree_count : (words : List ℕ) (pairs : List (ℕ × ℕ)) (marks : List Bool)
+    → IsWalked words pairs marks → length pairs ≡ 4 * length marks + 1
+tree_count words pairs marks walked =
+    ap length walked.given ∙ length_below (tree_pair (length marks) words) (4 * length marks + 1)
+
+-- what is kept once the marks, the places of the nodes and that of the chain's end are up to date
+pub walked_now : (words : List ℕ) (pairs : List (ℕ × ℕ)) (marks : List Bool)
+    → length pairs ≡ 4 * length marks + 1
+    → ((n : ℕ) → n < length marks → get_or marks n false ≡ is_on_chain (length marks) words n)
+    → ((m : ℕ) → m < 4 * length marks → get_or pairs m (0, 0) ≡ node_pair words marks m)
+    → get_or pairs (4 * length marks) (0, 0) ≡ end_pair (is_broken (length marks) words)
+    → IsWalked words pairs marks
+walked_now words pairs marks count marked nodes end = record {
+  given = tree_pairs (length marks) words marks pairs count marked nodes end;
+  marked = marked;
+}
+
 module _ (before words changed : List ℕ) (pairs : List (ℕ × ℕ)) (marks : List Bool)
     (walked : IsWalked before pairs marks) (elsewhere : AgreeElsewhere before words changed) where
-  pub tree_count : length pairs ≡ 4 * length marks + 1
-  tree_count =
-      ap length walked.given ∙ length_below (tree_pair (length marks) before) (4 * length marks + 1)
-
   pub tree_others : (m : ℕ) → m < 4 * length marks → is_stale marks (m / 4) changed ≡ false
       → get_or pairs m (0, 0) ≡ node_pair words marks m
   tree_others m low fresh =

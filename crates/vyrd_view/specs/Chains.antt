@@ -60,7 +60,7 @@ end_pair broken = if broken then (2 ^ 33, 1) else (0, 0)
 abbrev pub is_stale : List Bool → ℕ → List ℕ → Bool
 is_stale marks n changed = slice_index_or marks n false && is_touched 12 n changed
 
--- whether a changed word is a right link
+-- whether one of the words is a right link
 abbrev pub has_link : List ℕ → Bool
 has_link changed = list_any (λ word. word % 12 == 3) changed
 

@@ -1,6 +1,6 @@
 -- What a comparison has taken in, and what it looks at.
-use Rattle.std.specs.Prelude.{◌≡◌, ℕ, Bool, false, ◌+◌, ◌==◌, List, length, slice_index}
-use Rattle.std.specs.Prelude.{if◌then◌else◌}
+use Rattle.std.specs.Prelude.{◌≡◌, ℕ, Bool, false, ◌+◌, ◌==◌, not, List, length, filter}
+use Rattle.std.specs.Prelude.{slice_index, if◌then◌else◌}
 use Rattle.std.specs.List.{list_any}
 use Rattle.vyrd_base.specs.declared.header.Header.{Header}
 use Rattle.vyrd_base.specs.declared.subject.Subject.{Subject}
@@ -43,8 +43,19 @@ keys_of_part Tree = 4
 keys_of_part Buffers = 1
 keys_of_part Own = 0
 
--- how many parts are looked at at most: one for each changed word, and all nodes of a tree if a
--- right link has changed
-abbrev pub parts_looked_at : Subject → ℕ → List ℕ → ℕ
-parts_looked_at Tree size changed = length changed + (if has_link changed then size else 0)
-parts_looked_at _ size changed = length changed
+-- the changed words that hold another value than before
+abbrev pub differing : List ℕ → List ℕ → List ℕ → List ℕ
+differing before words changed =
+    filter (λ w. not (slice_index words w == slice_index before w)) changed
+
+-- how many nodes of a tree are looked at at most, if these words hold other values than before: one
+-- for each word, and all if one of them is a right link
+abbrev pub nodes_looked_at : ℕ → List ℕ → ℕ
+nodes_looked_at size words = length words + (if has_link words then size else 0)
+
+-- how many parts are looked at at most: one for each changed word; the words of a tree count only if
+-- they hold another value than before
+abbrev pub parts_looked_at : Subject → ℕ → List ℕ → List ℕ → List ℕ → ℕ
+parts_looked_at Tree size before words changed =
+    nodes_looked_at size (differing before words changed)
+parts_looked_at _ size before words changed = length changed

@@ -73,7 +73,7 @@ impl AnyParts {
         ensures subject { subject_of_any self.new ≡ subject_of_any self.old }
         ensures steps { steps.new ≤ steps.old
             + parts_looked_at (subject_of_any self.old) ((known_of_any self.old).count / 12)
-            changed.now
+            (known_of_any self.old).words words.now changed.now
             * (1 + 2 * keys_of_part (subject_of_any self.old))
             + 2 }
     {

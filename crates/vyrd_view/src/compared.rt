@@ -18,8 +18,8 @@ use vyrd_base::Header;
 
 /// The words and the specification's amounts, and where they differ. It is told what changes on
 /// either side, and looks at nothing beyond that: a changed word costs its part, so at most nine
-/// steps, and a changed amount costs one step. If a right link of a tree changes, the chain of
-/// leaves is walked again.
+/// steps, and a changed amount costs one step. If a right link of a tree leads to another node than
+/// at the last comparison, the chain of leaves is walked again.
 #[derive(Drop)]
 pub struct Compared {
     header: Header,
@@ -77,7 +77,8 @@ impl Compared {
         ensures refused { self.new.refused ≡ is_err result }
         ensures header { self.new.header ≡ self.old.header }
         ensures steps { steps.new ≤ steps.old
-            + parts_looked_at self.old.header.subject self.old.header.size changed.now
+            + parts_looked_at self.old.header.subject self.old.header.size self.old.words words.now
+            changed.now
             * (1 + 2 * keys_of_part self.old.header.subject)
             + 2 }
     {

@@ -1,12 +1,10 @@
 //! The words of a tree against the specification, by the chain of its leaves.
 
 ghost use Rattle.std.specs.Prelude.{◌≡◌, ◌+◌, ◌*◌, ◌/◌, ◌<◌, ◌≤◌, [], false, length, replicate};
-ghost use Rattle.std.specs.Prelude.{All};
-ghost use Rattle.std.specs.Prelude.{IfOk, OnOk, is_err, if◌then◌else◌};
+ghost use Rattle.std.specs.Prelude.{All, IfOk, OnOk, is_err};
 ghost use Rattle.vyrd_base.specs.declared.subject.Subject.TheVariants.{Tree};
 ghost use Rattle.vyrd_base.specs.Amounts.{with_amount, first_difference};
-ghost use Rattle.vyrd_view.specs.Chains.{has_link};
-ghost use Rattle.vyrd_view.specs.Comparing.{AgreeElsewhere};
+ghost use Rattle.vyrd_view.specs.Comparing.{AgreeElsewhere, differing, nodes_looked_at};
 ghost use Rattle.vyrd_view.specs.Known.{of_subject, view_by};
 
 use crate::parts::Parts;
@@ -20,9 +18,9 @@ use std::sync::ledger::Ledger;
 /// How many words a tree has besides its nodes: the root's number, and the count of nodes in use.
 const TREE_WORDS: usize = 2;
 
-/// The words of a tree and a specification's amounts, and where they differ. A changed word costs
-/// its node if that is on the chain of leaves; a changed right link costs a walk of the chain, and
-/// the nodes that come to it or leave it.
+/// The words of a tree and a specification's amounts, and where they differ. A word that holds
+/// another value than at the last comparison costs its node, if that is on the chain of leaves. A
+/// right link among these costs a walk of the chain, and the nodes that come to it or leave it.
 #[derive(Drop)]
 pub(crate) struct Leaves {
     words: Vec<u64>,
@@ -94,18 +92,23 @@ impl Leaves {
         ensures refused { self.new.refused ≡ is_err result }
         ensures shows { self.new.shows ≡ self.old.shows }
         ensures count { self.new.count ≡ self.old.count }
-        ensures steps { steps.new ≤ steps.old + 9 * (length changed.now
-            + (if has_link changed.now then self.old.count / 12 else 0)) + 2 }
+        ensures steps { steps.new ≤ steps.old
+            + 9
+            * nodes_looked_at (self.old.count / 12)
+            (differing self.old.words words.now changed.now)
+            + 2 }
     {
-        copy_changed(&mut self.words, words, changed);
         leaves_changed(
             &mut self.parts,
             &mut self.marks,
             &mut self.next,
+            &self.words,
             words,
             changed,
             steps,
-        )
+        )?;
+        copy_changed(&mut self.words, words, changed);
+        Ok(())
     }
 
     /// The specification has this amount of the key now; 0 says that the key isn't there.

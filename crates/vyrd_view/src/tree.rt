@@ -1,10 +1,11 @@
 //! The leaves of a tree, as their words change.
 
 ghost use Rattle.std.specs.Prelude.{◌≡◌, ℕ, ◌+◌, ◌-◌, ◌*◌, ◌/◌, ◌%◌, ◌<◌, ◌≤◌, ◌^◌, true, false};
-ghost use Rattle.std.specs.Prelude.{length, map, slice_index_or, OnOk, OnErr, if◌then◌else◌};
-ghost use Rattle.vyrd_view.specs.Chains.{entry_pair, node_pair, tree_pair, end_pair, is_stale};
+ghost use Rattle.std.specs.Prelude.{length, slice_index_or, All, OnOk, OnErr, if◌then◌else◌};
+ghost use Rattle.vyrd_view.specs.Chained.{HasNodes, IsWalked};
+ghost use Rattle.vyrd_view.specs.Chains.{entry_pair, node_pair, end_pair, is_stale};
 ghost use Rattle.vyrd_view.specs.Chains.{has_link, is_on_chain, is_broken};
-ghost use Rattle.vyrd_base.specs.Places.{numbers_below};
+ghost use Rattle.vyrd_view.specs.Comparing.{AgreeElsewhere, differing, nodes_looked_at};
 
 use crate::chain::is_seen;
 use crate::parts::Parts;
@@ -37,43 +38,34 @@ const PRESENT: u64 = 1 << 32;
 /// The key that stands for damage. It is above all others.
 const DAMAGE: u64 = 1 << 33;
 
-/// The places of a tree are brought up to date: those of each leaf that a changed word is in, and,
-/// if a right link has changed, those of the leaves that came to the chain or left it. Once memory
-/// was refused the parts may only be dropped.
+/// The places of a tree are brought up to date: those of each leaf with a word that holds another
+/// value than before, and, if one of these words is a right link, those of the leaves that came to
+/// the chain or left it. Once memory was refused the parts may only be dropped.
 pub(crate) fn leaves_changed<L: Ledger>(
     parts: &mut Parts,
     marks: &mut [bool],
     next: &mut [bool],
+    before: &[u64],
     words: &[u64],
     changed: &[u32],
     steps: &mut Steps<L>,
 ) -> Result<(), AllocError>
     requires sound { parts.old.refused ≡ false }
-    requires some { 0 < length marks.old }
-    requires small { length marks.old ≤ 1024 }
-    requires same { length next.old ≡ length marks.old }
-    requires count { length words.now ≡ 12 * length marks.old + 2 }
-    requires places { length parts.old.pairs ≡ 4 * length marks.old + 1 }
-    requires others { (m : ℕ) → m < 4 * length marks.old
-        → is_stale marks.old (m / 4) changed.now ≡ false
-        → slice_index_or parts.old.pairs m (0, 0) ≡ node_pair words.now marks.old m }
-    requires marked { has_link changed.now ≡ false → (n : ℕ) → n < length marks.old →
-        slice_index_or marks.old n false ≡ is_on_chain (length marks.old) words.now n }
-    requires end { has_link changed.now ≡ false
-        → slice_index_or parts.old.pairs (4 * length marks.old) (0, 0)
-        ≡ end_pair (is_broken (length marks.old) words.now) }
-    ensures ok { OnOk result (parts.new ≡ record parts.old {
-      pairs =
-          map (tree_pair (length marks.old) words.now) (numbers_below (4 * length marks.old + 1));
-    }) }
-    ensures marked { OnOk result ((n : ℕ) → n < length marks.old
-        → slice_index_or marks.new n false ≡ is_on_chain (length marks.old) words.now n) }
+    requires nodes { HasNodes words.now marks.old next.old }
+    requires walked { IsWalked before.now parts.old.pairs marks.old }
+    requires count { length before.now ≡ length words.now }
+    requires within { All (λ w. w < length words.now) changed.now }
+    requires elsewhere { AgreeElsewhere before.now words.now changed.now }
+    ensures walked { OnOk result (IsWalked words.now parts.new.pairs marks.new) }
+    ensures specified { OnOk result (parts.new.specified ≡ parts.old.specified) }
+    ensures sound { OnOk result (parts.new.refused ≡ false) }
     ensures refused { OnErr result (parts.new.refused ≡ true) }
     ensures steps { steps.new ≤ steps.old
-        + 9 * (length changed.now + (if has_link changed.now then length marks.old else 0)) + 2 }
+        + 9 * nodes_looked_at (length marks.old) (differing before.now words.now changed.now)
+        + 2 }
 {
-    entries_changed(parts, marks, words, changed, steps)?;
-    if !has_link(changed) {
+    entries_changed(parts, marks, before, words, changed, steps)?;
+    if !has_turned(before, words, changed) {
         return Ok(());
     }
     let broken = walk(next, words);
@@ -81,13 +73,19 @@ pub(crate) fn leaves_changed<L: Ledger>(
     parts.replace(ENTRIES * marks.len(), end_pair(broken), steps)
 }
 
-/// Whether a changed word is a right link.
-fn has_link(changed: &[u32]) -> bool
-    ensures { result ≡ has_link changed.now }
+/// Whether a right link leads to another node than before.
+fn has_turned(before: &[u64], words: &[u64], changed: &[u32]) -> bool
+    requires count { length before.now ≡ length words.now }
+    requires within { All (λ w. w < length words.now) changed.now }
+    ensures { result ≡ has_link (differing before.now words.now changed.now) }
 {
-    changed
-        .iter()
-        .any(|word| *word as usize % NODE_WORDS == RIGHT)
+    for word in changed {
+        let word = *word as usize;
+        if word % NODE_WORDS == RIGHT && words[word] != before[word] {
+            return true;
+        }
+    }
+    false
 }
 
 /// What the end of the chain gives.
@@ -97,11 +95,12 @@ fn end_pair(broken: bool) -> (u64, u64)
     if broken { (DAMAGE, 1) } else { (0, 0) }
 }
 
-/// Each marked node that a changed word is in gives what its words show now. Once memory was
-/// refused the parts may only be dropped.
+/// Each marked node with a word that holds another value than before gives what its words show now.
+/// Once memory was refused the parts may only be dropped.
 fn entries_changed<L: Ledger>(
     parts: &mut Parts,
     marks: &[bool],
+    before: &[u64],
     words: &[u64],
     changed: &[u32],
     steps: &mut Steps<L>,
@@ -109,9 +108,11 @@ fn entries_changed<L: Ledger>(
     requires sound { parts.old.refused ≡ false }
     requires small { length marks.now ≤ 1024 }
     requires count { length words.now ≡ 12 * length marks.now + 2 }
+    requires before { length before.now ≡ length words.now }
+    requires within { All (λ w. w < length words.now) changed.now }
     requires places { length parts.old.pairs ≡ 4 * length marks.now + 1 }
     requires others { (m : ℕ) → m < 4 * length marks.now
-        → is_stale marks.now (m / 4) changed.now ≡ false
+        → is_stale marks.now (m / 4) (differing before.now words.now changed.now) ≡ false
         → slice_index_or parts.old.pairs m (0, 0) ≡ node_pair words.now marks.now m }
     ensures sound { OnOk result (parts.new.refused ≡ false) }
     ensures specified { OnOk result (parts.new.specified ≡ parts.old.specified) }
@@ -121,11 +122,13 @@ fn entries_changed<L: Ledger>(
     ensures end { OnOk result (slice_index_or parts.new.pairs (4 * length marks.now) (0, 0)
         ≡ slice_index_or parts.old.pairs (4 * length marks.now) (0, 0)) }
     ensures refused { OnErr result (parts.new.refused ≡ true) }
-    ensures steps { steps.new ≤ steps.old + 9 * length changed.now }
+    ensures steps { steps.new
+        ≤ steps.old + 9 * length (differing before.now words.now changed.now) }
 {
     for word in changed {
-        let node = *word as usize / NODE_WORDS;
-        if is_marked(marks, node) {
+        let word = *word as usize;
+        let node = word / NODE_WORDS;
+        if words[word] != before[word] && is_marked(marks, node) {
             let entries = decoded_node(words, node, steps);
             put_node(parts, node, &entries, steps)?;
         }

@@ -1,43 +1,82 @@
-use Rattle.std.proofs.Common.{◌≡◌, ℕ, ◌+◌, ◌*◌, ◌<◌, false, List, length, length-set, map, set, ap, sym, ◌∙◌, arith, get_or-set_same, get_or-set_other}
+use Rattle.std.proofs.Common.{◌≡◌, ℕ, ◌+◌, ◌*◌, ◌<◌, false, List, length, length-set, set, ap, sym}
+use Rattle.std.proofs.Common.{◌∙◌, subst, arith, get_or-set_same, get_or-set_other}
 use Rattle.std.proofs.lemmas.Result.{on_ok_weaker}
-use Rattle.vyrd_base.specs.Places.{numbers_below}
 use Rattle.vyrd_view.specs.Kept.{Kept}
-use Rattle.vyrd_view.specs.Chains.{tree_pair, end_pair, has_link, is_on_chain, is_broken}
-use Rattle.vyrd_view.proofs.PairLaws.{all_kept}
-use Rattle.vyrd_view.proofs.TreePairLaws.{tree_pairs}
+use Rattle.vyrd_view.specs.Chained.{IsWalked}
+use Rattle.vyrd_view.specs.Chains.{end_pair, has_link, is_on_chain, is_broken}
+use Rattle.vyrd_view.specs.Comparing.{differing}
+use Rattle.vyrd_view.proofs.DifferingLaws.{agree_elsewhere}
+use Rattle.vyrd_view.proofs.ReadyLaws.{tree_count, tree_others, tree_marks, tree_end, walked_now}
 use Rattle.vyrd_view.proofs.tree.leaves_changed.Goals as goal
 
-pub returns-then-not-has_link-clause-ok : goal.returns-then-not-has_link-clause-ok
-returns-then-not-has_link-clause-ok g c =
-    let size = length c.args.marks.now in
-    let kept = c.entries_changed.new.parts in
-    let unlinked : has_link c.args.changed.now ≡ false = sym c.has_link.ensures ∙ c.if-not-has_link.true in
-    all_kept kept (map (tree_pair size c.args.words.now) (numbers_below (4 * size + 1))) c.args.parts.now.specified c.args.parts.now.refused
-    (tree_pairs size c.args.words.now c.args.marks.now kept.pairs (c.in_ok-entries_changed.ensures.places ∙ c.requires.places)
-    (c.requires.marked unlinked) c.in_ok-entries_changed.ensures.nodes
-    (c.in_ok-entries_changed.ensures.end ∙ c.requires.end unlinked))
-    c.in_ok-entries_changed.ensures.specified (c.in_ok-entries_changed.ensures.sound ∙ sym c.requires.sound)
+pub entries_changed-requires-clause-places : goal.entries_changed-requires-clause-places
+entries_changed-requires-clause-places g c =
+    tree_count c.args.before.now c.args.parts.now.pairs c.args.marks.now c.requires.walked
 
-pub returns-clause-ok : goal.returns-clause-ok
-returns-clause-ok g c =
-    let size = length c.args.marks.now in
+pub entries_changed-requires-clause-others : goal.entries_changed-requires-clause-others
+entries_changed-requires-clause-others g c =
+    let before = c.args.before.now in
+    let words = c.args.words.now in
+    tree_others before words (differing before words c.args.changed.now) c.args.parts.now.pairs
+    c.args.marks.now c.requires.walked
+    (agree_elsewhere before words c.args.changed.now c.requires.elsewhere)
+
+pub returns-then-not-has_turned-clause-walked : goal.returns-then-not-has_turned-clause-walked
+returns-then-not-has_turned-clause-walked g c =
+    let before = c.args.before.now in
+    let words = c.args.words.now in
+    let marks = c.args.marks.now in
+    let pairs = c.args.parts.now.pairs in
+    let turned = differing before words c.args.changed.now in
+    let elsewhere = agree_elsewhere before words c.args.changed.now c.requires.elsewhere in
+    let unlinked : has_link turned ≡ false = sym c.has_turned.ensures ∙ c.if-not-has_turned.true in
+    let put = c.in_ok-entries_changed.ensures in
+    walked_now words c.entries_changed.new.parts.pairs marks
+    (put.places ∙ tree_count before pairs marks c.requires.walked)
+    (tree_marks before words turned pairs marks c.requires.walked elsewhere unlinked) put.nodes
+    (put.end ∙ tree_end before words turned pairs marks c.requires.walked elsewhere unlinked)
+
+pub remark-requires-clause-places : goal.remark-requires-clause-places
+remark-requires-clause-places g c =
+    c.in_ok-entries_changed.ensures.places
+    ∙ tree_count c.args.before.now c.args.parts.now.pairs c.args.marks.now c.requires.walked
+
+pub replace-requires-clause-place : goal.replace-requires-clause-place
+replace-requires-clause-place g c = omega (
+  arith,
+  c.remark.auto.marks,
+  c.in_ok-remark.ensures.places,
+  c.in_ok-entries_changed.ensures.places,
+  tree_count c.args.before.now c.args.parts.now.pairs c.args.marks.now c.requires.walked,
+)
+
+pub returns-clause-walked : goal.returns-clause-walked
+returns-clause-walked g c =
+    let words = c.args.words.now in
+    let marks = c.remark.new.marks in
+    let size = length marks in
     let pairs = c.remark.new.parts.pairs in
     let pair = c.end_pair.result in
-    let same : length c.remark.new.marks ≡ size = c.remark.auto.marks in
-    let count : length pairs ≡ 4 * size + 1 =
-    c.in_ok-remark.ensures.places ∙ c.in_ok-entries_changed.ensures.places ∙ c.requires.places in
-    let within : 4 * size < length pairs = omega (arith, count) in
     let final : List (ℕ × ℕ) = set pairs (4 * size) pair in
-    on_ok_weaker {P = c.replace.new.self ≡ record c.remark.new.parts { pairs = set pairs (4 * length c.remark.new.marks) pair }}
-    {Q = c.replace.new.self ≡ record { pairs = map (tree_pair size c.args.words.now) (numbers_below (4 * size + 1)); specified = c.args.parts.now.specified; refused = c.args.parts.now.refused }} c.replace.result
-    (λ now.
-    let is : c.replace.new.self.pairs ≡ final = ap (λ (k : Kept). k.pairs) now ∙ ap (λ n. set pairs (4 * n) pair) same in
-    all_kept c.replace.new.self (map (tree_pair size c.args.words.now) (numbers_below (4 * size + 1))) c.args.parts.now.specified c.args.parts.now.refused
-    (is ∙ tree_pairs size c.args.words.now c.remark.new.marks final (length-set pairs (4 * size) pair ∙ count)
-    (λ n low. c.in_ok-remark.ensures.marks n low ∙ c.walk-broken.ensures.marks n (omega (arith, low, c.requires.same))
-    ∙ ap (λ k. is_on_chain k c.args.words.now n) c.requires.same)
-    (λ m low. get_or-set_other pairs (4 * size) m pair (0, 0) (λ e. absurd (omega (arith, e, low))) ∙ c.in_ok-remark.ensures.nodes m low)
-    (get_or-set_same pairs (4 * size) pair (0, 0) within ∙ c.end_pair.ensures ∙ ap end_pair (c.walk-broken.ensures.broken ∙ ap (λ k. is_broken k c.args.words.now) c.requires.same)))
-    (ap (λ (k : Kept). k.specified) now ∙ c.in_ok-remark.ensures.specified ∙ c.in_ok-entries_changed.ensures.specified)
-    (ap (λ (k : Kept). k.refused) now ∙ c.in_ok-remark.ensures.sound ∙ sym c.requires.sound))
+    let next : length c.args.next.now ≡ size = c.requires.nodes.room ∙ sym c.remark.auto.marks in
+    let count : length pairs ≡ 4 * size + 1 = omega (
+      arith,
+      c.remark.auto.marks,
+      c.in_ok-remark.ensures.places,
+      c.in_ok-entries_changed.ensures.places,
+      tree_count c.args.before.now c.args.parts.now.pairs c.args.marks.now c.requires.walked,
+    ) in
+    let within : 4 * size < length pairs = omega (arith, count) in
+    let walked : IsWalked words final marks =
+    walked_now words final marks (length-set pairs (4 * size) pair ∙ count)
+    (λ n low. c.in_ok-remark.ensures.marks n (omega (arith, low, c.remark.auto.marks))
+    ∙ c.walk-broken.ensures.marks n (omega (arith, low, next))
+    ∙ ap (λ k. is_on_chain k words n) next)
+    (λ m low. get_or-set_other pairs (4 * size) m pair (0, 0) (λ e. absurd (omega (arith, e, low)))
+    ∙ c.in_ok-remark.ensures.nodes m (omega (arith, low, c.remark.auto.marks)))
+    (get_or-set_same pairs (4 * size) pair (0, 0) within ∙ c.end_pair.ensures
+    ∙ ap end_pair (c.walk-broken.ensures.broken ∙ ap (λ k. is_broken k words) next)) in
+    on_ok_weaker {P = c.replace.new.self ≡ record c.remark.new.parts { pairs = final }}
+    c.replace.result
+    (λ now. subst (λ ps. IsWalked words ps marks) (sym (ap (λ (k : Kept). k.pairs) now)) walked)
     c.replace.ensures.ok

@@ -1,0 +1,8 @@
+use Rattle.std.proofs.Common.{◌≡◌, drop}
+use Rattle.vyrd_view.specs.Chains.{has_link}
+use Rattle.vyrd_view.specs.Comparing.{differing}
+use Rattle.vyrd_view.proofs.tree.has_turned.Given as goal
+
+abbrev pub invariant-loop-word : goal.invariant-loop-word
+invariant-loop-word l = has_link (differing l.before l.words (drop l.word-index l.changed))
+    ≡ has_link (differing l.before l.words l.changed)
