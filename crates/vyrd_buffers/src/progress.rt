@@ -54,11 +54,8 @@ impl Progress for BufferProgress {
     }
 
     #[inline(always)]
-    fn took(self, _header: &Header, answer: u64) -> Self {
-        BufferProgress {
-            task: self.task,
-            place: self.task.after(self.place, answer),
-        }
+    fn took(&mut self, _header: &Header, answer: u64) {
+        self.place = self.task.after(self.place, answer);
     }
 
     #[inline(always)]

@@ -49,9 +49,9 @@ impl Progress for CacheProgress {
     }
 
     #[inline(always)]
-    fn took(self, _header: &Header, answer: u64) -> Self {
+    fn took(&mut self, _header: &Header, answer: u64) {
         let (task, place) = self.task.after(self.place, answer);
-        CacheProgress { task, place }
+        *self = CacheProgress { task, place };
     }
 
     #[inline(always)]

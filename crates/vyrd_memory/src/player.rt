@@ -178,7 +178,7 @@ impl<P: Progress> Machine for Player<P> {
 
     #[inline(always)]
     fn wants(&self) -> Act {
-        match self.underway.progress {
+        match &self.underway.progress {
             Some(progress) => progress.wants(&self.underway.header),
             None => match self.next_op() {
                 Some(op) => Act::Mark(Kind::Call(op.method, op.args)),

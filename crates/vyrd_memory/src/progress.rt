@@ -47,13 +47,14 @@ pub trait Progress: Copy {
         requires sound { IsSoundSomewhere header.now (rest header.now self.now) }
         ensures { result ≡ next_act (rest header.now self.now) };
 
-    /// The place after the answer to what came next.
-    fn took(self, header: &Header, answer: u64) -> Self
+    /// Goes on with the answer to what came next, in place: it may be some hundred bytes, and most
+    /// steps change few of them.
+    fn took(&mut self, header: &Header, answer: u64)
         requires subject { header.now.subject ≡ subject }
-        requires sound { IsSoundSomewhere header.now (rest header.now self) }
-        requires goes_on { next_act (rest header.now self) ≢ Done }
-        requires answer { IsAnswer (next_act (rest header.now self)) answer }
-        ensures { rest header.now result ≡ after_answer (rest header.now self) answer };
+        requires sound { IsSoundSomewhere header.now (rest header.now self.old) }
+        requires goes_on { next_act (rest header.now self.old) ≢ Done }
+        requires answer { IsAnswer (next_act (rest header.now self.old)) answer }
+        ensures { rest header.now self.new ≡ after_answer (rest header.now self.old) answer };
 
     /// Whether nothing is left, as after the return. The place says so, whatever the header.
     fn is_over(&self) -> bool

@@ -66,15 +66,22 @@ impl<P: Progress> Underway<P> {
         ensures falls { self.new.left < self.old.left }
         ensures header { self.new.header ≡ self.old.header }
     {
-        if let Some(progress) = self.progress {
-            let next = progress.took(&self.header, answer);
-            if next.is_over() {
-                self.progress = None;
+        if let Some(progress) = &mut self.progress {
+            progress.took(&self.header, answer);
+            if progress.is_over() {
+                forget(&mut self.progress);
                 self.left = 0;
             } else {
-                self.progress = Some(next);
                 self.left -= 1;
             }
         }
     }
+}
+
+/// Leaves nothing under way. A function clears the room of each value that it may make whenever it
+/// is called, and so one that runs at each step makes no whole operation.
+fn forget<P: Progress>(progress: &mut Option<P>)
+    ensures { progress.new ≡ None }
+{
+    *progress = None;
 }

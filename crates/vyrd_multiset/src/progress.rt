@@ -55,11 +55,8 @@ impl Progress for MultisetProgress {
     }
 
     #[inline(always)]
-    fn took(self, header: &Header, answer: u64) -> Self {
-        MultisetProgress {
-            task: self.task,
-            place: self.task.after(header, self.place, answer),
-        }
+    fn took(&mut self, header: &Header, answer: u64) {
+        self.place = self.task.after(header, self.place, answer);
     }
 
     #[inline(always)]

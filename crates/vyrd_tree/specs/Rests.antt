@@ -5,7 +5,7 @@ pub mod Stores
 pub mod Errands
 pub mod Visits
 pub mod Unused
-use Rattle.std.specs.Prelude.{ℕ, nat_lt, nat_le, if◌then◌else◌}
+use Rattle.std.specs.Prelude.{ℕ, Bool, true, false, nat_lt, nat_le, if◌then◌else◌}
 use Rattle.vyrd_base.specs.declared.header.Header.{Header}
 use Rattle.vyrd_base.specs.declared.log.Kind.TheVariants.{BlockOpen}
 use Rattle.vyrd_memory.specs.declared.act.Act.TheVariants.{Load, Mark}
@@ -79,6 +79,21 @@ rest_at h task (place.Climb a climbing) = climbing_rest h task a climbing
 rest_at h task place.GiveUp = gives_up
 rest_at h task (place.Return reply) = returns reply
 rest_at h task place.Over = stop
+
+-- whether a walk visits a node there, or a block is stored
+abbrev pub is_visit_or_store : Place → Bool
+is_visit_or_store (place.Visit v visiting) = true
+is_visit_or_store (place.Store storing ending) = true
+is_visit_or_store place.LoadRoot = false
+is_visit_or_store (place.Unused need getting) = false
+is_visit_or_store (place.Open storing ending) = false
+is_visit_or_store (place.Close ending) = false
+is_visit_or_store (place.Unchanged node) = false
+is_visit_or_store (place.Unlock lock after) = false
+is_visit_or_store (place.Climb a climbing) = false
+is_visit_or_store place.GiveUp = false
+is_visit_or_store (place.Return reply) = false
+is_visit_or_store place.Over = false
 
 -- what is left of an operation
 abbrev pub rest_of : Header → TreeProgress → Script

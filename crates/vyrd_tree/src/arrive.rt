@@ -21,8 +21,18 @@ const ROOM: u32 = 4;
 
 /// What an operation does in the leaf of its key.
 impl Task {
+    /// Goes on after a walk has arrived at a node with this many entries.
+    pub(crate) fn arrive(self, place: &mut Place, visit: Visit, count: u32)
+        requires { count ≤ 4 }
+        ensures { (h : Header)
+            → rest_at h self place.new
+            ≡ arrived_for h self visit.errand (arrived_at visit (take count visit.entries.slots)) }
+    {
+        *place = self.arrived(visit, count);
+    }
+
     /// The place after a walk has arrived at a node with this many entries.
-    pub(crate) fn arrived(self, visit: Visit, count: u32) -> Place
+    fn arrived(self, visit: Visit, count: u32) -> Place
         requires { count ≤ 4 }
         ensures { (h : Header)
             → rest_at h self result

@@ -24,24 +24,20 @@ impl Entries {
         Entries { slots: [(0, 0); 4] }
     }
 
-    /// With the key in the slot.
-    pub(crate) fn with_key(self, slot: Slot, key: u64) -> Entries
-        ensures { result.slots ≡ slice_set self.slots slot.place (key, 0) }
+    /// Puts the key into the slot.
+    pub(crate) fn set_key(&mut self, slot: Slot, key: u64)
+        ensures { self.new.slots ≡ slice_set self.old.slots slot.place (key, 0) }
     {
-        let mut slots = self.slots;
-        slots[slot.place as usize] = (key, 0);
-        Entries { slots }
+        self.slots[slot.place as usize] = (key, 0);
     }
 
-    /// With the value in the slot, beside the key.
-    pub(crate) fn with_value(self, slot: Slot, value: u64) -> Entries
+    /// Puts the value into the slot, beside the key.
+    pub(crate) fn set_value(&mut self, slot: Slot, value: u64)
         requires { value < 2 ^ 63 }
-        ensures { result.slots ≡ slice_set self.slots slot.place
-            ((slice_index_or self.slots slot.place (0, 0)).0, value) }
+        ensures { self.new.slots ≡ slice_set self.old.slots slot.place
+            ((slice_index_or self.old.slots slot.place (0, 0)).0, value) }
     {
-        let mut slots = self.slots;
-        slots[slot.place as usize].1 = value;
-        Entries { slots }
+        self.slots[slot.place as usize].1 = value;
     }
 
     /// The value in the slot.
@@ -96,10 +92,10 @@ impl Entries {
 
     /// The slot of the child that the key belongs to: that of the last key, among this many, that
     /// is at most the key, and the first slot if there is none.
-    pub(crate) fn child_slot(self, count: u32, key: u64) -> Option<Slot>
+    pub(crate) fn child_slot(&self, count: u32, key: u64) -> Option<Slot>
         requires { count ≤ 4 }
         ensures { MatchOption result (count ≡ 0) (λ slot.
-            (slot.place ≡ child_place key (map (λ entry. entry.0) (take count self.slots)))
+            (slot.place ≡ child_place key (map (λ entry. entry.0) (take count self.now.slots)))
             × (slot.of ≡ count)) }
     {
         let mut last = 0;

@@ -11,8 +11,8 @@ use vyrd_memory::{Act, Op, Progress, Variant};
 
 /// How far an operation of the tree has come: its call, and a place in its procedure.
 ///
-/// It is a few hundred bytes, mostly the entries of the node that it is at. Each step costs the
-/// same.
+/// It is a few hundred bytes, mostly the entries of the node that it is at. A step changes few of
+/// them, where they stand, except a step that comes to another part of the procedure.
 #[derive(Clone, Copy)]
 pub struct TreeProgress {
     task: Task,
@@ -46,15 +46,12 @@ impl Progress for TreeProgress {
 
     #[inline(always)]
     fn wants(&self, header: &Header) -> Act {
-        self.task.wants(header, self.place)
+        self.task.wants(header, &self.place)
     }
 
     #[inline(always)]
-    fn took(self, header: &Header, answer: u64) -> Self {
-        TreeProgress {
-            task: self.task,
-            place: self.task.after(header, self.place, answer),
-        }
+    fn took(&mut self, header: &Header, answer: u64) {
+        self.task.after(header, &mut self.place, answer);
     }
 
     #[inline(always)]

@@ -1,10 +1,10 @@
 //! What an operation stores in a block, word by word.
 
-ghost use Rattle.std.specs.Prelude.{◌≡◌};
+ghost use Rattle.std.specs.Prelude.{◌≡◌, Some, None, IfSome, if◌then◌else◌};
 ghost use Rattle.vyrd_base.specs.declared.header.Header.{Header};
 ghost use Rattle.vyrd_memory.specs.Scripts.{Script, next_act, after_answer};
 ghost use Rattle.vyrd_tree.specs.Rests.Stores.{entries_from, new_from, old_from, storing_rest};
-ghost use Rattle.vyrd_tree.specs.Rests.Stores.{storing_on, counting, then_rest};
+ghost use Rattle.vyrd_tree.specs.Rests.Stores.{new_on, old_on, counting, then_rest};
 
 use crate::cells::root_cell;
 use crate::node::{Node, Word};
@@ -57,72 +57,107 @@ impl Storing {
         }
     }
 
-    /// The entries of a node that wasn't in use, from a place on, and what is stored after the
-    /// node.
-    fn new_entries(written: Written, place: u32, then: Then) -> Storing
-        ensures { (h : Header) (later : Script)
-            → storing_rest h result later
-            ≡ entries_from written place (then_rest h written.node.number then later) }
-    {
-        match (Slot::new(place, written.count), then) {
-            (Some(slot), then) => Storing::New(written, Word::Key(slot), then),
-            (None, Then::Root) => Storing::Root(written.node),
-            (None, Then::Lower(lower, place)) => Storing::entries(lower, place, Extent::Split),
-        }
-    }
-
     /// The store itself.
-    pub(crate) fn wants(self, header: &Header) -> Act
-        ensures { (later : Script) → result ≡ next_act (storing_rest header.now self later) }
+    #[inline(always)]
+    pub(crate) fn wants(&self, header: &Header) -> Act
+        ensures { (later : Script) → result ≡ next_act (storing_rest header.now self.now later) }
     {
         match self {
             Storing::New(written, word, _) | Storing::Old(written, word, _) => {
-                Act::Store(written.node.cell(word), written.word(word))
+                Act::Store(written.node.cell(*word), written.word(*word))
             }
-            Storing::Value(node, slot, value) => Act::Store(node.cell(Word::Value(slot)), value),
+            Storing::Value(node, slot, value) => Act::Store(node.cell(Word::Value(*slot)), *value),
             Storing::Root(node) => Act::Store(root_cell(header), node.to_word()),
         }
     }
 
-    /// What is stored after it, if anything.
-    pub(crate) fn next(self) -> Option<Storing>
+    /// Goes on to what is stored after it. `false` says that nothing is.
+    #[inline(always)]
+    pub(crate) fn advance(&mut self) -> bool
         ensures { (h : Header) (later : Script)
-            → storing_on h result later ≡ after_answer (storing_rest h self later) 0 }
+            → (if result then storing_rest h self.new later else later)
+            ≡ after_answer (storing_rest h self.old later) 0 }
     {
         match self {
-            Storing::New(written, word, then) => Some(Storing::next_new(written, word, then)),
-            Storing::Old(written, word, extent) => Storing::next_old(written, word, extent),
-            Storing::Value(..) | Storing::Root(_) => None,
+            Storing::New(written, word, then) => {
+                match written.new_word(*word) {
+                    Some(next) => *word = next,
+                    None => {
+                        let (node, next) = (written.node, *then);
+                        self.begin(node, next);
+                    }
+                }
+                true
+            }
+            Storing::Old(written, word, extent) => match written.old_word(*word, *extent) {
+                Some(next) => {
+                    *word = next;
+                    true
+                }
+                None => false,
+            },
+            Storing::Value(..) | Storing::Root(_) => false,
         }
     }
 
-    /// What is stored after a word of a node that wasn't in use.
-    fn next_new(written: Written, word: Word, then: Then) -> Storing
+    /// Becomes what is stored after a node that wasn't in use.
+    fn begin(&mut self, node: Node, next: Then)
         ensures { (h : Header) (later : Script)
-            → storing_rest h result later
-            ≡ after_answer (new_from written word (then_rest h written.node.number then later)) 0 }
+            → storing_rest h self.new later ≡ then_rest h node.number next later }
+    {
+        *self = match next {
+            Then::Root => Storing::Root(node),
+            Then::Lower(lower, place) => Storing::entries(lower, place, Extent::Split),
+        };
+    }
+}
+
+/// The words of a node in the order in which they are stored.
+impl Written {
+    /// The word that follows, if the node wasn't in use. After the last value there is none.
+    fn new_word(&self, word: Word) -> Option<Word>
+        ensures { (later : Script)
+            → new_on self.now result later ≡ after_answer (new_from self.now word later) 0 }
     {
         match word {
-            Word::Level => Storing::New(written, Word::Count, then),
-            Word::Count => Storing::New(written, Word::Bound, then),
-            Word::Bound => Storing::New(written, Word::Right, then),
-            Word::Right => Storing::new_entries(written, 0, then),
-            Word::Key(slot) => Storing::New(written, Word::Value(slot), then),
-            Word::Value(slot) => Storing::new_entries(written, slot.place + 1, then),
+            Word::Level => Some(Word::Count),
+            Word::Count => Some(Word::Bound),
+            Word::Bound => Some(Word::Right),
+            Word::Right => self.key(0),
+            Word::Key(slot) => Some(Word::Value(slot)),
+            Word::Value(slot) => self.key(slot.place + 1),
         }
     }
 
-    /// What is stored after a word of a node that is in use.
-    fn next_old(written: Written, word: Word, extent: Extent) -> Option<Storing>
-        ensures { (h : Header) (later : Script)
-            → storing_on h result later ≡ after_answer (old_from written word extent later) 0 }
+    /// The word that follows, if the node is in use.
+    fn old_word(&self, word: Word, extent: Extent) -> Option<Word>
+        ensures { (later : Script)
+            → old_on self.now result extent later
+            ≡ after_answer (old_from self.now word extent later) 0 }
     {
         match (word, extent) {
-            (Word::Key(slot), _) => Some(Storing::Old(written, Word::Value(slot), extent)),
-            (Word::Value(slot), _) => Some(Storing::entries(written, slot.place + 1, extent)),
-            (Word::Count, Extent::Split) => Some(Storing::Old(written, Word::Bound, extent)),
-            (Word::Bound, _) => Some(Storing::Old(written, Word::Right, extent)),
+            (Word::Key(slot), _) => Some(Word::Value(slot)),
+            (Word::Value(slot), _) => match self.key(slot.place + 1) {
+                Some(key) => Some(key),
+                None => Some(Word::Count),
+            },
+            (Word::Count, Extent::Split) => Some(Word::Bound),
+            (Word::Bound, _) => Some(Word::Right),
             (Word::Count | Word::Right | Word::Level, _) => None,
+        }
+    }
+
+    /// The key of the entry at a place, if there is one.
+    fn key(&self, place: u32) -> Option<Word>
+        ensures new { (later : Script)
+            → new_on self.now result later ≡ entries_from self.now place later }
+        ensures old { IfSome result (λ key. (extent : Extent) (later : Script)
+            → old_from self.now key extent later
+            ≡ entries_from self.now place (counting self.now extent later)) }
+    {
+        match Slot::new(place, self.count) {
+            Some(slot) => Some(Word::Key(slot)),
+            None => None,
         }
     }
 }

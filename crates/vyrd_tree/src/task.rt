@@ -1,12 +1,13 @@
 //! The steps of the procedures: what comes next at a place, and the place after it.
 
-ghost use Rattle.std.specs.Prelude.{◌≡◌, ◌<◌, ◌^◌};
+ghost use Rattle.std.specs.Prelude.{◌≡◌, ◌<◌, ◌≤◌, ◌^◌, take, false};
 ghost use Rattle.vyrd_memory.specs.Scripts.{next_act, after_answer};
-ghost use Rattle.vyrd_tree.specs.Rests.{after_rest, rest_at};
+ghost use Rattle.vyrd_base.specs.declared.header.Header.{Header};
+ghost use Rattle.vyrd_tree.specs.Rests.{after_rest, rest_at, is_visit_or_store};
 
 use crate::cells::root_cell;
 use crate::place::{After, Climbing, Lock, Place};
-use crate::visit::Errand;
+use crate::visit::{Errand, Onward, Visit};
 use vyrd_base::{Header, Kind};
 use vyrd_memory::{Act, Variant};
 
@@ -32,12 +33,13 @@ pub(crate) struct Task {
 
 impl Task {
     /// What comes next at a place.
-    pub(crate) fn wants(self, header: &Header, place: Place) -> Act
-        ensures { result ≡ next_act (rest_at header.now self place) }
+    #[inline(always)]
+    pub(crate) fn wants(self, header: &Header, place: &Place) -> Act
+        ensures { result ≡ next_act (rest_at header.now self place.now) }
     {
         match place {
             Place::LoadRoot => Act::Load(root_cell(header)),
-            Place::Visit(visit, place) => visit.wants(header, place),
+            Place::Visit(visit, place) => visit.wants(header, *place),
             Place::Unused(_, place) => place.wants(header),
             Place::Open(..) => Act::Mark(Kind::BlockOpen),
             Place::Store(storing, _) => storing.wants(header),
@@ -45,33 +47,60 @@ impl Task {
             Place::Unchanged(_) | Place::GiveUp => Act::Mark(Kind::Commit),
             Place::Unlock(lock, _) => Act::Give(lock.cell(header)),
             Place::Climb(_, place) => place.wants(header),
-            Place::Return(reply) => Act::Mark(Kind::Return(reply)),
+            Place::Return(reply) => Act::Mark(Kind::Return(*reply)),
             Place::Over => Act::Done,
         }
     }
 
-    /// The place after an answer.
-    pub(crate) fn after(self, header: &Header, place: Place, answer: u64) -> Place
+    /// Goes on from a place with an answer. Nearly all answers are those to a visit or a store,
+    /// which change few words of the place. What makes another place is left to other functions,
+    /// since a function clears the room of each value that it may make whenever it is called.
+    #[inline(always)]
+    pub(crate) fn after(self, header: &Header, place: &mut Place, answer: u64)
         requires { answer < 2 ^ 63 }
-        ensures { rest_at header.now self result
-            ≡ after_answer (rest_at header.now self place) answer }
+        ensures { rest_at header.now self place.new
+            ≡ after_answer (rest_at header.now self place.old) answer }
     {
         match place {
+            Place::Visit(visit, at) => match self.after_visiting(header, visit, *at, answer) {
+                Onward::At(next) => *at = next,
+                Onward::Arrived(count) => {
+                    let visit = *visit;
+                    self.arrive(place, visit, count);
+                }
+                Onward::Lost => {
+                    let errand = visit.errand;
+                    self.lose(place, errand);
+                }
+            },
+            Place::Store(storing, ending) => {
+                if !storing.advance() {
+                    *place = Place::Close(*ending);
+                }
+            }
+            _ => self.pass_on(header, place, answer),
+        }
+    }
+
+    /// Goes on from a place that is no visit and no store.
+    fn pass_on(self, header: &Header, place: &mut Place, answer: u64)
+        requires answer { answer < 2 ^ 63 }
+        requires other { is_visit_or_store place.old ≡ false }
+        ensures { rest_at header.now self place.new
+            ≡ after_answer (rest_at header.now self place.old) answer }
+    {
+        *place = match *place {
             Place::LoadRoot => self.walk(header, Errand::Operation, header.size(), answer),
-            Place::Visit(visit, place) => self.after_visiting(header, visit, place, answer),
             Place::Unused(need, place) => self.after_getting(header, need, place, answer),
             Place::Open(storing, ending) => Place::Store(storing, ending),
-            Place::Store(storing, ending) => match storing.next() {
-                Some(storing) => Place::Store(storing, ending),
-                None => Place::Close(ending),
-            },
             Place::Close(ending) => Place::Unlock(ending.lock, ending.after),
             Place::Unchanged(node) => Place::Unlock(Lock::Node(node), After::Return(0)),
             Place::Unlock(_, after) => self.after_unlock(header, after),
             Place::Climb(ascent, place) => self.after_climbing(header, ascent, place, answer),
             Place::GiveUp => Place::Return(0),
             Place::Return(_) | Place::Over => Place::Over,
-        }
+            Place::Visit(..) | Place::Store(..) => unreachable!(),
+        };
     }
 
     /// The place after a lock was given back.

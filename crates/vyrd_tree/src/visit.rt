@@ -94,8 +94,9 @@ impl Visit {
     }
 
     /// What comes next of the visit.
-    pub(crate) fn wants(self, header: &Header, place: Visiting) -> Act
-        ensures { (task : Task) → result ≡ next_act (visiting_rest header.now task self place) }
+    #[inline(always)]
+    pub(crate) fn wants(&self, header: &Header, place: Visiting) -> Act
+        ensures { (task : Task) → result ≡ next_act (visiting_rest header.now task self.now place) }
     {
         match place {
             Visiting::Lock => Act::Take(self.node.lock(header)),
@@ -124,8 +125,8 @@ impl Visit {
     }
 
     /// How many entries the node has: 4 at most, whatever its count says.
-    pub(crate) fn entry_count(self) -> u32
-        ensures count { result ≡ min self.count 4 }
+    pub(crate) fn entry_count(&self) -> u32
+        ensures count { result ≡ min self.now.count 4 }
         ensures few { result ≤ 4 }
     {
         self.count.min(4) as u32
@@ -144,5 +145,16 @@ pub(crate) enum Visiting {
     /// Unlock the node, and visit this one.
     Leave(u64),
     /// Unlock the node. The walk is lost.
+    Lost,
+}
+
+/// What comes of a step of a visit.
+#[derive(Clone, Copy)]
+pub(crate) enum Onward {
+    /// The visit goes on, or the next one begins: this comes next.
+    At(Visiting),
+    /// The walk has arrived: the node has this many entries, and all are loaded.
+    Arrived(u32),
+    /// The walk is lost.
     Lost,
 }

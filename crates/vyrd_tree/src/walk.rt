@@ -9,12 +9,13 @@ ghost use Rattle.vyrd_tree.specs.Rests.{rest_at};
 ghost use Rattle.vyrd_tree.specs.Rests.Errands.{key_for, lost_for, walk_on};
 ghost use Rattle.vyrd_tree.specs.Rests.Visits.{keys_of, with_keys, keys_from_rest};
 ghost use Rattle.vyrd_tree.specs.Rests.Visits.{values_from_rest, looked_at, loading, visiting_rest};
+ghost use Rattle.vyrd_tree.specs.Rests.Visits.{onward_rest, HasFew};
 
 use crate::node::{Node, Word};
 use crate::place::Place;
 use crate::slot::Slot;
 use crate::task::{Call, Task};
-use crate::visit::{Errand, Visit, Visiting};
+use crate::visit::{Errand, Onward, Visit, Visiting};
 use vyrd_base::Header;
 use vyrd_memory::Variant;
 
@@ -29,7 +30,7 @@ impl Task {
         }
     }
 
-    /// The place where a walk goes on at the node of this number, with this many visits left.
+    /// The place where a walk begins at the node of this number, with this many visits left.
     pub(crate) fn walk(self, header: &Header, errand: Errand, left: u32, number: u64) -> Place
         ensures { rest_at header.now self result ≡ walk_on header.now self errand left number }
     {
@@ -53,64 +54,69 @@ impl Task {
         }
     }
 
-    /// The place after what came next of a visit.
+    /// Goes on after a walk was lost.
+    pub(crate) fn lose(self, place: &mut Place, errand: Errand)
+        ensures { (h : Header) → rest_at h self place.new ≡ lost_for self errand }
+    {
+        *place = self.lost(errand);
+    }
+
+    /// Goes on from a visit with an answer, in place.
+    #[inline(always)]
     pub(crate) fn after_visiting(
         self,
         header: &Header,
-        visit: Visit,
+        visit: &mut Visit,
         place: Visiting,
         answer: u64,
-    ) -> Place
+    ) -> Onward
         requires { answer < 2 ^ 63 }
-        ensures { rest_at header.now self result
-            ≡ after_answer (visiting_rest header.now self visit place) answer }
+        ensures rest { onward_rest header.now self visit.new result
+            ≡ after_answer (visiting_rest header.now self visit.old place) answer }
+        ensures few { HasFew result }
     {
         match place {
-            Visiting::Lock => Place::Visit(visit, Visiting::Load(Word::Level)),
-            Visiting::Load(word) => self.loaded(header, visit, word, answer),
-            Visiting::LoadChild(_) => Place::Visit(visit, Visiting::Leave(answer)),
-            Visiting::Leave(next) => self.walk(header, visit.errand, visit.left, next),
-            Visiting::Lost => self.lost(visit.errand),
+            Visiting::Lock => Onward::At(Visiting::Load(Word::Level)),
+            Visiting::Load(word) => self.loaded(visit, word, answer),
+            Visiting::LoadChild(_) => Onward::At(Visiting::Leave(answer)),
+            Visiting::Leave(next) => visit.go(header, next),
+            Visiting::Lost => Onward::Lost,
         }
     }
 
-    /// The place after a word of the node was loaded.
-    fn loaded(self, header: &Header, visit: Visit, word: Word, answer: u64) -> Place
+    /// Goes on after a word of the node was loaded.
+    #[inline(always)]
+    fn loaded(self, visit: &mut Visit, word: Word, answer: u64) -> Onward
         requires { answer < 2 ^ 63 }
-        ensures { rest_at header.now self result
-            ≡ after_answer (loading header.now self visit word) answer }
+        ensures rest { (h : Header) → onward_rest h self visit.new result
+            ≡ after_answer (loading h self visit.old word) answer }
+        ensures few { HasFew result }
     {
         match word {
-            Word::Level => Place::Visit(
-                Visit {
-                    level: answer,
-                    ..visit
-                },
-                Visiting::Load(Word::Count),
-            ),
-            Word::Count => Place::Visit(
-                Visit {
-                    count: answer,
-                    ..visit
-                },
-                Visiting::Load(Word::Bound),
-            ),
-            Word::Bound => Place::Visit(
-                Visit {
-                    bound: answer,
-                    ..visit
-                },
-                Visiting::Load(Word::Right),
-            ),
-            Word::Right => self.look(
-                header,
-                Visit {
-                    right: answer,
-                    ..visit
-                },
-            ),
-            Word::Key(slot) => self.key_loaded(header, visit, slot, answer),
-            Word::Value(slot) => self.value_loaded(visit, slot, answer),
+            Word::Level => {
+                visit.level = answer;
+                Onward::At(Visiting::Load(Word::Count))
+            }
+            Word::Count => {
+                visit.count = answer;
+                Onward::At(Visiting::Load(Word::Bound))
+            }
+            Word::Bound => {
+                visit.bound = answer;
+                Onward::At(Visiting::Load(Word::Right))
+            }
+            Word::Right => {
+                visit.right = answer;
+                self.look(visit)
+            }
+            Word::Key(slot) => {
+                visit.entries.set_key(slot, answer);
+                self.keys_from(visit, slot.place + 1, slot.of)
+            }
+            Word::Value(slot) => {
+                visit.entries.set_value(slot, answer);
+                visit.values_from(slot.place + 1, slot.of)
+            }
         }
     }
 
@@ -125,81 +131,83 @@ impl Task {
         }
     }
 
-    /// The place where the node's first four words are loaded.
-    fn look(self, header: &Header, visit: Visit) -> Place
-        ensures { rest_at header.now self result
-            ≡ looked_at header.now self visit visit.level visit.count visit.bound visit.right }
+    /// What comes where the node's first four words are loaded.
+    fn look(self, visit: &Visit) -> Onward
+        ensures rest { (h : Header) → onward_rest h self visit.now result
+            ≡ looked_at h self visit.now visit.now.level visit.now.count visit.now.bound
+            visit.now.right }
+        ensures few { HasFew result }
     {
         if self.moves_right(visit.level, visit.bound, self.key(visit.errand)) {
-            return Place::Visit(visit, Visiting::Leave(visit.right));
+            return Onward::At(Visiting::Leave(visit.right));
         }
-        self.keys_from(header, visit, 0, visit.entry_count())
+        self.keys_from(visit, 0, visit.entry_count())
     }
 
-    /// The place where a node's keys, this many, are loaded from a place on.
-    fn keys_from(self, header: &Header, visit: Visit, place: u32, count: u32) -> Place
+    /// What comes where a node's keys, this many, are loaded from a place on.
+    fn keys_from(self, visit: &Visit, place: u32, count: u32) -> Onward
         requires count { count ≤ 4 }
         requires place { place ≤ count }
-        ensures { rest_at header.now self result
-            ≡ keys_from_rest header.now self visit place count }
+        ensures rest { (h : Header) → onward_rest h self visit.now result
+            ≡ keys_from_rest h self visit.now place count }
+        ensures few { HasFew result }
     {
         match Slot::new(place, count) {
-            Some(slot) => Place::Visit(visit, Visiting::Load(Word::Key(slot))),
-            None => self.keys_loaded(header, visit, count),
+            Some(slot) => Onward::At(Visiting::Load(Word::Key(slot))),
+            None => self.keys_loaded(visit, count),
         }
     }
 
-    /// The place after a key was loaded.
-    fn key_loaded(self, header: &Header, visit: Visit, slot: Slot, key: u64) -> Place
-        ensures { rest_at header.now self result
-            ≡ after_answer (loading header.now self visit (Word.Key slot)) key }
-    {
-        let visit = Visit {
-            entries: visit.entries.with_key(slot, key),
-            ..visit
-        };
-        self.keys_from(header, visit, slot.place + 1, slot.of)
-    }
-
-    /// The place after all keys, this many, were loaded: down to a child, or the walk has come to
+    /// What comes after all keys, this many, were loaded: down to a child, or the walk has come to
     /// its level.
-    fn keys_loaded(self, header: &Header, visit: Visit, count: u32) -> Place
+    fn keys_loaded(self, visit: &Visit, count: u32) -> Onward
         requires { count ≤ 4 }
-        ensures { rest_at header.now self result
-            ≡ with_keys header.now self visit count (keys_of (take count visit.entries.slots)) }
+        ensures rest { (h : Header) → onward_rest h self visit.now result
+            ≡ with_keys h self visit.now count (keys_of (take count visit.now.entries.slots)) }
+        ensures few { HasFew result }
     {
         if visit.level > visit.errand.toward() {
             let key = self.key(visit.errand);
             return match visit.entries.child_slot(count, key) {
-                Some(slot) => Place::Visit(visit, Visiting::LoadChild(slot)),
-                None => Place::Visit(visit, Visiting::Lost),
+                Some(slot) => Onward::At(Visiting::LoadChild(slot)),
+                None => Onward::At(Visiting::Lost),
             };
         }
-        self.values_from(visit, 0, count)
+        visit.values_from(0, count)
     }
+}
 
-    /// The place where a node's values, this many, are loaded from a place on.
-    fn values_from(self, visit: Visit, place: u32, count: u32) -> Place
-        requires count { count ≤ 4 }
-        requires place { place ≤ count }
-        ensures { (h : Header) → rest_at h self result ≡ values_from_rest h self visit place count }
+impl Visit {
+    /// Goes on at the node of this number, if there is one and a visit is left.
+    fn go(&mut self, header: &Header, number: u64) -> Onward
+        ensures rest { (task : Task) → onward_rest header.now task self.new result
+            ≡ walk_on header.now task self.old.errand self.old.left number }
+        ensures few { HasFew result }
     {
-        match Slot::new(place, count) {
-            Some(slot) => Place::Visit(visit, Visiting::Load(Word::Value(slot))),
-            None => self.arrived(visit, count),
+        if self.left == 0 {
+            return Onward::Lost;
+        }
+        match Node::numbered(header, number) {
+            Some(node) => {
+                self.left -= 1;
+                self.node = node;
+                Onward::At(Visiting::Lock)
+            }
+            None => Onward::Lost,
         }
     }
 
-    /// The place after a value was loaded.
-    fn value_loaded(self, visit: Visit, slot: Slot, value: u64) -> Place
-        requires { value < 2 ^ 63 }
-        ensures { (h : Header)
-            → rest_at h self result ≡ after_answer (loading h self visit (Word.Value slot)) value }
+    /// What comes where a node's values, this many, are loaded from a place on.
+    fn values_from(&self, place: u32, count: u32) -> Onward
+        requires count { count ≤ 4 }
+        requires place { place ≤ count }
+        ensures rest { (h : Header) (task : Task)
+            → onward_rest h task self.now result ≡ values_from_rest h task self.now place count }
+        ensures few { HasFew result }
     {
-        let visit = Visit {
-            entries: visit.entries.with_value(slot, value),
-            ..visit
-        };
-        self.values_from(visit, slot.place + 1, slot.of)
+        match Slot::new(place, count) {
+            Some(slot) => Onward::At(Visiting::Load(Word::Value(slot))),
+            None => Onward::Arrived(count),
+        }
     }
 }

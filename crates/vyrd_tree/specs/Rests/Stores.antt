@@ -76,6 +76,15 @@ abbrev pub then_rest : Header → ℕ → Then → Script → Script
 then_rest h new then.Root later = perform (Store (root_cell h) new) later
 then_rest h new (then.Lower w place) later = entries_from w place (counting w Split later)
 
+-- the same, where there may be no word any more
+abbrev pub new_on : Written → Option Word → Script → Script
+new_on w None later = later
+new_on w (Some word) later = new_from w word later
+
+abbrev pub old_on : Written → Option Word → Extent → Script → Script
+old_on w None extent later = later
+old_on w (Some word) extent later = old_from w word extent later
+
 -- what is left from a store on
 abbrev pub storing_rest : Header → Storing → Script → Script
 storing_rest h (New w word then) later = new_from w word (then_rest h w.node.number then later)
@@ -83,8 +92,3 @@ storing_rest h (Old w word extent) later = old_from w word extent later
 storing_rest h (storing.Value node slot value) later =
     perform (Store (value_cell node.number slot.place) value) later
 storing_rest h (Root node) later = perform (Store (root_cell h) node.number) later
-
--- the same if nothing may be left to store
-abbrev pub storing_on : Header → Option Storing → Script → Script
-storing_on h None later = later
-storing_on h (Some storing) later = storing_rest h storing later

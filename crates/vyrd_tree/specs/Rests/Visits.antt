@@ -1,13 +1,16 @@
 -- What is left of a visit, where a walk is at a node.
-use Rattle.std.specs.Prelude.{ℕ, ◌+◌, ◌-◌, nat_lt, List, ◌∷◌, ◌++◌, map, take, drop, if◌then◌else◌}
+use Rattle.std.specs.Prelude.{ℕ, ◌+◌, ◌-◌, ◌≤◌, nat_lt, List, ◌∷◌, ◌++◌, map, take, drop, ⊤}
+use Rattle.std.specs.Prelude.{if◌then◌else◌}
 use Rattle.vyrd_base.specs.declared.header.Header.{Header}
 use Rattle.vyrd_memory.specs.declared.act.Act.TheVariants.{Load}
 use Rattle.vyrd_memory.specs.Scripts.{Script, step}
 use Rattle.vyrd_tree.specs.declared.node.Word.TheVariants as word
 use Rattle.vyrd_tree.specs.declared.visit.Visiting.TheVariants as visiting
+use Rattle.vyrd_tree.specs.declared.visit.Onward.TheVariants as onward
 use Rattle.vyrd_tree.specs.declared.node.Word.{Word}
 use Rattle.vyrd_tree.specs.declared.visit.Visit.{Visit}
 use Rattle.vyrd_tree.specs.declared.visit.Visiting.{Visiting}
+use Rattle.vyrd_tree.specs.declared.visit.Onward.{Onward}
 use Rattle.vyrd_tree.specs.declared.task.Task.{Task}
 use Rattle.vyrd_tree.specs.Cells.{level_cell, count_cell, bound_cell, right_cell, key_cell}
 use Rattle.vyrd_tree.specs.Cells.{value_cell, unlock_node}
@@ -90,3 +93,16 @@ visiting_rest h task v (visiting.LoadChild slot) =
 visiting_rest h task v (visiting.Leave next) =
     unlock_node h v.node.number (walk_on h task v.errand v.left next)
 visiting_rest h task v visiting.Lost = unlock_node h v.node.number (lost_for task v.errand)
+
+-- what is left after a step of a visit
+abbrev pub onward_rest : Header → Task → Visit → Onward → Script
+onward_rest h task v (onward.At place) = visiting_rest h task v place
+onward_rest h task v (onward.Arrived count) =
+    arrived_for h task v.errand (arrived_at v (take count v.entries.slots))
+onward_rest h task v onward.Lost = lost_for task v.errand
+
+-- A node where a walk has arrived has few entries.
+abbrev pub HasFew : Onward → Type 0
+HasFew (onward.At place) = ⊤
+HasFew (onward.Arrived count) = count ≤ 4
+HasFew onward.Lost = ⊤
