@@ -11,9 +11,10 @@ ghost use Rattle.vyrd_program.specs.Inputs.{IsInputTaken, IsFewTaken, is_failed}
 ghost use Rattle.vyrd_program.specs.Batches.{AnswersBatch, IsBatchAnswer, IsBatchRead};
 ghost use Rattle.vyrd_program.specs.Batches.{IsBatchStatus};
 
-use crate::answer::{Answer, BATCH_REFUSED, MEMORY, READ_FAULT};
+use crate::answer::Answer;
 use crate::read_input::{LONGEST_BATCH, read_more};
 use crate::read_log::ReadFault;
+use crate::status::{BATCH_REFUSED, MEMORY, READ_FAULT};
 use std::alloc::{AllocError, Global};
 use std::thread::Threads;
 use vyrd_base::{Source, Verdict};

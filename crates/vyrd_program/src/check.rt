@@ -7,8 +7,9 @@ ghost use Rattle.vyrd_log_check.specs.Checking.{most_lines};
 ghost use Rattle.vyrd_program.specs.Outputs.{status_of};
 ghost use Rattle.vyrd_program.specs.Checks.{IsJudged, IsSettled, IsUnsettled, IsReadNoFurther};
 
-use crate::answer::{Answer, MEMORY, READ_FAULT, status_of};
+use crate::answer::{Answer, status_of};
 use crate::read_log::{ReadFault, read_verdict};
+use crate::status::{MEMORY, READ_FAULT};
 use std::alloc::{AllocError, Global};
 use vyrd_base::{Source, Verdict};
 use vyrd_text::write_verdict;

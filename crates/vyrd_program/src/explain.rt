@@ -8,9 +8,10 @@ ghost use Rattle.vyrd_program.specs.Inputs.{is_failed};
 ghost use Rattle.vyrd_program.specs.Explains.{AnswersExplain, IsExplainTaken, IsExplainNoFurther};
 ghost use Rattle.vyrd_program.specs.Explains.{IsLogTaken, longest_explained};
 
-use crate::answer::{Answer, MEMORY, READ_FAULT, status_of};
+use crate::answer::{Answer, status_of};
 use crate::read_input::read_more;
 use crate::read_log::ReadFault;
+use crate::status::{MEMORY, READ_FAULT};
 use std::alloc::Global;
 use vyrd_base::Source;
 use vyrd_explain::{About, Explainer};

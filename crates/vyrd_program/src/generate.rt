@@ -5,8 +5,9 @@ ghost use Rattle.vyrd_memory.specs.Bounds.{most_ops};
 ghost use Rattle.vyrd_program.specs.Generated.{IsGenAnswer, IsGenStatus};
 
 use crate::account::Account;
-use crate::answer::{Answer, MEMORY};
+use crate::answer::Answer;
 use crate::show::Show;
+use crate::status::MEMORY;
 use crate::telling::{generated, stuck};
 use std::alloc::{AllocError, Global};
 use vyrd_live::show_by_turns;

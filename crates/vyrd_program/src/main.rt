@@ -39,6 +39,7 @@ mod run;
 mod show;
 #[cfg(test)]
 mod start_tests;
+mod status;
 mod step;
 mod telling;
 #[cfg(test)]
@@ -57,10 +58,10 @@ use vyrd_base::{OpenGate, StdSink, StdSource};
 fn main(rt: HostRuntime) -> ExitCode {
     let alloc = rt.alloc();
     let Ok(owned) = words_given(&rt) else {
-        return ExitCode::from(answer::MEMORY);
+        return ExitCode::from(status::MEMORY);
     };
     let Ok(words) = as_text(alloc, &owned) else {
-        return ExitCode::from(answer::MEMORY);
+        return ExitCode::from(status::MEMORY);
     };
     let mut source = StdSource::new(rt.stdin());
     let mut sink = StdSink::new(rt.stdout());

@@ -12,9 +12,10 @@ ghost use Rattle.vyrd_program.specs.Moved.{AnswersMovers, IsMoversAnswer, IsMove
 ghost use Rattle.vyrd_program.specs.Moved.{IsHistoryRead};
 ghost use Rattle.vyrd_program.specs.Moved.{status_of_blocks};
 
-use crate::answer::{Answer, HISTORY_REFUSED, MEMORY, READ_FAULT};
+use crate::answer::Answer;
 use crate::read_input::read_more;
 use crate::read_log::ReadFault;
+use crate::status::{HISTORY_REFUSED, MEMORY, READ_FAULT};
 use std::alloc::{AllocError, Global};
 use vyrd_base::Source;
 use vyrd_mover::{

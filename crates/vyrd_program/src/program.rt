@@ -17,11 +17,12 @@ ghost use Rattle.vyrd_program.specs.Runs.{IsRunStatus};
 ghost use Rattle.vyrd_program.specs.Generated.{IsGenStatus};
 ghost use Rattle.vyrd_program.specs.CorrectInputs.{SaysCorrect, SaysFewEvents};
 
-use crate::answer::{Answer, USAGE, WRITE_FAULT};
+use crate::answer::Answer;
 use crate::command::carry_out;
 use crate::deliver::deliver;
 use crate::form::{Form, form_of};
 use crate::limited::check_limited;
+use crate::status::{USAGE, WRITE_FAULT};
 use std::alloc::Global;
 use std::sync::Wait;
 use std::thread::Threads;

@@ -11,10 +11,11 @@ ghost use Rattle.vyrd_program.specs.Inputs.{IsInputTaken, IsFewTaken};
 ghost use Rattle.vyrd_program.specs.Runs.{AnswersRun, IsRunAnswer, IsRunStatus};
 
 use crate::account::Account;
-use crate::answer::{Answer, MEMORY, READ_FAULT};
+use crate::answer::Answer;
 use crate::read_input::{LONGEST_WORK, read_input};
 use crate::read_log::ReadFault;
 use crate::show::Show;
+use crate::status::{MEMORY, READ_FAULT};
 use crate::telling::{overrun, refuse, told_of};
 use std::alloc::{AllocError, Global};
 use std::sync::Wait;

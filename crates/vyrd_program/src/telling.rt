@@ -14,7 +14,8 @@ ghost use Rattle.vyrd_program.specs.Runs.{spent_line};
 ghost use Rattle.vyrd_program.specs.Generated.{generated_line};
 
 use crate::account::{Account, Told};
-use crate::answer::{Answer, REFUSED, SPENT, STUCK, status_of};
+use crate::answer::{Answer, status_of};
+use crate::status::{REFUSED, SPENT, STUCK};
 use std::alloc::{AllocError, Global};
 use vyrd_text::{LineBuffer, write_verdict};
 use vyrd_work::{WorkRule, write_refusal};
