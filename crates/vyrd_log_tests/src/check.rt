@@ -1,5 +1,5 @@
-//! What a checker answers on small logs. The tests of `vyrd_program` give it many more, in every
-//! cutting.
+//! What a checker answers on small logs. The tests of the top call, in `vyrd_command_tests`, give it
+//! many more, in every cutting.
 
 use std::alloc::{AllocError, Global};
 use std::process::Abort;

@@ -1,59 +1,19 @@
 //! `vyrd`: reads the log of a run of a concurrent data structure, and says whether the run refines
 //! its sequential specification.
 //!
-//! The top call is `vyrd` in `program`. It is generic over what it reads from and writes to, and
-//! its contract says what it answers: the verdict of all bytes that the source held, or why there
-//! is none. `main` makes the real source and sink.
+//! It is the call `vyrd` of `vyrd_command`, whose contract says what it answers, over the arguments
+//! that the program is started with, standard input and standard output. Its status is the call's.
 #![tactic(auto)]
-
-mod account;
-mod answer;
-mod batch;
-#[cfg(test)]
-mod batch_tests;
-#[cfg(test)]
-mod case;
-mod check;
-mod command;
-mod deliver;
-mod explain;
-#[cfg(test)]
-mod explain_tests;
-mod form;
-mod generate;
-#[cfg(test)]
-mod hostile_tests;
-mod laws;
-mod limited;
-mod movers;
-#[cfg(test)]
-mod movers_tests;
-#[cfg(test)]
-mod own_tests;
-#[cfg(test)]
-mod play_tests;
-mod program;
-mod read_input;
-mod read_log;
-mod run;
-mod show;
-#[cfg(test)]
-mod start_tests;
-mod status;
-mod step;
-mod telling;
-#[cfg(test)]
-mod tests;
 
 ghost use Rattle.std.specs.Prelude.{◌≡◌, map, IfOk};
 ghost use Rattle.std.specs.String.{string_bytes};
 
-use program::vyrd;
 use std::alloc::{AllocError, Global};
 use std::process::ExitCode;
 use std::rt::Env;
 use std::{env, io};
 use vyrd_base::{OpenGate, StdSink, StdSource};
+use vyrd_command::{status, vyrd};
 
 fn main(rt: HostRuntime) -> ExitCode {
     let alloc = rt.alloc();

@@ -1,0 +1,63 @@
+-- What was read of an input says the logs of the whole input, and what is judged of it while it is read.
+use Rattle.std.proofs.Common.{◌≡◌, ℕ, ◌+◌, ◌≤◌, List, ◌++◌, length, refl, ap, ◌∙◌, sym, subst, arith, length-append}
+use Rattle.std.specs.Prelude.{IfSome, Result, Ok, Err, IfOk}
+use Rattle.vyrd_base.specs.Devices.{SourceKnown}
+use Rattle.vyrd_base.specs.declared.verdict.Verdict.{Verdict}
+use Rattle.vyrd_batch.specs.Batches.{batch_logs, batch_of}
+use Rattle.vyrd_batch.specs.BatchAnswers.{verdicts_of, batch_text, batch_status}
+use Rattle.vyrd_batch.specs.LongBatches.{longest_batch_input}
+use Rattle.vyrd_batch.proofs.SettledLaws.{logs_are_settled}
+use Rattle.vyrd_batch.proofs.TextLaws.{read_batch_is_text}
+use Rattle.vyrd_batch.specs.Rounds.{BatchView, IsJudged}
+use Rattle.vyrd_batch.proofs.RoundLaws.{judged_longer}
+use Rattle.vyrd_command.specs.Inputs.{IsInputRead, IsMoreRead, IsFewTaken}
+use Rattle.vyrd_command.specs.declared.answer.Answer.{Answer}
+use Rattle.vyrd_command.specs.Batches.{IsBatchAnswer, IsReading}
+use Rattle.vyrd_command.proofs.TakenLaws.{taken_more, whole_input, long_refused}
+
+pub logs_are_input : (before after : SourceKnown) (bytes : List ℕ) → IsInputRead longest_batch_input before after bytes
+    → IfSome before.rest (λ input. batch_logs bytes ≡ batch_logs input)
+logs_are_input before after bytes is = whole_input batch_logs longest_batch_input before after bytes (λ more long. logs_are_settled bytes more (omega (arith, long))) is
+
+-- one more read
+pub reading_more : (before between after : SourceKnown) (judge : BatchView) (old new : List ℕ) (count n most : ℕ)
+    → IsReading before between judge old count → IsMoreRead most between after old new n → IsReading before after judge new (count + n)
+reading_more before between after judge old new count n most r m = record {
+  taken = r.taken ++ m.piece;
+  told = taken_more before.rest between.rest after.rest r.taken m.piece r.told m.told;
+  judged = subst (IsJudged (r.taken ++ m.piece) judge) (sym m.grown) (judged_longer judge.refused r.taken old m.piece judge.verdicts judge.place r.judged);
+  many = omega (arith, length-append r.taken m.piece, r.many, m.many);
+}
+
+-- one more round
+pub reading_judged : (before now : SourceKnown) (old new : BatchView) (bytes rest : List ℕ) (count : ℕ) → IsReading before now old bytes count
+    → ((input : List ℕ) → IsJudged input old bytes → IsJudged input new rest) → IsReading before now new rest count
+reading_judged before now old new bytes rest count r judged = record {
+  taken = r.taken;
+  told = r.told;
+  judged = judged r.taken r.judged;
+  many = r.many;
+}
+
+pub few_read : (before now : SourceKnown) (judge : BatchView) (rest : List ℕ) (count : ℕ) → IsReading before now judge rest count
+    → count ≤ longest_batch_input → IsFewTaken longest_batch_input before now
+few_read before now judge rest count r few = (r.taken, r.told, omega (arith, r.many, few))
+
+-- the answer tells the verdicts about the logs of the input
+pub verdicts_told : {E : Type 0} (input : List ℕ) (verdicts : List Verdict) (r : Result Answer E)
+    → (logs : List (List ℕ)) × (batch_logs input ≡ Ok logs) × (verdicts ≡ verdicts_of logs)
+    → IfOk r (λ answer. answer.status ≡ batch_status verdicts) → IfOk r (λ answer. answer.text.items ≡ batch_text verdicts)
+    → IfOk r (λ answer. IsBatchAnswer (batch_logs input) answer.status answer.text.items)
+verdicts_told input verdicts (Ok answer) found status text =
+    subst (λ read. IsBatchAnswer read answer.status answer.text.items) (sym found.1) (status ∙ ap batch_status found.2, text ∙ ap batch_text found.2)
+verdicts_told input verdicts (Err e) found status text = tt
+
+-- a batch as long as can be read is refused
+pub batch_refused : (bytes : List ℕ) (status : ℕ) (text : List ℕ) → IsBatchAnswer (batch_logs bytes) status text
+    → length bytes ≡ longest_batch_input → status ≡ 11
+batch_refused bytes status text answer long = by_reading (batch_logs bytes) refl answer
+  where
+    by_reading : (r : Result (List (List ℕ)) ℕ) → batch_logs bytes ≡ r → IsBatchAnswer r status text → status ≡ 11
+    by_reading (Err log) e answer = answer.0
+    by_reading (Ok logs) e answer =
+        absurd (long_refused batch_logs bytes batch_of read_batch_is_text (λ more. logs_are_settled bytes more (omega (arith, long))) logs e)

@@ -1,0 +1,17 @@
+pub mod TakenLaws
+pub mod PieceLaws
+pub mod CheckLaws
+pub mod BehindLaws
+pub mod WriteLaws
+pub mod FormLaws
+pub mod AccountLaws
+pub mod StepLaws
+pub mod TellingLaws
+pub mod EveryLaws
+pub mod EveryWritten
+pub mod MoversLaws
+pub mod ExplainLaws
+pub mod BatchLaws
+pub mod StatusLaws
+pub mod CommandLaws
+pub mod CountLaws

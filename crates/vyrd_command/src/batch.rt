@@ -1,0 +1,152 @@
+//! What `batch` answers.
+
+ghost use Rattle.std.specs.Prelude.{◌≡◌, ◌≤◌, ◌<◌, ◌^◌, ◌⊎◌, ◌==◌, false, ℕ, List, []};
+ghost use Rattle.std.specs.Prelude.{length, IfOk, OnOk};
+ghost use Rattle.vyrd_base.specs.Devices.{AfterReads};
+ghost use Rattle.vyrd_batch.specs.Batches.{batch_logs};
+ghost use Rattle.vyrd_batch.specs.BatchAnswers.{batch_status, batch_text, refused_line};
+ghost use Rattle.vyrd_batch.specs.LongBatches.{longest_batch_input};
+ghost use Rattle.vyrd_batch.specs.Rounds.{IsJudged};
+ghost use Rattle.vyrd_command.specs.Inputs.{IsInputTaken, IsFewTaken, is_failed};
+ghost use Rattle.vyrd_command.specs.Batches.{AnswersBatch, IsBatchAnswer, IsBatchRead};
+ghost use Rattle.vyrd_command.specs.Batches.{IsBatchStatus};
+
+use crate::answer::Answer;
+use crate::read_input::{LONGEST_BATCH, read_more};
+use crate::read_log::ReadFault;
+use crate::status::{BATCH_REFUSED, MEMORY, READ_FAULT};
+use std::alloc::{AllocError, Global};
+use std::thread::Threads;
+use vyrd_base::{Source, Verdict};
+use vyrd_batch::{BatchFault, BatchJudge, status_of, write_refusal, write_verdicts};
+
+/// How many bytes more are read before the logs that are whole by then are judged: 512 KiB. So
+/// threads have enough to do for the time that it takes to start them, and the bytes are few enough
+/// to stay near the processor.
+const ROUND: usize = 524_288;
+
+/// The answer to a batch: a line for each log's verdict and one that counts them; or that it is
+/// refused; or nothing after a failed read or out of memory.
+///
+/// Logs are judged while later ones are still to be read. So the memory is that of a round, of the
+/// longest log, and of the verdicts. An input that isn't a batch is read on too, but no more than a
+/// round of it is kept.
+pub fn batch<R: Threads + Sync, S: Source>(rt: &R, alloc: Global, source: &mut S) -> Answer
+    requires unended { (S.known source.old).ended ≡ false }
+    ensures statuses { IsBatchStatus result.status ⊎ (result.status ≡ 4) ⊎ (result.status ≡ 6) }
+    ensures answers { IsBatchStatus result.status
+        → AnswersBatch (S.known source.old).rest result.status result.text.items }
+    ensures consumed { IsBatchStatus result.status
+        → IsInputTaken longest_batch_input 11 result.status (S.known source.old)
+        (S.known source.new) }
+    ensures few { IsFewTaken longest_batch_input (S.known source.old) (S.known source.new) }
+    ensures silent { result.status ≡ 4 ⊎ result.status ≡ 6 → result.text.items ≡ [] }
+    ensures source { AfterReads (result.status == 4) (S.known source.old) (S.known source.new) }
+{
+    let mut judge = BatchJudge::new(alloc);
+    match read_rounds(rt, alloc, &mut judge, source) {
+        Ok(rest) => match answer_to(rt, alloc, &mut judge, rest) {
+            Ok(answer) => answer,
+            Err(_) => Answer::silent(alloc, MEMORY),
+        },
+        Err(ReadFault::Failed) => Answer::silent(alloc, READ_FAULT),
+        Err(ReadFault::Memory) => Answer::silent(alloc, MEMORY),
+    }
+}
+
+/// Reads to the source's end, or as many bytes as settle what a batch says, and judges meanwhile
+/// the logs that are whole. The answer is the bytes that are left.
+fn read_rounds<R: Threads + Sync, S: Source>(
+    rt: &R,
+    alloc: Global,
+    judge: &mut BatchJudge,
+    source: &mut S,
+) -> Result<Vec<u8>, ReadFault>
+    requires fresh { IsJudged [] judge.old [] }
+    requires unended { (S.known source.old).ended ≡ false }
+    ensures read { IfOk result
+        (λ rest. IsBatchRead (S.known source.old) (S.known source.new) judge.new rest.items) }
+    ensures few { IsFewTaken longest_batch_input (S.known source.old) (S.known source.new) }
+    ensures source { AfterReads (is_failed result) (S.known source.old) (S.known source.new) }
+{
+    let mut bytes = Vec::new(alloc);
+    let mut count = 0;
+    let mut next = ROUND;
+    while count < LONGEST_BATCH {
+        let n = read_more(LONGEST_BATCH - count, &mut bytes, source)?;
+        if n == 0 {
+            break;
+        }
+        count += n;
+        next = judge_round(rt, next, judge, &mut bytes)?;
+    }
+    Ok(bytes)
+}
+
+/// Judges the logs that are whole, if there are `next` bytes. The answer is how many bytes there
+/// have to be the next time.
+fn judge_round<R: Threads + Sync>(
+    rt: &R,
+    next: usize,
+    judge: &mut BatchJudge,
+    bytes: &mut Vec<u8>,
+) -> Result<usize, AllocError>
+    ensures { (input : List ℕ) → IsJudged input judge.old bytes.old.items
+        → OnOk result (IsJudged input judge.new bytes.new.items) }
+{
+    if bytes.len() < next {
+        return Ok(next);
+    }
+    judge.judge(rt, bytes)?;
+    Ok(bytes.len().saturating_add(ROUND))
+}
+
+/// The answer to a batch of which these bytes are left.
+fn answer_to<R: Threads + Sync>(
+    rt: &R,
+    alloc: Global,
+    judge: &mut BatchJudge,
+    rest: Vec<u8>,
+) -> Result<Answer, AllocError>
+    ensures answer { (input : List ℕ) → IsJudged input judge.old rest.items →
+        IfOk result (λ answer. IsBatchAnswer (batch_logs input) answer.status answer.text.items) }
+    ensures statuses { IfOk result (λ answer. IsBatchStatus answer.status) }
+{
+    let mut bytes = rest;
+    let finished = judge.finish(rt, &mut bytes);
+    // No byte is kept while the text is made.
+    drop(bytes);
+    match finished {
+        Ok(()) => tell(alloc, judge.verdicts()),
+        Err(BatchFault::Refused { log }) => refuse(alloc, log),
+        Err(BatchFault::Memory) => Err(AllocError),
+    }
+}
+
+/// The verdicts about the logs of a batch.
+fn tell(alloc: Global, verdicts: &[Verdict]) -> Result<Answer, AllocError>
+    requires { length verdicts.now < 2 ^ 62 }
+    ensures status { IfOk result (λ answer. answer.status ≡ batch_status verdicts.now) }
+    ensures low { IfOk result (λ answer. answer.status ≤ 2) }
+    ensures text { IfOk result (λ answer. answer.text.items ≡ batch_text verdicts.now) }
+{
+    let mut text = Vec::new(alloc);
+    write_verdicts(verdicts, &mut text)?;
+    Ok(Answer {
+        status: status_of(verdicts),
+        text,
+    })
+}
+
+/// The answer that a batch is refused.
+fn refuse(alloc: Global, log: u64) -> Result<Answer, AllocError>
+    ensures status { IfOk result (λ answer. answer.status ≡ 11) }
+    ensures text { IfOk result (λ answer. answer.text.items ≡ refused_line log) }
+{
+    let mut text = Vec::new(alloc);
+    write_refusal(log, &mut text)?;
+    Ok(Answer {
+        status: BATCH_REFUSED,
+        text,
+    })
+}
