@@ -1,6 +1,7 @@
 //! All that is kept of a log in which nothing is wrong so far.
 
-ghost use Rattle.std.specs.Prelude.{◌≡◌, ◌<◌, ◌≤◌, ◌+◌, ◌^◌, ◌∷◌, ◌++◌, true, List, [], length};
+ghost use Rattle.std.specs.Prelude.{◌≡◌, ◌<◌, ◌≤◌, ◌+◌, ◌^◌, ◌∷◌, ◌++◌, true, false, List, []};
+ghost use Rattle.std.specs.Prelude.{length};
 ghost use Rattle.std.specs.Prelude.{Option, Some, None, Ok, IfOk, IfSome, if◌then◌else◌};
 ghost use Rattle.std.specs.List.{cons_option};
 ghost use Rattle.vyrd_base.specs.Rules.{rules_by};
@@ -13,6 +14,8 @@ ghost use Rattle.vyrd_base.specs.Verdicts.{first_fault, verdict, verdict_so_far}
 ghost use Rattle.vyrd_judge.specs.Following.{Kept, HasTakenIn, IsFaultless, IsSomewhere};
 ghost use Rattle.vyrd_judge.specs.Following.{IsCatchingUp, MayCatchUp, AdvanceGives};
 ghost use Rattle.vyrd_judge.specs.Queued.{CanLeave};
+ghost use Rattle.vyrd_view.specs.Known.{view_by};
+ghost use Rattle.vyrd_words.specs.HasWords.{HasWords};
 ghost use Rattle.vyrd_judge.specs.declared.outcome.Advance.TheVariants.{Goes};
 ghost use Rattle.vyrd_judge.specs.declared.waiting.Waiting.{Waiting};
 
@@ -97,15 +100,16 @@ impl<S: Spec> Follower<S> {
         ensures charter { IfOk result (λ f. f.charter ≡ S.charter spec) }
         ensures entries { IfOk result (λ f. f.entries ≡ 0) }
     {
-        let changed = words_of(alloc, start)?;
-        let state = spec.view(alloc)?;
-        let compared = spec.compared(alloc)?;
+        let queue = Queue::new(alloc, header)?;
+        let replay = Replay::new(alloc, header, spec)?;
+        let shape = Shape::new(alloc, header)?;
+        let words = first_words(alloc, header, start, words, &replay.spec)?;
         Ok(Follower {
             started: start.len() as u64,
-            shape: Shape::new(alloc, header)?,
-            words: Words::new(alloc, header, words, changed, &state, compared)?,
-            queue: Queue::new(alloc, header)?,
-            replay: Replay::new(alloc, header, spec)?,
+            shape,
+            words,
+            queue,
+            replay,
             entries: 0,
             commits: 0,
             observers: 0,
@@ -287,6 +291,35 @@ impl<S: Spec> Follower<S> {
             }
         }
     }
+}
+
+/// The words at the start, and what the specification's state shows there. They are compared by what
+/// was told nothing yet.
+fn first_words<S: Spec>(
+    alloc: Global,
+    header: Header,
+    start: &[StartWord],
+    words: &[u64],
+    spec: &S,
+) -> Result<Words<S::Compared>, AllocError>
+    requires spec_header { (rules_by (S.charter spec.now)).header ≡ header }
+    requires follows { do_follow header None start.now ≡ true }
+    requires words { words.now ≡ words_at_start header start.now }
+    ensures words { IfOk result (λ w. HasWords w.shadow w.inner start.now []) }
+    ensures header { IfOk result (λ w. w.shadow.header ≡ header) }
+    ensures views_header { IfOk result (λ w. w.views.header ≡ header) }
+    ensures shows { IfOk result
+        (λ w. view_by w.views.shows ≡ (rules_by (S.charter spec.now)).view) }
+    ensures first { IfOk result (λ w. w.views.first ≡ words.now) }
+    ensures since { IfOk result (λ w. w.views.since ≡ []) }
+    ensures specified { IfOk result
+        (λ w. w.views.specified ≡ (rules_by (S.charter spec.now)).shown (S.state spec.now)) }
+    ensures sound { IfOk result (λ w. w.views.refused ≡ false) }
+{
+    let changed = words_of(alloc, start)?;
+    let state = spec.view(alloc)?;
+    let compared = spec.compared(alloc)?;
+    Words::new(alloc, header, words, changed, &state, compared)
 }
 
 /// A count, with one more if this is true.
