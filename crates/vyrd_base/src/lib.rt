@@ -20,6 +20,7 @@
 //!   table;
 //! - `Op`, `Effect`, `Last`, `SpecificationLine`, `SpecificationRule`: what the definitions of a
 //!   user's own specification name;
+//! - `Steps`: how many steps a call took, for contracts alone;
 //! - `Source`, `Sink`, `Gate`: where bytes come from and go to, and what a live run asks. Each has
 //!   a device in memory whose calls can be made to fail, or one over std's readers and writers.
 //!
@@ -63,6 +64,7 @@ mod memory_sink;
 mod memory_source;
 mod multiset;
 mod own;
+mod steps;
 mod streams;
 mod subject;
 mod tree;
@@ -86,6 +88,7 @@ pub use memory_sink::MemorySink;
 pub use memory_source::MemorySource;
 pub use multiset::MultisetMethod;
 pub use own::{Effect, Last, Op, OwnMethod, SpecificationLine, SpecificationRule};
+pub use steps::Steps;
 pub use streams::{StdSink, StdSource};
 pub use subject::{Args, Commits, Method, Subject};
 pub use tree::TreeMethod;

@@ -7,8 +7,8 @@ ghost use Rattle.vyrd_base.specs.Subjects.{is_built_in};
 use std::alloc::{AllocError, Global};
 use std::marker::Brand;
 use std::sync::ledger::{Blank, Ledger};
-use vyrd_base::{Header, Subject, View};
-use vyrd_view::{Compared, Steps, first_difference, view_of};
+use vyrd_base::{Header, Steps, Subject, View};
+use vyrd_view::{Compared, first_difference, view_of};
 
 /// A subject, its size, its words, and the pairs that they show.
 type Shown = (Subject, u32, &'static [u64], &'static [(u64, u64)]);

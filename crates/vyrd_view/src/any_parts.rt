@@ -14,10 +14,9 @@ use crate::by_parts::ByParts;
 use crate::chunks::Chunks;
 use crate::leaves::Leaves;
 use crate::slots::Slots;
-use crate::steps::Steps;
 use std::alloc::{AllocError, Global};
 use std::sync::ledger::Ledger;
-use vyrd_base::{Header, Subject};
+use vyrd_base::{Header, Steps, Subject};
 
 /// The parts of one of the built-in subjects, and what compares words by them.
 #[derive(Drop)]

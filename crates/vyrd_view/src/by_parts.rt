@@ -11,11 +11,11 @@ use crate::compare::Compare;
 use crate::decode::Decode;
 use crate::parts::Parts;
 use crate::room::{MOST_AT_FIRST, first_parts, grow, make_room};
-use crate::steps::Steps;
 use crate::words::copy_changed;
 use std::alloc::{AllocError, Global};
 use std::marker::{Brand, Model};
 use std::sync::ledger::{Blank, Ledger};
+use vyrd_base::Steps;
 
 /// The words of a structure and a specification's amounts, and where they differ. A changed word
 /// costs its part, which is decoded again, and a changed amount costs one step. Words behind the

@@ -8,9 +8,9 @@ ghost use Rattle.vyrd_view.specs.Pairs.{is_touched};
 use crate::decode::Decode;
 use crate::decoded::decoded_part;
 use crate::parts::Parts;
-use crate::steps::Steps;
 use std::alloc::AllocError;
 use std::sync::ledger::Ledger;
+use vyrd_base::Steps;
 
 /// Each part that a changed word is in gives what its words show now. It is one of the first parts,
 /// as many as have places. Once memory was refused the parts may only be dropped.

@@ -10,11 +10,10 @@ ghost use Rattle.vyrd_view.specs.Comparing.{AgreeElsewhere, keys_of_part, parts_
 
 use crate::any_parts::AnyParts;
 use crate::compare::Compare;
-use crate::steps::Steps;
 use std::alloc::{AllocError, Global};
 use std::marker::{Brand, Model};
 use std::sync::ledger::{Blank, Ledger};
-use vyrd_base::Header;
+use vyrd_base::{Header, Steps};
 
 /// The words and the specification's amounts, and where they differ. It is told what changes on
 /// either side, and looks at nothing beyond that: a changed word costs its part, so at most nine

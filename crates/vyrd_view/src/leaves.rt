@@ -8,12 +8,12 @@ ghost use Rattle.vyrd_view.specs.Comparing.{AgreeElsewhere, differing, nodes_loo
 ghost use Rattle.vyrd_view.specs.Known.{of_subject, view_by};
 
 use crate::parts::Parts;
-use crate::steps::Steps;
 use crate::tree::{ENTRIES, NODE_WORDS, leaves_changed};
 use crate::words::copy_changed;
 use std::alloc::{AllocError, Global};
 use std::marker::Model;
 use std::sync::ledger::Ledger;
+use vyrd_base::Steps;
 
 /// How many words a tree has besides its nodes: the root's number, and the count of nodes in use.
 const TREE_WORDS: usize = 2;

@@ -7,8 +7,8 @@
 //! That of the built-in subjects is `Compared`. Its contract: `first_difference` answers exactly
 //! the first difference of `view_of_words` and the specification's amounts, and what a change
 //! costs depends on the words that changed, and not on all that there are, except that a right link
-//! of a tree that leads to another node than before costs a look at all nodes. `Steps` counts that
-//! cost: one step is one part decoded (a slot, a chunk, a node or a buffer) or one key compared.
+//! of a tree that leads to another node than before costs a look at all nodes. That cost is counted
+//! (`Steps`): one step is one part decoded (a slot, a chunk, a node or a buffer) or one key compared.
 //!
 //! How words are decoded is said for one part alone, by a type with `Decode`: what the part gives
 //! to which keys follows from its number and its own words. The loops over parts are the same for
@@ -40,7 +40,6 @@ mod room;
 mod shown;
 mod sides;
 mod slots;
-mod steps;
 mod sums;
 mod tree;
 mod words;
@@ -52,4 +51,3 @@ pub use decode::Decode;
 pub use difference::first_difference;
 pub use no_parts::NoParts;
 pub use shown::view_of;
-pub use steps::Steps;

@@ -6,11 +6,11 @@ ghost use Rattle.vyrd_view.specs.Known.{nothing};
 
 use crate::compare::Compare;
 use crate::parts::Parts;
-use crate::steps::Steps;
 use crate::words::copy_changed;
 use std::alloc::{AllocError, Global};
 use std::marker::{Brand, Model};
 use std::sync::ledger::{Blank, Ledger};
+use vyrd_base::Steps;
 
 /// The comparison of a specification without any part, of which the words show nothing: they are
 /// equal to it as long as it has nothing to show either. So replies alone are judged by it. A

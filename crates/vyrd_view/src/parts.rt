@@ -4,11 +4,11 @@ ghost use Rattle.std.specs.Prelude.{◌≡◌, ℕ, ◌+◌, ◌<◌, ◌≤◌,
 ghost use Rattle.std.specs.Prelude.{slice_set, OnOk, OnErr, IfOk};
 ghost use Rattle.vyrd_base.specs.Amounts.{with_amount, collected, first_difference, given};
 
-use crate::steps::Steps;
 use crate::sums::Sums;
 use std::alloc::{AllocError, Global};
 use std::marker::Model;
 use std::sync::ledger::Ledger;
+use vyrd_base::Steps;
 
 /// A table has 2^3 places at least.
 const LEAST_BITS: u32 = 3;

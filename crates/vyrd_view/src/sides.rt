@@ -6,9 +6,9 @@ ghost use Rattle.vyrd_base.specs.Amounts.{amount_of, with_amount, part_given};
 
 use crate::homes::{Home, Homes};
 use crate::rest::{Both, Rest};
-use crate::steps::Steps;
 use std::alloc::{AllocError, Global};
 use std::sync::ledger::Ledger;
+use vyrd_base::Steps;
 
 /// The amounts of each key on two sides: what the words show and what the specification has. A key
 /// with an amount stands in one of a few places of a table, and if these are taken by others, it is

@@ -6,9 +6,9 @@ ghost use Rattle.vyrd_base.specs.Amounts.{amount_of, with_amount, part_given};
 
 use crate::rest::{Both, Rest};
 use crate::sides::{Found, Sides};
-use crate::steps::Steps;
 use std::alloc::{AllocError, Global};
 use std::sync::ledger::Ledger;
+use vyrd_base::Steps;
 
 /// What the carries of a key count: 2^64.
 const WHOLE: u128 = 1 << 64;

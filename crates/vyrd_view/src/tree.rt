@@ -9,9 +9,9 @@ ghost use Rattle.vyrd_view.specs.Comparing.{AgreeElsewhere, differing, nodes_loo
 
 use crate::chain::is_seen;
 use crate::parts::Parts;
-use crate::steps::Steps;
 use std::alloc::AllocError;
 use std::sync::ledger::Ledger;
+use vyrd_base::Steps;
 
 /// How many words a node has: level, count, bound and right, then four keys, then four values.
 pub(crate) const NODE_WORDS: usize = 12;

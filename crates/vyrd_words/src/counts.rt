@@ -9,7 +9,7 @@ use std::alloc::{AllocError, Global};
 use std::collections::VecDeque;
 use std::marker::Model;
 use std::sync::ledger::Ledger;
-use vyrd_view::Steps;
+use vyrd_base::Steps;
 
 /// The byte of a count that is kept apart. Each smaller count is its own byte.
 const APART: u8 = 255;

@@ -21,9 +21,9 @@ use std::alloc::{AllocError, Global};
 use std::collections::VecDeque;
 use std::marker::Model;
 use std::sync::ledger::Ledger;
-use vyrd_base::{Header, View};
+use vyrd_base::{Header, Steps, View};
 use vyrd_spec::Spec;
-use vyrd_view::{Compare, Steps};
+use vyrd_view::Compare;
 
 /// How many changed words are kept before they are compared, so that their list doesn't grow with
 /// the log.

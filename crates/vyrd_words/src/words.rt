@@ -22,10 +22,10 @@ use crate::views::Views;
 use std::alloc::{AllocError, Global};
 use std::marker::{Brand, Model};
 use std::sync::ledger::{Blank, Ledger};
-use vyrd_base::{Entry, Header, Kind, View};
+use vyrd_base::{Entry, Header, Kind, Steps, View};
 use vyrd_shadow::Shadow;
 use vyrd_spec::Spec;
-use vyrd_view::{Compare, Steps};
+use vyrd_view::Compare;
 
 /// The words after the entries so far, with what open blocks keep back, and the words at the
 /// commits that wait. It takes memory for each plain word, each write that an open block keeps

@@ -5,9 +5,9 @@ ghost use Rattle.std.specs.Prelude.{◌≡◌, ◌+◌, ◌<◌, ℕ};
 use std::marker::Model;
 use std::sync::ledger::{Blank, Book, Ledger, Share};
 
-/// A count of the steps that a comparison takes. One step is one part decoded (a slot, a chunk, a
-/// node or a buffer) or one key compared. Only contracts see the count: at run time it takes no
-/// bytes and no time.
+/// A count of steps. What a step is, the contract says that counts it: a part decoded, a key
+/// compared, a write that gives way. A count can only grow. Only contracts see it: at run time it
+/// takes no bytes and no time.
 #[derive(Drop)]
 pub struct Steps<L: Ledger> {
     book: Book<L>,
