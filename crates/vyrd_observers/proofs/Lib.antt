@@ -2,3 +2,4 @@ pub mod SeeingLaws
 pub mod TrailLaws
 pub mod AskerLaws
 pub mod TrailCounts
+pub mod CostLaws

@@ -1,3 +1,4 @@
 pub mod Watching
 pub mod Trails
 pub mod Order
+pub mod Costs

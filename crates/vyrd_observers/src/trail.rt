@@ -1,15 +1,17 @@
 //! A question that observers ask.
 
-ghost use Rattle.std.specs.Prelude.{◌≡◌, ◌≤◌, ◌<◌, ◌+◌, ◌^◌, ◌∷◌, ◌==◌, ◌&&◌, [], false, true};
+ghost use Rattle.std.specs.Prelude.{◌≡◌, ◌≤◌, ◌<◌, ◌+◌, ◌^◌, ◌∷◌, ◌*◌, ◌==◌, ◌&&◌, [], false, true};
 ghost use Rattle.std.specs.Prelude.{length, drop};
 ghost use Rattle.std.specs.Prelude.{OnOk, OnErr};
 ghost use Rattle.std.specs.List.{list_any};
 ghost use Rattle.vyrd_observers.specs.Trails.{IsTrailOf, with_answer, with_asker, without_asker};
+ghost use Rattle.vyrd_observers.specs.Trails.{kept_by};
 ghost use Rattle.vyrd_observers.specs.Watching.{has_answer};
 
 use std::alloc::{AllocError, Global};
 use std::marker::Model;
-use vyrd_base::{Args, Method};
+use std::sync::ledger::Ledger;
+use vyrd_base::{Args, Method, Steps};
 
 /// A question that open observers ask, and what the states since the first of their calls answer.
 /// If none asks it, it is free to be another question.
@@ -58,9 +60,16 @@ impl Trail {
         }
     }
 
-    /// It is this question from now on, which nobody asks yet, and the last state answers this.
-    pub fn begin(&mut self, method: Method, args: Args, answer: u64)
-        ensures { self.new ≡ record {
+    /// It is this question from now on, which nobody asks yet, and the last state answers this. An
+    /// answer that is dropped is a step.
+    pub fn begin<L: Ledger>(
+        &mut self,
+        method: Method,
+        args: Args,
+        answer: u64,
+        steps: &mut Steps<L>,
+    )
+        ensures question { self.new ≡ record {
           is_asked = true;
           askers = 0;
           method = method;
@@ -68,12 +77,15 @@ impl Trail {
           latest = answer;
           others = [];
         } }
+        ensures steps { steps.new + 2 * kept_by self.new
+            ≤ steps.old + 2 * kept_by self.old + 2 }
     {
         self.is_asked = true;
         self.askers = 0;
         self.method = method;
         self.args = args;
         self.latest = answer;
+        steps.add(self.others.len());
         self.others.clear();
     }
 
@@ -85,14 +97,17 @@ impl Trail {
         self.askers += 1;
     }
 
-    /// An observer that asked it has returned. It is free if that was the only one.
-    pub fn leave(&mut self)
+    /// An observer that asked it has returned. It is free if that was the only one. An answer that
+    /// is dropped is a step, and was kept.
+    pub fn leave<L: Ledger>(&mut self, steps: &mut Steps<L>)
         requires { 0 < self.old.askers }
-        ensures { self.new ≡ without_asker self.old }
+        ensures left { self.new ≡ without_asker self.old }
+        ensures steps { steps.new + 2 * kept_by self.new ≤ steps.old + 2 * kept_by self.old }
     {
         self.askers -= 1;
         if self.askers == 0 {
             self.is_asked = false;
+            steps.add(self.others.len());
             self.others.clear();
         }
     }
@@ -145,27 +160,37 @@ impl Trail {
         Ok(())
     }
 
-    /// Whether a state answers this, of those from an answer on.
-    pub fn has_answer(&self, since: usize, reply: u64) -> bool
+    /// Whether a state answers this, of those from an answer on. An answer that is looked at is a
+    /// step.
+    pub fn has_answer<L: Ledger>(&self, since: usize, reply: u64, steps: &mut Steps<L>) -> bool
         requires { since ≤ length self.now.others }
-        ensures { result ≡ has_answer (self.now.latest ∷ drop since self.now.others) reply }
+        ensures answered { result
+            ≡ has_answer (self.now.latest ∷ drop since self.now.others) reply }
+        ensures steps { steps.new ≤ steps.old
+            + length (self.now.latest ∷ drop since self.now.others) }
     {
+        steps.tick();
         let (_, counted) = self.others.split_at(since);
-        self.latest == reply || is_among(counted, reply)
+        self.latest == reply || is_among(counted, reply, steps)
     }
 
-    /// The first n answers count for no open observer.
-    pub fn forget(&mut self, n: usize)
+    /// The first n answers count for no open observer. An answer that is dropped is a step, and so
+    /// is one that moves up.
+    pub fn forget<L: Ledger>(&mut self, n: usize, steps: &mut Steps<L>)
         requires { n ≤ length self.old.others }
-        ensures { self.new ≡ record self.old { others = drop n self.old.others } }
+        ensures dropped { self.new ≡ record self.old { others = drop n self.old.others } }
+        ensures steps { steps.new ≡ steps.old + length self.old.others }
     {
+        steps.add(self.others.len());
         self.others.drain(..n);
     }
 }
 
-/// Whether a number is among others.
-fn is_among(numbers: &[u64], number: u64) -> bool
-    ensures { result ≡ list_any (λ x. x == number) numbers.now }
+/// Whether a number is among others. Each of them is a step.
+fn is_among<L: Ledger>(numbers: &[u64], number: u64, steps: &mut Steps<L>) -> bool
+    ensures among { result ≡ list_any (λ x. x == number) numbers.now }
+    ensures steps { steps.new ≡ steps.old + length numbers.now }
 {
+    steps.add(numbers.len());
     numbers.iter().any(|x| *x == number)
 }

@@ -1,50 +1,50 @@
 use Rattle.std.proofs.Common.{◌<◌, List, Some, None, length, set, drop, refl, subst, ap, sym, ◌∙◌, arith}
-use Rattle.std.proofs.lemmas.List.{map-set}
+use Rattle.std.proofs.lemmas.List.{map-set, length-set}
 use Rattle.std.proofs.lemmas.Option.{slice_get_within, none-some}
 use Rattle.vyrd_base.proofs.ChangedLists.{written_back}
 use Rattle.vyrd_base.proofs.ListLaws.{slice_get-is, slice_get-set_same, is_none}
-use Rattle.vyrd_observers.specs.Trails.{Asked, AreOn, OthersAreUsed, seen_by}
+use Rattle.vyrd_observers.specs.Trails.{Asked, AreOn, OthersAreUsed, seen_by, kept_count}
 use Rattle.vyrd_observers.specs.Order.{AreCountedBefore, AreFreeFrom, Closes}
 use Rattle.vyrd_observers.proofs.TrailLaws.{on_set, used_without, stay_all, closed_stays}
 use Rattle.vyrd_observers.proofs.AskerLaws.{counted_without, free_closed}
 use Rattle.vyrd_observers.proofs.leaving.close.Goals as goal
 
 pub let_go-requires-clause-trail : goal.let_go-requires-clause-trail
-let_go-requires-clause-trail c =
+let_go-requires-clause-trail g c =
     let here = slice_get-is c.args.watches.now.items c.args.caller c.index.result.now c.requires.caller c.index.ensures ∙ ap Some c.in-Some.is in
     let was = c.requires.on c.args.caller c.in-Some.watch here in
     subst (λ (ts : List Asked). c.in-Some.watch.trail < length ts) (sym c.deref_mut.ensures.value)
     (slice_get_within c.args.trails.now.items c.in-Some.watch.trail was.asked was.there)
 
 pub let_go-requires-clause-on : goal.let_go-requires-clause-on
-let_go-requires-clause-on c =
+let_go-requires-clause-on g c =
     subst (λ (ts : List Asked). AreOn ts (set c.args.watches.now.items c.args.caller None)) (sym c.deref_mut.ensures.value)
     (on_set c.args.trails.now.items c.args.watches.now.items c.args.caller None c.requires.caller (λ w is. absurd (none-some _ is)) c.requires.on)
 
 pub let_go-requires-clause-used : goal.let_go-requires-clause-used
-let_go-requires-clause-used c =
+let_go-requires-clause-used g c =
     let watches = c.args.watches.now.items in
     let here = slice_get-is watches c.args.caller c.index.result.now c.requires.caller c.index.ensures ∙ ap Some c.in-Some.is in
     subst (λ (ts : List Asked). OthersAreUsed ts (set watches c.args.caller None) c.in-Some.watch.trail) (sym c.deref_mut.ensures.value)
     (used_without c.args.trails.now.items watches c.args.caller c.in-Some.watch here c.requires.used)
 
 pub let_go-requires-clause-counted : goal.let_go-requires-clause-counted
-let_go-requires-clause-counted c =
+let_go-requires-clause-counted g c =
     let watches = c.args.watches.now.items in
     let here = slice_get-is watches c.args.caller c.index.result.now c.requires.caller c.index.ensures ∙ ap Some c.in-Some.is in
     subst (λ (ts : List Asked). AreCountedBefore c.in-Some.watch.trail ts (set watches c.args.caller None)) (sym c.deref_mut.ensures.value)
     (counted_without c.args.trails.now.items watches c.args.caller c.in-Some.watch here c.requires.counted)
 
 pub reach_of-requires-clause-free : goal.reach_of-requires-clause-free
-reach_of-requires-clause-free c =
+reach_of-requires-clause-free g c =
     let back = written_back c.args.trails.now.len c.let_go.new.trails (drop (length c.let_go.new.trails) c.args.trails.now.items)
     (c.let_go.auto.trails ∙ c.deref_mut.ensures.len) in
     subst (AreFreeFrom c.args.reach.now) (sym (c.deref.ensures.value ∙ back))
     (free_closed c.args.reach.now c.deref_mut.result.now c.let_go.new.trails c.let_go.ensures.stay c.let_go.auto.trails
     (subst (AreFreeFrom c.args.reach.now) (sym c.deref_mut.ensures.value) c.requires.free))
 
-pub returns-in-Some : goal.returns-in-Some
-returns-in-Some c =
+pub returns-in-Some-clause-closes : goal.returns-in-Some-clause-closes
+returns-in-Some-clause-closes g c =
     let watches = c.args.watches.now.items in
     let back = written_back c.args.trails.now.len c.let_go.new.trails (drop (length c.let_go.new.trails) c.args.trails.now.items)
     (c.let_go.auto.trails ∙ c.deref_mut.ensures.len) in
@@ -63,8 +63,8 @@ returns-in-Some c =
       free = subst (AreFreeFrom c.reach_of.result) (c.deref.ensures.value ∙ back) c.reach_of.ensures.free;
     }))
 
-pub returns-in_default : goal.returns-in_default
-returns-in_default c =
+pub returns-in_default-clause-closes : goal.returns-in_default-clause-closes
+returns-in_default-clause-closes g c =
     let watches = c.args.watches.now.items in
     let here = slice_get-is watches c.args.caller c.index.result.now c.requires.caller c.index.ensures
     ∙ ap Some (is_none c.index.result.now (λ w is. c.in_default.not-Some w is)) in
@@ -80,3 +80,12 @@ returns-in_default c =
       within = c.requires.within;
       free = c.requires.free;
     }
+
+pub returns-in-Some-clause-steps : goal.returns-in-Some-clause-steps
+returns-in-Some-clause-steps g c =
+    let back = written_back c.args.trails.now.len c.let_go.new.trails (drop (length c.let_go.new.trails) c.args.trails.now.items)
+    (c.let_go.auto.trails ∙ c.deref_mut.ensures.len) in
+    let new = ap kept_count back in
+    let old = ap kept_count c.deref_mut.ensures.value in
+    let long = length-set c.args.watches.now.items c.args.caller None in
+    omega (arith, c.let_go.ensures.steps, c.reach_of.ensures.steps, c.requires.within, new, old, long)

@@ -6,13 +6,13 @@ use Rattle.vyrd_base.proofs.TestLaws.{apart_of}
 use Rattle.vyrd_observers.proofs.leaving.first_that_counts.Goals as goal
 
 pub loop-watch-init : goal.loop-watch-init
-loop-watch-init c = record { asks = λ n is. absurd (none_some is); counts = λ d w low here same. absurd (omega (arith, low)) }
+loop-watch-init g c = record { asks = λ n is. absurd (none_some is); counts = λ d w low here same. absurd (omega (arith, low)); steps = omega arith }
   where
     none_some : {n : ℕ} → None ≡ Some n → ⊥
     none_some e = cc
 
 pub loop-watch-preserved : goal.loop-watch-preserved
-loop-watch-preserved c = record {
+loop-watch-preserved g c = record {
   asks = λ n is. ⊎_elim
       (λ was. c.loop-watch.invariant.asks n was)
       (λ own. (
@@ -26,18 +26,19 @@ loop-watch-preserved c = record {
       same)
       (λ other. let was = c.loop-watch.invariant.counts d w (lower c.loop-watch.watch-index d low other) here same in
       let more = c.earlier-first.ensures.before was.0 was.1 in (more.0, more.1, omega (arith, more.2, was.2)));
+  steps = omega (arith, c.tick.ensures, c.loop-watch.invariant.steps);
 }
   where
     lower : (i d : ℕ) → d < i + 1 → (i == d) ≡ false → d < i
     lower i d low other = omega (arith, low, apart_of i d other)
 
 pub returns-clause-asks : goal.returns-clause-asks
-returns-clause-asks c = if_some c.loop-watch.first c.loop-watch.invariant.asks
+returns-clause-asks g c = if_some c.loop-watch.first c.loop-watch.invariant.asks
   where
     if_some : {P : ℕ → Type 0} (o : Option ℕ) → ((n : ℕ) → o ≡ Some n → P n) → IfSome o P
     if_some None all = tt
     if_some (Some n) all = all n refl
 
 pub returns-clause-counts : goal.returns-clause-counts
-returns-clause-counts c = λ d w here same.
+returns-clause-counts g c = λ d w here same.
     c.loop-watch.invariant.counts d w (omega (arith, slice_get_within c.args.watches.now d _ here, c.loop-watch-test.false)) here same

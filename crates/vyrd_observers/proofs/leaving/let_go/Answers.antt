@@ -2,22 +2,23 @@ use Rattle.std.proofs.Common.{◌≡◌, length, set, get_or, ap, ◌∙◌, ari
 use Rattle.std.proofs.lemmas.List.{length-set}
 use Rattle.vyrd_observers.specs.Trails.{Asked}
 use Rattle.vyrd_observers.proofs.TrailLaws.{read_is, stay_then}
+use Rattle.vyrd_observers.proofs.CostLaws.{kept_at}
 use Rattle.vyrd_observers.proofs.AskerLaws.{leaves_at, counts_some, used_left, some_left}
 use Rattle.vyrd_observers.proofs.leaving.let_go.Goals as goal
 
 pub leave-requires : goal.leave-requires
-leave-requires c =
+leave-requires g c =
     counts_some c.args.trails.now c.args.watches.now.items c.args.trail c.index-trails-trail.result
     c.requires.trail c.requires.counted
 
 pub forget_some-requires : goal.forget_some-requires
-forget_some-requires c =
+forget_some-requires g c =
     let trails = c.args.trails.now in
     let watches = c.args.watches.now.items in
     let i = c.args.trail in
     let u = c.leave.new.self in
     let now = set trails i u in
-    let so = leaves_at trails watches i c.index-trails-trail.result u c.requires.trail c.leave.ensures
+    let so = leaves_at trails watches i c.index-trails-trail.result u c.requires.trail c.leave.ensures.left
     c.requires.on c.requires.used c.requires.counted in
     let read = c.index-trails-trail-2 in
     let it : u ≡ get_or now i read.result = read_is now i u read.result so.there read.is ∙ read.is in
@@ -31,12 +32,12 @@ forget_some-requires c =
     }
 
 pub returns-then-len-gt0 : goal.returns-then-len-gt0
-returns-then-len-gt0 c =
+returns-then-len-gt0 g c =
     let trails = c.args.trails.now in
     let i = c.args.trail in
     let u = c.leave.new.self in
     let so = leaves_at trails c.args.watches.now.items i c.index-trails-trail.result u
-    c.requires.trail c.leave.ensures c.requires.on c.requires.used c.requires.counted in
+    c.requires.trail c.leave.ensures.left c.requires.on c.requires.used c.requires.counted in
     let then = c.forget_some.ensures in
     record {
       seen = then.seen ∙ so.seen;
@@ -46,16 +47,22 @@ returns-then-len-gt0 c =
       counted = then.counted so.counted;
       stay = stay_then trails (set trails i u) c.forget_some.new.trails so.stay then.stay;
       closed = then.closed;
+      steps = omega (
+        arith,
+        then.steps,
+        c.leave.ensures.steps,
+        kept_at trails i c.index-trails-trail.result u c.requires.trail,
+      );
     }
 
 pub returns-else-len-gt0 : goal.returns-else-len-gt0
-returns-else-len-gt0 c =
+returns-else-len-gt0 g c =
     let trails = c.args.trails.now in
     let watches = c.args.watches.now.items in
     let i = c.args.trail in
     let u = c.leave.new.self in
     let now = set trails i u in
-    let so = leaves_at trails watches i c.index-trails-trail.result u c.requires.trail c.leave.ensures
+    let so = leaves_at trails watches i c.index-trails-trail.result u c.requires.trail c.leave.ensures.left
     c.requires.on c.requires.used c.requires.counted in
     let read = c.index-trails-trail-2 in
     let it : u ≡ get_or now i read.result = read_is now i u read.result so.there read.is ∙ read.is in
@@ -69,4 +76,9 @@ returns-else-len-gt0 c =
       counted = so.counted;
       stay = so.stay;
       closed = λ d here. here;
+      steps = omega (
+        arith,
+        c.leave.ensures.steps,
+        kept_at trails i c.index-trails-trail.result u c.requires.trail,
+      );
     }

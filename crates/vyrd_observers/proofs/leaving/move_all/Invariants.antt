@@ -1,7 +1,10 @@
-use Rattle.std.proofs.Common.{◌≡◌}
+use Rattle.std.proofs.Common.{◌≡◌, ◌+◌}
 use Rattle.vyrd_observers.specs.Trails.{moved}
 use Rattle.vyrd_base.proofs.ChangedLists.{changed_below}
 use Rattle.vyrd_observers.proofs.leaving.move_all.Given as goal
 
 abbrev pub invariant-loop-watch : goal.invariant-loop-watch
-invariant-loop-watch l = l.watch-items ≡ changed_below (moved l.trail l.n) l.watch-index l.initial.watch-items
+invariant-loop-watch g l = record {
+  moved : l.watch-items ≡ changed_below (moved l.trail l.n) l.watch-index l.initial.watch-items;
+  steps : l.steps ≡ l.initial.steps + l.watch-index;
+}

@@ -4,8 +4,8 @@ use Rattle.vyrd_base.proofs.TestLaws.{below_of, not_below_of}
 use Rattle.vyrd_observers.proofs.trails.find.Goals as goal
 
 pub returns-clause-none : goal.returns-clause-none
-returns-clause-none c = λ i t here is. by_place i c.loop-i.i
-    (λ low. absurd (c.loop-i.invariant i t low here is))
+returns-clause-none g c = λ i t here is. by_place i c.loop-i.i
+    (λ low. absurd (c.loop-i.invariant.none i t low here is))
     (λ high. let free = c.requires.free i t (omega (arith, high, c.loop-i-test.false)) here in
     absurd (false_true free is.0))
   where

@@ -1,7 +1,10 @@
-use Rattle.std.proofs.Common.{◌≡◌, ◌<◌, ◌&&◌, ℕ, false, Some, slice_get}
+use Rattle.std.proofs.Common.{◌≡◌, ◌<◌, ◌+◌, ◌*◌, ◌&&◌, ℕ, false, Some, slice_get}
 use Rattle.vyrd_observers.specs.Trails.{Asked}
 use Rattle.vyrd_observers.proofs.trails.first_affected.Given as goal
 
 abbrev pub invariant-loop-i : goal.invariant-loop-i
-invariant-loop-i g l = (j : ℕ) (t : Asked) → j < l.i → slice_get l.trails j ≡ Some t
-    → (t.is_asked && g.S.Spec.affects l.spec t.method t.args) ≡ false
+invariant-loop-i g l = record {
+  none : (j : ℕ) (t : Asked) → j < l.i → slice_get l.trails j ≡ Some t
+      → (t.is_asked && g.S.Spec.affects l.spec t.method t.args) ≡ false;
+  steps : l.steps ≡ l.initial.steps + 2 * l.i;
+}

@@ -7,7 +7,7 @@ use Rattle.vyrd_observers.specs.Trails.{AreAsking, after_state, seen_by}
 use Rattle.vyrd_observers.proofs.SeeingLaws.{seen_all, seen_current}
 use Rattle.vyrd_observers.proofs.TrailLaws.{callers_see}
 use Rattle.vyrd_observers.proofs.TrailCounts.{keeps_few}
-use Rattle.vyrd_observers.proofs.watches.Watches.see_all.Goals as goal
+use Rattle.vyrd_observers.proofs.watches.Watches.see_all_counted.Goals as goal
 
 pub see_all-requires : goal.see_all-requires
 see_all-requires g c = record {
