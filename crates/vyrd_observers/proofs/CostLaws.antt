@@ -74,7 +74,14 @@ kept_changed affects told (suc n) (t ∷ ts) =
     let f = after_state affects told in
     let rest = kept_changed affects told n ts in
     let one = kept_more affects told t in
-    omega (arith, rest, one, sum_by-cons kept_by (f t) (changed_below f n ts), sum_by-cons kept_by t ts)
+    omega (
+      arith,
+      rest,
+      one,
+      sum_by-cons kept_by (f t) (changed_below f n ts),
+      sum_by-cons kept_by t
+          ts,
+    )
 
 -- one more answer is seen at most
 seen_more : (affects : Method → Args → Bool) (told : Method → Args → ℕ) (since : ℕ) (t : Asked)

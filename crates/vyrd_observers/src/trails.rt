@@ -150,8 +150,8 @@ fn is_affected<S: Spec, L: Ledger>(trail: &Trail, spec: &S, steps: &mut Steps<L>
 }
 
 /// The first such question before the reach, or the reach. This only reads, so that what it asks of
-/// the specification needn't be loaded anew for each trail. A trail that is looked at is a step, and
-/// so is what the specification is asked.
+/// the specification needn't be loaded anew for each trail. A trail that is looked at is a step, as
+/// is what the specification is asked.
 fn first_affected<S: Spec, L: Ledger>(
     trails: &[Trail],
     reach: usize,

@@ -37,7 +37,8 @@ let_go-requires-clause-counted g c =
 
 pub reach_of-requires-clause-free : goal.reach_of-requires-clause-free
 reach_of-requires-clause-free g c =
-    let back = written_back c.args.trails.now.len c.let_go.new.trails (drop (length c.let_go.new.trails) c.args.trails.now.items)
+    let back = written_back c.args.trails.now.len c.let_go.new.trails
+    (drop (length c.let_go.new.trails) c.args.trails.now.items)
     (c.let_go.auto.trails ∙ c.deref_mut.ensures.len) in
     subst (AreFreeFrom c.args.reach.now) (sym (c.deref.ensures.value ∙ back))
     (free_closed c.args.reach.now c.deref_mut.result.now c.let_go.new.trails c.let_go.ensures.stay c.let_go.auto.trails
@@ -46,7 +47,8 @@ reach_of-requires-clause-free g c =
 pub returns-in-Some-clause-closes : goal.returns-in-Some-clause-closes
 returns-in-Some-clause-closes g c =
     let watches = c.args.watches.now.items in
-    let back = written_back c.args.trails.now.len c.let_go.new.trails (drop (length c.let_go.new.trails) c.args.trails.now.items)
+    let back = written_back c.args.trails.now.len c.let_go.new.trails
+    (drop (length c.let_go.new.trails) c.args.trails.now.items)
     (c.let_go.auto.trails ∙ c.deref_mut.ensures.len) in
     subst (λ (ts : List Asked). Closes c.args.caller c.args.trails.now.items ts watches c.let_go.new.watches.items c.reach_of.result) (sym back)
     (subst (λ (ts : List Asked). Closes c.args.caller ts c.let_go.new.trails watches c.let_go.new.watches.items c.reach_of.result)
@@ -83,9 +85,18 @@ returns-in_default-clause-closes g c =
 
 pub returns-in-Some-clause-steps : goal.returns-in-Some-clause-steps
 returns-in-Some-clause-steps g c =
-    let back = written_back c.args.trails.now.len c.let_go.new.trails (drop (length c.let_go.new.trails) c.args.trails.now.items)
+    let back = written_back c.args.trails.now.len c.let_go.new.trails
+    (drop (length c.let_go.new.trails) c.args.trails.now.items)
     (c.let_go.auto.trails ∙ c.deref_mut.ensures.len) in
     let new = ap kept_count back in
     let old = ap kept_count c.deref_mut.ensures.value in
     let long = length-set c.args.watches.now.items c.args.caller None in
-    omega (arith, c.let_go.ensures.steps, c.reach_of.ensures.steps, c.requires.within, new, old, long)
+    omega (
+      arith,
+      c.let_go.ensures.steps,
+      c.reach_of.ensures.steps,
+      c.requires.within,
+      new,
+      old,
+      long,
+    )

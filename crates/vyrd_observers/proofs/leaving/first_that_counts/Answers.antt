@@ -6,7 +6,12 @@ use Rattle.vyrd_base.proofs.TestLaws.{apart_of}
 use Rattle.vyrd_observers.proofs.leaving.first_that_counts.Goals as goal
 
 pub loop-watch-init : goal.loop-watch-init
-loop-watch-init g c = record { asks = λ n is. absurd (none_some is); counts = λ d w low here same. absurd (omega (arith, low)); steps = omega arith }
+loop-watch-init g c = record {
+  asks = λ n is. absurd (none_some is);
+  counts = λ d w low here same.
+      absurd (omega (arith, low));
+  steps = omega arith;
+}
   where
     none_some : {n : ℕ} → None ≡ Some n → ⊥
     none_some e = cc

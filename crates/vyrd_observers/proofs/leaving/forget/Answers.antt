@@ -6,15 +6,18 @@ use Rattle.vyrd_observers.specs.Trails.{Asked, AreOn, seen_by}
 use Rattle.vyrd_observers.specs.Order.{AreCounted}
 use Rattle.vyrd_observers.proofs.AskerLaws.{counted_moved}
 use Rattle.vyrd_observers.proofs.CostLaws.{kept_dropped}
-use Rattle.vyrd_observers.proofs.TrailLaws.{read_is, seen_moved, on_moved, asking_set, old_except_set, stay_set}
+use Rattle.vyrd_observers.proofs.TrailLaws.{read_is, seen_moved, on_moved, asking_set}
+use Rattle.vyrd_observers.proofs.TrailLaws.{old_except_set, stay_set}
 use Rattle.vyrd_observers.proofs.leaving.forget.Goals as goal
 
 pub returns-clause-seen : goal.returns-clause-seen
 returns-clause-seen g c =
     let trails = c.args.trails.now in
     let t = get_or trails c.args.trail c.index-trails-trail.result in
-    ap (λ u. map (seen_by (set trails c.args.trail u)) c.move_all.new.watches.items) c.forget.ensures.dropped
-    ∙ ap (map (seen_by (set trails c.args.trail (record t { others = drop c.args.n t.others })))) c.move_all.ensures.moved
+    ap (λ u. map (seen_by (set trails c.args.trail u)) c.move_all.new.watches.items)
+    c.forget.ensures.dropped
+    ∙ ap (map (seen_by (set trails c.args.trail (record t { others = drop c.args.n t.others }))))
+    c.move_all.ensures.moved
     ∙ seen_moved trails c.args.watches.now.items c.args.trail c.args.n t (slice_get-get_or trails c.args.trail c.index-trails-trail.result c.requires.trail)
     c.requires.uncounted
 
@@ -22,8 +25,10 @@ pub returns-clause-on : goal.returns-clause-on
 returns-clause-on g c =
     let trails = c.args.trails.now in
     let t = get_or trails c.args.trail c.index-trails-trail.result in
-    subst (λ u. AreOn (set trails c.args.trail u) c.move_all.new.watches.items) (sym c.forget.ensures.dropped)
-    (subst (AreOn (set trails c.args.trail (record t { others = drop c.args.n t.others }))) (sym c.move_all.ensures.moved)
+    subst (λ u. AreOn (set trails c.args.trail u) c.move_all.new.watches.items)
+    (sym c.forget.ensures.dropped)
+    (subst (AreOn (set trails c.args.trail (record t { others = drop c.args.n t.others })))
+    (sym c.move_all.ensures.moved)
     (on_moved trails c.args.watches.now.items c.args.trail c.args.n t (slice_get-get_or trails c.args.trail c.index-trails-trail.result c.requires.trail)
     c.requires.uncounted c.requires.on))
 
@@ -60,7 +65,8 @@ returns-clause-counted g c = λ counted.
     let t = get_or trails c.args.trail c.index-trails-trail.result in
     subst (AreCounted (set trails c.args.trail c.forget.new.self)) (sym c.move_all.ensures.moved)
     (counted_moved trails c.args.watches.now.items c.args.trail c.args.n t c.forget.new.self
-    (slice_get-get_or trails c.args.trail c.index-trails-trail.result c.requires.trail) (ap (λ u. u.askers) c.forget.ensures.dropped) counted)
+    (slice_get-get_or trails c.args.trail c.index-trails-trail.result c.requires.trail)
+    (ap (λ u. u.askers) c.forget.ensures.dropped) counted)
 
 pub returns-clause-kept : goal.returns-clause-kept
 returns-clause-kept g c =
@@ -76,4 +82,10 @@ returns-clause-steps g c = λ t there.
     let read = c.index-trails-trail in
     let it : t ≡ get_or c.args.trails.now c.args.trail read.result
     = read_is c.args.trails.now c.args.trail t read.result there read.is ∙ read.is in
-    omega (arith, c.forget.ensures.steps, c.move_all.ensures.steps, ap (λ (u : Asked). length u.others) it)
+    omega (
+      arith,
+      c.forget.ensures.steps,
+      c.move_all.ensures.steps,
+      ap
+          (λ (u : Asked). length u.others) it,
+    )

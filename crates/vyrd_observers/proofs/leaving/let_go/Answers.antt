@@ -18,7 +18,8 @@ forget_some-requires g c =
     let i = c.args.trail in
     let u = c.leave.new.self in
     let now = set trails i u in
-    let so = leaves_at trails watches i c.index-trails-trail.result u c.requires.trail c.leave.ensures.left
+    let so = leaves_at trails watches i c.index-trails-trail.result u c.requires.trail
+    c.leave.ensures.left
     c.requires.on c.requires.used c.requires.counted in
     let read = c.index-trails-trail-2 in
     let it : u ≡ get_or now i read.result = read_is now i u read.result so.there read.is ∙ read.is in
@@ -62,7 +63,8 @@ returns-else-len-gt0 g c =
     let i = c.args.trail in
     let u = c.leave.new.self in
     let now = set trails i u in
-    let so = leaves_at trails watches i c.index-trails-trail.result u c.requires.trail c.leave.ensures.left
+    let so = leaves_at trails watches i c.index-trails-trail.result u c.requires.trail
+    c.leave.ensures.left
     c.requires.on c.requires.used c.requires.counted in
     let read = c.index-trails-trail-2 in
     let it : u ≡ get_or now i read.result = read_is now i u read.result so.there read.is ∙ read.is in

@@ -48,7 +48,8 @@ returns-clause-only g c =
     let i = c.in_ok-i.i in (
       old_except_then c.args.trails.now.items items i c.in_ok-i.ensures.only c.begin.new.self,
       λ t here.
-          let is = same_Some _ _ (sym here ∙ slice_get-set_same items i c.begin.new.self (slice_get_within items i there.0 there.1)) ∙ c.begin.ensures.question in
+          let is = same_Some _ _ (sym here ∙ slice_get-set_same items i c.begin.new.self
+          (slice_get_within items i there.0 there.1)) ∙ c.begin.ensures.question in
           inr (ap (λ (u : Asked). u.askers) is, ap (λ (u : Asked). u.others) is),
     )
 

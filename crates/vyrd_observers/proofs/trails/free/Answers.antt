@@ -5,7 +5,8 @@ use Rattle.vyrd_observers.proofs.TrailLaws.{before_pushed, pushed_only, asking_p
 use Rattle.vyrd_observers.proofs.trails.free.Goals as goal
 
 pub returns-in_err-push-clause-asking : goal.returns-in_err-push-clause-asking
-returns-in_err-push-clause-asking g c = λ h all. subst (AreAsking h) (sym c.in_err-push.ensures.items) all
+returns-in_err-push-clause-asking g c = λ h all. subst (AreAsking h)
+    (sym c.in_err-push.ensures.items) all
 
 pub returns-clause-free : goal.returns-clause-free
 returns-clause-free g c = (
@@ -25,5 +26,6 @@ returns-clause-asking g c = λ h all.
     subst (AreAsking h) (sym c.in_ok-push.ensures.items) (asking_pushed h c.args.trails.now.items c.new.result c.new.ensures.free all)
 
 pub returns-clause-only : goal.returns-clause-only
-returns-clause-only g c = λ i t there. ⊎_elim (λ was. inl was) (λ last. inr (last ∙ sym (c.len-i.ensures ∙ c.args.trails.now.ok.0)))
+returns-clause-only g c = λ i t there. ⊎_elim (λ was. inl was)
+    (λ last. inr (last ∙ sym (c.len-i.ensures ∙ c.args.trails.now.ok.0)))
     (pushed_only c.args.trails.now.items c.new.result i t (ap (λ xs. slice_get xs i) (sym c.in_ok-push.ensures.items) ∙ there))

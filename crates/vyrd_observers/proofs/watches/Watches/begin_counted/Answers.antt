@@ -1,4 +1,5 @@
-use Rattle.std.proofs.Common.{◌≡◌, ◌+◌, ◌*◌, ◌≤◌, ⊎_elim, Option, Some, true, List, [], ◌∷◌, length, map, set, slice_get, refl, subst, ap, sym, ◌∙◌, arith}
+use Rattle.std.proofs.Common.{◌≡◌, ◌+◌, ◌*◌, ◌≤◌, ⊎_elim, Option, Some, true, List, [], ◌∷◌, length}
+use Rattle.std.proofs.Common.{map, set, slice_get, refl, subst, ap, sym, ◌∙◌, arith}
 use Rattle.std.proofs.lemmas.List.{set-set, length-set}
 use Rattle.std.proofs.lemmas.Option.{slice_get_within}
 use Rattle.vyrd_base.specs.Entries.{has_method}
@@ -15,15 +16,19 @@ use Rattle.vyrd_observers.proofs.watches.Watches.begin_counted.Goals as goal
 use Rattle.vyrd_observers.proofs.watches.Watches.begin_counted.Given as given
 
 pub invariant_of-self : goal.invariant_of-self
-invariant_of-self g c = subst (λ (ts : List Asked). AreInOrder c.self.inside.header c.close.new.reach ts c.close.new.watches.items) (sym c.in_err-trail.ensures.unchanged)
+invariant_of-self g c = subst (λ (ts : List Asked). AreInOrder c.self.inside.header
+    c.close.new.reach ts c.close.new.watches.items) (sym c.in_err-trail.ensures.unchanged)
     (order_closed c.self.inside.header c.args.caller c.self.inside.trails.items c.close.new.trails.items c.self.inside.by_caller.items
-    c.close.new.watches.items c.self.inside.reach c.close.new.reach c.close.ensures.closes c.self.invariant)
+    c.close.new.watches.items c.self.inside.reach c.close.new.reach c.close.ensures.closes
+    c.self.invariant)
 
 pub returns-in_err-trail-clause-keeps_few : goal.returns-in_err-trail-clause-keeps_few
-returns-in_err-trail-clause-keeps_few g c = keeps_few c.self.inside.header c.close.new.reach c.ask.new.trails.items c.close.new.watches.items
+returns-in_err-trail-clause-keeps_few g c = keeps_few c.self.inside.header c.close.new.reach
+    c.ask.new.trails.items c.close.new.watches.items
     (subst (λ (ts : List Asked). AreInOrder c.self.inside.header c.close.new.reach ts c.close.new.watches.items) (sym c.in_err-trail.ensures.unchanged)
     (order_closed c.self.inside.header c.args.caller c.self.inside.trails.items c.close.new.trails.items c.self.inside.by_caller.items
-    c.close.new.watches.items c.self.inside.reach c.close.new.reach c.close.ensures.closes c.self.invariant))
+    c.close.new.watches.items c.self.inside.reach c.close.new.reach c.close.ensures.closes
+    c.self.invariant))
 
 pub index-requires : goal.index-requires
 index-requires g c = let there = c.in_ok-trail.ensures.asked in
@@ -33,16 +38,19 @@ pub join-requires : goal.join-requires
 join-requires g c =
     let there = c.in_ok-trail.ensures.asked in
     let order = order_closed c.self.inside.header c.args.caller c.self.inside.trails.items c.close.new.trails.items c.self.inside.by_caller.items
-    c.close.new.watches.items c.self.inside.reach c.close.new.reach c.close.ensures.closes c.self.invariant in
+    c.close.new.watches.items c.self.inside.reach c.close.new.reach c.close.ensures.closes
+    c.self.invariant in
     few_askers c.self.inside.header c.close.new.reach c.close.new.trails.items c.ask.new.trails.items c.close.new.watches.items c.args.caller
-    c.in_ok-trail.trail c.index_mut-2.result.now order c.close.ensures.closes.none c.ask.ensures.kept c.in_ok-trail.ensures.only.0 c.in_ok-trail.ensures.only.1
+    c.in_ok-trail.trail c.index_mut-2.result.now order c.close.ensures.closes.none
+    c.ask.ensures.kept c.in_ok-trail.ensures.only.0 c.in_ok-trail.ensures.only.1
     (slice_get-is c.ask.new.trails.items c.in_ok-trail.trail c.index_mut-2.result.now
     (slice_get_within c.ask.new.trails.items c.in_ok-trail.trail there.0 there.1) c.index_mut-2.ensures.value)
 
 module _ (g : given.Over) (c : goal.After-self-3-1 g) where
   order : AreInOrder c.self.inside.header c.close.new.reach c.close.new.trails.items c.close.new.watches.items
   order = order_closed c.self.inside.header c.args.caller c.self.inside.trails.items c.close.new.trails.items c.self.inside.by_caller.items
-      c.close.new.watches.items c.self.inside.reach c.close.new.reach c.close.ensures.closes c.self.invariant
+      c.close.new.watches.items c.self.inside.reach c.close.new.reach c.close.ensures.closes
+      c.self.invariant
 
   at_end : c.len.result ≡ length c.in_ok-trail.ensures.asked.0.others
   at_end =
@@ -69,7 +77,8 @@ module _ (g : given.Over) (c : goal.After-self-3-1 g) where
       let within = slice_get_within c.ask.new.trails.items c.in_ok-trail.trail there.0 there.1 in
       subst (λ u. AreInOrder c.self.inside.header c.max-self-inside.result (set c.ask.new.trails.items c.in_ok-trail.trail u) watches_now) (sym is_joined)
       (order_begun c.self.inside.header c.close.new.reach c.max-self-inside.result c.close.new.trails.items c.ask.new.trails.items c.close.new.watches.items
-      c.args.caller c.in_ok-trail.trail c.len.result there.0 order c.close.ensures.closes.none c.ask.ensures.kept
+      c.args.caller c.in_ok-trail.trail c.len.result there.0 order c.close.ensures.closes.none
+      c.ask.ensures.kept
       (c.ask.ensures.asking c.self.inside.header
       (ap (λ (k : Watched). has_method k.header c.args.method c.args.args) c.self.view_is ∙ c.requires.allowed)
       c.requires.may_answer order.asking)
@@ -77,7 +86,14 @@ module _ (g : given.Over) (c : goal.After-self-3-1 g) where
       (few_begun c.self.inside.header c.close.new.reach c.close.new.trails.items c.ask.new.trails.items c.close.new.watches.items c.args.caller begun
       order c.close.ensures.closes.none refl c.ask.ensures.reused c.ask.ensures.one)
       (omega (arith, c.max-self-inside.ensures)) (omega (arith, c.max-self-inside.ensures))
-      (omega (arith, c.max-self-inside.ensures, within, c.close.ensures.closes.within, c.close.ensures.closes.trails, c.ask.ensures.no_fewer)))
+      (omega (
+        arith,
+        c.max-self-inside.ensures,
+        within,
+        c.close.ensures.closes.within,
+        c.close.ensures.closes.trails,
+        c.ask.ensures.no_fewer,
+      )))
 
   -- what all callers have seen then
   seen_now : map (seen_by (set c.ask.new.trails.items c.in_ok-trail.trail c.join.new.self)) watches_now
@@ -87,7 +103,8 @@ module _ (g : given.Over) (c : goal.After-self-3-1 g) where
       ap (λ u. map (seen_by (set c.ask.new.trails.items c.in_ok-trail.trail u)) watches_now) is_joined
       ∙ seen_recounted c.ask.new.trails.items watches_now c.in_ok-trail.trail (there.0.askers + 1) there.0 there.1
       ∙ begins_seen c.close.new.trails.items c.ask.new.trails.items c.close.new.watches.items c.args.caller c.in_ok-trail.trail c.len.result there.0
-      c.args.method c.args.args c.args.answer c.ask.ensures.kept c.close.ensures.closes.on there.1 there.2.1 there.2.2 there.2.3 at_end
+      c.args.method c.args.args c.args.answer c.ask.ensures.kept c.close.ensures.closes.on there.1
+      there.2.1 there.2.2 there.2.3 at_end
 
 pub invariant_of-self-2 : goal.invariant_of-self-2
 invariant_of-self-2 g c = order_now g c
@@ -96,11 +113,13 @@ pub returns-clause-watches : goal.returns-clause-watches
 returns-clause-watches g c =
     seen_now g c
     ∙ ap (λ ws. set ws c.args.caller (begun g c)) c.close.ensures.closes.seen
-    ∙ set-set (map (seen_by c.self.inside.trails.items) c.self.inside.by_caller.items) c.args.caller unwatched (begun g c)
+    ∙ set-set (map (seen_by c.self.inside.trails.items) c.self.inside.by_caller.items) c.args.caller
+    unwatched (begun g c)
     ∙ ap (λ (k : Watched). set k.by_caller c.args.caller (begun g c)) c.self.view_is
 
 pub returns-clause-len : goal.returns-clause-len
-returns-clause-len g c = ap length (returns-clause-watches g c) ∙ length-set c.args.self.now.by_caller c.args.caller (begun g c)
+returns-clause-len g c = ap length (returns-clause-watches g c)
+    ∙ length-set c.args.self.now.by_caller c.args.caller (begun g c)
 
 pub returns-clause-shared : goal.returns-clause-shared
 returns-clause-shared g c = λ d seen before here is_open same_method same_args same_answers.
@@ -122,29 +141,44 @@ returns-clause-reused g c = λ low.
     ⊎_elim
     (λ same. length-set c.ask.new.trails.items c.in_ok-trail.trail c.join.new.self ∙ same ∙ were)
     (λ more. absurd (omega (arith, low, more, were, ap open_count (seen_now g c))))
-    (made_few c.close.new.trails.items c.ask.new.trails.items c.close.new.watches.items c.args.caller (begun g c) c.close.ensures.closes.none refl (order g c).used
+    (made_few c.close.new.trails.items c.ask.new.trails.items c.close.new.watches.items
+    c.args.caller (begun g c) c.close.ensures.closes.none refl (order g c).used
     c.ask.ensures.reused c.ask.ensures.one)
 
 pub returns-clause-keeps_few : goal.returns-clause-keeps_few
-returns-clause-keeps_few g c = keeps_few c.self.inside.header c.max-self-inside.result (set c.ask.new.trails.items c.in_ok-trail.trail c.join.new.self) (watches_now g c)
+returns-clause-keeps_few g c = keeps_few c.self.inside.header c.max-self-inside.result
+    (set c.ask.new.trails.items c.in_ok-trail.trail c.join.new.self) (watches_now g c)
     (order_now g c)
 
 pub returns-in_err-trail-clause-steps : goal.returns-in_err-trail-clause-steps
 returns-in_err-trail-clause-steps g c =
-    let closed = owed_closed c.self.inside.header c.args.caller c.self.inside.trails.items c.close.new.trails.items c.self.inside.by_caller.items
-    c.close.new.watches.items c.self.inside.reach c.close.new.reach c.args.steps.now c.close.new.steps
+    let closed = owed_closed c.self.inside.header c.args.caller c.self.inside.trails.items
+    c.close.new.trails.items c.self.inside.by_caller.items
+    c.close.new.watches.items c.self.inside.reach c.close.new.reach c.args.steps.now
+    c.close.new.steps
     c.close.ensures.closes c.self.invariant c.close.ensures.steps in
-    let same = ap (λ ts. answer_count (map (seen_by ts) c.close.new.watches.items)) c.in_err-trail.ensures.unchanged in
+    let same = ap (λ ts. answer_count (map (seen_by ts) c.close.new.watches.items))
+    c.in_err-trail.ensures.unchanged in
     let few = c.self.invariant.few in
-    subst (λ (k : Watched). c.ask.new.steps + owed_by c.ask.new.trails.items c.close.new.watches.items
+    subst (λ (k : Watched). c.ask.new.steps + owed_by c.ask.new.trails.items
+    c.close.new.watches.items
     ≤ c.args.steps.now + owed k + (5 * k.header.callers + 3)) c.self.view_is
-    (omega (arith, closed, same, c.ask.ensures.steps, few, c.self.invariant.callers, c.close.ensures.closes.trails))
+    (omega (
+      arith,
+      closed,
+      same,
+      c.ask.ensures.steps,
+      few,
+      c.self.invariant.callers,
+      c.close.ensures.closes.trails,
+    ))
 
 pub returns-clause-steps : goal.returns-clause-steps
 returns-clause-steps g c =
     let there = c.in_ok-trail.ensures.asked in
     let joined : kept_by c.join.new.self ≡ kept_by there.0 = ap kept_by (is_joined g c) in
-    let kept = kept_set c.ask.new.trails.items c.in_ok-trail.trail there.0 c.join.new.self there.1 in
+    let kept = kept_set c.ask.new.trails.items c.in_ok-trail.trail there.0 c.join.new.self
+    there.1 in
     let seen = ap answer_count (returns-clause-watches g c) in
     let begins = answers_set c.args.self.now.by_caller c.args.caller (begun g c) in
     let owes = ap owed c.self.view_is in

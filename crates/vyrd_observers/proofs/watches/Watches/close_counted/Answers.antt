@@ -17,15 +17,19 @@ returns-clause-watches g c = c.close.ensures.closes.seen
 
 pub returns-clause-keeps_few : goal.returns-clause-keeps_few
 returns-clause-keeps_few g c =
-    keeps_few c.self.inside.header c.close.new.reach c.close.new.trails.items c.close.new.watches.items
+    keeps_few c.self.inside.header c.close.new.reach c.close.new.trails.items
+    c.close.new.watches.items
     (order_closed c.self.inside.header c.args.caller c.self.inside.trails.items
     c.close.new.trails.items c.self.inside.by_caller.items c.close.new.watches.items
     c.self.inside.reach c.close.new.reach c.close.ensures.closes c.self.invariant)
 
 pub returns-clause-steps : goal.returns-clause-steps
 returns-clause-steps g c =
-    subst (λ (k : Watched). c.close.new.steps + owed_by c.close.new.trails.items c.close.new.watches.items
+    subst (λ (k : Watched). c.close.new.steps + owed_by c.close.new.trails.items
+    c.close.new.watches.items
     ≤ c.args.steps.now + owed k + 3 * k.header.callers) c.self.view_is
-    (owed_closed c.self.inside.header c.args.caller c.self.inside.trails.items c.close.new.trails.items c.self.inside.by_caller.items
-    c.close.new.watches.items c.self.inside.reach c.close.new.reach c.args.steps.now c.close.new.steps
+    (owed_closed c.self.inside.header c.args.caller c.self.inside.trails.items
+    c.close.new.trails.items c.self.inside.by_caller.items
+    c.close.new.watches.items c.self.inside.reach c.close.new.reach c.args.steps.now
+    c.close.new.steps
     c.close.ensures.closes c.self.invariant c.close.ensures.steps)

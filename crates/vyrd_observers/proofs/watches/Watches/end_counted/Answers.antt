@@ -1,4 +1,5 @@
-use Rattle.std.proofs.Common.{◌≡◌, ◌+◌, ◌*◌, ◌≤◌, Some, None, ◌∷◌, length, set, drop, slice_get, subst, ap, sym, ◌∙◌, arith}
+use Rattle.std.proofs.Common.{◌≡◌, ◌+◌, ◌*◌, ◌≤◌, Some, None, ◌∷◌, length, set, drop, slice_get}
+use Rattle.std.proofs.Common.{subst, ap, sym, ◌∙◌, arith}
 use Rattle.std.proofs.lemmas.Option.{slice_get_within}
 use Rattle.vyrd_observers.specs.Watching.{Watched, KeepsFew, Seen, unwatched, has_answer}
 use Rattle.vyrd_observers.specs.Trails.{Asked, seen_from}
@@ -14,7 +15,8 @@ pub index-requires-in-Some : goal.index-requires-in-Some
 index-requires-in-Some g c =
     let trails = c.self.inside.trails.items in
     let here = watch_read trails c.self.inside.by_caller.items c.args.self.now.by_caller c.args.caller c.index.result.now (Some c.in-Some.watch)
-    (ap (λ (k : Watched). k.by_caller) c.self.view_is) c.requires.caller c.index.ensures c.in-Some.is in
+    (ap (λ (k : Watched). k.by_caller) c.self.view_is) c.requires.caller c.index.ensures
+    c.in-Some.is in
     let was = c.self.invariant.on c.args.caller c.in-Some.watch here in
     omega (arith, slice_get_within trails c.in-Some.watch.trail was.asked was.there, c.self.inside.trails.ok.0)
 
@@ -22,7 +24,8 @@ pub has_answer-answered-requires : goal.has_answer-answered-requires
 has_answer-answered-requires g c =
     let trails = c.self.inside.trails.items in
     let here = watch_read trails c.self.inside.by_caller.items c.args.self.now.by_caller c.args.caller c.index.result.now (Some c.in-Some.watch)
-    (ap (λ (k : Watched). k.by_caller) c.self.view_is) c.requires.caller c.index.ensures c.in-Some.is in
+    (ap (λ (k : Watched). k.by_caller) c.self.view_is) c.requires.caller c.index.ensures
+    c.in-Some.is in
     let was = c.self.invariant.on c.args.caller c.in-Some.watch here in
     let is : was.asked ≡ c.index-in-Some.result.now = read_is trails c.in-Some.watch.trail was.asked c.index-in-Some.result.now was.there c.index-in-Some.ensures in
     subst (λ (t : Asked). c.in-Some.watch.since ≤ length t.others) is was.within
@@ -32,9 +35,11 @@ returns-in-Some-clause-answered g c = λ seen there.
     let trails = c.self.inside.trails.items in
     let w = c.in-Some.watch in
     let here = watch_read trails c.self.inside.by_caller.items c.args.self.now.by_caller c.args.caller c.index.result.now (Some w)
-    (ap (λ (k : Watched). k.by_caller) c.self.view_is) c.requires.caller c.index.ensures c.in-Some.is in
+    (ap (λ (k : Watched). k.by_caller) c.self.view_is) c.requires.caller c.index.ensures
+    c.in-Some.is in
     let was = c.self.invariant.on c.args.caller w here in
-    let is : was.asked ≡ c.index-in-Some.result.now = read_is trails w.trail was.asked c.index-in-Some.result.now was.there c.index-in-Some.ensures in
+    let is : was.asked ≡ c.index-in-Some.result.now = read_is trails w.trail was.asked
+    c.index-in-Some.result.now was.there c.index-in-Some.ensures in
     let same : seen_from w.since (slice_get trails w.trail) ≡ seen = same_Some _ _ (sym (seen_there trails c.self.inside.by_caller.items c.args.caller (Some w) here)
     ∙ ap (λ (k : Watched). slice_get k.by_caller c.args.caller) c.self.view_is ∙ there) in
     c.has_answer-answered.ensures.answered
@@ -45,15 +50,19 @@ returns-in-Some-clause-answered g c = λ seen there.
 pub invariant_of-self : goal.invariant_of-self
 invariant_of-self g c =
     order_closed c.self.inside.header c.args.caller c.self.inside.trails.items c.close.new.trails.items c.self.inside.by_caller.items
-    c.close.new.watches.items c.self.inside.reach c.close.new.reach c.close.ensures.closes c.self.invariant
+    c.close.new.watches.items c.self.inside.reach c.close.new.reach c.close.ensures.closes
+    c.self.invariant
 
 pub returns-in-Some-clause-watches : goal.returns-in-Some-clause-watches
-returns-in-Some-clause-watches g c = c.close.ensures.closes.seen ∙ ap (λ (k : Watched). set k.by_caller c.args.caller unwatched) c.self.view_is
+returns-in-Some-clause-watches g c = c.close.ensures.closes.seen
+    ∙ ap (λ (k : Watched). set k.by_caller c.args.caller unwatched) c.self.view_is
 
 pub returns-in-Some-clause-keeps_few : goal.returns-in-Some-clause-keeps_few
-returns-in-Some-clause-keeps_few g c = keeps_few c.self.inside.header c.close.new.reach c.close.new.trails.items c.close.new.watches.items
+returns-in-Some-clause-keeps_few g c = keeps_few c.self.inside.header c.close.new.reach
+    c.close.new.trails.items c.close.new.watches.items
     (order_closed c.self.inside.header c.args.caller c.self.inside.trails.items c.close.new.trails.items c.self.inside.by_caller.items
-    c.close.new.watches.items c.self.inside.reach c.close.new.reach c.close.ensures.closes c.self.invariant)
+    c.close.new.watches.items c.self.inside.reach c.close.new.reach c.close.ensures.closes
+    c.self.invariant)
 
 pub returns-in-None-clause-answered : goal.returns-in-None-clause-answered
 returns-in-None-clause-answered g c = λ seen there.
@@ -80,16 +89,23 @@ returns-in-Some-clause-steps g c =
     let trails = c.self.inside.trails.items in
     let watches = c.self.inside.by_caller.items in
     let w = c.in-Some.watch in
-    let here = watch_read trails watches c.args.self.now.by_caller c.args.caller c.index.result.now (Some w)
-    (ap (λ (k : Watched). k.by_caller) c.self.view_is) c.requires.caller c.index.ensures c.in-Some.is in
+    let here = watch_read trails watches c.args.self.now.by_caller c.args.caller c.index.result.now
+    (Some w)
+    (ap (λ (k : Watched). k.by_caller) c.self.view_is) c.requires.caller c.index.ensures
+    c.in-Some.is in
     let was = c.self.invariant.on c.args.caller w here in
-    let is : was.asked ≡ c.index-in-Some.result.now = read_is trails w.trail was.asked c.index-in-Some.result.now was.there c.index-in-Some.ensures in
-    let long : length (seen_by trails (Some w)).answers ≡ length (c.index-in-Some.result.now.latest ∷ drop w.since c.index-in-Some.result.now.others)
-    = ap (λ o. length (seen_from w.since o).answers) was.there ∙ ap (λ (t : Asked). length (t.latest ∷ drop w.since t.others)) is in
-    subst (λ (k : Watched). c.close.new.steps + owed_by c.close.new.trails.items c.close.new.watches.items
+    let is : was.asked ≡ c.index-in-Some.result.now = read_is trails w.trail was.asked
+    c.index-in-Some.result.now was.there c.index-in-Some.ensures in
+    let long : length (seen_by trails (Some w)).answers
+    ≡ length (c.index-in-Some.result.now.latest ∷ drop w.since c.index-in-Some.result.now.others)
+    = ap (λ o. length (seen_from w.since o).answers) was.there
+    ∙ ap (λ (t : Asked). length (t.latest ∷ drop w.since t.others)) is in
+    subst (λ (k : Watched). c.close.new.steps + owed_by c.close.new.trails.items
+    c.close.new.watches.items
     ≤ c.args.steps.now + owed k + 3 * k.header.callers) c.self.view_is
     (owed_ended c.self.inside.header c.args.caller trails c.close.new.trails.items watches
-    c.close.new.watches.items c.self.inside.reach c.close.new.reach c.args.steps.now c.has_answer-answered.new.steps c.close.new.steps
+    c.close.new.watches.items c.self.inside.reach c.close.new.reach c.args.steps.now
+    c.has_answer-answered.new.steps c.close.new.steps
     (seen_by trails (Some w)) c.close.ensures.closes c.self.invariant
     (seen_there trails watches c.args.caller (Some w) here)
     (omega (arith, c.has_answer-answered.ensures.steps, long)) c.close.ensures.steps)
