@@ -4,3 +4,4 @@ pub mod ShapeLaws
 pub mod StampLaws
 pub mod EffectStamps
 pub mod OrderLaws
+pub mod CostLaws

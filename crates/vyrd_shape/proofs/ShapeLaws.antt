@@ -263,6 +263,7 @@ pub followed_by : (kept : Kept) (earlier : List Entry) (c : ℕ) (kind : Kind) (
     → c < kept.header.callers → length kept.phases ≡ kept.header.callers → length kept.holders ≡ plain_words kept.header
     → next ≡ phase_of c (entry c kind ∷ earlier)
     → AreOrdered kept.header commits stamps (entry c kind ∷ earlier)
+    → commits.next ≤ kept.commits.next + 1
     → broken_rule kept.header earlier (entry c kind) ≡ None → HasFollowed kept earlier
     → HasFollowed (record {
       header = kept.header;
@@ -271,7 +272,7 @@ pub followed_by : (kept : Kept) (earlier : List Entry) (c : ℕ) (kind : Kind) (
       commits = commits;
       stamps = stamps;
     }) (entry c kind ∷ earlier)
-followed_by kept earlier c kind next commits stamps low phases words is ordered rules followed =
+followed_by kept earlier c kind next commits stamps low phases words is ordered more rules followed =
     let before : Before kept.header kept.holders c kind earlier = record {
       rules = rules;
       words = words;
@@ -284,6 +285,7 @@ followed_by kept earlier c kind next commits stamps low phases words is ordered 
       holders = held_next kept.header kept.holders c kind earlier before;
       callers = high_next kept.holders (has_block c earlier) c kept.header.callers kind low followed.callers;
       order = ordered;
+      numbered = omega (arith, more, followed.numbered);
     }
 
 -- nothing has been followed
@@ -306,6 +308,7 @@ followed_none h start n m is = record {
   holders = λ c w low low_w. (let e : (0 == c + 1) ≡ false = grind (arith, nat_tests) in sym e) ∙ ap (λ x. x == c + 1) (sym (zeros n w));
   callers = λ w. omega (arith, zeros n w);
   order = ordered_none h h.callers m;
+  numbered = omega arith;
 }
 
 -- a test of numbers that is the same at each

@@ -23,7 +23,8 @@ pub record Kept : Type 0 where
 
 -- What is kept stands for these entries, given the newest first, and each of them keeps the rules.
 -- Each caller's phase is its own, and a caller holds a word exactly when its open block has written
--- it, which is one caller at most. Stamps stand in the order of the log.
+-- it, which is one caller at most. Stamps stand in the order of the log, and an entry takes one at
+-- most.
 pub record HasFollowed (kept : Kept) (earlier : List Entry) : Type 0 where
   pub rules : WellFormed kept.header earlier
   pub phases : (c : ℕ) → c < kept.header.callers
@@ -32,6 +33,7 @@ pub record HasFollowed (kept : Kept) (earlier : List Entry) : Type 0 where
       → holds_word c w earlier ≡ (slice_index kept.holders w == c + 1)
   pub callers : (w : ℕ) → slice_index kept.holders w ≤ kept.header.callers
   pub order : AreOrdered kept.header kept.commits kept.stamps earlier
+  pub numbered : kept.commits.next ≤ length earlier + 1
 
 -- there is a phase and a commit's stamp for each caller, a holder for each plain word, and from
 -- version 2 on a stamp

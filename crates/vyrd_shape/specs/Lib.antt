@@ -2,3 +2,4 @@ pub mod Stamps
 pub mod Phases
 pub mod Holding
 pub mod Following
+pub mod Costs

@@ -77,11 +77,13 @@ pub record SameOrder (old : CommitStamps) (stamps : List ℕ) (new : CommitStamp
   pub past : ((w : ℕ) → w < length stamps → slice_index stamps w ≤ old.next)
       → (w : ℕ) → w < length stamps → slice_index stamps' w ≤ new.next
 
--- the caller's commit has the next stamp, once the stamps may have become others in the same order
+-- the caller's commit has the next stamp, once the stamps may have become others in the same order,
+-- and no higher ones
 pub record IsAdded (c : ℕ) (old : CommitStamps) (stamps : List ℕ) (new : CommitStamps)
     (stamps' : List ℕ) : Type 0 where
   pub before : CommitStamps
   pub same : SameOrder old stamps before stamps'
+  pub low : before.next ≤ old.next
   pub is : new ≡ record {
     by_caller = slice_set before.by_caller c before.next;
     next = before.next + 1;

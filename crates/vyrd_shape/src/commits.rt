@@ -1,11 +1,14 @@
 //! When each caller's last lone commit inside a block was.
 
-ghost use Rattle.std.specs.Prelude.{◌≡◌, ◌+◌, ◌<◌, length, replicate, slice_index, IfOk};
+ghost use Rattle.std.specs.Prelude.{◌≡◌, ◌+◌, ◌<◌, ◌≤◌, length, replicate, slice_index, IfOk};
+ghost use Rattle.vyrd_shape.specs.Costs.{renumbering_cost, adding_cost};
 ghost use Rattle.vyrd_shape.specs.Stamps.{AreRanked, IsAdded};
 
 use crate::stamps::{Stamps, renumber};
 use std::alloc::{AllocError, Global};
 use std::marker::Model;
+use std::sync::ledger::Ledger;
+use vyrd_base::Steps;
 
 /// For each caller the stamp of its last lone commit inside a block. A stamp is greater than all
 /// that were given before it. Only their order counts.
@@ -63,12 +66,13 @@ impl Commits {
 
     /// The caller commits inside its block. It takes constant time, except for one call in 2^64, or
     /// fewer: if the next stamp is the greatest, all are numbered again in their order.
-    pub fn add(&mut self, caller: u32, stamps: &mut Stamps)
+    pub fn add<L: Ledger>(&mut self, caller: u32, stamps: &mut Stamps, steps: &mut Steps<L>)
         requires { caller < length self.old.by_caller }
-        ensures { IsAdded caller self.old stamps.old self.new stamps.new }
+        ensures added { IsAdded caller self.old stamps.old self.new stamps.new }
+        ensures steps { steps.new ≤ steps.old + adding_cost self.old stamps.old }
     {
         if self.next == u64::MAX {
-            self.renumber(stamps);
+            self.renumber(stamps, steps);
         }
         self.by_caller[caller as usize] = self.next;
         self.next += 1;
@@ -76,14 +80,25 @@ impl Commits {
 
     /// Gives each stamp the number of commits before it, so that the order of commits, and of a
     /// commit and a write, stays.
-    fn renumber(&mut self, stamps: &mut Stamps)
+    fn renumber<L: Ledger>(&mut self, stamps: &mut Stamps, steps: &mut Steps<L>)
         ensures commits { AreRanked self.old.by_caller self.old.by_caller self.new.by_caller }
         ensures next { self.new.next ≡ length self.old.by_caller + 1 }
         ensures stamps { AreRanked self.old.by_caller stamps.old stamps.new }
+        ensures steps { steps.new ≡ steps.old + renumbering_cost self.old stamps.old }
     {
-        self.before.copy_from_slice(&self.by_caller);
-        stamps.renumber(&self.before);
-        renumber(&mut self.by_caller, &self.before);
+        copy(&self.by_caller, &mut self.before, steps);
+        stamps.renumber(&self.before, steps);
+        renumber(&mut self.by_caller, &self.before, steps);
         self.next = self.by_caller.len() as u64 + 1;
     }
+}
+
+/// Copies the stamps, which takes a step for each of them.
+fn copy<L: Ledger>(stamps: &[u64], before: &mut [u64], steps: &mut Steps<L>)
+    requires { length before.old ≡ length stamps.now }
+    ensures stamps { before.new ≡ stamps.now }
+    ensures steps { steps.new ≡ steps.old + length stamps.now }
+{
+    steps.add(stamps.len());
+    before.copy_from_slice(stamps);
 }

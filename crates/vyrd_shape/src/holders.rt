@@ -1,7 +1,8 @@
 //! Which caller's open block has written each word.
 
-ghost use Rattle.std.specs.Prelude.{◌≡◌, ◌+◌, ◌<◌, ◌==◌, map, length, slice_index, slice_set};
-ghost use Rattle.std.specs.Prelude.{replicate, IfOk, if◌then◌else◌};
+ghost use Rattle.std.specs.Prelude.{◌≡◌, ◌+◌, ◌<◌, ◌≤◌, ◌==◌, map, length, slice_index};
+ghost use Rattle.std.specs.Prelude.{slice_set, replicate, IfOk, if◌then◌else◌};
+ghost use Rattle.vyrd_shape.specs.Costs.{held_count};
 ghost use Rattle.vyrd_shape.specs.Holding.{released, holders_after, is_held_by_another, IsLinked};
 ghost use Rattle.vyrd_shape.specs.Holding.{IsWordBelow};
 ghost use Rattle.vyrd_shape.specs.Stamps.{takes_effect, AreRaised};
@@ -9,7 +10,8 @@ ghost use Rattle.vyrd_shape.specs.Stamps.{takes_effect, AreRaised};
 use crate::stamps::Stamps;
 use std::alloc::{AllocError, Global};
 use std::marker::Model;
-use vyrd_base::{Entry, Kind};
+use std::sync::ledger::Ledger;
+use vyrd_base::{Entry, Kind, Steps};
 
 /// The holder of each word, with the words of one holder linked, so that letting go of them looks
 /// at no others.
@@ -61,7 +63,14 @@ impl Holders {
     /// word, and a block's end lets go of the caller's words. The words on which writes take effect
     /// get at least this stamp.
     #[inline(always)]
-    pub fn follow(&mut self, in_block: bool, entry: &Entry, stamp: u64, stamps: &mut Stamps)
+    pub fn follow<L: Ledger>(
+        &mut self,
+        in_block: bool,
+        entry: &Entry,
+        stamp: u64,
+        stamps: &mut Stamps,
+        steps: &mut Steps<L>,
+    )
         requires caller { entry.now.caller < self.old.callers }
         requires word { IsWordBelow (length self.old.by_word) entry.now.kind }
         ensures callers { self.new.callers ≡ self.old.callers }
@@ -70,6 +79,8 @@ impl Holders {
         ensures stamps { AreRaised
             (takes_effect self.old.by_word in_block entry.now.caller entry.now.kind) stamp
             stamps.old stamps.new }
+        ensures steps { steps.new + held_count self.new.by_word
+            ≤ steps.old + held_count self.old.by_word + 1 }
     {
         match entry.kind {
             Kind::Write(word, _) => {
@@ -79,7 +90,12 @@ impl Holders {
                     stamps.raise(word, stamp);
                 }
             }
-            Kind::BlockClose | Kind::BlockCommit => self.release(entry.caller, stamp, stamps),
+            Kind::BlockClose | Kind::BlockCommit => self.release(
+                entry.caller,
+                stamp,
+                stamps,
+                steps,
+            ),
             _ => {}
         }
     }
@@ -93,6 +109,7 @@ impl Holders {
         ensures by_word { self.new.by_word ≡ (if slice_index self.old.by_word word == 0
             then slice_set self.old.by_word word (caller + 1)
             else self.old.by_word) }
+        ensures held { held_count self.new.by_word ≤ held_count self.old.by_word + 1 }
     {
         let place = word as usize;
         if self.by_word[place] == 0 {
@@ -102,14 +119,22 @@ impl Holders {
         }
     }
 
-    /// The caller lets go of all of its words, in time linear in their number, and they get at
-    /// least this stamp.
-    pub fn release(&mut self, caller: u32, stamp: u64, stamps: &mut Stamps)
+    /// The caller lets go of all of its words, with a step for each of them, and they get at least
+    /// this stamp.
+    pub fn release<L: Ledger>(
+        &mut self,
+        caller: u32,
+        stamp: u64,
+        stamps: &mut Stamps,
+        steps: &mut Steps<L>,
+    )
         requires { caller < self.old.callers }
         ensures callers { self.new.callers ≡ self.old.callers }
         ensures by_word { self.new.by_word ≡ map (released (caller + 1)) self.old.by_word }
         ensures stamps { AreRaised (λ w. slice_index self.old.by_word w == caller + 1) stamp
             stamps.old stamps.new }
+        ensures steps { steps.new + held_count self.new.by_word
+            ≡ steps.old + held_count self.old.by_word }
     {
         let first = self.firsts[caller as usize];
         release_linked(
@@ -119,6 +144,7 @@ impl Holders {
             first,
             stamp,
             stamps,
+            steps,
         );
         self.firsts[caller as usize] = 0;
     }
@@ -126,13 +152,14 @@ impl Holders {
 
 /// The holder lets go of its words, which are linked from `first` on, and they get at least this
 /// stamp.
-fn release_linked(
+fn release_linked<L: Ledger>(
     by_word: &mut [u32],
     links: &[u32],
     holder: u32,
     mut first: u32,
     stamp: u64,
     stamps: &mut Stamps,
+    steps: &mut Steps<L>,
 )
     requires some { 0 < holder }
     requires lengths { length links.now ≡ length by_word.old }
@@ -140,8 +167,10 @@ fn release_linked(
     ensures by_word { by_word.new ≡ map (released holder) by_word.old }
     ensures stamps { AreRaised (λ w. slice_index by_word.old w == holder) stamp
         stamps.old stamps.new }
+    ensures steps { steps.new + held_count by_word.new ≡ steps.old + held_count by_word.old }
 {
     while first != 0 {
+        steps.tick();
         let word = first - 1;
         stamps.raise(word, stamp);
         by_word[word as usize] = 0;

@@ -1,13 +1,15 @@
 //! The rules of shape, one entry at a time.
 
-ghost use Rattle.std.specs.Prelude.{◌≡◌, ◌<◌, true, false, List, [], ◌∷◌, Some, None, is_some};
-ghost use Rattle.std.specs.Prelude.{IfOk, IfErr, IfNone, OnOk, OnErr, MatchResult};
+ghost use Rattle.std.specs.Prelude.{◌≡◌, ◌<◌, ◌≤◌, ◌+◌, ◌^◌, true, false, List, [], ◌∷◌, length};
+ghost use Rattle.std.specs.Prelude.{Some, None, is_some, IfOk, IfErr, IfNone, OnOk, OnErr};
+ghost use Rattle.std.specs.Prelude.{MatchResult};
 ghost use Rattle.std.specs.List.{list_any};
 ghost use Rattle.vyrd_base.specs.declared.log.Entry.{Entry};
 ghost use Rattle.vyrd_base.specs.Layout.{plain_words};
 ghost use Rattle.vyrd_base.specs.Shape.{broken_rule, checks_of, first_broken, is_raced};
 ghost use Rattle.vyrd_base.specs.Verdicts.{is_call_open};
 ghost use Rattle.vyrd_base.specs.Words.{is_passed};
+ghost use Rattle.vyrd_shape.specs.Costs.{owed, adding_cost};
 ghost use Rattle.vyrd_shape.specs.Phases.{phase_of};
 ghost use Rattle.vyrd_shape.specs.Holding.{IsWordBelow};
 ghost use Rattle.vyrd_shape.specs.Following.{HasFollowed, IsInRange};
@@ -20,8 +22,9 @@ use crate::stamps::Stamps;
 use std::alloc::{AllocError, Global};
 use std::error::Error;
 use std::fmt;
-use std::marker::Model;
-use vyrd_base::{Entry, Header, Kind, Rule};
+use std::marker::{Brand, Model};
+use std::sync::ledger::{Blank, Ledger};
+use vyrd_base::{Entry, Header, Kind, Rule, Steps};
 
 /// A rule of shape that an entry, or the end of the log, breaks.
 #[derive(Clone, Copy, Debug, PartialEq, Eq)]
@@ -98,10 +101,37 @@ impl Shape {
         ensures refused { OnErr result (self.new ≡ self.old) }
         ensures header { self.new.header ≡ self.old.header }
     {
+        step_alone::<Brand>(Blank::new(1), self, entry)
+    }
+
+    /// The same, with its steps counted. One step is an entry, or a word that a block's end lets go
+    /// of, which is owed from the write on that held it. So each entry pays two, and a log costs no
+    /// more than that for each of its entries. If 2^64 commits stood inside blocks, stamps are
+    /// numbered again, and that costs more; but no log of less than 2^63 entries has so many.
+    #[inline(always)]
+    pub fn step_counted<L: Ledger>(
+        &mut self,
+        entry: &Entry,
+        steps: &mut Steps<L>,
+    ) -> Result<(), ShapeFault>
+        ensures ok { (earlier : List Entry) → HasFollowed self.old earlier
+            → OnOk result ((broken_rule self.old.header earlier entry.now ≡ None)
+            × HasFollowed self.new (entry.now ∷ earlier)) }
+        ensures fault { (earlier : List Entry) → HasFollowed self.old earlier
+            → IfErr result (λ f. broken_rule self.old.header earlier entry.now ≡ Some f.rule) }
+        ensures refused { OnErr result (self.new ≡ self.old) }
+        ensures header { self.new.header ≡ self.old.header }
+        ensures steps { (earlier : List Entry) → HasFollowed self.old earlier
+            → length earlier < 2 ^ 63
+            → steps.new + owed self.new ≤ steps.old + owed self.old + 2 }
+        ensures most { steps.new + owed self.new
+            ≤ steps.old + owed self.old + 2 + adding_cost self.old.commits self.old.stamps }
+    {
+        steps.tick();
         match self.broken_by(entry) {
             Some(rule) => Err(ShapeFault { rule }),
             None => {
-                self.follow(entry);
+                self.follow(entry, steps);
                 Ok(())
             }
         }
@@ -201,20 +231,22 @@ impl Shape {
 
     /// Follows an entry that breaks no rule.
     #[inline(always)]
-    fn follow(&mut self, entry: &Entry)
+    fn follow<L: Ledger>(&mut self, entry: &Entry, steps: &mut Steps<L>)
         requires in_range { IsInRange self.old.header entry.now }
         ensures followed { (earlier : List Entry) → HasFollowed self.old earlier
             → broken_rule self.old.header earlier entry.now ≡ None
             → HasFollowed self.new (entry.now ∷ earlier) }
         ensures header { self.new.header ≡ self.old.header }
+        ensures most { steps.new + owed self.new
+            ≤ steps.old + owed self.old + 1 + adding_cost self.old.commits self.old.stamps }
     {
         let place = entry.caller as usize;
         let phase = self.phases[place];
         let stamp = self.effect_stamp(phase, entry.caller);
         self.holders
-            .follow(phase.in_block, entry, stamp, &mut self.stamps);
+            .follow(phase.in_block, entry, stamp, &mut self.stamps, steps);
         if phase.commits_inside(entry.kind) {
-            self.commits.add(entry.caller, &mut self.stamps);
+            self.commits.add(entry.caller, &mut self.stamps, steps);
         }
         self.phases[place] = phase.after(entry.kind);
     }
@@ -232,6 +264,24 @@ impl Shape {
             self.commits.next()
         }
     }
+}
+
+/// Follows an entry with a count of its own.
+#[inline(always)]
+fn step_alone<L: Ledger>(blank: Blank, shape: &mut Shape, entry: &Entry) -> Result<(), ShapeFault>
+    requires name { blank.name ≡ L.name }
+    requires parts { blank.parts ≡ L.parts }
+    requires some { 0 < blank.parts }
+    ensures ok { (earlier : List Entry) → HasFollowed shape.old earlier
+        → OnOk result ((broken_rule shape.old.header earlier entry.now ≡ None)
+        × HasFollowed shape.new (entry.now ∷ earlier)) }
+    ensures fault { (earlier : List Entry) → HasFollowed shape.old earlier
+        → IfErr result (λ f. broken_rule shape.old.header earlier entry.now ≡ Some f.rule) }
+    ensures refused { OnErr result (shape.new ≡ shape.old) }
+    ensures header { shape.new.header ≡ shape.old.header }
+{
+    let mut steps = Steps::<L>::new(blank);
+    shape.step_counted(entry, &mut steps)
 }
 
 /// Whether one of the callers has an open execution.

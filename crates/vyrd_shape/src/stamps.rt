@@ -1,11 +1,14 @@
 //! When a write last took effect on each word.
 
-ghost use Rattle.std.specs.Prelude.{◌≡◌, ℕ, ◌≤◌, max, length, replicate, slice_index, slice_set};
-ghost use Rattle.std.specs.Prelude.{nat_lt, IfOk};
+ghost use Rattle.std.specs.Prelude.{◌≡◌, ℕ, ◌+◌, ◌≤◌, max, length, replicate, slice_index};
+ghost use Rattle.std.specs.Prelude.{slice_set, nat_lt, IfOk};
+ghost use Rattle.vyrd_shape.specs.Costs.{ranking_cost};
 ghost use Rattle.vyrd_shape.specs.Stamps.{rank, AreRanked};
 
 use std::alloc::{AllocError, Global};
 use std::marker::Model;
+use std::sync::ledger::Ledger;
+use vyrd_base::Steps;
 
 /// For each word a stamp of when a write to it last took effect, and 0 if none did. `Commits` gives
 /// the stamps.
@@ -54,26 +57,34 @@ impl Stamps {
     }
 
     /// Gives each stamp the number of these commits before it.
-    pub fn renumber(&mut self, commits: &[u64])
-        ensures { AreRanked commits.now self.old self.new }
+    pub fn renumber<L: Ledger>(&mut self, commits: &[u64], steps: &mut Steps<L>)
+        ensures ranked { AreRanked commits.now self.old self.new }
+        ensures steps { steps.new
+            ≡ steps.old + ranking_cost (length commits.now) (length self.old) }
     {
-        renumber(&mut self.by_word, commits);
+        renumber(&mut self.by_word, commits, steps);
     }
 }
 
-/// Gives each of the stamps the number of these commits before it.
-pub(crate) fn renumber(stamps: &mut Vec<u64>, commits: &[u64])
-    ensures { AreRanked commits.now stamps.old.items stamps.new.items }
+/// Gives each of the stamps the number of these commits before it. It looks at all commits for each
+/// stamp.
+pub(crate) fn renumber<L: Ledger>(stamps: &mut Vec<u64>, commits: &[u64], steps: &mut Steps<L>)
+    ensures ranked { AreRanked commits.now stamps.old.items stamps.new.items }
+    ensures steps { steps.new
+        ≡ steps.old + ranking_cost (length commits.now) (length stamps.old.items) }
 {
     for place in 0..stamps.len() {
-        stamps[place] = rank(commits, stamps[place]);
+        steps.tick();
+        stamps[place] = rank(commits, stamps[place], steps);
     }
 }
 
-/// How many of the commits are before this stamp.
-fn rank(commits: &[u64], stamp: u64) -> u64
+/// How many of the commits are before this stamp, which takes a step for each of them.
+fn rank<L: Ledger>(commits: &[u64], stamp: u64, steps: &mut Steps<L>) -> u64
     ensures value { result ≡ rank commits.now stamp }
     ensures most { result ≤ length commits.now }
+    ensures steps { steps.new ≡ steps.old + length commits.now }
 {
+    steps.add(commits.len());
     commits.iter().filter(|commit| **commit < stamp).count() as u64
 }

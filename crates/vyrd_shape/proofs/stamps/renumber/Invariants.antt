@@ -1,10 +1,11 @@
-use Rattle.std.proofs.Common.{◌≡◌, ℕ, ◌<◌, ◌≤◌, length, get_or}
+use Rattle.std.proofs.Common.{◌≡◌, ℕ, ◌+◌, ◌*◌, ◌<◌, ◌≤◌, length, get_or}
 use Rattle.vyrd_shape.specs.Stamps.{rank}
 use Rattle.vyrd_shape.proofs.stamps.renumber.Given as goal
 
 abbrev pub invariant-loop-place : goal.invariant-loop-place
-invariant-loop-place l = record {
+invariant-loop-place g l = record {
   lengths : length l.stamps.items ≡ length l.initial.stamps.items;
   ranks : (i : ℕ) → i < l.place → get_or l.stamps.items i 0 ≡ rank l.commits (get_or l.initial.stamps.items i 0);
   rest : (i : ℕ) → l.place ≤ i → get_or l.stamps.items i 0 ≡ get_or l.initial.stamps.items i 0;
+  steps : l.steps ≡ l.fn.steps + l.place * (length l.commits + 1);
 }

@@ -5,7 +5,7 @@ use Rattle.vyrd_shape.proofs.ChainLaws.{linked_release}
 use Rattle.vyrd_shape.proofs.holders.Holders.release.Goals as goal
 
 pub invariant_of-self : goal.invariant_of-self
-invariant_of-self c =
+invariant_of-self g c =
     let s = c.self.inside in
     let low_c : c.args.caller < length s.firsts.items = rw (← c.self.view_is) at c.requires in
     let linked = linked_release s.by_word.items s.links.items s.firsts.items c.args.caller low_c c.self.invariant in

@@ -1,4 +1,4 @@
-use Rattle.std.proofs.Common.{◌≡◌, ◌<◌, ◌&&◌, ℕ, true, false, List, ◌∷◌, ◌∙◌, ap, sym, subst, set, None}
+use Rattle.std.proofs.Common.{◌≡◌, ◌<◌, ◌≤◌, ◌+◌, ◌&&◌, ℕ, true, false, List, ◌∷◌, ◌∙◌, ap, sym, subst, set, None, arith}
 use Rattle.vyrd_base.specs.Callers.{has_block, has_inner_commit}
 use Rattle.vyrd_base.specs.Shape.{broken_rule}
 use Rattle.vyrd_base.specs.Words.{is_lone_commit}
@@ -13,7 +13,7 @@ use Rattle.vyrd_shape.proofs.shape.Shape.follow.Goals as goal
 use Rattle.vyrd_shape.proofs.shape.Shape.follow.Goals.{then-commits_inside, else-commits_inside}
 
 pub returns-clause-followed : goal.returns-clause-followed
-returns-clause-followed c = λ earlier followed rules.
+returns-clause-followed g c = λ earlier followed rules.
     let s = c.self.inside in
     let e = c.args.entry.now in
     let now : Kept = kept_by s.header s.phases.items s.holders s.commits s.stamps in
@@ -41,7 +41,8 @@ returns-clause-followed c = λ earlier followed rules.
     let commits : c.commits_inside.result ≡ (has_block e.caller earlier && is_lone_commit e.kind)
     = c.commits_inside.ensures ∙ ap (λ phase. phase.in_block && is_lone_commit e.kind) is in
     let next = λ (commits : CommitStamps) (stamps : List ℕ)
-    (ordered : AreOrdered s.header commits stamps (e ∷ earlier)).
+    (ordered : AreOrdered s.header commits stamps (e ∷ earlier))
+    (more : commits.next ≤ s.commits.next + 1).
     subst (λ l. HasFollowed (record {
       header = s.header;
       phases = set s.phases.items e.caller c.after.result;
@@ -51,7 +52,7 @@ returns-clause-followed c = λ earlier followed rules.
     }) (e ∷ earlier)) words
     (followed_by now earlier e.caller e.kind c.after.result commits stamps low
     c.self.invariant.enough_phases c.self.invariant.enough_words
-    (c.after.ensures e.caller earlier is) ordered kept inside) in
+    (c.after.ensures e.caller earlier is) ordered more kept inside) in
     let goal_of = λ (x : Inside). HasFollowed (record {
       header = x.header;
       phases = set x.phases.items e.caller c.after.result;
@@ -66,12 +67,13 @@ returns-clause-followed c = λ earlier followed rules.
           subst goal_of (sym w.self-inside-is) (next w.add.new.self w.add.new.stamps
           (added_inside s.header s.commits w.add.new.self s.stamps c.follow.new.stamps
           w.add.new.stamps s.holders.by_word e.caller _ e.kind earlier low
-          c.self.invariant.enough_commits inner inside.rules kept held raised w.add.ensures
-          inside.order))
+          c.self.invariant.enough_commits inner inside.rules kept held raised w.add.ensures.added
+          inside.order) (omega (arith, w.add.ensures.added.low,
+          ap (λ commits. commits.next) w.add.ensures.added.is)))
       | else-commits_inside w ↦
           let none : (has_block e.caller earlier && is_lone_commit e.kind) ≡ false
           = sym commits ∙ w.if-commits_inside.false in
           subst goal_of (sym w.self-inside-is) (next s.commits c.follow.new.stamps
           (ordered_next s.header s.commits s.stamps c.follow.new.stamps s.holders.by_word e.caller
-          e.kind earlier low inside.rules kept held raised none inside.order))
+          e.kind earlier low inside.rules kept held raised none inside.order) (omega arith))
     ]
