@@ -77,6 +77,7 @@ impl Shape {
     pub fn new(alloc: Global, header: Header) -> Result<Shape, AllocError>
         ensures followed { IfOk result (λ s. HasFollowed s []) }
         ensures header { IfOk result (λ s. s.header ≡ header) }
+        ensures owed { IfOk result (λ s. owed s ≡ 0) }
     {
         let words = header.plain_words();
         Ok(Shape {
@@ -144,7 +145,17 @@ impl Shape {
             → MatchResult result (λ _. is_call_open self.now.header earlier ≡ false)
             (λ f. (is_call_open self.now.header earlier ≡ true) × (f.rule ≡ Rule.CallOpen)) }
     {
-        if is_any_open(&self.phases) {
+        end_alone::<Brand>(Blank::new(1), self)
+    }
+
+    /// The same, with its steps counted: one for each caller.
+    pub fn end_counted<L: Ledger>(&self, steps: &mut Steps<L>) -> Result<(), ShapeFault>
+        ensures end { (earlier : List Entry) → HasFollowed self.now earlier
+            → MatchResult result (λ _. is_call_open self.now.header earlier ≡ false)
+            (λ f. (is_call_open self.now.header earlier ≡ true) × (f.rule ≡ Rule.CallOpen)) }
+        ensures steps { steps.new ≡ steps.old + self.now.header.callers }
+    {
+        if is_any_open(&self.phases, steps) {
             Err(ShapeFault {
                 rule: Rule::CallOpen,
             })
@@ -284,9 +295,24 @@ fn step_alone<L: Ledger>(blank: Blank, shape: &mut Shape, entry: &Entry) -> Resu
     shape.step_counted(entry, &mut steps)
 }
 
-/// Whether one of the callers has an open execution.
-fn is_any_open(phases: &[Phase]) -> bool
-    ensures { result ≡ list_any (λ phase. is_some phase.open_method) phases.now }
+/// Ends with a count of its own.
+fn end_alone<L: Ledger>(blank: Blank, shape: &Shape) -> Result<(), ShapeFault>
+    requires name { blank.name ≡ L.name }
+    requires parts { blank.parts ≡ L.parts }
+    requires some { 0 < blank.parts }
+    ensures { (earlier : List Entry) → HasFollowed shape.now earlier
+        → MatchResult result (λ _. is_call_open shape.now.header earlier ≡ false)
+        (λ f. (is_call_open shape.now.header earlier ≡ true) × (f.rule ≡ Rule.CallOpen)) }
 {
+    let mut steps = Steps::<L>::new(blank);
+    shape.end_counted(&mut steps)
+}
+
+/// Whether one of the callers has an open execution. It takes a step for each caller.
+fn is_any_open<L: Ledger>(phases: &[Phase], steps: &mut Steps<L>) -> bool
+    ensures any { result ≡ list_any (λ phase. is_some phase.open_method) phases.now }
+    ensures steps { steps.new ≡ steps.old + length phases.now }
+{
+    steps.add(phases.len());
     phases.iter().any(|phase| phase.open_method.is_some())
 }

@@ -68,8 +68,11 @@ returns-clause-followed g c = λ earlier followed rules.
           (added_inside s.header s.commits w.add.new.self s.stamps c.follow.new.stamps
           w.add.new.stamps s.holders.by_word e.caller _ e.kind earlier low
           c.self.invariant.enough_commits inner inside.rules kept held raised w.add.ensures.added
-          inside.order) (omega (arith, w.add.ensures.added.low,
-          ap (λ commits. commits.next) w.add.ensures.added.is)))
+          inside.order) (omega (
+            arith,
+            w.add.ensures.added.low,
+            ap (λ commits. commits.next) w.add.ensures.added.is,
+          )))
       | else-commits_inside w ↦
           let none : (has_block e.caller earlier && is_lone_commit e.kind) ≡ false
           = sym commits ∙ w.if-commits_inside.false in

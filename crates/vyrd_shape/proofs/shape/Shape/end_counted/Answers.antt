@@ -4,24 +4,24 @@ use Rattle.std.specs.List.{list_any}
 use Rattle.vyrd_base.specs.Verdicts.{is_call_open}
 use Rattle.vyrd_shape.specs.Following.{HasFollowed}
 use Rattle.vyrd_shape.proofs.ShapeLaws.{kept_by, call_open_is}
-use Rattle.vyrd_shape.proofs.shape.Shape.end.Goals as goal
+use Rattle.vyrd_shape.proofs.shape.Shape.end_counted.Goals as goal
 
-pub returns-then-is_any_open : goal.returns-then-is_any_open
-returns-then-is_any_open c = λ earlier followed. let s = c.self.inside in
+pub returns-then-is_any_open-clause-end : goal.returns-then-is_any_open-clause-end
+returns-then-is_any_open-clause-end g c = λ earlier followed. let s = c.self.inside in
     let now = kept_by s.header s.phases.items s.holders s.commits s.stamps in
     let inside : HasFollowed now earlier = rw c.self.view_is followed in
     let is : is_call_open s.header earlier
     ≡ true = sym (call_open_is now earlier c.self.invariant.enough_phases inside)
-    ∙ ap (λ phases. list_any (λ phase. is_some phase.open_method) phases) (sym c.deref.ensures.value) ∙ sym c.is_any_open.ensures
+    ∙ ap (λ phases. list_any (λ phase. is_some phase.open_method) phases) (sym c.deref.ensures.value) ∙ sym c.is_any_open.ensures.any
     ∙ c.if-is_any_open.true in
     (rw (← c.self.view_is) is, refl)
 
-pub returns-else-is_any_open : goal.returns-else-is_any_open
-returns-else-is_any_open c = λ earlier followed. let s = c.self.inside in
+pub returns-else-is_any_open-clause-end : goal.returns-else-is_any_open-clause-end
+returns-else-is_any_open-clause-end g c = λ earlier followed. let s = c.self.inside in
     let now = kept_by s.header s.phases.items s.holders s.commits s.stamps in
     let inside : HasFollowed now earlier = rw c.self.view_is followed in
     let is : is_call_open s.header earlier
     ≡ false = sym (call_open_is now earlier c.self.invariant.enough_phases inside)
-    ∙ ap (λ phases. list_any (λ phase. is_some phase.open_method) phases) (sym c.deref.ensures.value) ∙ sym c.is_any_open.ensures
+    ∙ ap (λ phases. list_any (λ phase. is_some phase.open_method) phases) (sym c.deref.ensures.value) ∙ sym c.is_any_open.ensures.any
     ∙ c.if-is_any_open.false in
     rw (← c.self.view_is) is
