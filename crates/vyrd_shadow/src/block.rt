@@ -1,6 +1,6 @@
 //! What a caller's block keeps back.
 
-ghost use Rattle.std.specs.Prelude.{◌≡◌, ℕ, ◌+◌, ◌≤◌, true, List, [], ◌++◌, length, None, Some};
+ghost use Rattle.std.specs.Prelude.{◌≡◌, ℕ, ◌+◌, ◌*◌, ◌≤◌, true, List, [], ◌++◌, length, None, Some};
 ghost use Rattle.std.specs.Prelude.{IfOk, OnOk, OnErr, is_some, unwrap_or, nat_eq, vec_len};
 ghost use Rattle.std.specs.Prelude.{vec_capacity, if◌then◌else◌};
 ghost use Rattle.std.specs.Map.{keys_of};
@@ -10,6 +10,8 @@ ghost use Rattle.vyrd_shadow.specs.Blocks.{with_writes, AreInRange};
 use crate::writes::Writes;
 use std::alloc::{AllocError, Global};
 use std::marker::Model;
+use std::sync::ledger::Ledger;
+use vyrd_base::Steps;
 
 /// A caller's block: nothing while it is closed, and while it is open the writes in it, each word
 /// once in the order of the first writes, with its last value.
@@ -64,20 +66,32 @@ impl Block {
 
     /// Keeps a write, and says whether its word is new.
     #[inline(always)]
-    pub fn keep(&mut self, word: u32, value: u64) -> Result<bool, AllocError>
+    pub fn keep<L: Ledger>(
+        &mut self,
+        word: u32,
+        value: u64,
+        steps: &mut Steps<L>,
+    ) -> Result<bool, AllocError>
         requires { is_some self.old ≡ true }
         ensures ok { OnOk result
             (self.new ≡ Some (insert_entry nat_eq (unwrap_or self.old []) word value)) }
         ensures err { OnErr result (self.new ≡ self.old) }
         ensures more { IfOk result (λ more. length (unwrap_or self.new [])
             ≡ length (unwrap_or self.old []) + (if more then 1 else 0)) }
+        ensures steps { steps.new ≤ steps.old + 9 }
     {
-        self.writes.insert(word, value)
+        self.writes.insert(word, value, steps)
     }
 
-    /// The writes take effect in their order, and the block is closed.
+    /// The writes take effect in their order, and the block is closed. Each write is looked at three
+    /// times, the last time when it is dropped.
     #[inline(always)]
-    pub fn end(&mut self, words: &mut [u64], changed: &mut Vec<u32>)
+    pub fn end<L: Ledger>(
+        &mut self,
+        words: &mut [u64],
+        changed: &mut Vec<u32>,
+        steps: &mut Steps<L>,
+    )
         requires opened { is_some self.old ≡ true }
         requires in_range { AreInRange (length words.old) (unwrap_or self.old []) }
         requires room { vec_len changed.old + length (unwrap_or self.old [])
@@ -86,10 +100,11 @@ impl Block {
         ensures words { words.new ≡ with_writes words.old (unwrap_or self.old []) }
         ensures changed { changed.new.items ≡ changed.old.items ++ keys_of (unwrap_or self.old []) }
         ensures capacity { vec_capacity changed.old ≤ vec_capacity changed.new }
+        ensures steps { steps.new ≤ steps.old + 18 * length (unwrap_or self.old []) }
     {
-        self.writes.take_effect(words);
-        self.writes.note(changed);
-        self.writes.clear();
+        self.writes.take_effect(words, steps);
+        self.writes.note(changed, steps);
+        self.writes.clear(steps);
         self.is_open = false;
     }
 }

@@ -1,8 +1,8 @@
 //! The words, and what open blocks keep back.
 
-ghost use Rattle.std.specs.Prelude.{◌≡◌, ℕ, ◌<◌, ◌^◌, true, false, List, [], ◌∷◌, ◌++◌, length};
-ghost use Rattle.std.specs.Prelude.{replicate, Some, None, IfOk, OnOk, OnErr, nat_eq, slice_index};
-ghost use Rattle.std.specs.Prelude.{slice_set, if◌then◌else◌};
+ghost use Rattle.std.specs.Prelude.{◌≡◌, ℕ, ◌+◌, ◌*◌, ◌<◌, ◌≤◌, ◌^◌, true, false, List, [], ◌∷◌};
+ghost use Rattle.std.specs.Prelude.{◌++◌, length, replicate, Some, None, IfOk, OnOk, OnErr, nat_eq};
+ghost use Rattle.std.specs.Prelude.{slice_index, slice_set, vec_capacity, if◌then◌else◌};
 ghost use Rattle.std.specs.List.{All};
 ghost use Rattle.indexmap.specs.IndexMap.{insert_entry};
 ghost use Rattle.vyrd_base.specs.declared.log.Kind.TheVariants.{Write, BlockOpen, BlockClose};
@@ -12,12 +12,15 @@ ghost use Rattle.vyrd_base.specs.declared.log.StartWord.{StartWord};
 ghost use Rattle.vyrd_base.specs.Layout.{plain_words};
 ghost use Rattle.vyrd_base.specs.Shape.{broken_rule};
 ghost use Rattle.vyrd_base.specs.Starts.{words_at_start};
+ghost use Rattle.vyrd_shadow.specs.Blocks.{kept_count};
+ghost use Rattle.vyrd_shadow.specs.Costs.{owed};
 ghost use Rattle.vyrd_shadow.specs.Following.{Kept, HasFollowed, is_open, kept_writes, words_of};
 
 use crate::block::Block;
 use std::alloc::{AllocError, Global};
-use std::marker::Model;
-use vyrd_base::Header;
+use std::marker::{Brand, Model};
+use std::sync::ledger::{Blank, Ledger};
+use vyrd_base::{Header, Steps};
 
 /// The plain words of a log after its writes so far, what open blocks keep back, and which words
 /// have changed.
@@ -121,8 +124,42 @@ impl Shadow {
         ensures refused { OnErr result (self.new ≡ self.old) }
         ensures header { self.new.header ≡ self.old.header }
     {
+        write_alone::<Brand>(Blank::new(1), self, caller, word, value)
+    }
+
+    /// The same, with its steps counted. A write in a block looks at eight words at most, one by one,
+    /// and then in a table, which counts as one step, as it is on average. So does the room that is
+    /// made: it counts as nothing. For a word that the block keeps, its end is paid here.
+    #[inline(always)]
+    pub fn write_counted<L: Ledger>(
+        &mut self,
+        caller: u32,
+        word: u32,
+        value: u64,
+        steps: &mut Steps<L>,
+    ) -> Result<(), AllocError>
+        requires caller { caller < self.old.header.callers }
+        requires word { word < plain_words self.old.header }
+        requires value { value < 2 ^ 63 }
+        ensures followed { (starting : List StartWord) (earlier : List Entry)
+            → HasFollowed self.old starting earlier
+            → broken_rule self.old.header earlier
+            (record { caller = caller; kind = Write word value })
+            ≡ None
+            → OnOk result (HasFollowed self.new starting
+            (record { caller = caller; kind = Write word value } ∷ earlier)) }
+        ensures blocks { (c : ℕ) → is_open self.new c ≡ is_open self.old c }
+        ensures changed { OnOk result (self.new.changed ≡ (if is_open self.old caller
+            then self.old.changed
+            else self.old.changed ++ word ∷ [])) }
+        ensures refused { OnErr result (self.new ≡ self.old) }
+        ensures header { self.new.header ≡ self.old.header }
+        ensures steps { steps.new ≤ steps.old + 10 }
+        ensures paid { steps.new + owed self.new ≤ steps.old + owed self.old + 29 }
+    {
+        steps.tick();
         if self.blocks[caller as usize].is_open() {
-            self.keep(caller, word, value)
+            self.keep(caller, word, value, steps)
         } else {
             self.write_through(word, value)
         }
@@ -143,6 +180,27 @@ impl Shadow {
         ensures changed { self.new.changed ≡ self.old.changed }
         ensures header { self.new.header ≡ self.old.header }
     {
+        open_block_alone::<Brand>(Blank::new(1), self, caller)
+    }
+
+    /// The same, with its steps counted: one.
+    #[inline(always)]
+    pub fn open_block_counted<L: Ledger>(&mut self, caller: u32, steps: &mut Steps<L>)
+        requires caller { caller < self.old.header.callers }
+        requires closed { is_open self.old caller ≡ false }
+        ensures followed { (starting : List StartWord) (earlier : List Entry)
+            → HasFollowed self.old starting earlier
+            → broken_rule self.old.header earlier (record { caller = caller; kind = BlockOpen })
+            ≡ None
+            → HasFollowed self.new starting
+            (record { caller = caller; kind = BlockOpen } ∷ earlier) }
+        ensures opened { is_open self.new caller ≡ true }
+        ensures changed { self.new.changed ≡ self.old.changed }
+        ensures header { self.new.header ≡ self.old.header }
+        ensures steps { steps.new ≡ steps.old + 1 }
+        ensures paid { steps.new + owed self.new ≤ steps.old + owed self.old + 1 }
+    {
+        steps.tick();
         self.blocks[caller as usize].open();
     }
 
@@ -169,9 +227,37 @@ impl Shadow {
             ≡ self.old.changed ++ words_of (kept_writes self.old caller) }
         ensures header { self.new.header ≡ self.old.header }
     {
+        close_block_alone::<Brand>(Blank::new(1), self, caller)
+    }
+
+    /// The same, with its steps counted: for each word that the block kept one to write it, one to
+    /// note it, and at most sixteen to empty the table, which may have room for that many more.
+    #[inline(always)]
+    pub fn close_block_counted<L: Ledger>(&mut self, caller: u32, steps: &mut Steps<L>)
+        requires caller { caller < self.old.header.callers }
+        requires opened { is_open self.old caller ≡ true }
+        ensures closed { (starting : List StartWord) (earlier : List Entry)
+            → HasFollowed self.old starting earlier
+            → broken_rule self.old.header earlier (record { caller = caller; kind = BlockClose })
+            ≡ None
+            → HasFollowed self.new starting
+            (record { caller = caller; kind = BlockClose } ∷ earlier) }
+        ensures committed { (starting : List StartWord) (earlier : List Entry)
+            → HasFollowed self.old starting earlier
+            → broken_rule self.old.header earlier (record { caller = caller; kind = BlockCommit })
+            ≡ None
+            → HasFollowed self.new starting
+            (record { caller = caller; kind = BlockCommit } ∷ earlier) }
+        ensures changed { self.new.changed
+            ≡ self.old.changed ++ words_of (kept_writes self.old caller) }
+        ensures header { self.new.header ≡ self.old.header }
+        ensures steps { steps.new ≤ steps.old + 18 * length (kept_writes self.old caller) + 1 }
+        ensures paid { steps.new + owed self.new ≤ steps.old + owed self.old + 1 }
+    {
+        steps.tick();
         let block = &mut self.blocks[caller as usize];
         self.count -= block.len();
-        block.end(&mut self.words, &mut self.changed);
+        block.end(&mut self.words, &mut self.changed, steps);
     }
 
     /// The plain words.
@@ -203,7 +289,22 @@ impl Shadow {
             → HasFollowed self.old starting earlier
             → HasFollowed self.new starting earlier }
     {
-        self.changed.clear();
+        clear_changed_alone::<Brand>(Blank::new(1), self)
+    }
+
+    /// The same, with its steps counted: one for each word that has changed, though they are only
+    /// numbers, which the library may drop all at once.
+    #[inline(always)]
+    pub fn clear_changed_counted<L: Ledger>(&mut self, steps: &mut Steps<L>)
+        ensures changed { self.new ≡ record self.old { changed = [] } }
+        ensures followed { (starting : List StartWord) (earlier : List Entry)
+            → HasFollowed self.old starting earlier
+            → HasFollowed self.new starting earlier }
+        ensures steps { steps.new ≡ steps.old + length self.old.changed + 1 }
+        ensures paid { steps.new + owed self.new ≤ steps.old + owed self.old + 1 }
+    {
+        steps.tick();
+        forget(&mut self.changed, steps);
     }
 
     /// A write outside a block takes effect.
@@ -225,7 +326,13 @@ impl Shadow {
 
     /// A write in the caller's block is kept back.
     #[inline(always)]
-    fn keep(&mut self, caller: u32, word: u32, value: u64) -> Result<(), AllocError>
+    fn keep<L: Ledger>(
+        &mut self,
+        caller: u32,
+        word: u32,
+        value: u64,
+        steps: &mut Steps<L>,
+    ) -> Result<(), AllocError>
         requires caller { caller < self.old.header.callers }
         requires opened { is_open self.old caller ≡ true }
         requires word { word < plain_words self.old.header }
@@ -235,14 +342,125 @@ impl Shadow {
               (Some (insert_entry nat_eq (kept_writes self.old caller) word value));
         }) }
         ensures refused { OnErr result (self.new ≡ self.old) }
+        ensures count { kept_count self.new.blocks ≤ kept_count self.old.blocks + 1 }
+        ensures steps { steps.new ≤ steps.old + 9 }
     {
         self.changed.reserve(self.count + 1)?;
-        let is_new = self.blocks[caller as usize].keep(word, value)?;
+        let is_new = self.blocks[caller as usize].keep(word, value, steps)?;
         if is_new {
             self.count += 1;
         }
         Ok(())
     }
+}
+
+/// Writes with a count of its own.
+#[inline(always)]
+fn write_alone<L: Ledger>(
+    blank: Blank,
+    shadow: &mut Shadow,
+    caller: u32,
+    word: u32,
+    value: u64,
+) -> Result<(), AllocError>
+    requires name { blank.name ≡ L.name }
+    requires parts { blank.parts ≡ L.parts }
+    requires some { 0 < blank.parts }
+    requires caller { caller < shadow.old.header.callers }
+    requires word { word < plain_words shadow.old.header }
+    requires value { value < 2 ^ 63 }
+    ensures followed { (starting : List StartWord) (earlier : List Entry)
+        → HasFollowed shadow.old starting earlier
+        → broken_rule shadow.old.header earlier
+        (record { caller = caller; kind = Write word value })
+        ≡ None
+        → OnOk result (HasFollowed shadow.new starting
+        (record { caller = caller; kind = Write word value } ∷ earlier)) }
+    ensures blocks { (c : ℕ) → is_open shadow.new c ≡ is_open shadow.old c }
+    ensures changed { OnOk result (shadow.new.changed ≡ (if is_open shadow.old caller
+        then shadow.old.changed
+        else shadow.old.changed ++ word ∷ [])) }
+    ensures refused { OnErr result (shadow.new ≡ shadow.old) }
+    ensures header { shadow.new.header ≡ shadow.old.header }
+{
+    let mut steps = Steps::<L>::new(blank);
+    shadow.write_counted(caller, word, value, &mut steps)
+}
+
+/// Opens a block with a count of its own.
+#[inline(always)]
+fn open_block_alone<L: Ledger>(blank: Blank, shadow: &mut Shadow, caller: u32)
+    requires name { blank.name ≡ L.name }
+    requires parts { blank.parts ≡ L.parts }
+    requires some { 0 < blank.parts }
+    requires caller { caller < shadow.old.header.callers }
+    requires closed { is_open shadow.old caller ≡ false }
+    ensures followed { (starting : List StartWord) (earlier : List Entry)
+        → HasFollowed shadow.old starting earlier
+        → broken_rule shadow.old.header earlier (record { caller = caller; kind = BlockOpen })
+        ≡ None
+        → HasFollowed shadow.new starting
+        (record { caller = caller; kind = BlockOpen } ∷ earlier) }
+    ensures opened { is_open shadow.new caller ≡ true }
+    ensures changed { shadow.new.changed ≡ shadow.old.changed }
+    ensures header { shadow.new.header ≡ shadow.old.header }
+{
+    let mut steps = Steps::<L>::new(blank);
+    shadow.open_block_counted(caller, &mut steps)
+}
+
+/// Ends a block with a count of its own.
+#[inline(always)]
+fn close_block_alone<L: Ledger>(blank: Blank, shadow: &mut Shadow, caller: u32)
+    requires name { blank.name ≡ L.name }
+    requires parts { blank.parts ≡ L.parts }
+    requires some { 0 < blank.parts }
+    requires caller { caller < shadow.old.header.callers }
+    requires opened { is_open shadow.old caller ≡ true }
+    ensures closed { (starting : List StartWord) (earlier : List Entry)
+        → HasFollowed shadow.old starting earlier
+        → broken_rule shadow.old.header earlier (record { caller = caller; kind = BlockClose })
+        ≡ None
+        → HasFollowed shadow.new starting
+        (record { caller = caller; kind = BlockClose } ∷ earlier) }
+    ensures committed { (starting : List StartWord) (earlier : List Entry)
+        → HasFollowed shadow.old starting earlier
+        → broken_rule shadow.old.header earlier (record { caller = caller; kind = BlockCommit })
+        ≡ None
+        → HasFollowed shadow.new starting
+        (record { caller = caller; kind = BlockCommit } ∷ earlier) }
+    ensures changed { shadow.new.changed
+        ≡ shadow.old.changed ++ words_of (kept_writes shadow.old caller) }
+    ensures header { shadow.new.header ≡ shadow.old.header }
+{
+    let mut steps = Steps::<L>::new(blank);
+    shadow.close_block_counted(caller, &mut steps)
+}
+
+/// Clears the changed words with a count of its own.
+#[inline(always)]
+fn clear_changed_alone<L: Ledger>(blank: Blank, shadow: &mut Shadow)
+    requires name { blank.name ≡ L.name }
+    requires parts { blank.parts ≡ L.parts }
+    requires some { 0 < blank.parts }
+    ensures changed { shadow.new ≡ record shadow.old { changed = [] } }
+    ensures followed { (starting : List StartWord) (earlier : List Entry)
+        → HasFollowed shadow.old starting earlier
+        → HasFollowed shadow.new starting earlier }
+{
+    let mut steps = Steps::<L>::new(blank);
+    shadow.clear_changed_counted(&mut steps)
+}
+
+/// Drops the changed words, with a step for each of them.
+#[inline(always)]
+fn forget<L: Ledger>(changed: &mut Vec<u32>, steps: &mut Steps<L>)
+    ensures none { changed.new.items ≡ [] }
+    ensures capacity { vec_capacity changed.new ≡ vec_capacity changed.old }
+    ensures steps { steps.new ≡ steps.old + length changed.old.items }
+{
+    steps.add(changed.len());
+    changed.clear();
 }
 
 /// A closed block for each caller.

@@ -4,9 +4,10 @@ use Rattle.std.specs.Map.{keys_of}
 use Rattle.vyrd_shadow.proofs.writes.note_few.Given as goal
 
 abbrev pub invariant-loop-word : goal.invariant-loop-word
-invariant-loop-word l = record {
+invariant-loop-word g l = record {
   left : l.changed.items ++ keys_of (drop l.word-index l.writes) ≡ l.initial.changed.items ++ keys_of l.writes;
   room : vec_len l.changed + length l.writes ≤ vec_capacity l.changed + l.word-index;
   within : l.word-index ≤ length l.writes;
   capacity : vec_capacity l.changed ≡ vec_capacity l.initial.changed;
+  steps : l.steps ≡ l.initial.steps + l.word-index;
 }

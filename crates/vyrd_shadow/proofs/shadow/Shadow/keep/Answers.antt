@@ -6,7 +6,7 @@ use Rattle.vyrd_shadow.proofs.SoundLaws.{sound_kept}
 use Rattle.vyrd_shadow.proofs.shadow.Shadow.keep.Goals as goal
 
 pub invariant_of-self-then-is_new : goal.invariant_of-self-then-is_new
-invariant_of-self-then-is_new c = let s = c.self.inside in
+invariant_of-self-then-is_new g c = let s = c.self.inside in
     let low : c.args.caller < s.header.callers = rw (← c.self.view_is) at c.requires.caller in
     let low_w : c.args.word < plain_words s.header = rw (← c.self.view_is) at c.requires.word in
     let read = get_or_read s.blocks.items c.args.caller c.index_mut.result.now
@@ -17,7 +17,7 @@ invariant_of-self-then-is_new c = let s = c.self.inside in
     (s.count + 1) _ c.reserve.ensures.items more (omega arith) (omega (arith, c.in_ok-reserve.ensures.ok))
 
 pub invariant_of-self-else-is_new : goal.invariant_of-self-else-is_new
-invariant_of-self-else-is_new c = let s = c.self.inside in
+invariant_of-self-else-is_new g c = let s = c.self.inside in
     let low : c.args.caller < s.header.callers = rw (← c.self.view_is) at c.requires.caller in
     let low_w : c.args.word < plain_words s.header = rw (← c.self.view_is) at c.requires.word in
     let read = get_or_read s.blocks.items c.args.caller c.index_mut.result.now

@@ -8,10 +8,10 @@ use Rattle.vyrd_base.proofs.BlockLaws.{entry}
 use Rattle.vyrd_shadow.specs.Following.{Kept, HasFollowed, is_open}
 use Rattle.vyrd_shadow.proofs.SoundLaws.{sound_closed, effect_is}
 use Rattle.vyrd_shadow.proofs.FollowLaws.{followed_close, followed_commit}
-use Rattle.vyrd_shadow.proofs.shadow.Shadow.close_block.Goals as goal
+use Rattle.vyrd_shadow.proofs.shadow.Shadow.close_block_counted.Goals as goal
 
 pub invariant_of-self : goal.invariant_of-self
-invariant_of-self c = let s = c.self.inside in
+invariant_of-self g c = let s = c.self.inside in
     let low : c.args.caller < s.header.callers = rw (← c.self.view_is) at c.requires.caller in
     let block = get_or s.blocks.items c.args.caller None in
     let read = get_or_read s.blocks.items c.args.caller c.index_mut-block.result.now
@@ -26,7 +26,7 @@ invariant_of-self c = let s = c.self.inside in
     (s.count - c.len.result) _ counts c.end.ensures.capacity)
 
 pub returns-clause-closed : goal.returns-clause-closed
-returns-clause-closed c = λ starting earlier followed keeps. let s = c.self.inside in
+returns-clause-closed g c = λ starting earlier followed keeps. let s = c.self.inside in
     let kept : Kept = record { header = s.header; words = s.words.items; blocks = s.blocks.items; changed = s.changed.items } in
     let inside : HasFollowed kept starting earlier = rw c.self.view_is followed in
     let low : c.args.caller < s.header.callers = rw (← c.self.view_is) at c.requires.caller in
@@ -41,7 +41,7 @@ returns-clause-closed c = λ starting earlier followed keeps. let s = c.self.ins
     (subst (λ (k : Kept). broken_rule k.header earlier (entry c.args.caller BlockClose) ≡ None) (sym c.self.view_is) keeps))
 
 pub returns-clause-committed : goal.returns-clause-committed
-returns-clause-committed c = λ starting earlier followed keeps. let s = c.self.inside in
+returns-clause-committed g c = λ starting earlier followed keeps. let s = c.self.inside in
     let kept : Kept = record { header = s.header; words = s.words.items; blocks = s.blocks.items; changed = s.changed.items } in
     let inside : HasFollowed kept starting earlier = rw c.self.view_is followed in
     let low : c.args.caller < s.header.callers = rw (← c.self.view_is) at c.requires.caller in

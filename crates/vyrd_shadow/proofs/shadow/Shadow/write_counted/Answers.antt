@@ -6,10 +6,10 @@ use Rattle.vyrd_base.specs.declared.log.Kind.TheVariants.{Write}
 use Rattle.vyrd_base.proofs.BlockLaws.{entry}
 use Rattle.vyrd_shadow.specs.Following.{HasFollowed, is_open}
 use Rattle.vyrd_shadow.proofs.FollowLaws.{followed_through, followed_kept}
-use Rattle.vyrd_shadow.proofs.shadow.Shadow.write.Goals as goal
+use Rattle.vyrd_shadow.proofs.shadow.Shadow.write_counted.Goals as goal
 
 pub returns-then-is_open-clause-followed : goal.returns-then-is_open-clause-followed
-returns-then-is_open-clause-followed c = λ starting earlier followed keeps. let s = c.self.inside in let now = c.args.self.now in
+returns-then-is_open-clause-followed g c = λ starting earlier followed keeps. let s = c.self.inside in let now = c.args.self.now in
     let low : c.args.caller < s.header.callers = rw (← c.self.view_is) at c.requires.caller in
     let low_here : c.args.caller < length s.blocks.items = omega (arith, low, c.self.invariant.all_blocks) in
     let read = get_or_read s.blocks.items c.args.caller c.index.result.now low_here c.index.ensures None in
@@ -21,7 +21,7 @@ returns-then-is_open-clause-followed c = λ starting earlier followed keeps. let
     c.keep.ensures.ok
 
 pub returns-else-is_open-clause-followed : goal.returns-else-is_open-clause-followed
-returns-else-is_open-clause-followed c = λ starting earlier followed keeps. let s = c.self.inside in let now = c.args.self.now in
+returns-else-is_open-clause-followed g c = λ starting earlier followed keeps. let s = c.self.inside in let now = c.args.self.now in
     let low : c.args.caller < s.header.callers = rw (← c.self.view_is) at c.requires.caller in
     let low_here : c.args.caller < length s.blocks.items = omega (arith, low, c.self.invariant.all_blocks) in
     let read = get_or_read s.blocks.items c.args.caller c.index.result.now low_here c.index.ensures None in

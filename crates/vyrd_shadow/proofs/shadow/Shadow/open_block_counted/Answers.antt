@@ -4,10 +4,10 @@ use Rattle.vyrd_base.specs.Shape.{broken_rule}
 use Rattle.vyrd_base.proofs.BlockLaws.{entry}
 use Rattle.vyrd_shadow.specs.Following.{Kept, HasFollowed}
 use Rattle.vyrd_shadow.proofs.FollowLaws.{followed_open}
-use Rattle.vyrd_shadow.proofs.shadow.Shadow.open_block.Goals as goal
+use Rattle.vyrd_shadow.proofs.shadow.Shadow.open_block_counted.Goals as goal
 
 pub returns-clause-followed : goal.returns-clause-followed
-returns-clause-followed c = λ starting earlier followed keeps. let s = c.self.inside in
+returns-clause-followed g c = λ starting earlier followed keeps. let s = c.self.inside in
     let low : c.args.caller < s.header.callers = rw (← c.self.view_is) at c.requires.caller in
     let inside : HasFollowed (record {
       header = s.header;
