@@ -61,6 +61,7 @@ impl Shadow {
         ensures header { IfOk result (λ s. s.header ≡ header) }
         ensures closed { IfOk result (λ s. (c : ℕ) → is_open s c ≡ false) }
         ensures changed { IfOk result (λ s. s.changed ≡ []) }
+        ensures owed { IfOk result (λ s. owed s ≡ 0) }
     {
         let words = vec![in alloc; 0; header.plain_words() as usize]?;
         Shadow::of_words(alloc, header, words)
@@ -77,6 +78,7 @@ impl Shadow {
         ensures header { IfOk result (λ s. s.header ≡ header) }
         ensures closed { IfOk result (λ s. (c : ℕ) → is_open s c ≡ false) }
         ensures changed { IfOk result (λ s. s.changed ≡ []) }
+        ensures owed { IfOk result (λ s. owed s ≡ 0) }
     {
         Shadow::of_words(alloc, header, words.to_vec(alloc)?)
     }
@@ -127,9 +129,10 @@ impl Shadow {
         write_alone::<Brand>(Blank::new(1), self, caller, word, value)
     }
 
-    /// The same, with its steps counted. A write in a block looks at eight words at most, one by one,
-    /// and then in a table, which counts as one step, as it is on average. So does the room that is
-    /// made: it counts as nothing. For a word that the block keeps, its end is paid here.
+    /// The same, with its steps counted. A write in a block looks for its word among the first eight
+    /// at most, one by one, and then in a table. That counts as one step, which it is on average; and
+    /// to make room, which takes no time on average, isn't counted. The block's end costs up to
+    /// eighteen steps for each word, and they are paid by the word's first write.
     #[inline(always)]
     pub fn write_counted<L: Ledger>(
         &mut self,
@@ -231,7 +234,7 @@ impl Shadow {
     }
 
     /// The same, with its steps counted: for each word that the block kept one to write it, one to
-    /// note it, and at most sixteen to empty the table, which may have room for that many more.
+    /// note it, and at most sixteen to drop it, since to empty a table takes time for all of its room.
     #[inline(always)]
     pub fn close_block_counted<L: Ledger>(&mut self, caller: u32, steps: &mut Steps<L>)
         requires caller { caller < self.old.header.callers }
@@ -292,8 +295,7 @@ impl Shadow {
         clear_changed_alone::<Brand>(Blank::new(1), self)
     }
 
-    /// The same, with its steps counted: one for each word that has changed, though they are only
-    /// numbers, which the library may drop all at once.
+    /// The same, with its steps counted: one for each word that has changed.
     #[inline(always)]
     pub fn clear_changed_counted<L: Ledger>(&mut self, steps: &mut Steps<L>)
         ensures changed { self.new ≡ record self.old { changed = [] } }
