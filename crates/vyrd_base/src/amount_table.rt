@@ -18,22 +18,36 @@ const REACH: usize = 4;
 /// apart.
 const SPREAD: u64 = 0x9E37_79B9_7F4A_7C15;
 
-/// A table has 2^3 places at least.
+/// A table is made for 2^3 places at least.
 const LEAST_BITS: u32 = 3;
 
 /// A table has 2^20 places at most.
 const MOST_BITS: u32 = 20;
 
+/// A table starts with 2^6 places at most.
+const MOST_BITS_AT_FIRST: u32 = 6;
+
+/// A table grows to 2^2 times as many places.
+const MORE_BITS: u32 = 2;
+
+/// A table grows once keys have come for 1 in 2^2 of its places.
+const FILLED_BITS: u32 = 2;
+
 /// Amounts by key, to be looked up and changed. A key that isn't there has the amount 0.
 ///
 /// A key with an amount stands in one of four places of a table, and if these are taken by others,
-/// it is in an ordered map. So the time that a key costs doesn't grow with the keys as long as
-/// these aren't many more than the table was made for, and it is the logarithm of their number in
-/// any case, also for keys that were chosen to share a place.
+/// it is in an ordered map. The table starts small. Once keys have come for a quarter of its places
+/// it grows fourfold, up to the places that it is made for. So the time that a key costs doesn't
+/// grow with the keys, if what growing costs is shared out to those that have come, as long as
+/// these aren't many more than the table was made for. If it is full, or the keys were chosen to
+/// share a place, it is the logarithm of their number.
 #[derive(Drop)]
 pub struct AmountTable {
     places: Vec<(u64, u64)>,
     shift: u32,
+    most_bits: u32,
+    // so many keys may come before the table grows
+    room: usize,
     rest: AmountMap,
 }
 
@@ -49,15 +63,26 @@ impl Model for AmountTable {
 }
 
 impl AmountTable {
-    /// The table with no key, with two to four places for each of that many keys. It takes 16 bytes
-    /// for each place, and no further memory for the keys that find a place there.
+    /// The table with no key, made for that many keys: it grows up to two to four places for each,
+    /// and has 64 places or fewer at first. It takes 16 bytes for each place, while it grows those
+    /// of the old places too, and no further memory for the keys that find a place there.
     pub fn new(alloc: Global, keys: usize) -> Result<AmountTable, AllocError>
         ensures { IfOk result (λ t. t ≡ []) }
     {
-        let bits = table_bits(keys);
+        let most_bits = table_bits(keys);
+        AmountTable::with_bits(alloc, most_bits.min(MOST_BITS_AT_FIRST), most_bits)
+    }
+
+    /// The table with no key and 2^bits places, that grows up to 2^most_bits.
+    fn with_bits(alloc: Global, bits: u32, most_bits: u32) -> Result<AmountTable, AllocError>
+        requires { (1 ≤ bits) × (bits ≤ 20) }
+        ensures { IfOk result (λ t. t ≡ []) }
+    {
         Ok(AmountTable {
             places: free_places(alloc, bits)?,
             shift: u64::BITS - bits,
+            most_bits,
+            room: room_of(bits),
             rest: AmountMap::new(alloc),
         })
     }
@@ -75,7 +100,7 @@ impl AmountTable {
     }
 
     /// Gives the key this amount; 0 takes the key out. Only a key that isn't there yet takes
-    /// memory; if there is none, the table is as it was.
+    /// memory; if there is none, the table has the amounts that it had.
     #[inline(always)]
     pub fn set(&mut self, key: u64, amount: u64) -> Result<(), AllocError>
         ensures ok { OnOk result (self.new ≡ with_amount self.old key amount) }
@@ -87,7 +112,13 @@ impl AmountTable {
                 self.places[place] = (key, amount);
                 Ok(())
             }
-            None => set_anew(&mut self.places, self.shift, &mut self.rest, key, amount),
+            None => {
+                if self.room == 0 {
+                    return self.set_and_grow(key, amount);
+                }
+                self.room -= 1;
+                set_anew(&mut self.places, self.shift, &mut self.rest, key, amount)
+            }
         }
     }
 
@@ -102,8 +133,8 @@ impl AmountTable {
         }
     }
 
-    /// Adds to the amount of the key; the sum has to fit 64 bits. If memory runs out, the table is
-    /// as it was.
+    /// Adds to the amount of the key; the sum has to fit 64 bits. If memory runs out, the table has
+    /// the amounts that it had.
     #[inline(always)]
     pub fn add(&mut self, key: u64, more: u64) -> Result<(), AllocError>
         requires { amount_of self.old key + more < 2 ^ 64 }
@@ -117,7 +148,13 @@ impl AmountTable {
                 self.places[place] = (key, before + more);
                 Ok(())
             }
-            None => add_anew(&mut self.places, self.shift, &mut self.rest, key, more),
+            None => {
+                if self.room == 0 {
+                    return self.add_and_grow(key, more);
+                }
+                self.room -= 1;
+                add_anew(&mut self.places, self.shift, &mut self.rest, key, more)
+            }
         }
     }
 
@@ -145,6 +182,84 @@ impl AmountTable {
         put_all(&mut sums, self.rest.view(alloc)?.pairs())?;
         put_all(&mut sums, &self.places)?;
         sums.view(alloc)
+    }
+
+    /// Gives the key this amount as `set` does, in a table that grows first.
+    #[inline(never)]
+    fn set_and_grow(&mut self, key: u64, amount: u64) -> Result<(), AllocError>
+        ensures ok { OnOk result (self.new ≡ with_amount self.old key amount) }
+        ensures err { OnErr result (self.new ≡ self.old) }
+        ensures absent { OnErr result (amount_of self.old key ≡ 0) }
+    {
+        self.grow();
+        self.set_in_place(key, amount)
+    }
+
+    /// Adds to the amount of the key as `add` does, in a table that grows first.
+    #[inline(never)]
+    fn add_and_grow(&mut self, key: u64, more: u64) -> Result<(), AllocError>
+        requires { amount_of self.old key + more < 2 ^ 64 }
+        ensures ok { OnOk result (self.new ≡ plus_amount self.old key more) }
+        ensures err { OnErr result (self.new ≡ self.old) }
+    {
+        self.grow();
+        let before = self.amount(key);
+        self.set_in_place(key, before + more)
+    }
+
+    /// Gives the key this amount as `set` does, in the places that there are.
+    fn set_in_place(&mut self, key: u64, amount: u64) -> Result<(), AllocError>
+        ensures ok { OnOk result (self.new ≡ with_amount self.old key amount) }
+        ensures err { OnErr result (self.new ≡ self.old) }
+        ensures absent { OnErr result (amount_of self.old key ≡ 0) }
+    {
+        match find(&self.places, self.shift, key) {
+            Some(place) => {
+                self.places[place] = (key, amount);
+                Ok(())
+            }
+            None => set_anew(&mut self.places, self.shift, &mut self.rest, key, amount),
+        }
+    }
+
+    /// Makes four times as many places, up to those that the table is made for, and has each key
+    /// among them. If there is no memory for that, it goes on with the places that there are.
+    fn grow(&mut self)
+        ensures { self.new ≡ self.old }
+    {
+        let bits = grown_bits(self.shift, self.most_bits);
+        self.room = room_of(bits);
+        if self.shift + bits > u64::BITS {
+            if let Ok(larger) = self.moved(bits) {
+                *self = larger;
+            }
+        }
+    }
+
+    /// The same amounts in a table with 2^bits places.
+    fn moved(&self, bits: u32) -> Result<AmountTable, AllocError>
+        requires { (1 ≤ bits) × (bits ≤ 20) }
+        ensures { IfOk result (λ t. t ≡ self.now) }
+    {
+        let alloc = *self.places.allocator();
+        let mut larger = AmountTable::with_bits(alloc, bits, self.most_bits)?;
+        larger.set_all(self.rest.view(alloc)?.pairs())?;
+        larger.set_all(&self.places)?;
+        Ok(larger)
+    }
+
+    /// Sets the amount of each pair's key, if it isn't 0, in the places that there are.
+    fn set_all(&mut self, pairs: &[(u64, u64)]) -> Result<(), AllocError>
+        requires formed { IsAmounts self.old }
+        requires all { HasAll self.old pairs.now }
+        ensures { OnOk result (self.new ≡ amounts_in pairs.now self.old) }
+    {
+        for (key, amount) in pairs {
+            if *amount != 0 {
+                self.set_in_place(*key, *amount)?;
+            }
+        }
+        Ok(())
     }
 }
 
@@ -260,7 +375,24 @@ fn put_all(sums: &mut AmountMap, pairs: &[(u64, u64)]) -> Result<(), AllocError>
     Ok(())
 }
 
-/// The table for that many keys has 2^bits places: two to four for each key.
+/// A table with 2^bits places grows once so many keys have come.
+fn room_of(bits: u32) -> usize
+    requires { bits ≤ 20 }
+{
+    (1 << bits) >> FILLED_BITS
+}
+
+/// A table grows to 2^bits places: four times as many, but no more than 2^most_bits.
+fn grown_bits(shift: u32, most_bits: u32) -> u32
+    requires { shift < 64 }
+    ensures { (1 ≤ result) × (result ≤ 20) }
+{
+    (u64::BITS - shift + MORE_BITS)
+        .min(most_bits)
+        .clamp(1, MOST_BITS)
+}
+
+/// The table for that many keys grows up to 2^bits places: two to four for each key.
 fn table_bits(keys: usize) -> u32
     ensures { (1 ≤ result) × (result ≤ 20) }
 {

@@ -31,5 +31,8 @@ returns-in-Some-clause-ok c =
 pub returns-in-Some-clause-formed : goal.returns-in-Some-clause-formed
 returns-in-Some-clause-formed c = subst IsAmounts c.self.view_is (amounts_formed c.self.inside.places.items c.self.inside.rest c.self.invariant.formed)
 
-pub returns-in-None-clause-formed : goal.returns-in-None-clause-formed
-returns-in-None-clause-formed c = subst IsAmounts c.self.view_is (amounts_formed c.self.inside.places.items c.self.inside.rest c.self.invariant.formed)
+pub returns-then-self-eq0-clause-formed : goal.returns-then-self-eq0-clause-formed
+returns-then-self-eq0-clause-formed c = subst IsAmounts c.self.view_is (amounts_formed c.self.inside.places.items c.self.inside.rest c.self.invariant.formed)
+
+pub returns-else-self-eq0-clause-formed : goal.returns-else-self-eq0-clause-formed
+returns-else-self-eq0-clause-formed c = subst IsAmounts c.self.view_is (amounts_formed c.self.inside.places.items c.self.inside.rest c.self.invariant.formed)
