@@ -315,10 +315,10 @@ given-suc q [] n low = absurd (omega arith)
 given-suc q (p ∷ pairs) zero low = omega arith
 given-suc q (p ∷ pairs) (suc n) low = omega (arith, given-suc q pairs n (omega (arith, low)))
 
-given-take : (q : ℕ) (pairs : List (ℕ × ℕ)) (n : ℕ) → n < length pairs → given q (take (n + 1) pairs) ≡ given q (take n pairs) + part_given q (pair_at pairs n)
+pub given-take : (q : ℕ) (pairs : List (ℕ × ℕ)) (n : ℕ) → n < length pairs → given q (take (n + 1) pairs) ≡ given q (take n pairs) + part_given q (pair_at pairs n)
 given-take q pairs n low = ap (λ m. given q (take m pairs)) (let one : n + 1 ≡ suc n = omega arith in one) ∙ given-suc q pairs n low
 
-given-take-le : (q : ℕ) (pairs : List (ℕ × ℕ)) (n : ℕ) → given q (take n pairs) ≤ given q pairs
+pub given-take-le : (q : ℕ) (pairs : List (ℕ × ℕ)) (n : ℕ) → given q (take n pairs) ≤ given q pairs
 given-take-le q [] zero = omega arith
 given-take-le q [] (suc n) = omega arith
 given-take-le q (p ∷ pairs) zero = omega arith
@@ -365,7 +365,7 @@ first_set base sums pairs n low taken all have = (
         let more : given q (take (n + 1) pairs) ≡ given q (take n pairs) + part_given q (pair_at pairs n) = given-take q pairs n low in
         have.1 q ∙ ap (λ m. amount_of base q + m) (let kept : given q (take n pairs) ≡ given q (take (n + 1) pairs) = omega (arith, none, more) in kept)
 
-take_all : (pairs : List (ℕ × ℕ)) (n : ℕ) → length pairs ≤ n → take n pairs ≡ pairs
+pub take_all : (pairs : List (ℕ × ℕ)) (n : ℕ) → length pairs ≤ n → take n pairs ≡ pairs
 take_all [] zero all = refl
 take_all [] (suc n) all = refl
 take_all (p ∷ pairs) zero all = absurd (omega (arith, all))

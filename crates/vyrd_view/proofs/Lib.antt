@@ -17,3 +17,4 @@ pub mod FreshLaws
 pub mod SummedLaws
 pub mod RoomLaws
 pub mod OutcomeLaws
+pub mod MoveLaws

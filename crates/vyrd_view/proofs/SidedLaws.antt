@@ -92,7 +92,7 @@ pub is_settled : (s : Sides) → AreSettled s → IsSettled s
 unfolding IsSettled
 is_settled s settled = settled
 
-specified_total : (s : Sides) (q : ℕ) → amount_of (specified_of s) q ≡ amount_of s.rest.specified q + given q (specified_pairs s.homes.places.items)
+pub specified_total : (s : Sides) (q : ℕ) → amount_of (specified_of s) q ≡ amount_of s.rest.specified q + given q (specified_pairs s.homes.places.items)
 unfolding specified_of
 specified_total s q = amount_of-added (specified_pairs s.homes.places.items) s.rest.specified q
 

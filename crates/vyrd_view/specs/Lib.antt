@@ -12,3 +12,4 @@ pub mod Homes
 pub mod Known
 pub mod Subjects
 pub mod Laws
+pub mod Moved

@@ -12,6 +12,18 @@ const REACH: usize = 4;
 /// apart.
 const SPREAD: u64 = 0x9E37_79B9_7F4A_7C15;
 
+/// A table starts with 2^6 places at most.
+const MOST_BITS_AT_FIRST: u32 = 6;
+
+/// A table has 2^20 places at most.
+const MOST_BITS: u32 = 20;
+
+/// A table grows to 2^2 times as many places.
+const MORE_BITS: u32 = 2;
+
+/// A table grows once keys have come for 1 in 2^2 of its places.
+const FILLED_BITS: u32 = 2;
+
 /// A key with what the words and the specification show of it. If both are 0, the place is free.
 #[derive(Clone, Copy)]
 pub(crate) struct Home {
@@ -46,14 +58,18 @@ pub(crate) struct Homes {
     pub(crate) places: Vec<Home>,
     pub(crate) shift: u32,
     pub(crate) apart: usize,
+    /// It grows up to 2^most_bits places.
+    pub(crate) most_bits: u32,
+    /// So many keys may come before it grows.
+    room: usize,
 }
 
 impl Homes {
     ghost use Rattle.vyrd_view.specs.Homes.{no_home, home_at, is_taken, is_apart, first_place};
     ghost use Rattle.vyrd_view.specs.Homes.{AreHomes, IsFoundAt, IsLeastHome};
 
-    /// Free places, 2^bits and a few more.
-    pub(crate) fn new(alloc: Global, bits: u32) -> Result<Homes, AllocError>
+    /// Free places, 2^bits and a few more. They are to grow up to 2^most_bits.
+    pub(crate) fn new(alloc: Global, bits: u32, most_bits: u32) -> Result<Homes, AllocError>
         requires { (1 ≤ bits) × (bits ≤ 20) }
         ensures free { IfOk result
             (λ homes. homes.places.items ≡ replicate (2 ^ bits + 3) no_home) }
@@ -69,7 +85,49 @@ impl Homes {
             places: vec![in alloc; free; (1 << bits) + (REACH - 1)]?,
             shift: 64 - bits,
             apart: 0,
+            most_bits,
+            room: room_of(bits),
         })
+    }
+
+    /// Whether one more key may come before the table grows. It is counted.
+    pub(crate) fn takes_one_more(&mut self) -> bool
+        ensures places { self.new.places.items ≡ self.old.places.items }
+        ensures shift { self.new.shift ≡ self.old.shift }
+        ensures apart { self.new.apart ≡ self.old.apart }
+    {
+        if self.room == 0 {
+            return false;
+        }
+        self.room -= 1;
+        true
+    }
+
+    /// As many keys more may come as after the table has grown.
+    pub(crate) fn count_anew(&mut self)
+        requires { self.old.shift < 64 }
+        ensures places { self.new.places.items ≡ self.old.places.items }
+        ensures shift { self.new.shift ≡ self.old.shift }
+        ensures apart { self.new.apart ≡ self.old.apart }
+    {
+        self.room = room_of(self.grown_bits());
+    }
+
+    /// The table grows to 2^bits places: four times as many, but no more than it is made for.
+    pub(crate) fn grown_bits(&self) -> u32
+        requires { self.now.shift < 64 }
+        ensures { (1 ≤ result) × (result ≤ 20) }
+    {
+        (u64::BITS - self.shift + MORE_BITS)
+            .min(self.most_bits)
+            .clamp(1, MOST_BITS)
+    }
+
+    /// Whether 2^bits are more places than there are.
+    pub(crate) fn are_fewer(&self, bits: u32) -> bool
+        requires { bits ≤ 20 }
+    {
+        self.shift > u64::BITS - bits
     }
 
     /// The first of the places in which the key may stand.
@@ -149,6 +207,21 @@ impl Homes {
         }
         least
     }
+}
+
+/// Of 2^bits places so many are there at first, as a power of two.
+pub(crate) fn bits_at_first(bits: u32) -> u32
+    requires { (1 ≤ bits) × (bits ≤ 20) }
+    ensures { (1 ≤ result) × (result ≤ 20) }
+{
+    bits.min(MOST_BITS_AT_FIRST)
+}
+
+/// A table with 2^bits places grows once so many keys have come.
+fn room_of(bits: u32) -> usize
+    requires { bits ≤ 20 }
+{
+    (1 << bits) >> FILLED_BITS
 }
 
 /// The lesser of a key that was found, if there is one, and another.

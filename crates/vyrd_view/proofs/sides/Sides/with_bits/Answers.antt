@@ -1,5 +1,5 @@
 use Rattle.vyrd_view.proofs.FreshLaws.{fresh_settled, fresh_shown, fresh_specified}
-use Rattle.vyrd_view.proofs.sides.Sides.new.Goals as goal
+use Rattle.vyrd_view.proofs.sides.Sides.with_bits.Goals as goal
 
 pub returns-clause-settled : goal.returns-clause-settled
 returns-clause-settled c = fresh_settled (record { homes = c.in_ok-new.field-0; rest = c.new-2.result }) c.args.bits c.requires.1 c.in_ok-new.ensures.shift
