@@ -45,8 +45,9 @@ const FILLED_BITS: u32 = 2;
 pub struct AmountTable {
     places: Vec<(u64, u64)>,
     shift: u32,
+    /// It grows up to 2^most_bits places.
     most_bits: u32,
-    // so many keys may come before the table grows
+    /// So many keys may come before it grows.
     room: usize,
     rest: AmountMap,
 }

@@ -8,5 +8,7 @@ use Rattle.vyrd_view.specs.Homes.{home_at, is_taken, shown_pairs, specified_pair
 -- its amounts
 abbrev pub HaveAll : (ℕ → ℕ) → (ℕ → ℕ) → List Home → Type 0
 HaveAll shown specified homes = (i : ℕ) → is_taken (home_at homes i) ≡ true
-    → (shown (home_at homes i).key + given (home_at homes i).key (shown_pairs homes) ≡ (home_at homes i).shown)
-    × (specified (home_at homes i).key + given (home_at homes i).key (specified_pairs homes) ≡ (home_at homes i).specified)
+    → (shown (home_at homes i).key + given (home_at homes i).key (shown_pairs homes)
+    ≡ (home_at homes i).shown)
+    × (specified (home_at homes i).key + given (home_at homes i).key (specified_pairs homes)
+    ≡ (home_at homes i).specified)

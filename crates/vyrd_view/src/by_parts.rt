@@ -10,12 +10,15 @@ use crate::changed::parts_changed;
 use crate::compare::Compare;
 use crate::decode::Decode;
 use crate::parts::Parts;
-use crate::room::{MOST_AT_FIRST, first_parts, grow, make_room};
+use crate::room::{first_parts, grow, make_room};
 use crate::words::copy_changed;
 use std::alloc::{AllocError, Global};
 use std::marker::{Brand, Model};
 use std::sync::ledger::{Blank, Ledger};
 use vyrd_base::Steps;
+
+/// The table is made for the places of this many parts at most.
+const MOST_PARTS: usize = 4096;
 
 /// The words of a structure and a specification's amounts, and where they differ. A changed word
 /// costs its part, which is decoded again, and a changed amount costs one step. Words behind the
@@ -53,11 +56,12 @@ impl<D: Decode> Model for ByParts<D> {
 }
 
 impl<D: Decode> ByParts<D> {
-    /// Zeroed words against an empty specification. For up to 4,096 parts it takes memory in
-    /// proportion to the words: 8 bytes for each, and 64 to 112 for each place. If there are more,
-    /// it takes as much for the places of 4,096 parts at most. Later calls take 8 bytes for each
-    /// word, and 16 for each place, up to the last part that a changed word is in, or up to twice
-    /// that; and what the ordered maps take of each key that finds no place in the table.
+    /// Zeroed words against an empty specification. It takes memory for 64 parts at most: 8 bytes
+    /// for each word, 16 for each place, and 24 for each of 67 places of a table. Later calls take
+    /// as much for each word and each place up to the last part that a changed word is in, or up to
+    /// twice that; for a table that grows with the keys, up to 48 to 96 bytes for each place of the
+    /// parts, or of 4,096 parts if there are more; and what the ordered maps take of each key that
+    /// finds no place in the table.
     pub fn new(alloc: Global, decoder: D) -> Result<ByParts<D>, AllocError>
         ensures { IfOk result (λ c. c ≡ record {
           shows = D.shows decoder;
@@ -68,7 +72,7 @@ impl<D: Decode> ByParts<D> {
         }) }
     {
         let held = first_parts(decoder.parts());
-        let keys = decoder.parts().min(MOST_AT_FIRST) * decoder.places();
+        let keys = decoder.parts().min(MOST_PARTS) * decoder.places();
         let mut words = Vec::with_capacity(alloc, held * decoder.width())?;
         let pairs = Vec::with_capacity(alloc, held * decoder.places())?;
         let mut parts = Parts::new(alloc, pairs, keys)?;

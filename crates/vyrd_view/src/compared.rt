@@ -42,8 +42,9 @@ impl Model for Compared {
 }
 
 impl Compared {
-    /// Zeroed words of a built-in subject against an empty specification. It takes memory in proportion to the words: 8
-    /// bytes for each, and 64 to 112 for each key that a part may give.
+    /// Zeroed words of a built-in subject against an empty specification. At first it takes little
+    /// memory, except for a tree, and then as words change and keys come. In all that is 8 bytes
+    /// for each word at most, and 64 to 112 for each key that a part may give.
     pub fn new(alloc: Global, header: Header) -> Result<Compared, AllocError>
         requires built_in { is_built_in header.subject ≡ true }
         ensures { IfOk result (λ c. c ≡ record {

@@ -91,6 +91,7 @@ impl Homes {
     }
 
     /// Whether one more key may come before the table grows. It is counted.
+    #[inline(always)]
     pub(crate) fn takes_one_more(&mut self) -> bool
         ensures places { self.new.places.items ≡ self.old.places.items }
         ensures shift { self.new.shift ≡ self.old.shift }

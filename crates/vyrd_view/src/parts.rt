@@ -10,7 +10,7 @@ use std::marker::Model;
 use std::sync::ledger::Ledger;
 use vyrd_base::Steps;
 
-/// A table has 2^3 places at least.
+/// A table is made for 2^3 places at least.
 const LEAST_BITS: u32 = 3;
 
 /// A table has 2^20 places at most. It is made for 16,384 keys at most, so it has 2^16.
@@ -176,7 +176,7 @@ impl Parts {
     }
 }
 
-/// The table for this many pairs has 2^bits places: two to four for each pair.
+/// The table for this many pairs grows up to 2^bits places: two to four for each pair.
 fn table_bits(pairs: usize) -> u32
     ensures { (1 ≤ result) × (result ≤ 20) }
 {

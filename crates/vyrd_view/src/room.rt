@@ -12,21 +12,14 @@ use std::alloc::AllocError;
 /// How many words a part has at most.
 const MOST_WIDTH: usize = 64;
 
-/// Up to this many parts have room from the start.
-pub(crate) const MOST_AT_FIRST: usize = 4096;
+/// This many parts have room at the start, if there are as many.
+const PARTS_AT_FIRST: usize = 64;
 
-/// If there are more, this many have room at the start.
-const FEW_AT_FIRST: usize = 64;
-
-/// How many parts have room at the start: all of them, if these aren't many.
+/// How many parts have room at the start.
 pub(crate) fn first_parts(parts: usize) -> usize
     ensures { result ≤ parts }
 {
-    if parts <= MOST_AT_FIRST {
-        parts
-    } else {
-        FEW_AT_FIRST
-    }
+    parts.min(PARTS_AT_FIRST)
 }
 
 /// The first parts have room, as many as the answer says: those of all changed words among them.
@@ -64,6 +57,9 @@ pub(crate) fn make_room<D: Decode>(
     if held == decoder.parts() {
         return Ok(held);
     }
+    if are_below(words.len(), changed) {
+        return Ok(held);
+    }
     let needed = needed_parts(decoder, changed);
     if needed <= held {
         return Ok(held);
@@ -76,6 +72,19 @@ pub(crate) fn make_room<D: Decode>(
             Err(refusal)
         }
     }
+}
+
+/// Whether the changed words are among the first, as many as that.
+#[inline(always)]
+fn are_below(words: usize, changed: &[u32]) -> bool
+    ensures { result ≡ true → All (λ w. w < words) changed.now }
+{
+    for word in changed {
+        if *word as usize >= words {
+            return false;
+        }
+    }
+    true
 }
 
 /// How many parts have room at least, if those of all changed words do.

@@ -30,7 +30,7 @@ impl Sums {
     ghost use Rattle.vyrd_view.specs.Sided.{shown_at, specified_of};
     ghost use Rattle.vyrd_view.specs.Summed.{IsSettled, sum_at};
 
-    /// All sums are 0, and nothing is specified. The table has 2^bits places.
+    /// All sums are 0, and nothing is specified. The table grows up to 2^bits places.
     pub(crate) fn new(alloc: Global, bits: u32) -> Result<Sums, AllocError>
         requires { (1 ≤ bits) × (bits ≤ 20) }
         ensures settled { IfOk result (λ sums. IsSettled sums) }
