@@ -109,6 +109,9 @@ impl<S: BuiltIn> Judge<S> {
         ensures so_far { IfOk result (λ o. IfSome o (λ j. j.so_far ≡ None)) }
         ensures has_failed { IfOk result (λ o. IfSome o (λ j. j.has_failed ≡ false)) }
     {
+        if start.is_empty() {
+            return Ok(Some(Judge::new(alloc, header)?));
+        }
         let words = words_at_start(alloc, header, start)?;
         let Some(spec) = S::start_from(alloc, header, &words)? else {
             return Ok(None);
