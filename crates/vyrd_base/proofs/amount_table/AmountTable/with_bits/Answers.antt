@@ -13,4 +13,5 @@ invariant_of-result c =
 pub returns : goal.returns
 returns c =
     ap (λ rest. amounts_in c.in_ok-free_places.field-0.items rest) c.new.ensures
-    ∙ ap (λ places. amounts_in places []) c.in_ok-free_places.ensures ∙ new_amounts (2 ^ c.args.bits + 3)
+    ∙ ap (λ places. amounts_in places []) c.in_ok-free_places.ensures
+    ∙ new_amounts (2 ^ c.args.bits + 3)

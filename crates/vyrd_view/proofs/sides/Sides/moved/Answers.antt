@@ -12,7 +12,8 @@ put_all-requires-clause-all c =
     let s = c.args.self.now in
     let r = c.specify_all.new.self in
     let shown : (q : ℕ) → shown_at r q ≡ amount_of s.rest.shown q =
-    λ q. c.in_ok-specify_all.ensures.shown q ∙ c.in_ok-show_all.ensures.shown q ∙ ap (λ t. amount_of t q) (c.pairs-2.ensures.pairs ∙ c.in_ok-view.ensures) in
+    λ q. c.in_ok-specify_all.ensures.shown q ∙ c.in_ok-show_all.ensures.shown q
+    ∙ ap (λ t. amount_of t q) (c.pairs-2.ensures.pairs ∙ c.in_ok-view.ensures) in
     let specified : specified_of r ≡ s.rest.specified =
     c.in_ok-specify_all.ensures.specified ∙ c.pairs-4.ensures.pairs ∙ c.in_ok-view-2.ensures in
     subst (HaveAll (shown_at r) (amount_of (specified_of r))) (sym c.deref.ensures.value)
@@ -23,19 +24,24 @@ returns-clause-shown c =
     let s = c.args.self.now in
     let r = c.specify_all.new.self in
     let shown : (q : ℕ) → shown_at r q ≡ amount_of s.rest.shown q =
-    λ q. c.in_ok-specify_all.ensures.shown q ∙ c.in_ok-show_all.ensures.shown q ∙ ap (λ t. amount_of t q) (c.pairs-2.ensures.pairs ∙ c.in_ok-view.ensures) in
+    λ q. c.in_ok-specify_all.ensures.shown q ∙ c.in_ok-show_all.ensures.shown q
+    ∙ ap (λ t. amount_of t q) (c.pairs-2.ensures.pairs ∙ c.in_ok-view.ensures) in
     let specified : specified_of r ≡ s.rest.specified =
     c.in_ok-specify_all.ensures.specified ∙ c.pairs-4.ensures.pairs ∙ c.in_ok-view-2.ensures in
     moved_shows s r (settled_of s c.requires.settled) shown specified c.put_all.new.self
-    (λ q. c.in_ok-put_all.ensures.shown q ∙ ap (λ ps. shown_at r q + given q (shown_pairs ps)) c.deref.ensures.value)
+    (λ q. c.in_ok-put_all.ensures.shown q
+    ∙ ap (λ ps. shown_at r q + given q (shown_pairs ps)) c.deref.ensures.value)
 
 pub returns-clause-specified : goal.returns-clause-specified
 returns-clause-specified c =
     let s = c.args.self.now in
     let r = c.specify_all.new.self in
     let shown : (q : ℕ) → shown_at r q ≡ amount_of s.rest.shown q =
-    λ q. c.in_ok-specify_all.ensures.shown q ∙ c.in_ok-show_all.ensures.shown q ∙ ap (λ t. amount_of t q) (c.pairs-2.ensures.pairs ∙ c.in_ok-view.ensures) in
+    λ q. c.in_ok-specify_all.ensures.shown q ∙ c.in_ok-show_all.ensures.shown q
+    ∙ ap (λ t. amount_of t q) (c.pairs-2.ensures.pairs ∙ c.in_ok-view.ensures) in
     let specified : specified_of r ≡ s.rest.specified =
     c.in_ok-specify_all.ensures.specified ∙ c.pairs-4.ensures.pairs ∙ c.in_ok-view-2.ensures in
-    moved_specifies s r (settled_of s c.requires.settled) shown specified c.put_all.new.self c.in_ok-put_all.ensures.settled
-    (λ q. c.in_ok-put_all.ensures.specified q ∙ ap (λ ps. amount_of (specified_of r) q + given q (specified_pairs ps)) c.deref.ensures.value)
+    moved_specifies s r (settled_of s c.requires.settled) shown specified c.put_all.new.self
+    c.in_ok-put_all.ensures.settled
+    (λ q. c.in_ok-put_all.ensures.specified q
+    ∙ ap (λ ps. amount_of (specified_of r) q + given q (specified_pairs ps)) c.deref.ensures.value)

@@ -6,14 +6,20 @@ use Rattle.vyrd_view.proofs.sides.Sides.takes_one_more.Goals as goal
 pub returns-clause-settled : goal.returns-clause-settled
 returns-clause-settled c =
     let s = c.args.self.now in
-    counted_settles s (record { homes = c.takes_one_more.new.self; rest = s.rest }) (settled_of s c.requires) c.takes_one_more.ensures.places c.takes_one_more.ensures.shift c.takes_one_more.ensures.apart refl
+    counted_settles s (record { homes = c.takes_one_more.new.self; rest = s.rest })
+    (settled_of s c.requires) c.takes_one_more.ensures.places c.takes_one_more.ensures.shift
+    c.takes_one_more.ensures.apart refl
 
 pub returns-clause-shown : goal.returns-clause-shown
 returns-clause-shown c =
     let s = c.args.self.now in
-    counted_shows s (record { homes = c.takes_one_more.new.self; rest = s.rest }) (settled_of s c.requires) c.takes_one_more.ensures.places c.takes_one_more.ensures.shift c.takes_one_more.ensures.apart refl
+    counted_shows s (record { homes = c.takes_one_more.new.self; rest = s.rest })
+    (settled_of s c.requires) c.takes_one_more.ensures.places c.takes_one_more.ensures.shift
+    c.takes_one_more.ensures.apart refl
 
 pub returns-clause-specified : goal.returns-clause-specified
 returns-clause-specified c =
     let s = c.args.self.now in
-    counted_specifies s (record { homes = c.takes_one_more.new.self; rest = s.rest }) (settled_of s c.requires) c.takes_one_more.ensures.places c.takes_one_more.ensures.shift c.takes_one_more.ensures.apart refl
+    counted_specifies s (record { homes = c.takes_one_more.new.self; rest = s.rest })
+    (settled_of s c.requires) c.takes_one_more.ensures.places c.takes_one_more.ensures.shift
+    c.takes_one_more.ensures.apart refl
