@@ -124,6 +124,7 @@ impl EventSink for Account {
         self.count
     }
 
+    #[inline(always)]
     fn take(&mut self, event: Stamped) -> Result<(), AllocError> {
         self.count += 1;
         if let Some(entry) = entry_of(event) {

@@ -39,7 +39,7 @@ impl Task {
     {
         match place {
             Place::LoadRoot => Act::Load(root_cell(header)),
-            Place::Visit(visit, place) => visit.wants(header, *place),
+            Place::Visit(visit, place) => visit.wants(header, place),
             Place::Unused(_, place) => place.wants(header),
             Place::Open(..) => Act::Mark(Kind::BlockOpen),
             Place::Store(storing, _) => storing.wants(header),

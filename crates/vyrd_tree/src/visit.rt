@@ -95,13 +95,14 @@ impl Visit {
 
     /// What comes next of the visit.
     #[inline(always)]
-    pub(crate) fn wants(&self, header: &Header, place: Visiting) -> Act
-        ensures { (task : Task) → result ≡ next_act (visiting_rest header.now task self.now place) }
+    pub(crate) fn wants(&self, header: &Header, place: &Visiting) -> Act
+        ensures { (task : Task)
+            → result ≡ next_act (visiting_rest header.now task self.now place.now) }
     {
         match place {
             Visiting::Lock => Act::Take(self.node.lock(header)),
-            Visiting::Load(word) => Act::Load(self.node.cell(word)),
-            Visiting::LoadChild(slot) => Act::Load(self.node.cell(Word::Value(slot))),
+            Visiting::Load(word) => Act::Load(self.node.cell(*word)),
+            Visiting::LoadChild(slot) => Act::Load(self.node.cell(Word::Value(*slot))),
             Visiting::Leave(_) | Visiting::Lost => Act::Give(self.node.lock(header)),
         }
     }
