@@ -79,17 +79,26 @@ fn says_its_parts(header: Header, subject: Subject) -> bool {
 
 #[test]
 fn keys_of_a_small_table(rt: HostRuntime) -> Result<(), Fail> {
-    let mut table = filled(rt.alloc())?;
+    let mut table = filled(rt.alloc(), 1, 40)?;
     change(&mut table)?;
     assert!(rt; table.amount(0) == 0 && table.amount(7) == 108 && table.amount(39) == 0);
     assert!(rt; table.view(rt.alloc())?.pairs() == [(1, 2), (7, 108)].as_slice());
     Ok(())
 }
 
-/// A table, made for one key, of the keys 0 to 39, each with its successor as its amount.
-fn filled(alloc: Global) -> Result<AmountTable, AllocError> {
-    let mut table = AmountTable::new(alloc, 1)?;
-    for key in 0..40 {
+#[test]
+fn keys_of_a_table_that_grows(rt: HostRuntime) -> Result<(), Fail> {
+    let table = filled(rt.alloc(), 3000, 3000)?;
+    assert!(rt; table.amount(0) == 1 && table.amount(2999) == 3000 && table.amount(3000) == 0);
+    assert!(rt; table.view(rt.alloc())?.pairs().len() == 3000);
+    Ok(())
+}
+
+/// A table, made for so many keys, of the keys below another number, each with its successor as
+/// its amount.
+fn filled(alloc: Global, made_for: usize, keys: u64) -> Result<AmountTable, AllocError> {
+    let mut table = AmountTable::new(alloc, made_for)?;
+    for key in 0..keys {
         table.set(key, key + 1)?;
     }
     Ok(table)
