@@ -17,7 +17,7 @@ use Rattle.vyrd_shadow.specs.Following.{Kept, words_of, kept_writes}
 use Rattle.vyrd_base.specs.Commits.{commit_count}
 use Rattle.vyrd_words.specs.Effects.{inner_number, parts_since}
 use Rattle.vyrd_words.specs.HasWords.{HasWords, Keeps}
-use Rattle.vyrd_words.specs.Costs.{writes_behind, held_if, held, work_held, most_held, effect_count, kept_back, all_kept_back, owed}
+use Rattle.vyrd_words.specs.Costs.{writes_behind, held_if, held, work_held, most_held, effect_count, kept_back, all_kept_back, each_entry, owed}
 use Rattle.vyrd_words.proofs.WordsLaws.{low_caller, closes_block, commits_block}
 
 -- the effects of an entry, by whether the caller's block is open and what it has written
@@ -151,8 +151,8 @@ six_each k (suc n) =
 pub owed_paid : {T E : Type 0} (r : Result T E) (kept : Kept) (starting : List StartWord) (inner : List ℕ) (earlier : List Entry) (e : Entry)
     (old new : List (List (ℕ × ℕ))) (s0 s1 : ℕ) → HasWords kept inner starting earlier → Keeps kept.header earlier e
     → OnOk r (s1 + work_held kept.header.callers (e ∷ earlier) new
-    ≤ s0 + work_held kept.header.callers earlier old + effect_count kept e.caller e.kind + most_held kept.header.callers (effect_count kept e.caller e.kind))
-    → OnOk r (s1 + owed kept.header.callers (e ∷ earlier) new ≤ s0 + owed kept.header.callers earlier old + (1 + 6 * kept.header.callers))
+    ≤ s0 + 30 + work_held kept.header.callers earlier old + effect_count kept e.caller e.kind + most_held kept.header.callers (effect_count kept e.caller e.kind))
+    → OnOk r (s1 + owed kept.header.callers (e ∷ earlier) new ≤ s0 + owed kept.header.callers earlier old + each_entry kept.header.callers)
 owed_paid (Err x) kept starting inner earlier e old new s0 s1 has keeps paid = tt
 owed_paid (Ok x) kept starting inner earlier e old new s0 s1 has keeps paid =
     let n = kept.header.callers in

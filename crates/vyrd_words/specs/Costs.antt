@@ -64,3 +64,9 @@ for_each callers amount = sum_by (λ c. amount) (numbers_below callers)
 abbrev pub owed : ℕ → List Entry → List (List (ℕ × ℕ)) → ℕ
 owed callers earlier since = work_held callers earlier since + all_kept_back callers earlier
     + for_each callers (2 * all_kept_back callers earlier)
+
+-- What each entry costs at most, with what is owed after it: thirty steps of the words that are
+-- rebuilt, one to pass an effect on, and for each caller what its open block's end owes for that
+-- effect and for a commit.
+abbrev pub each_entry : ℕ → ℕ
+each_entry callers = 31 + 6 * callers

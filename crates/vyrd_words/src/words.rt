@@ -10,11 +10,12 @@ ghost use Rattle.vyrd_base.specs.Commits.{commit_count};
 ghost use Rattle.vyrd_base.specs.Layout.{plain_words};
 ghost use Rattle.vyrd_base.specs.Starts.{words_at_start};
 ghost use Rattle.vyrd_shadow.specs.Blocks.{with_writes};
+ghost use Rattle.vyrd_shadow.specs.Costs.{owed as shadow_owed};
 ghost use Rattle.vyrd_spec.specs.Touching.{with_touched};
 ghost use Rattle.vyrd_view.specs.Comparing.{AgreeElsewhere};
 ghost use Rattle.vyrd_view.specs.Known.{IsNew, view_by};
 ghost use Rattle.vyrd_words.specs.Costs.{writes_behind, work_held, most_held};
-ghost use Rattle.vyrd_words.specs.Costs.{effect_count, owed};
+ghost use Rattle.vyrd_words.specs.Costs.{effect_count, each_entry, owed};
 ghost use Rattle.vyrd_words.specs.Cuts.{first_with, with_part, written};
 ghost use Rattle.vyrd_words.specs.HasWords.{HasWords, HasTaken, Keeps, MayFollow};
 
@@ -114,11 +115,11 @@ impl<C: Compare> Words<C> {
         follow_alone::<C, Brand>(Blank::new(1), self, entry, commits)
     }
 
-    /// The same, with its steps counted. One step is a write that is passed on to the commits that
-    /// wait, a write that waits and gives way to a late one, or a commit that waits and is looked
-    /// at for that. What the end of a block costs is owed from the entries on that made it dear. So
-    /// each entry pays a constant, by the number of callers, and a log costs no more than that for
-    /// each of its entries.
+    /// The same, with its steps counted. One step is one of those that rebuild the words, a write
+    /// that is passed on to the commits that wait, a write that waits and gives way to a late one,
+    /// or a commit that waits and is looked at for that. What the end of a block costs is owed from
+    /// the entries on that made it dear. So each entry pays a constant, by the number of callers,
+    /// and a log costs no more than that for each of its entries.
     #[inline(always)]
     pub fn follow_counted<L: Ledger>(
         &mut self,
@@ -142,10 +143,11 @@ impl<C: Compare> Words<C> {
         ensures steps { (starting : List StartWord) (earlier : List Entry)
             → HasWords self.old.shadow self.old.inner starting earlier
             → Keeps self.old.shadow.header earlier entry → commits ≡ commit_count earlier
-            → OnOk result (steps.new
+            → OnOk result (steps.new + shadow_owed self.new.shadow
             + owed self.old.shadow.header.callers (entry ∷ earlier) self.new.views.since
-            ≤ steps.old + owed self.old.shadow.header.callers earlier self.old.views.since
-            + (1 + 6 * self.old.shadow.header.callers)) }
+            ≤ steps.old + shadow_owed self.old.shadow
+            + owed self.old.shadow.header.callers earlier self.old.views.since
+            + each_entry self.old.shadow.header.callers) }
     {
         self.follow_kind(entry, commits, steps)
     }
@@ -175,9 +177,10 @@ impl<C: Compare> Words<C> {
             → HasWords self.old.shadow self.old.inner starting earlier
             → Keeps self.old.shadow.header earlier entry → commits ≡ commit_count earlier
             → OnOk result
-            (steps.new + work_held self.old.shadow.header.callers (entry ∷ earlier)
-            self.new.views.since
-            ≤ steps.old + work_held self.old.shadow.header.callers earlier self.old.views.since
+            (steps.new + shadow_owed self.new.shadow
+            + work_held self.old.shadow.header.callers (entry ∷ earlier) self.new.views.since
+            ≤ steps.old + shadow_owed self.old.shadow + 30
+            + work_held self.old.shadow.header.callers earlier self.old.views.since
             + effect_count self.old.shadow entry.caller entry.kind
             + most_held self.old.shadow.header.callers
             (effect_count self.old.shadow entry.caller entry.kind)) }
@@ -187,16 +190,16 @@ impl<C: Compare> Words<C> {
             Kind::Call(_, _) => Ok(()),
             Kind::Return(_) => Ok(()),
             Kind::Write(word, value) => {
-                self.shadow.write(caller, word, value)?;
+                self.shadow.write_counted(caller, word, value, steps)?;
                 pass_on(&mut self.shadow, &mut self.views, steps)
             }
             Kind::BlockOpen => {
-                self.shadow.open_block(caller);
+                self.shadow.open_block_counted(caller, steps);
                 self.inner[caller as usize] = 0;
                 Ok(())
             }
             Kind::BlockClose => {
-                self.shadow.close_block(caller);
+                self.shadow.close_block_counted(caller, steps);
                 let number = self.inner[caller as usize];
                 if number == 0 {
                     pass_on(&mut self.shadow, &mut self.views, steps)
@@ -210,7 +213,7 @@ impl<C: Compare> Words<C> {
                 self.views.cut()
             }
             Kind::BlockCommit => {
-                self.shadow.close_block(caller);
+                self.shadow.close_block_counted(caller, steps);
                 pass_on(&mut self.shadow, &mut self.views, steps)?;
                 self.views.cut()
             }
@@ -305,10 +308,11 @@ fn pass_on<C: Compare, L: Ledger>(
     ensures shadow_header { shadow.new.header ≡ shadow.old.header }
     ensures views_header { views.new.header ≡ views.old.header }
     ensures shows { views.new.shows ≡ views.old.shows }
-    ensures steps { steps.new ≤ steps.old + length shadow.old.changed }
+    ensures steps { steps.new + shadow_owed shadow.new
+        ≤ steps.old + shadow_owed shadow.old + length shadow.old.changed + 1 }
 {
     give(views, shadow.changed(), shadow.words(), steps)?;
-    shadow.clear_changed();
+    shadow.clear_changed_counted(steps);
     Ok(())
 }
 
@@ -335,12 +339,14 @@ fn pass_back<C: Compare, L: Ledger>(
     ensures shadow_header { shadow.new.header ≡ shadow.old.header }
     ensures views_header { views.new.header ≡ views.old.header }
     ensures shows { views.new.shows ≡ views.old.shows }
-    ensures steps { steps.new ≤ steps.old + length shadow.old.changed
+    ensures steps { steps.new + shadow_owed shadow.new
+        ≤ steps.old + shadow_owed shadow.old + length shadow.old.changed
         + 2 * writes_behind behind views.old.since
-        + 4 * behind }
+        + 4 * behind
+        + 1 }
 {
     views.late(behind, shadow.changed(), shadow.words(), steps)?;
-    shadow.clear_changed();
+    shadow.clear_changed_counted(steps);
     Ok(())
 }
 

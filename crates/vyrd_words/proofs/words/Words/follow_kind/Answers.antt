@@ -3,7 +3,9 @@ use Rattle.std.proofs.lemmas.Option.{slice_get-get_or}
 use Rattle.vyrd_base.specs.declared.log.Kind.TheVariants.{Call, Return}
 use Rattle.vyrd_base.specs.Commits.{commit_count}
 use Rattle.vyrd_words.proofs.ShadowFacts.{call_followed, return_followed, commit_followed}
+use Rattle.vyrd_shadow.specs.Costs.{owed}
 use Rattle.vyrd_shadow.specs.Following.{is_open, kept_writes}
+use Rattle.vyrd_words.specs.HasWords.{WordsView}
 use Rattle.vyrd_words.specs.Cuts.{with_part, written}
 use Rattle.vyrd_words.specs.Costs.{late_cost}
 use Rattle.vyrd_words.proofs.CutLaws.{with_part_nothing, length-written}
@@ -11,32 +13,32 @@ use Rattle.vyrd_words.proofs.CostLaws.{paid_now, paid_closed, one_changed, block
 use Rattle.vyrd_words.proofs.WordsLaws.{may_opened, has_opened, keeps_opened, taken_closed, may_caller, may_word, may_value, may_open, may_close, may_block_commit, may_number, keeps_as, quiet_taken, open_taken, write_taken, close_taken, commit_taken, block_commit_taken, parts_since_none, parts_since_some, ok_two, ok_three, taken_as, low_caller, closes_block, commits_block}
 use Rattle.vyrd_words.proofs.words.Words.follow_kind.Goals as goal
 
-pub write-requires-clause-caller : goal.write-requires-clause-caller
-write-requires-clause-caller g c = may_caller (may_opened c.self.view_is c.requires.may)
+pub write_counted-requires-clause-caller : goal.write_counted-requires-clause-caller
+write_counted-requires-clause-caller g c = may_caller (may_opened c.self.view_is c.requires.may)
 
-pub write-requires-clause-word : goal.write-requires-clause-word
-write-requires-clause-word g c = may_word c.in-Write.is (may_opened c.self.view_is c.requires.may)
+pub write_counted-requires-clause-word : goal.write_counted-requires-clause-word
+write_counted-requires-clause-word g c = may_word c.in-Write.is (may_opened c.self.view_is c.requires.may)
 
-pub write-requires-clause-value : goal.write-requires-clause-value
-write-requires-clause-value g c = may_value c.in-Write.is (may_opened c.self.view_is c.requires.may)
+pub write_counted-requires-clause-value : goal.write_counted-requires-clause-value
+write_counted-requires-clause-value g c = may_value c.in-Write.is (may_opened c.self.view_is c.requires.may)
 
-pub open_block-requires-clause-caller : goal.open_block-requires-clause-caller
-open_block-requires-clause-caller g c = may_caller (may_opened c.self.view_is c.requires.may)
+pub open_block_counted-requires-clause-caller : goal.open_block_counted-requires-clause-caller
+open_block_counted-requires-clause-caller g c = may_caller (may_opened c.self.view_is c.requires.may)
 
-pub open_block-requires-clause-closed : goal.open_block-requires-clause-closed
-open_block-requires-clause-closed g c = may_open c.in-BlockOpen.is (may_opened c.self.view_is c.requires.may)
+pub open_block_counted-requires-clause-closed : goal.open_block_counted-requires-clause-closed
+open_block_counted-requires-clause-closed g c = may_open c.in-BlockOpen.is (may_opened c.self.view_is c.requires.may)
 
-pub close_block-requires-clause-caller : goal.close_block-requires-clause-caller
-close_block-requires-clause-caller g c = may_caller (may_opened c.self.view_is c.requires.may)
+pub close_block_counted-requires-clause-caller : goal.close_block_counted-requires-clause-caller
+close_block_counted-requires-clause-caller g c = may_caller (may_opened c.self.view_is c.requires.may)
 
-pub close_block-requires-clause-opened : goal.close_block-requires-clause-opened
-close_block-requires-clause-opened g c = may_close c.in-BlockClose.is (may_opened c.self.view_is c.requires.may)
+pub close_block_counted-requires-clause-opened : goal.close_block_counted-requires-clause-opened
+close_block_counted-requires-clause-opened g c = may_close c.in-BlockClose.is (may_opened c.self.view_is c.requires.may)
 
-pub close_block-requires-in-BlockCommit-clause-caller : goal.close_block-requires-in-BlockCommit-clause-caller
-close_block-requires-in-BlockCommit-clause-caller g c = may_caller (may_opened c.self.view_is c.requires.may)
+pub close_block_counted-requires-in-BlockCommit-clause-caller : goal.close_block_counted-requires-in-BlockCommit-clause-caller
+close_block_counted-requires-in-BlockCommit-clause-caller g c = may_caller (may_opened c.self.view_is c.requires.may)
 
-pub close_block-requires-in-BlockCommit-clause-opened : goal.close_block-requires-in-BlockCommit-clause-opened
-close_block-requires-in-BlockCommit-clause-opened g c = may_block_commit c.in-BlockCommit.is (may_opened c.self.view_is c.requires.may)
+pub close_block_counted-requires-in-BlockCommit-clause-opened : goal.close_block_counted-requires-in-BlockCommit-clause-opened
+close_block_counted-requires-in-BlockCommit-clause-opened g c = may_block_commit c.in-BlockCommit.is (may_opened c.self.view_is c.requires.may)
 
 pub index_mut-requires : goal.index_mut-requires
 index_mut-requires g c = omega (arith, may_caller (may_opened c.self.view_is c.requires.may), c.self.invariant.1)
@@ -72,21 +74,21 @@ returns-in-BlockOpen-clause-taken g c = λ starting earlier seen kept counted.
     let keeps = keeps_opened c.self.view_is kept in
     let low : c.args.entry.caller < length before.inner.items = omega (arith, low_caller keeps, c.self.invariant.1, before.inner.ok.0) in
     taken_closed c.self.view_is (taken_as c.args.entry c.in-BlockOpen.is
-    (open_taken before.shadow c.open_block.new.self before.inner.items before.views starting earlier c.args.entry.caller has
-    (c.open_block.ensures.followed starting earlier has.followed (keeps_as c.in-BlockOpen.is keeps).rules)
-    c.open_block.ensures.header c.open_block.ensures.changed low))
+    (open_taken before.shadow c.open_block_counted.new.self before.inner.items before.views starting earlier c.args.entry.caller has
+    (c.open_block_counted.ensures.followed starting earlier has.followed (keeps_as c.in-BlockOpen.is keeps).rules)
+    c.open_block_counted.ensures.header c.open_block_counted.ensures.changed low))
 
-pub returns-in_ok-write-in-Write-clause-taken : goal.returns-in_ok-write-in-Write-clause-taken
-returns-in_ok-write-in-Write-clause-taken g c = λ starting earlier seen kept counted.
+pub returns-in_ok-write_counted-in-Write-clause-taken : goal.returns-in_ok-write_counted-in-Write-clause-taken
+returns-in_ok-write_counted-in-Write-clause-taken g c = λ starting earlier seen kept counted.
     let before = c.self.inside in
     let has = has_opened c.self.view_is seen in
     let keeps = keeps_opened c.self.view_is kept in
     ok_three c.pass_on.result c.pass_on.ensures.first c.pass_on.ensures.since c.pass_on.ensures.shadow (λ first since shadow.
     taken_closed c.self.view_is (taken_as c.args.entry c.in-Write.is
-    (write_taken before.shadow c.write.new.self c.pass_on.new.shadow before.inner.items before.views c.pass_on.new.views starting earlier
+    (write_taken before.shadow c.write_counted.new.self c.pass_on.new.shadow before.inner.items before.views c.pass_on.new.views starting earlier
     c.args.entry.caller c.in-Write.word c.in-Write.value has (low_caller keeps)
-    (c.in_ok-write-in-Write.ensures.followed starting earlier has.followed (keeps_as c.in-Write.is keeps).rules)
-    c.write.ensures.header c.pass_on.ensures.within c.in_ok-write-in-Write.ensures.changed shadow first since)))
+    (c.in_ok-write_counted-in-Write.ensures.followed starting earlier has.followed (keeps_as c.in-Write.is keeps).rules)
+    c.write_counted.ensures.header c.pass_on.ensures.within c.in_ok-write_counted-in-Write.ensures.changed shadow first since)))
 
 pub returns-then-number-eq0-clause-taken : goal.returns-then-number-eq0-clause-taken
 returns-then-number-eq0-clause-taken g c = λ starting earlier seen kept counted.
@@ -98,10 +100,10 @@ returns-then-number-eq0-clause-taken g c = λ starting earlier seen kept counted
     let on = c.pass_on-then-number-eq0 in
     ok_three on.result on.ensures.first on.ensures.since on.ensures.shadow (λ first since shadow.
     taken_closed c.self.view_is (taken_as c.args.entry c.in-BlockClose.is
-    (close_taken before.shadow c.close_block.new.self on.new.shadow before.inner.items before.views on.new.views starting earlier
+    (close_taken before.shadow c.close_block_counted.new.self on.new.shadow before.inner.items before.views on.new.views starting earlier
     c.args.entry.caller 0 has (low_caller keeps) (closes_block c.in-BlockClose.is keeps)
-    (c.close_block.ensures.closed starting earlier has.followed (keeps_as c.in-BlockClose.is keeps).rules)
-    c.close_block.ensures.header on.ensures.within c.close_block.ensures.changed shadow
+    (c.close_block_counted.ensures.closed starting earlier has.followed (keeps_as c.in-BlockClose.is keeps).rules)
+    c.close_block_counted.ensures.header on.ensures.within c.close_block_counted.ensures.changed shadow
     (parts_since_none before.inner.items c.args.entry.caller c.index-number.result.now earlier here (has.numbers c.args.entry.caller (low_caller keeps))
     c.if-number-eq0.true)
     first since)))
@@ -115,10 +117,10 @@ returns-else-number-eq0-clause-taken g c = λ starting earlier seen kept counted
     let here = slice_get-get_or before.inner.items c.args.entry.caller c.index-number.result.now low ∙ ap Some (sym c.index-number.ensures) in
     ok_three c.pass_back.result c.pass_back.ensures.first c.pass_back.ensures.since c.pass_back.ensures.shadow (λ first since shadow.
     taken_closed c.self.view_is (taken_as c.args.entry c.in-BlockClose.is
-    (close_taken before.shadow c.close_block.new.self c.pass_back.new.shadow before.inner.items before.views c.pass_back.new.views starting earlier
+    (close_taken before.shadow c.close_block_counted.new.self c.pass_back.new.shadow before.inner.items before.views c.pass_back.new.views starting earlier
     c.args.entry.caller _ has (low_caller keeps) (closes_block c.in-BlockClose.is keeps)
-    (c.close_block.ensures.closed starting earlier has.followed (keeps_as c.in-BlockClose.is keeps).rules)
-    c.close_block.ensures.header c.pass_back.ensures.within c.close_block.ensures.changed shadow
+    (c.close_block_counted.ensures.closed starting earlier has.followed (keeps_as c.in-BlockClose.is keeps).rules)
+    c.close_block_counted.ensures.header c.pass_back.ensures.within c.close_block_counted.ensures.changed shadow
     (parts_since_some before.inner.items c.args.entry.caller c.index-number.result.now c.args.commits earlier here
     (has.numbers c.args.entry.caller (low_caller keeps)) c.if-number-eq0.false counted)
     first since)))
@@ -144,89 +146,95 @@ returns-in_ok-pass_on-in-BlockCommit-clause-taken g c = λ starting earlier seen
     let ok = c.in_ok-pass_on-in-BlockCommit in
     ok_two c.cut-in-BlockCommit.result c.cut-in-BlockCommit.ensures.first c.cut-in-BlockCommit.ensures.since (λ first since.
     taken_closed c.self.view_is (taken_as c.args.entry c.in-BlockCommit.is
-    (block_commit_taken before.shadow c.close_block-in-BlockCommit.new.self on.new.shadow before.inner.items before.views on.new.views
+    (block_commit_taken before.shadow c.close_block_counted-in-BlockCommit.new.self on.new.shadow before.inner.items before.views on.new.views
     c.cut-in-BlockCommit.new.self starting earlier c.args.entry.caller has (low_caller keeps) (commits_block c.in-BlockCommit.is keeps)
-    (c.close_block-in-BlockCommit.ensures.committed starting earlier has.followed (keeps_as c.in-BlockCommit.is keeps).rules)
-    c.close_block-in-BlockCommit.ensures.header on.ensures.within c.close_block-in-BlockCommit.ensures.changed ok.ensures.shadow
+    (c.close_block_counted-in-BlockCommit.ensures.committed starting earlier has.followed (keeps_as c.in-BlockCommit.is keeps).rules)
+    c.close_block_counted-in-BlockCommit.ensures.header on.ensures.within c.close_block_counted-in-BlockCommit.ensures.changed ok.ensures.shadow
     ok.ensures.first ok.ensures.since first since)))
 
 pub returns-in-BlockOpen-clause-steps : goal.returns-in-BlockOpen-clause-steps
 returns-in-BlockOpen-clause-steps g c = λ starting earlier seen kept counted.
     let before = c.self.inside in
+    let was = ap (λ (v : WordsView). owed v.shadow) c.self.view_is in
     let keeps = keeps_opened c.self.view_is kept in
-    paid_now c.args.entry earlier [] before.views.since c.args.steps.now c.args.steps.now c.self.view_is c.in-BlockOpen.is (low_caller keeps) (λ no. cc) refl
-    (omega arith) (sym (with_part_nothing 0 before.views.since))
+    paid_now c.args.entry earlier [] before.views.since (c.args.steps.now + owed c.args.self.now.shadow + 30) (c.open_block_counted.new.steps + owed c.open_block_counted.new.self) c.self.view_is c.in-BlockOpen.is (low_caller keeps) (λ no. cc) refl
+    (omega (arith, was, c.open_block_counted.ensures.paid)) (sym (with_part_nothing 0 before.views.since))
 
 pub returns-in-Commit-clause-steps : goal.returns-in-Commit-clause-steps
 returns-in-Commit-clause-steps g c = λ starting earlier seen kept counted.
     let before = c.self.inside in
+    let was = ap (λ (v : WordsView). owed v.shadow) c.self.view_is in
     let keeps = keeps_opened c.self.view_is kept in
-    paid_closed c.cut.result c.args.entry earlier [] c.cut.new.self.since c.args.steps.now c.args.steps.now c.self.view_is c.in-Commit.is (low_caller keeps) (λ no. cc) refl
-    (omega arith) (ok_two c.cut.result c.cut.ensures.since c.cut.ensures.since
+    paid_closed c.cut.result c.args.entry earlier [] c.cut.new.self.since (c.args.steps.now + owed c.args.self.now.shadow + 30) (c.args.steps.now + owed before.shadow) c.self.view_is c.in-Commit.is (low_caller keeps) (λ no. cc) refl
+    (omega (arith, was)) (ok_two c.cut.result c.cut.ensures.since c.cut.ensures.since
     (λ since twice. since ∙ ap (λ parts. parts ++ [] ∷ []) (sym (with_part_nothing 0 before.views.since))))
 
-pub returns-in_ok-write-in-Write-clause-steps : goal.returns-in_ok-write-in-Write-clause-steps
-returns-in_ok-write-in-Write-clause-steps g c = λ starting earlier seen kept counted.
+pub returns-in_ok-write_counted-in-Write-clause-steps : goal.returns-in_ok-write_counted-in-Write-clause-steps
+returns-in_ok-write_counted-in-Write-clause-steps g c = λ starting earlier seen kept counted.
     let before = c.self.inside in
+    let was = ap (λ (v : WordsView). owed v.shadow) c.self.view_is in
     let has = has_opened c.self.view_is seen in
     let keeps = keeps_opened c.self.view_is kept in
-    let mid = c.write.new.self in
+    let mid = c.write_counted.new.self in
     let long = length-written mid.words mid.changed in
-    paid_closed c.pass_on.result c.args.entry earlier (written mid.words mid.changed) c.pass_on.new.views.since c.args.steps.now c.pass_on.new.steps
+    paid_closed c.pass_on.result c.args.entry earlier (written mid.words mid.changed) c.pass_on.new.views.since (c.args.steps.now + owed c.args.self.now.shadow + 30) (c.pass_on.new.steps + owed c.pass_on.new.shadow)
     c.self.view_is c.in-Write.is (low_caller keeps) (λ no. cc)
-    (long ∙ one_changed (is_open before.shadow c.args.entry.caller) mid.changed before.shadow.changed c.in-Write.word c.in_ok-write-in-Write.ensures.changed has.unchanged)
-    (omega (arith, long, c.pass_on.ensures.steps)) c.pass_on.ensures.since
+    (long ∙ one_changed (is_open before.shadow c.args.entry.caller) mid.changed before.shadow.changed c.in-Write.word c.in_ok-write_counted-in-Write.ensures.changed has.unchanged)
+    (omega (arith, was, long, c.write_counted.ensures.paid, c.pass_on.ensures.steps)) c.pass_on.ensures.since
 
 pub returns-then-number-eq0-clause-steps : goal.returns-then-number-eq0-clause-steps
 returns-then-number-eq0-clause-steps g c = λ starting earlier seen kept counted.
     let before = c.self.inside in
+    let was = ap (λ (v : WordsView). owed v.shadow) c.self.view_is in
     let has = has_opened c.self.view_is seen in
     let keeps = keeps_opened c.self.view_is kept in
     let low : c.args.entry.caller < length before.inner.items = omega (arith, low_caller keeps, c.self.invariant.1, before.inner.ok.0) in
     let here = slice_get-get_or before.inner.items c.args.entry.caller c.index-number.result.now low ∙ ap Some (sym c.index-number.ensures) in
     let on = c.pass_on-then-number-eq0 in
-    let mid = c.close_block.new.self in
+    let mid = c.close_block_counted.new.self in
     let long = length-written mid.words mid.changed in
     let none = parts_since_none before.inner.items c.args.entry.caller c.index-number.result.now earlier here (has.numbers c.args.entry.caller (low_caller keeps))
     c.if-number-eq0.true in
-    paid_closed on.result c.args.entry earlier (written mid.words mid.changed) on.new.views.since c.args.steps.now on.new.steps
+    paid_closed on.result c.args.entry earlier (written mid.words mid.changed) on.new.views.since (c.args.steps.now + owed c.args.self.now.shadow + 30) (on.new.steps + owed on.new.shadow)
     c.self.view_is c.in-BlockClose.is (low_caller keeps) (λ closes. closes_block c.in-BlockClose.is keeps)
-    (long ∙ block_changed mid.changed before.shadow.changed (kept_writes before.shadow c.args.entry.caller) c.close_block.ensures.changed has.unchanged)
-    (omega (arith, long, on.ensures.steps))
+    (long ∙ block_changed mid.changed before.shadow.changed (kept_writes before.shadow c.args.entry.caller) c.close_block_counted.ensures.changed has.unchanged)
+    (omega (arith, was, long, c.close_block_counted.ensures.paid, on.ensures.steps))
     (ok_two on.result on.ensures.since on.ensures.since
     (λ since twice. since ∙ ap (λ b. with_part b (written mid.words mid.changed) before.views.since) none))
 
 pub returns-else-number-eq0-clause-steps : goal.returns-else-number-eq0-clause-steps
 returns-else-number-eq0-clause-steps g c = λ starting earlier seen kept counted.
     let before = c.self.inside in
+    let was = ap (λ (v : WordsView). owed v.shadow) c.self.view_is in
     let has = has_opened c.self.view_is seen in
     let keeps = keeps_opened c.self.view_is kept in
     let low : c.args.entry.caller < length before.inner.items = omega (arith, low_caller keeps, c.self.invariant.1, before.inner.ok.0) in
     let here = slice_get-get_or before.inner.items c.args.entry.caller c.index-number.result.now low ∙ ap Some (sym c.index-number.ensures) in
-    let mid = c.close_block.new.self in
+    let mid = c.close_block_counted.new.self in
     let long = length-written mid.words mid.changed in
     let some = parts_since_some before.inner.items c.args.entry.caller c.index-number.result.now c.args.commits earlier here
     (has.numbers c.args.entry.caller (low_caller keeps)) c.if-number-eq0.false counted in
     let cost = ap (λ b. late_cost b before.views.since) some in
-    paid_closed c.pass_back.result c.args.entry earlier (written mid.words mid.changed) c.pass_back.new.views.since c.args.steps.now c.pass_back.new.steps
+    paid_closed c.pass_back.result c.args.entry earlier (written mid.words mid.changed) c.pass_back.new.views.since (c.args.steps.now + owed c.args.self.now.shadow + 30) (c.pass_back.new.steps + owed c.pass_back.new.shadow)
     c.self.view_is c.in-BlockClose.is (low_caller keeps) (λ closes. closes_block c.in-BlockClose.is keeps)
-    (long ∙ block_changed mid.changed before.shadow.changed (kept_writes before.shadow c.args.entry.caller) c.close_block.ensures.changed has.unchanged)
-    (omega (arith, long, c.pass_back.ensures.steps, cost))
+    (long ∙ block_changed mid.changed before.shadow.changed (kept_writes before.shadow c.args.entry.caller) c.close_block_counted.ensures.changed has.unchanged)
+    (omega (arith, was, long, c.close_block_counted.ensures.paid, c.pass_back.ensures.steps, cost))
     (ok_two c.pass_back.result c.pass_back.ensures.since c.pass_back.ensures.since
     (λ since twice. since ∙ ap (λ b. with_part b (written mid.words mid.changed) before.views.since) some))
 
 pub returns-in_ok-pass_on-in-BlockCommit-clause-steps : goal.returns-in_ok-pass_on-in-BlockCommit-clause-steps
 returns-in_ok-pass_on-in-BlockCommit-clause-steps g c = λ starting earlier seen kept counted.
     let before = c.self.inside in
+    let was = ap (λ (v : WordsView). owed v.shadow) c.self.view_is in
     let has = has_opened c.self.view_is seen in
     let keeps = keeps_opened c.self.view_is kept in
     let on = c.pass_on-in-BlockCommit in
     let ok = c.in_ok-pass_on-in-BlockCommit in
     let cut = c.cut-in-BlockCommit in
-    let mid = c.close_block-in-BlockCommit.new.self in
+    let mid = c.close_block_counted-in-BlockCommit.new.self in
     let long = length-written mid.words mid.changed in
-    paid_closed cut.result c.args.entry earlier (written mid.words mid.changed) cut.new.self.since c.args.steps.now on.new.steps
+    paid_closed cut.result c.args.entry earlier (written mid.words mid.changed) cut.new.self.since (c.args.steps.now + owed c.args.self.now.shadow + 30) (on.new.steps + owed on.new.shadow)
     c.self.view_is c.in-BlockCommit.is (low_caller keeps) (λ no. cc)
-    (long ∙ block_changed mid.changed before.shadow.changed (kept_writes before.shadow c.args.entry.caller) c.close_block-in-BlockCommit.ensures.changed has.unchanged)
-    (omega (arith, long, on.ensures.steps))
+    (long ∙ block_changed mid.changed before.shadow.changed (kept_writes before.shadow c.args.entry.caller) c.close_block_counted-in-BlockCommit.ensures.changed has.unchanged)
+    (omega (arith, was, long, c.close_block_counted-in-BlockCommit.ensures.paid, on.ensures.steps))
     (ok_two cut.result cut.ensures.since cut.ensures.since (λ since twice. since ∙ ap (λ parts. parts ++ [] ∷ []) ok.ensures.since))
