@@ -10,6 +10,7 @@ pub mod TreePairLaws
 pub mod ShowingTree
 pub mod CurrentLaws
 pub mod DifferingLaws
+pub mod PriceLaws
 pub mod ReadyLaws
 pub mod HomeLaws
 pub mod SidedLaws

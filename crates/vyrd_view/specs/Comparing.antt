@@ -1,5 +1,5 @@
 -- What a comparison has taken in, and what it looks at.
-use Rattle.std.specs.Prelude.{◌≡◌, ℕ, Bool, false, ◌+◌, ◌==◌, not, List, length, filter}
+use Rattle.std.specs.Prelude.{◌≡◌, ℕ, Bool, false, ◌+◌, ◌*◌, ◌%◌, ◌==◌, not, List, length, filter}
 use Rattle.std.specs.Prelude.{slice_index, if◌then◌else◌}
 use Rattle.std.specs.List.{list_any}
 use Rattle.vyrd_base.specs.declared.header.Header.{Header}
@@ -7,8 +7,8 @@ use Rattle.vyrd_base.specs.declared.subject.Subject.{Subject}
 use Rattle.vyrd_base.specs.declared.subject.Subject.TheVariants.{Multiset, Cache, Tree, Buffers, Own}
 use Rattle.vyrd_base.specs.Amounts.{Amounts}
 use Rattle.vyrd_base.specs.Layout.{plain_words}
-use Rattle.vyrd_base.specs.Rules.{built_in}
-use Rattle.vyrd_view.specs.Known.{Known, by_rules}
+use Rattle.vyrd_base.specs.Rules.{built_in, own}
+use Rattle.vyrd_view.specs.Known.{Known, Shows, by_rules, of_subject, nothing}
 use Rattle.vyrd_view.specs.Chains.{has_link}
 
 -- the header, the words that are compared, the specification's amounts, and whether memory was
@@ -59,3 +59,20 @@ abbrev pub parts_looked_at : Subject → ℕ → List ℕ → List ℕ → List 
 parts_looked_at Tree size before words changed =
     nodes_looked_at size (differing before words changed)
 parts_looked_at _ size before words changed = length changed
+
+-- how many nodes a changed word leads to beside its own: all of a tree's if it is a right link
+abbrev pub nodes_led_to : Subject → ℕ → ℕ → ℕ
+nodes_led_to Tree size word = if word % 12 == 3 then size else 0
+nodes_led_to _ size word = 0
+
+-- The price of a changed word: for its part, and for each node that it leads to, one step to look
+-- at it, and two for each key that it gives an amount to.
+abbrev pub word_price : Header → ℕ → ℕ
+word_price h word = (1 + 2 * keys_of_part h.subject) * (1 + nodes_led_to h.subject h.size word)
+
+-- the price by the name of what the words show, which is that of a built-in subject
+abbrev pub price_by : Shows → ℕ → ℕ
+price_by (by_rules (built_in h)) word = word_price h word
+price_by (by_rules (own h lines)) word = 0
+price_by (of_subject subject size) word = 0
+price_by nothing word = 0

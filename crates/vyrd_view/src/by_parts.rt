@@ -13,8 +13,8 @@ use crate::parts::Parts;
 use crate::room::{first_parts, grow, make_room};
 use crate::words::copy_changed;
 use std::alloc::{AllocError, Global};
-use std::marker::{Brand, Model};
-use std::sync::ledger::{Blank, Ledger};
+use std::marker::Model;
+use std::sync::ledger::Ledger;
 use vyrd_base::Steps;
 
 /// The table is made for the places of this many parts at most.
@@ -162,14 +162,28 @@ impl<D: Decode> ByParts<D> {
 }
 
 impl<D: Decode> Compare for ByParts<D> {
+    ghost use Rattle.std.specs.Prelude.{◌+◌, ◌*◌};
+
     ghost known = { λ c. c };
 
-    fn words_changed(&mut self, words: &[u64], changed: &[u32]) -> Result<(), AllocError> {
-        tell_words::<D, Brand>(Blank::new(1), self, words, changed)
+    ghost price = { λ shows word. 1 + 2 * D.most_places shows };
+
+    fn words_changed<L: Ledger>(
+        &mut self,
+        words: &[u64],
+        changed: &[u32],
+        steps: &mut Steps<L>,
+    ) -> Result<(), AllocError> {
+        self.words_changed(words, changed, steps)
     }
 
-    fn spec_changed(&mut self, key: u64, amount: u64) -> Result<(), AllocError> {
-        tell_amount::<D, Brand>(Blank::new(1), self, key, amount)
+    fn spec_changed<L: Ledger>(
+        &mut self,
+        key: u64,
+        amount: u64,
+        steps: &mut Steps<L>,
+    ) -> Result<(), AllocError> {
+        self.spec_changed(key, amount, steps)
     }
 
     #[inline(always)]
@@ -180,48 +194,4 @@ impl<D: Decode> Compare for ByParts<D> {
     fn refused(&self) -> bool {
         self.refused()
     }
-}
-
-/// The comparison learns the words. The steps aren't counted.
-fn tell_words<D: Decode, L: Ledger>(
-    blank: Blank,
-    compared: &mut ByParts<D>,
-    words: &[u64],
-    changed: &[u32],
-) -> Result<(), AllocError>
-    requires name { blank.name ≡ L.name }
-    requires parts { blank.parts ≡ L.parts }
-    requires some { 0 < blank.parts }
-    requires sound { compared.old.refused ≡ false }
-    requires count { length words.now ≡ compared.old.count }
-    requires within { All (λ w. w < compared.old.count) changed.now }
-    requires elsewhere { AgreeElsewhere compared.old.words words.now changed.now }
-    ensures ok { OnOk result (compared.new ≡ record compared.old { words = words.now }) }
-    ensures refused { compared.new.refused ≡ is_err result }
-    ensures shows { compared.new.shows ≡ compared.old.shows }
-    ensures count { compared.new.count ≡ compared.old.count }
-{
-    let mut steps = Steps::<L>::new(blank);
-    compared.words_changed(words, changed, &mut steps)
-}
-
-/// The comparison learns an amount. The step isn't counted.
-fn tell_amount<D: Decode, L: Ledger>(
-    blank: Blank,
-    compared: &mut ByParts<D>,
-    key: u64,
-    amount: u64,
-) -> Result<(), AllocError>
-    requires name { blank.name ≡ L.name }
-    requires parts { blank.parts ≡ L.parts }
-    requires some { 0 < blank.parts }
-    requires sound { compared.old.refused ≡ false }
-    ensures ok { OnOk result (compared.new
-        ≡ record compared.old { specified = with_amount compared.old.specified key amount }) }
-    ensures refused { compared.new.refused ≡ is_err result }
-    ensures shows { compared.new.shows ≡ compared.old.shows }
-    ensures count { compared.new.count ≡ compared.old.count }
-{
-    let mut steps = Steps::<L>::new(blank);
-    compared.spec_changed(key, amount, &mut steps)
 }

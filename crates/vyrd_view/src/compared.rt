@@ -11,8 +11,8 @@ ghost use Rattle.vyrd_view.specs.Comparing.{AgreeElsewhere, keys_of_part, parts_
 use crate::any_parts::AnyParts;
 use crate::compare::Compare;
 use std::alloc::{AllocError, Global};
-use std::marker::{Brand, Model};
-use std::sync::ledger::{Blank, Ledger};
+use std::marker::Model;
+use std::sync::ledger::Ledger;
 use vyrd_base::{Header, Steps};
 
 /// The words and the specification's amounts, and where they differ. It is told what changes on
@@ -125,16 +125,28 @@ impl Compared {
 }
 
 impl Compare for Compared {
-    ghost use Rattle.vyrd_view.specs.Comparing.{known_of};
+    ghost use Rattle.vyrd_view.specs.Comparing.{known_of, price_by};
 
     ghost known = { known_of };
 
-    fn words_changed(&mut self, words: &[u64], changed: &[u32]) -> Result<(), AllocError> {
-        tell_words::<Brand>(Blank::new(1), self, words, changed)
+    ghost price = { price_by };
+
+    fn words_changed<L: Ledger>(
+        &mut self,
+        words: &[u64],
+        changed: &[u32],
+        steps: &mut Steps<L>,
+    ) -> Result<(), AllocError> {
+        self.words_changed(words, changed, steps)
     }
 
-    fn spec_changed(&mut self, key: u64, amount: u64) -> Result<(), AllocError> {
-        tell_amount::<Brand>(Blank::new(1), self, key, amount)
+    fn spec_changed<L: Ledger>(
+        &mut self,
+        key: u64,
+        amount: u64,
+        steps: &mut Steps<L>,
+    ) -> Result<(), AllocError> {
+        self.spec_changed(key, amount, steps)
     }
 
     #[inline(always)]
@@ -145,46 +157,4 @@ impl Compare for Compared {
     fn refused(&self) -> bool {
         self.refused()
     }
-}
-
-/// The comparison learns the words. The steps aren't counted.
-fn tell_words<L: Ledger>(
-    blank: Blank,
-    compared: &mut Compared,
-    words: &[u64],
-    changed: &[u32],
-) -> Result<(), AllocError>
-    requires name { blank.name ≡ L.name }
-    requires parts { blank.parts ≡ L.parts }
-    requires some { 0 < blank.parts }
-    requires sound { compared.old.refused ≡ false }
-    requires count { length words.now ≡ plain_words compared.old.header }
-    requires within { All (λ w. w < plain_words compared.old.header) changed.now }
-    requires elsewhere { AgreeElsewhere compared.old.words words.now changed.now }
-    ensures ok { OnOk result (compared.new ≡ record compared.old { words = words.now }) }
-    ensures refused { compared.new.refused ≡ is_err result }
-    ensures header { compared.new.header ≡ compared.old.header }
-{
-    let mut steps = Steps::<L>::new(blank);
-    compared.words_changed(words, changed, &mut steps)
-}
-
-/// The comparison learns an amount. The step isn't counted.
-fn tell_amount<L: Ledger>(
-    blank: Blank,
-    compared: &mut Compared,
-    key: u64,
-    amount: u64,
-) -> Result<(), AllocError>
-    requires name { blank.name ≡ L.name }
-    requires parts { blank.parts ≡ L.parts }
-    requires some { 0 < blank.parts }
-    requires sound { compared.old.refused ≡ false }
-    ensures refused { compared.new.refused ≡ is_err result }
-    ensures ok { OnOk result (compared.new
-        ≡ record compared.old { specified = with_amount compared.old.specified key amount }) }
-    ensures header { compared.new.header ≡ compared.old.header }
-{
-    let mut steps = Steps::<L>::new(blank);
-    compared.spec_changed(key, amount, &mut steps)
 }

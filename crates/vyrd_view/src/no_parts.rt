@@ -1,15 +1,14 @@
 //! Words that show nothing, against the specification.
 
-ghost use Rattle.std.specs.Prelude.{◌≡◌, ◌<◌, [], true, false, replicate, IfOk, OnOk, OnErr};
-ghost use Rattle.vyrd_base.specs.Amounts.{with_amount};
+ghost use Rattle.std.specs.Prelude.{◌≡◌, [], false, replicate, IfOk};
 ghost use Rattle.vyrd_view.specs.Known.{nothing};
 
 use crate::compare::Compare;
 use crate::parts::Parts;
 use crate::words::copy_changed;
 use std::alloc::{AllocError, Global};
-use std::marker::{Brand, Model};
-use std::sync::ledger::{Blank, Ledger};
+use std::marker::Model;
+use std::sync::ledger::Ledger;
 use vyrd_base::Steps;
 
 /// The comparison of a specification without any part, of which the words show nothing: they are
@@ -60,13 +59,26 @@ impl NoParts {
 impl Compare for NoParts {
     ghost known = { λ c. c };
 
-    fn words_changed(&mut self, words: &[u64], changed: &[u32]) -> Result<(), AllocError> {
+    ghost price = { λ shows word. 1 };
+
+    fn words_changed<L: Ledger>(
+        &mut self,
+        words: &[u64],
+        changed: &[u32],
+        steps: &mut Steps<L>,
+    ) -> Result<(), AllocError> {
+        steps.add(changed.len());
         copy_changed(&mut self.words, words, changed);
         Ok(())
     }
 
-    fn spec_changed(&mut self, key: u64, amount: u64) -> Result<(), AllocError> {
-        specify::<Brand>(Blank::new(1), &mut self.parts, key, amount)
+    fn spec_changed<L: Ledger>(
+        &mut self,
+        key: u64,
+        amount: u64,
+        steps: &mut Steps<L>,
+    ) -> Result<(), AllocError> {
+        self.parts.specify(key, amount, steps)
     }
 
     fn first_difference(&self) -> Option<u64> {
@@ -76,23 +88,4 @@ impl Compare for NoParts {
     fn refused(&self) -> bool {
         self.parts.refused()
     }
-}
-
-/// The specification has this amount of the key. The step isn't counted.
-fn specify<L: Ledger>(
-    blank: Blank,
-    parts: &mut Parts,
-    key: u64,
-    amount: u64,
-) -> Result<(), AllocError>
-    requires name { blank.name ≡ L.name }
-    requires parts { blank.parts ≡ L.parts }
-    requires some { 0 < blank.parts }
-    requires sound { parts.old.refused ≡ false }
-    ensures ok { OnOk result (parts.new
-        ≡ record parts.old { specified = with_amount parts.old.specified key amount }) }
-    ensures refused { OnErr result (parts.new.refused ≡ true) }
-{
-    let mut steps = Steps::<L>::new(blank);
-    parts.specify(key, amount, &mut steps)
 }
