@@ -4,6 +4,8 @@ ghost use Rattle.std.specs.Prelude.{◌≡◌};
 
 use crate::parts::OwnParts;
 use std::alloc::AllocError;
+use std::sync::ledger::Ledger;
+use vyrd_base::Steps;
 use vyrd_view::{ByParts, Compare};
 
 /// The words, by the parts of a specification, and a specification's amounts, and where they differ.
@@ -22,14 +24,29 @@ impl OwnCompared {
 }
 
 impl Compare for OwnCompared {
+    ghost use Rattle.std.specs.Prelude.{◌+◌, ◌*◌};
+
     ghost known = { λ c. c.inside };
 
-    fn words_changed(&mut self, words: &[u64], changed: &[u32]) -> Result<(), AllocError> {
-        Compare::words_changed(&mut self.inside, words, changed)
+    // A part has 4 places at most.
+    ghost price = { λ shows word. 1 + 2 * 4 };
+
+    fn words_changed<L: Ledger>(
+        &mut self,
+        words: &[u64],
+        changed: &[u32],
+        steps: &mut Steps<L>,
+    ) -> Result<(), AllocError> {
+        Compare::words_changed(&mut self.inside, words, changed, steps)
     }
 
-    fn spec_changed(&mut self, key: u64, amount: u64) -> Result<(), AllocError> {
-        Compare::spec_changed(&mut self.inside, key, amount)
+    fn spec_changed<L: Ledger>(
+        &mut self,
+        key: u64,
+        amount: u64,
+        steps: &mut Steps<L>,
+    ) -> Result<(), AllocError> {
+        Compare::spec_changed(&mut self.inside, key, amount, steps)
     }
 
     #[inline(always)]
