@@ -19,8 +19,8 @@ use crate::counts::Counts;
 use crate::write::Write;
 use std::alloc::{AllocError, Global};
 use std::collections::VecDeque;
-use std::marker::Model;
-use std::sync::ledger::Ledger;
+use std::marker::{Brand, Model};
+use std::sync::ledger::{Blank, Ledger};
 use vyrd_base::{Header, Steps, View};
 use vyrd_spec::Spec;
 use vyrd_view::Compare;
@@ -114,7 +114,7 @@ impl<C: Compare> Views<C> {
         ensures header { self.new.header ≡ self.old.header }
         ensures shows { self.new.shows ≡ self.old.shows }
     {
-        tell_amounts(&mut self.compared, state)
+        tell_amounts::<C, Brand>(Blank::new(1), &mut self.compared, state)
     }
 
     /// A write takes effect. If no commit waits, it does so at once, and otherwise it waits too.
@@ -260,7 +260,12 @@ impl<C: Compare> Views<C> {
         ensures header { self.new.header ≡ self.old.header }
         ensures shows { self.new.shows ≡ self.old.shows }
     {
-        self.compared.words_changed(&self.words, &self.changed)?;
+        tell_words::<C, Brand>(
+            Blank::new(1),
+            &mut self.compared,
+            &self.words,
+            &self.changed,
+        )?;
         self.changed.clear();
         Ok(())
     }
@@ -314,12 +319,43 @@ impl<C: Compare> Views<C> {
         ensures header { self.new.header ≡ self.old.header }
         ensures shows { self.new.shows ≡ self.old.shows }
     {
-        tell_touched(&mut self.compared, spec)
+        tell_touched::<C, S, Brand>(Blank::new(1), &mut self.compared, spec)
     }
 }
 
-/// The comparison learns all amounts that a state shows.
-fn tell_amounts<C: Compare>(compared: &mut C, state: &View) -> Result<(), AllocError>
+/// The comparison learns the words. The steps aren't counted.
+fn tell_words<C: Compare, L: Ledger>(
+    blank: Blank,
+    compared: &mut C,
+    words: &[u64],
+    changed: &[u32],
+) -> Result<(), AllocError>
+    requires name { blank.name ≡ L.name }
+    requires parts { blank.parts ≡ L.parts }
+    requires some { 0 < blank.parts }
+    requires sound { (C.known compared.old).refused ≡ false }
+    requires count { length words.now ≡ (C.known compared.old).count }
+    requires within { All (λ w. w < (C.known compared.old).count) changed.now }
+    requires elsewhere { AgreeElsewhere (C.known compared.old).words words.now changed.now }
+    ensures ok { OnOk result
+        (C.known compared.new ≡ record (C.known compared.old) { words = words.now }) }
+    ensures refused { (C.known compared.new).refused ≡ is_err result }
+    ensures shows { (C.known compared.new).shows ≡ (C.known compared.old).shows }
+    ensures count { (C.known compared.new).count ≡ (C.known compared.old).count }
+{
+    let mut steps = Steps::<L>::new(blank);
+    compared.words_changed(words, changed, &mut steps)
+}
+
+/// The comparison learns all amounts that a state shows. The steps aren't counted.
+fn tell_amounts<C: Compare, L: Ledger>(
+    blank: Blank,
+    compared: &mut C,
+    state: &View,
+) -> Result<(), AllocError>
+    requires name { blank.name ≡ L.name }
+    requires parts { blank.parts ≡ L.parts }
+    requires some { 0 < blank.parts }
     requires sound { (C.known compared.old).refused ≡ false }
     requires none { (C.known compared.old).specified ≡ [] }
     ensures ok { OnOk result
@@ -328,15 +364,24 @@ fn tell_amounts<C: Compare>(compared: &mut C, state: &View) -> Result<(), AllocE
     ensures shows { (C.known compared.new).shows ≡ (C.known compared.old).shows }
     ensures count { (C.known compared.new).count ≡ (C.known compared.old).count }
 {
+    let mut steps = Steps::<L>::new(blank);
     for (key, amount) in state.pairs() {
-        compared.spec_changed(*key, *amount)?;
+        compared.spec_changed(*key, *amount, &mut steps)?;
     }
     Ok(())
 }
 
-/// The comparison learns the amounts of the keys that the last step touched.
+/// The comparison learns the amounts of the keys that the last step touched. The steps aren't
+/// counted.
 #[inline(always)]
-fn tell_touched<C: Compare, S: Spec>(compared: &mut C, spec: &S) -> Result<(), AllocError>
+fn tell_touched<C: Compare, S: Spec, L: Ledger>(
+    blank: Blank,
+    compared: &mut C,
+    spec: &S,
+) -> Result<(), AllocError>
+    requires name { blank.name ≡ L.name }
+    requires parts { blank.parts ≡ L.parts }
+    requires some { 0 < blank.parts }
     requires sound { (C.known compared.old).refused ≡ false }
     ensures ok { OnOk result (C.known compared.new
         ≡ record (C.known compared.old) {
@@ -348,8 +393,9 @@ fn tell_touched<C: Compare, S: Spec>(compared: &mut C, spec: &S) -> Result<(), A
     ensures shows { (C.known compared.new).shows ≡ (C.known compared.old).shows }
     ensures count { (C.known compared.new).count ≡ (C.known compared.old).count }
 {
+    let mut steps = Steps::<L>::new(blank);
     for key in spec.touched() {
-        compared.spec_changed(*key, spec.amount(*key))?;
+        compared.spec_changed(*key, spec.amount(*key), &mut steps)?;
     }
     Ok(())
 }
