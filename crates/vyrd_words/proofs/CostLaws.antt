@@ -19,7 +19,8 @@ use Rattle.vyrd_words.specs.Effects.{cut_if, inner_number, number_at, parts_sinc
 use Rattle.std.specs.Prelude.{Result, Ok, Err, OnOk}
 use Rattle.vyrd_shadow.specs.Following.{words_of}
 use Rattle.vyrd_words.specs.HasWords.{WordsView}
-use Rattle.vyrd_words.specs.Costs.{effect_count, writes_behind, late_cost, held_if, held, work_held, most_held}
+use Rattle.vyrd_view.specs.Known.{Shows}
+use Rattle.vyrd_words.specs.Costs.{effect_count, effect_words, writes_behind, late_cost, held_if, held, work_held, most_held}
 use Rattle.vyrd_words.proofs.CutLaws.{length-with_part}
 use Rattle.vyrd_words.proofs.WordsLaws.{number_low}
 
@@ -221,14 +222,14 @@ late_paid callers e earlier writes old new low opened is = by_kind e.kind refl
 pub paid_now : {v w : WordsView} (e : Entry) {kind : Kind} (earlier : List Entry) (writes : List (ℕ × ℕ)) (new : List (List (ℕ × ℕ))) (s0 s1 : ℕ)
     → w ≡ v → e.kind ≡ kind → e.caller < w.shadow.header.callers → (kind ≡ BlockClose → has_block e.caller earlier ≡ true)
     → length writes ≡ effect_count w.shadow e.caller kind
-    → s1 ≤ s0 + length writes + late_cost (parts_behind earlier e.caller kind) w.views.since
+    → s1 ≤ s0 + 4 * length writes + late_cost (parts_behind earlier e.caller kind) w.views.since
     → new ≡ cut_if (is_commit kind) (with_part (parts_behind earlier e.caller kind) writes w.views.since)
     → s1 + work_held v.shadow.header.callers (e ∷ earlier) new
-    ≤ s0 + work_held v.shadow.header.callers earlier v.views.since + effect_count v.shadow e.caller e.kind
+    ≤ s0 + work_held v.shadow.header.callers earlier v.views.since + 4 * effect_count v.shadow e.caller e.kind
     + most_held v.shadow.header.callers (effect_count v.shadow e.caller e.kind)
 paid_now {v} {w} e {kind} earlier writes new s0 s1 is at low opened count cost since =
     subst (λ (x : WordsView). s1 + work_held x.shadow.header.callers (e ∷ earlier) new
-    ≤ s0 + work_held x.shadow.header.callers earlier x.views.since + effect_count x.shadow e.caller e.kind
+    ≤ s0 + work_held x.shadow.header.callers earlier x.views.since + 4 * effect_count x.shadow e.caller e.kind
     + most_held x.shadow.header.callers (effect_count x.shadow e.caller e.kind)) is
     (let n = w.shadow.header.callers in
     let effects : length writes ≡ effect_count w.shadow e.caller e.kind = count ∙ ap (effect_count w.shadow e.caller) (sym at) in
@@ -241,10 +242,10 @@ paid_now {v} {w} e {kind} earlier writes new s0 s1 is at low opened count cost s
 pub paid_closed : {T E : Type 0} {v w : WordsView} (r : Result T E) (e : Entry) {kind : Kind} (earlier : List Entry) (writes : List (ℕ × ℕ)) (new : List (List (ℕ × ℕ))) (s0 s1 : ℕ)
     → w ≡ v → e.kind ≡ kind → e.caller < w.shadow.header.callers → (kind ≡ BlockClose → has_block e.caller earlier ≡ true)
     → length writes ≡ effect_count w.shadow e.caller kind
-    → s1 ≤ s0 + length writes + late_cost (parts_behind earlier e.caller kind) w.views.since
+    → OnOk r (s1 ≤ s0 + 4 * length writes + late_cost (parts_behind earlier e.caller kind) w.views.since)
     → OnOk r (new ≡ cut_if (is_commit kind) (with_part (parts_behind earlier e.caller kind) writes w.views.since))
     → OnOk r (s1 + work_held v.shadow.header.callers (e ∷ earlier) new
-    ≤ s0 + work_held v.shadow.header.callers earlier v.views.since + effect_count v.shadow e.caller e.kind
+    ≤ s0 + work_held v.shadow.header.callers earlier v.views.since + 4 * effect_count v.shadow e.caller e.kind
     + most_held v.shadow.header.callers (effect_count v.shadow e.caller e.kind))
 paid_closed {v = v} {w = w} (Ok x) e {kind} earlier writes new s0 s1 is at low opened count cost since =
     paid_now {v = v} {w = w} e {kind = kind} earlier writes new s0 s1 is at low opened count cost since
@@ -262,3 +263,19 @@ block_changed changed old kept is none = ap length is ∙ ap (λ xs. length (xs 
     by_list : (xs : List (ℕ × ℕ)) → length (words_of xs) ≡ length xs
     by_list [] = refl
     by_list (x ∷ xs) = ap suc (by_list xs)
+
+-- which words a write has changed, and the end of a block
+pub one_word : (b : Bool) (changed old : List ℕ) (w : ℕ) → changed ≡ cond b old (old ++ w ∷ []) → old ≡ [] → changed ≡ cond b [] (w ∷ [])
+one_word true changed old w is none = is ∙ none
+one_word false changed old w is none = is ∙ ap (λ xs. xs ++ w ∷ []) none
+
+pub block_words : (changed old : List ℕ) (kept : List (ℕ × ℕ)) → changed ≡ old ++ words_of kept → old ≡ [] → changed ≡ words_of kept
+block_words changed old kept is none = is ∙ ap (λ xs. xs ++ words_of kept) none
+
+-- and their prices
+pub priced : {v w : WordsView} (price : Shows → ℕ → ℕ) (e : Entry) {kind : Kind} (changed : List ℕ) → w ≡ v → e.kind ≡ kind
+    → changed ≡ effect_words w.shadow e.caller kind
+    → sum_by (price w.views.shows) changed ≡ sum_by (price v.views.shows) (effect_words v.shadow e.caller e.kind)
+priced {v} {w} price e {kind} changed is at same =
+    ap (sum_by (price w.views.shows)) (same ∙ ap (effect_words w.shadow e.caller) (sym at))
+    ∙ ap (λ (x : WordsView). sum_by (price x.views.shows) (effect_words x.shadow e.caller e.kind)) is

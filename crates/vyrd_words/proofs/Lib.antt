@@ -9,3 +9,4 @@ pub mod CostLaws
 pub mod CountLaws
 pub mod OwedLaws
 pub mod TouchedLaws
+pub mod PendingLaws

@@ -1,5 +1,5 @@
 -- What the work on the words costs, in steps.
-use Rattle.std.specs.Prelude.{ℕ, Bool, true, false, ◌-◌, ◌+◌, ◌*◌, List, length, drop}
+use Rattle.std.specs.Prelude.{ℕ, Bool, true, false, ◌-◌, ◌+◌, ◌*◌, List, [], ◌∷◌, length, drop}
 use Rattle.std.specs.Prelude.{if◌then◌else◌}
 use Rattle.std.specs.List.{sum_by}
 use Rattle.vyrd_base.specs.declared.log.Kind.{Kind}
@@ -9,8 +9,15 @@ use Rattle.vyrd_base.specs.Callers.{has_block}
 use Rattle.vyrd_base.specs.Commits.{commit_count}
 use Rattle.vyrd_base.specs.Places.{numbers_below}
 use Rattle.vyrd_base.specs.Words.{block_writes}
-use Rattle.vyrd_shadow.specs.Following.{Kept, is_open, kept_writes}
+use Rattle.vyrd_shadow.specs.Following.{Kept, is_open, kept_writes, words_of}
 use Rattle.vyrd_words.specs.Effects.{inner_number, parts_since}
+
+-- What the changed words and the writes that wait will cost, by the price of each word: for a
+-- changed word that price, and a step to drop it; and for a write that waits two steps, since it
+-- takes effect in one of them, and its word is a changed one then.
+abbrev pub pending_for : (ℕ → ℕ) → List ℕ → List (ℕ × ℕ) → ℕ
+pending_for price changed writes = sum_by price changed + length changed
+    + sum_by (λ write. price write.0) writes + 2 * length writes
 
 -- how many writes stand in the last `behind` of these lists
 abbrev pub writes_behind : ℕ → List (List (ℕ × ℕ)) → ℕ
@@ -40,6 +47,13 @@ work_held callers earlier since = sum_by (held earlier since) (numbers_below cal
 abbrev pub most_held : ℕ → ℕ → ℕ
 most_held callers effects = sum_by (λ c. 2 * effects + 4) (numbers_below callers)
 
+-- the words that an entry's effects change
+abbrev pub effect_words : Kept → ℕ → Kind → List ℕ
+effect_words kept c (Write word value) = if is_open kept c then [] else word ∷ []
+effect_words kept c BlockClose = words_of (kept_writes kept c)
+effect_words kept c BlockCommit = words_of (kept_writes kept c)
+effect_words kept c _ = []
+
 -- how many effects an entry has
 abbrev pub effect_count : Kept → ℕ → Kind → ℕ
 effect_count kept c (Write word value) = if is_open kept c then 0 else 1
@@ -60,13 +74,13 @@ abbrev pub for_each : ℕ → ℕ → ℕ
 for_each callers amount = sum_by (λ c. amount) (numbers_below callers)
 
 -- What is owed for the entries so far: what the ends of open blocks would cost, and for each write
--- that is kept back one step, and two for each caller.
+-- that is kept back four steps, and two for each caller.
 abbrev pub owed : ℕ → List Entry → List (List (ℕ × ℕ)) → ℕ
-owed callers earlier since = work_held callers earlier since + all_kept_back callers earlier
+owed callers earlier since = work_held callers earlier since + 4 * all_kept_back callers earlier
     + for_each callers (2 * all_kept_back callers earlier)
 
--- What each entry costs at most, with what is owed after it: thirty steps of the words that are
--- rebuilt, one to pass an effect on, and for each caller what its open block's end owes for that
--- effect and for a commit.
+-- What each entry costs at most, with what is owed after it and beside the prices of its effects:
+-- thirty steps of the words that are rebuilt, four to pass an effect on, and for each caller what
+-- its open block's end owes for that effect and for a commit.
 abbrev pub each_entry : ℕ → ℕ
-each_entry callers = 31 + 6 * callers
+each_entry callers = 34 + 6 * callers

@@ -13,7 +13,8 @@ use Rattle.vyrd_view.specs.Known.{Known, Shows}
 -- The header; the words at the last commit that doesn't wait, or later ones; the words at the first
 -- commit that waits, and those now if none waits; for each commit that waits the writes that took
 -- effect after it, up to the next one and in their order; what the words show, by its name; the
--- words and the specification's amounts that were compared last; and whether memory was refused.
+-- words and the specification's amounts that were compared last; whether memory was refused; and
+-- how many steps the changed words and the writes that wait will cost.
 pub record Cuts : Type 0 where
   pub header : Header
   pub base : List ℕ
@@ -23,6 +24,7 @@ pub record Cuts : Type 0 where
   pub compared : List ℕ
   pub specified : Amounts
   pub refused : Bool
+  pub pending : ℕ
 
 -- the words at the first commit, by how many writes took effect between each commit and the one
 -- before

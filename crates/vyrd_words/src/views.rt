@@ -2,14 +2,14 @@
 
 ghost use Rattle.std.specs.VecDeque.{deque_len, deque_capacity};
 ghost use Rattle.std.specs.Prelude.{◌≡◌, ◌<◌, ◌≤◌, ◌^◌, ◌+◌, ◌*◌, ◌++◌, ℕ, false, List, [], ◌∷◌};
-ghost use Rattle.std.specs.Prelude.{length, map, take, drop, sum, insert, replicate, slice_set};
+ghost use Rattle.std.specs.Prelude.{length, map, take, drop, sum, sum_by, insert, replicate, slice_set};
 ghost use Rattle.std.specs.Prelude.{slice_index, Some, IfOk, OnOk, vec_len, vec_capacity, All};
 ghost use Rattle.vyrd_base.specs.Rules.{rules_by};
 ghost use Rattle.vyrd_base.specs.Amounts.{first_difference as least_difference};
 ghost use Rattle.std.specs.Result.{is_err};
 ghost use Rattle.vyrd_base.specs.Layout.{plain_words};
 ghost use Rattle.vyrd_shadow.specs.Blocks.{with_writes, AreInRange};
-ghost use Rattle.vyrd_words.specs.Costs.{writes_behind};
+ghost use Rattle.vyrd_words.specs.Costs.{pending_for, writes_behind};
 ghost use Rattle.vyrd_words.specs.Cuts.{first_with, with_part, written};
 ghost use Rattle.vyrd_spec.specs.Touching.{with_touched};
 ghost use Rattle.vyrd_view.specs.Comparing.{AgreeElsewhere};
@@ -50,6 +50,7 @@ pub(crate) struct Views<C: Compare> {
 }
 
 impl<C: Compare> Model for Views<C> {
+    ghost use Rattle.vyrd_words.specs.Costs.{pending_for};
     ghost use Rattle.vyrd_words.specs.Cuts.{Cuts, first_of, since_of, AreCuts, AreKnown};
 
     ghost Value = { Cuts };
@@ -63,6 +64,7 @@ impl<C: Compare> Model for Views<C> {
       compared = (C.known v.compared).words;
       specified = (C.known v.compared).specified;
       refused = (C.known v.compared).refused;
+      pending = pending_for (C.price (C.known v.compared).shows) v.changed.items v.writes.items;
     } };
 
     ghost invariant = { λ v. AreCuts v.header v.words.items v.counts v.writes.items v.tail
@@ -91,6 +93,8 @@ impl<C: Compare> Views<C> {
         ensures since { IfOk result (λ v. v.since ≡ []) }
         ensures specified { IfOk result (λ v. v.specified ≡ []) }
         ensures sound { IfOk result (λ v. v.refused ≡ false) }
+        ensures pending { IfOk result (λ v. v.pending
+            ≡ pending_for (C.price (C.known compared).shows) changed.items []) }
     {
         Ok(Views {
             header,
@@ -113,13 +117,19 @@ impl<C: Compare> Views<C> {
         ensures since { self.new.since ≡ self.old.since }
         ensures header { self.new.header ≡ self.old.header }
         ensures shows { self.new.shows ≡ self.old.shows }
+        ensures pending { self.new.pending ≡ self.old.pending }
     {
         tell_amounts::<C, Brand>(Blank::new(1), &mut self.compared, state)
     }
 
     /// A write takes effect. If no commit waits, it does so at once, and otherwise it waits too.
     #[inline(always)]
-    pub fn effect(&mut self, word: u32, value: u64) -> Result<(), AllocError>
+    pub fn effect<L: Ledger>(
+        &mut self,
+        word: u32,
+        value: u64,
+        steps: &mut Steps<L>,
+    ) -> Result<(), AllocError>
         requires word { word < plain_words self.old.header }
         requires value { value < 2 ^ 63 }
         requires sound { self.old.refused ≡ false }
@@ -131,9 +141,11 @@ impl<C: Compare> Views<C> {
         ensures sound { OnOk result (self.new.refused ≡ false) }
         ensures header { self.new.header ≡ self.old.header }
         ensures shows { self.new.shows ≡ self.old.shows }
+        ensures steps { OnOk result (steps.new + self.new.pending
+            ≤ steps.old + self.old.pending + C.price self.old.shows word + 3) }
     {
         if self.counts.is_empty() {
-            self.take_effect(word, value)
+            self.take_effect(word, value, steps)
         } else {
             self.writes.push_back(Write::new(word, value))?;
             self.tail += 1;
@@ -143,7 +155,12 @@ impl<C: Compare> Views<C> {
 
     /// A write takes effect at once, if no commit waits.
     #[inline(always)]
-    fn take_effect(&mut self, word: u32, value: u64) -> Result<(), AllocError>
+    fn take_effect<L: Ledger>(
+        &mut self,
+        word: u32,
+        value: u64,
+        steps: &mut Steps<L>,
+    ) -> Result<(), AllocError>
         requires word { word < plain_words self.old.header }
         requires value { value < 2 ^ 63 }
         requires sound { self.old.refused ≡ false }
@@ -154,6 +171,8 @@ impl<C: Compare> Views<C> {
         ensures sound { OnOk result (self.new.refused ≡ false) }
         ensures header { self.new.header ≡ self.old.header }
         ensures shows { self.new.shows ≡ self.old.shows }
+        ensures steps { OnOk result (steps.new + self.new.pending
+            ≤ steps.old + self.old.pending + C.price self.old.shows word + 3) }
     {
         self.changed.reserve(self.tail + 1)?;
         catch_up(
@@ -161,12 +180,13 @@ impl<C: Compare> Views<C> {
             &mut self.changed,
             &mut self.writes,
             self.tail,
+            steps,
         );
         self.tail = 0;
         self.words[word as usize] = value;
         note(&mut self.changed, word);
         if self.changed.len() >= MOST_CHANGED {
-            return self.compare_words();
+            return self.compare_words(steps);
         }
         Ok(())
     }
@@ -196,6 +216,9 @@ impl<C: Compare> Views<C> {
         ensures steps { steps.new ≤ steps.old + length changed.now
             + 2 * writes_behind behind self.old.since
             + 4 * behind }
+        ensures pending { OnOk result (self.new.pending ≤ self.old.pending
+            + sum_by (C.price self.old.shows) changed.now
+            + 2 * length changed.now) }
     {
         if behind > self.counts.len() {
             return Ok(());
@@ -217,6 +240,7 @@ impl<C: Compare> Views<C> {
         ensures sound { self.new.refused ≡ self.old.refused }
         ensures header { self.new.header ≡ self.old.header }
         ensures shows { self.new.shows ≡ self.old.shows }
+        ensures pending { self.new.pending ≡ self.old.pending }
     {
         self.counts.push(self.tail)?;
         self.tail = 0;
@@ -225,7 +249,7 @@ impl<C: Compare> Views<C> {
 
     /// The first commit no longer waits: its words are those to be compared.
     #[inline(always)]
-    fn advance(&mut self) -> Result<(), AllocError>
+    fn advance<L: Ledger>(&mut self, steps: &mut Steps<L>) -> Result<(), AllocError>
         ensures base { (part : List (ℕ × ℕ)) (rest : List (List (ℕ × ℕ)))
             → self.old.since ≡ part ∷ rest
             → OnOk result (self.new.base ≡ self.old.first) }
@@ -239,18 +263,26 @@ impl<C: Compare> Views<C> {
         ensures sound { self.new.refused ≡ self.old.refused }
         ensures header { self.new.header ≡ self.old.header }
         ensures shows { self.new.shows ≡ self.old.shows }
+        ensures steps { OnOk result
+            (steps.new + self.new.pending ≤ steps.old + self.old.pending) }
     {
         let Some(count) = self.counts.first() else {
             return Ok(());
         };
         self.changed.reserve(count)?;
         self.counts.pop();
-        catch_up(&mut self.words, &mut self.changed, &mut self.writes, count);
+        catch_up(
+            &mut self.words,
+            &mut self.changed,
+            &mut self.writes,
+            count,
+            steps,
+        );
         Ok(())
     }
 
     /// The changed words are compared.
-    fn compare_words(&mut self) -> Result<(), AllocError>
+    fn compare_words<L: Ledger>(&mut self, steps: &mut Steps<L>) -> Result<(), AllocError>
         requires sound { self.old.refused ≡ false }
         ensures first { self.new.first ≡ self.old.first }
         ensures since { self.new.since ≡ self.old.since }
@@ -259,14 +291,12 @@ impl<C: Compare> Views<C> {
         ensures sound { OnOk result (self.new.refused ≡ false) }
         ensures header { self.new.header ≡ self.old.header }
         ensures shows { self.new.shows ≡ self.old.shows }
+        ensures steps { OnOk result
+            (steps.new + self.new.pending ≤ steps.old + self.old.pending + 2) }
     {
-        tell_words::<C, Brand>(
-            Blank::new(1),
-            &mut self.compared,
-            &self.words,
-            &self.changed,
-        )?;
-        self.changed.clear();
+        self.compared
+            .words_changed(&self.words, &self.changed, steps)?;
+        forget(&mut self.changed, steps);
         Ok(())
     }
 
@@ -274,7 +304,11 @@ impl<C: Compare> Views<C> {
     /// after it: the least key where they differ. That commit no longer waits then. The state
     /// differs from that of the last comparison in the touched keys alone.
     #[inline(always)]
-    pub fn difference<S: Spec>(&mut self, spec: &S) -> Result<Option<u64>, AllocError>
+    pub fn difference<S: Spec, L: Ledger>(
+        &mut self,
+        spec: &S,
+        steps: &mut Steps<L>,
+    ) -> Result<Option<u64>, AllocError>
         requires sound { self.old.refused ≡ false }
         ensures difference { (part : List (ℕ × ℕ)) (rest : List (List (ℕ × ℕ)))
             → self.old.since ≡ part ∷ rest
@@ -297,16 +331,23 @@ impl<C: Compare> Views<C> {
         ensures sound { OnOk result (self.new.refused ≡ false) }
         ensures header { self.new.header ≡ self.old.header }
         ensures shows { self.new.shows ≡ self.old.shows }
+        ensures steps { OnOk result (steps.new + self.new.pending
+            ≤ steps.old + self.old.pending + 2 * length (S.touched spec.now) + 3) }
     {
-        self.advance()?;
-        self.compare_words()?;
-        self.specify(spec)?;
+        self.advance(steps)?;
+        self.compare_words(steps)?;
+        self.specify(spec, steps)?;
+        steps.tick();
         Ok(self.compared.first_difference())
     }
 
     /// The specification has its amounts of the touched keys now.
     #[inline(always)]
-    fn specify<S: Spec>(&mut self, spec: &S) -> Result<(), AllocError>
+    fn specify<S: Spec, L: Ledger>(
+        &mut self,
+        spec: &S,
+        steps: &mut Steps<L>,
+    ) -> Result<(), AllocError>
         requires sound { self.old.refused ≡ false }
         ensures specified { OnOk result
             (self.new.specified
@@ -318,36 +359,14 @@ impl<C: Compare> Views<C> {
         ensures compared { OnOk result (self.new.compared ≡ self.old.compared) }
         ensures header { self.new.header ≡ self.old.header }
         ensures shows { self.new.shows ≡ self.old.shows }
+        ensures pending { self.new.pending ≡ self.old.pending }
+        ensures steps { steps.new ≤ steps.old + 2 * length (S.touched spec.now) }
     {
-        tell_touched::<C, S, Brand>(Blank::new(1), &mut self.compared, spec)
+        tell_touched(&mut self.compared, spec, steps)
     }
 }
 
-/// The comparison learns the words. The steps aren't counted.
-fn tell_words<C: Compare, L: Ledger>(
-    blank: Blank,
-    compared: &mut C,
-    words: &[u64],
-    changed: &[u32],
-) -> Result<(), AllocError>
-    requires name { blank.name ≡ L.name }
-    requires parts { blank.parts ≡ L.parts }
-    requires some { 0 < blank.parts }
-    requires sound { (C.known compared.old).refused ≡ false }
-    requires count { length words.now ≡ (C.known compared.old).count }
-    requires within { All (λ w. w < (C.known compared.old).count) changed.now }
-    requires elsewhere { AgreeElsewhere (C.known compared.old).words words.now changed.now }
-    ensures ok { OnOk result
-        (C.known compared.new ≡ record (C.known compared.old) { words = words.now }) }
-    ensures refused { (C.known compared.new).refused ≡ is_err result }
-    ensures shows { (C.known compared.new).shows ≡ (C.known compared.old).shows }
-    ensures count { (C.known compared.new).count ≡ (C.known compared.old).count }
-{
-    let mut steps = Steps::<L>::new(blank);
-    compared.words_changed(words, changed, &mut steps)
-}
-
-/// The comparison learns all amounts that a state shows. The steps aren't counted.
+/// The comparison learns all amounts that a state shows, with a count of its own.
 fn tell_amounts<C: Compare, L: Ledger>(
     blank: Blank,
     compared: &mut C,
@@ -371,17 +390,14 @@ fn tell_amounts<C: Compare, L: Ledger>(
     Ok(())
 }
 
-/// The comparison learns the amounts of the keys that the last step touched. The steps aren't
-/// counted.
+/// The comparison learns the amounts of the keys that the last step touched. For each of them one
+/// step asks for the amount, and one tells it.
 #[inline(always)]
 fn tell_touched<C: Compare, S: Spec, L: Ledger>(
-    blank: Blank,
     compared: &mut C,
     spec: &S,
+    steps: &mut Steps<L>,
 ) -> Result<(), AllocError>
-    requires name { blank.name ≡ L.name }
-    requires parts { blank.parts ≡ L.parts }
-    requires some { 0 < blank.parts }
     requires sound { (C.known compared.old).refused ≡ false }
     ensures ok { OnOk result (C.known compared.new
         ≡ record (C.known compared.old) {
@@ -392,21 +408,23 @@ fn tell_touched<C: Compare, S: Spec, L: Ledger>(
     ensures refused { (C.known compared.new).refused ≡ is_err result }
     ensures shows { (C.known compared.new).shows ≡ (C.known compared.old).shows }
     ensures count { (C.known compared.new).count ≡ (C.known compared.old).count }
+    ensures steps { steps.new ≤ steps.old + 2 * length (S.touched spec.now) }
 {
-    let mut steps = Steps::<L>::new(blank);
     for key in spec.touched() {
-        compared.spec_changed(*key, spec.amount(*key), &mut steps)?;
+        steps.tick();
+        compared.spec_changed(*key, spec.amount(*key), steps)?;
     }
     Ok(())
 }
 
 /// The first writes take effect, and no longer wait. Mostly there are none.
 #[inline(always)]
-fn catch_up(
+fn catch_up<L: Ledger>(
     words: &mut Vec<u64>,
     changed: &mut Vec<u32>,
     writes: &mut VecDeque<Write>,
     count: usize,
+    steps: &mut Steps<L>,
 )
     requires count { count ≤ length writes.old.items }
     requires in_range { AreInRange (vec_len words.old) writes.old.items }
@@ -417,18 +435,20 @@ fn catch_up(
     ensures writes { writes.new.items ≡ drop count writes.old.items }
     ensures all { vec_len words.new ≡ vec_len words.old }
     ensures capacity { vec_capacity changed.old ≤ vec_capacity changed.new }
+    ensures steps { steps.new ≡ steps.old + count }
 {
     if count != 0 {
-        write_first(words, changed, writes, count);
+        write_first(words, changed, writes, count, steps);
     }
 }
 
 /// The first writes take effect, however many they are.
-fn write_first(
+fn write_first<L: Ledger>(
     words: &mut Vec<u64>,
     changed: &mut Vec<u32>,
     writes: &mut VecDeque<Write>,
     count: usize,
+    steps: &mut Steps<L>,
 )
     requires count { count ≤ length writes.old.items }
     requires in_range { AreInRange (vec_len words.old) writes.old.items }
@@ -439,8 +459,10 @@ fn write_first(
     ensures writes { writes.new.items ≡ drop count writes.old.items }
     ensures all { vec_len words.new ≡ vec_len words.old }
     ensures capacity { vec_capacity changed.old ≤ vec_capacity changed.new }
+    ensures steps { steps.new ≡ steps.old + count }
 {
     for _ in 0..count {
+        steps.tick();
         if let Some(write) = writes.pop_front() {
             let word = write.word();
             words[word as usize] = write.value();
@@ -558,4 +580,14 @@ fn note(changed: &mut Vec<u32>, word: u32)
     ensures capacity { vec_capacity changed.old ≤ vec_capacity changed.new }
 {
     changed.push_reserved(word);
+}
+
+/// Drops the changed words, with a step for each of them.
+#[inline(always)]
+fn forget<L: Ledger>(changed: &mut Vec<u32>, steps: &mut Steps<L>)
+    ensures none { changed.new.items ≡ [] }
+    ensures steps { steps.new ≡ steps.old + length changed.old.items }
+{
+    steps.add(changed.len());
+    changed.clear();
 }

@@ -1,7 +1,7 @@
 //! The words of a log, and what of them waits to be compared.
 
 ghost use Rattle.std.specs.Prelude.{◌≡◌, ◌<◌, ◌≤◌, ◌^◌, ◌+◌, ◌*◌, ◌∷◌, ℕ, false, List, [], length};
-ghost use Rattle.std.specs.Prelude.{slice_index, IfOk, OnOk, replicate, All};
+ghost use Rattle.std.specs.Prelude.{slice_index, IfOk, OnOk, replicate, sum_by, All};
 ghost use Rattle.vyrd_base.specs.Rules.{rules_by};
 ghost use Rattle.vyrd_base.specs.Amounts.{first_difference as least_difference};
 ghost use Rattle.vyrd_base.specs.declared.log.Entry.{Entry};
@@ -14,8 +14,8 @@ ghost use Rattle.vyrd_shadow.specs.Costs.{owed as shadow_owed};
 ghost use Rattle.vyrd_spec.specs.Touching.{with_touched};
 ghost use Rattle.vyrd_view.specs.Comparing.{AgreeElsewhere};
 ghost use Rattle.vyrd_view.specs.Known.{IsNew, view_by};
-ghost use Rattle.vyrd_words.specs.Costs.{writes_behind, work_held, most_held};
-ghost use Rattle.vyrd_words.specs.Costs.{effect_count, each_entry, owed};
+ghost use Rattle.vyrd_words.specs.Costs.{pending_for, writes_behind, work_held, most_held};
+ghost use Rattle.vyrd_words.specs.Costs.{effect_words, effect_count, each_entry, owed};
 ghost use Rattle.vyrd_words.specs.Cuts.{first_with, with_part, written};
 ghost use Rattle.vyrd_words.specs.HasWords.{HasWords, HasTaken, Keeps, MayFollow};
 
@@ -82,6 +82,8 @@ impl<C: Compare> Words<C> {
         ensures since { IfOk result (λ w. w.views.since ≡ []) }
         ensures specified { IfOk result (λ w. w.views.specified ≡ state.now) }
         ensures sound { IfOk result (λ w. w.views.refused ≡ false) }
+        ensures pending { IfOk result (λ w. w.views.pending
+            ≡ pending_for (C.price (C.known compared).shows) changed.items []) }
     {
         let mut views = Views::new(alloc, header, words, changed, compared)?;
         views.specify_start(state)?;
@@ -118,8 +120,9 @@ impl<C: Compare> Words<C> {
     /// The same, with its steps counted. One step is one of those that rebuild the words, a write
     /// that is passed on to the commits that wait, a write that waits and gives way to a late one,
     /// or a commit that waits and is looked at for that. What the end of a block costs is owed from
-    /// the entries on that made it dear. So each entry pays a constant, by the number of callers,
-    /// and a log costs no more than that for each of its entries.
+    /// the entries on that made it dear, and what a changed word costs is pending from its write
+    /// on. So each entry pays a constant, by the number of callers, and the price of each word that
+    /// its effects change.
     #[inline(always)]
     pub fn follow_counted<L: Ledger>(
         &mut self,
@@ -143,9 +146,11 @@ impl<C: Compare> Words<C> {
         ensures steps { (starting : List StartWord) (earlier : List Entry)
             → HasWords self.old.shadow self.old.inner starting earlier
             → Keeps self.old.shadow.header earlier entry → commits ≡ commit_count earlier
-            → OnOk result (steps.new + shadow_owed self.new.shadow
+            → OnOk result (steps.new + shadow_owed self.new.shadow + self.new.views.pending
             + owed self.old.shadow.header.callers (entry ∷ earlier) self.new.views.since
-            ≤ steps.old + shadow_owed self.old.shadow
+            ≤ steps.old + shadow_owed self.old.shadow + self.old.views.pending
+            + sum_by (C.price self.old.views.shows)
+            (effect_words self.old.shadow entry.caller entry.kind)
             + owed self.old.shadow.header.callers earlier self.old.views.since
             + each_entry self.old.shadow.header.callers) }
     {
@@ -177,11 +182,14 @@ impl<C: Compare> Words<C> {
             → HasWords self.old.shadow self.old.inner starting earlier
             → Keeps self.old.shadow.header earlier entry → commits ≡ commit_count earlier
             → OnOk result
-            (steps.new + shadow_owed self.new.shadow
+            (steps.new + shadow_owed self.new.shadow + self.new.views.pending
             + work_held self.old.shadow.header.callers (entry ∷ earlier) self.new.views.since
-            ≤ steps.old + shadow_owed self.old.shadow + 30
+            ≤ steps.old + shadow_owed self.old.shadow + self.old.views.pending
+            + sum_by (C.price self.old.views.shows)
+            (effect_words self.old.shadow entry.caller entry.kind)
+            + 30
             + work_held self.old.shadow.header.callers earlier self.old.views.since
-            + effect_count self.old.shadow entry.caller entry.kind
+            + 4 * effect_count self.old.shadow entry.caller entry.kind
             + most_held self.old.shadow.header.callers
             (effect_count self.old.shadow entry.caller entry.kind)) }
     {
@@ -254,7 +262,48 @@ impl<C: Compare> Words<C> {
         ensures shadow { self.new.shadow ≡ self.old.shadow }
         ensures inner { self.new.inner ≡ self.old.inner }
     {
-        self.views.difference(spec)
+        difference_alone::<C, S, Brand>(Blank::new(1), self, spec)
+    }
+
+    /// The same, with its steps counted. What is pending pays for each write that takes effect and
+    /// each word that is compared: two steps for each touched key are left, and three more.
+    #[inline(always)]
+    pub fn difference_counted<S: Spec, L: Ledger>(
+        &mut self,
+        spec: &S,
+        steps: &mut Steps<L>,
+    ) -> Result<Option<u64>, AllocError>
+        requires sound { self.old.views.refused ≡ false }
+        ensures difference { (part : List (ℕ × ℕ)) (rest : List (List (ℕ × ℕ)))
+            → self.old.views.since ≡ part ∷ rest
+            → with_touched (S.touched spec.now)
+            ((rules_by (S.charter spec.now)).shown (S.state spec.now)) self.old.views.specified
+            ≡ (rules_by (S.charter spec.now)).shown (S.state spec.now)
+            → IfOk result (λ found. found ≡ least_difference
+            (view_by self.old.views.shows self.old.views.first)
+            ((rules_by (S.charter spec.now)).shown (S.state spec.now))) }
+        ensures first { (part : List (ℕ × ℕ)) (rest : List (List (ℕ × ℕ)))
+            → self.old.views.since ≡ part ∷ rest
+            → OnOk result (self.new.views.first ≡ with_writes self.old.views.first part) }
+        ensures since { (part : List (ℕ × ℕ)) (rest : List (List (ℕ × ℕ)))
+            → self.old.views.since ≡ part ∷ rest
+            → OnOk result (self.new.views.since ≡ rest) }
+        ensures owed { (callers : ℕ) (earlier : List Entry) (part : List (ℕ × ℕ))
+            (rest : List (List (ℕ × ℕ))) → self.old.views.since ≡ part ∷ rest
+            → OnOk result (owed callers earlier self.new.views.since
+            ≤ owed callers earlier self.old.views.since) }
+        ensures specified { OnOk result (self.new.views.specified
+            ≡ with_touched (S.touched spec.now)
+            ((rules_by (S.charter spec.now)).shown (S.state spec.now)) self.old.views.specified) }
+        ensures sound { OnOk result (self.new.views.refused ≡ false) }
+        ensures views_header { self.new.views.header ≡ self.old.views.header }
+        ensures shows { self.new.views.shows ≡ self.old.views.shows }
+        ensures shadow { self.new.shadow ≡ self.old.shadow }
+        ensures inner { self.new.inner ≡ self.old.inner }
+        ensures steps { OnOk result (steps.new + self.new.views.pending
+            ≤ steps.old + self.old.views.pending + 2 * length (S.touched spec.now) + 3) }
+    {
+        self.views.difference(spec, steps)
     }
 }
 
@@ -287,6 +336,48 @@ fn follow_alone<C: Compare, L: Ledger>(
     words.follow_counted(entry, commits, &mut steps)
 }
 
+/// Compares with a count of its own.
+#[inline(always)]
+fn difference_alone<C: Compare, S: Spec, L: Ledger>(
+    blank: Blank,
+    words: &mut Words<C>,
+    spec: &S,
+) -> Result<Option<u64>, AllocError>
+    requires name { blank.name ≡ L.name }
+    requires parts { blank.parts ≡ L.parts }
+    requires some { 0 < blank.parts }
+    requires sound { words.old.views.refused ≡ false }
+    ensures difference { (part : List (ℕ × ℕ)) (rest : List (List (ℕ × ℕ)))
+        → words.old.views.since ≡ part ∷ rest
+        → with_touched (S.touched spec.now)
+        ((rules_by (S.charter spec.now)).shown (S.state spec.now)) words.old.views.specified
+        ≡ (rules_by (S.charter spec.now)).shown (S.state spec.now)
+        → IfOk result (λ found. found ≡ least_difference
+        (view_by words.old.views.shows words.old.views.first)
+        ((rules_by (S.charter spec.now)).shown (S.state spec.now))) }
+    ensures first { (part : List (ℕ × ℕ)) (rest : List (List (ℕ × ℕ)))
+        → words.old.views.since ≡ part ∷ rest
+        → OnOk result (words.new.views.first ≡ with_writes words.old.views.first part) }
+    ensures since { (part : List (ℕ × ℕ)) (rest : List (List (ℕ × ℕ)))
+        → words.old.views.since ≡ part ∷ rest
+        → OnOk result (words.new.views.since ≡ rest) }
+    ensures owed { (callers : ℕ) (earlier : List Entry) (part : List (ℕ × ℕ))
+        (rest : List (List (ℕ × ℕ))) → words.old.views.since ≡ part ∷ rest
+        → OnOk result (owed callers earlier words.new.views.since
+        ≤ owed callers earlier words.old.views.since) }
+    ensures specified { OnOk result (words.new.views.specified
+        ≡ with_touched (S.touched spec.now)
+        ((rules_by (S.charter spec.now)).shown (S.state spec.now)) words.old.views.specified) }
+    ensures sound { OnOk result (words.new.views.refused ≡ false) }
+    ensures views_header { words.new.views.header ≡ words.old.views.header }
+    ensures shows { words.new.views.shows ≡ words.old.views.shows }
+    ensures shadow { words.new.shadow ≡ words.old.shadow }
+    ensures inner { words.new.inner ≡ words.old.inner }
+{
+    let mut steps = Steps::<L>::new(blank);
+    words.difference_counted(spec, &mut steps)
+}
+
 /// What effects have changed is known to the views too.
 #[inline(always)]
 fn pass_on<C: Compare, L: Ledger>(
@@ -308,8 +399,11 @@ fn pass_on<C: Compare, L: Ledger>(
     ensures shadow_header { shadow.new.header ≡ shadow.old.header }
     ensures views_header { views.new.header ≡ views.old.header }
     ensures shows { views.new.shows ≡ views.old.shows }
-    ensures steps { steps.new + shadow_owed shadow.new
-        ≤ steps.old + shadow_owed shadow.old + length shadow.old.changed + 1 }
+    ensures steps { OnOk result (steps.new + shadow_owed shadow.new + views.new.pending
+        ≤ steps.old + shadow_owed shadow.old + views.old.pending
+        + sum_by (C.price views.old.shows) shadow.old.changed
+        + 4 * length shadow.old.changed
+        + 1) }
 {
     give(views, shadow.changed(), shadow.words(), steps)?;
     shadow.clear_changed_counted(steps);
@@ -339,11 +433,13 @@ fn pass_back<C: Compare, L: Ledger>(
     ensures shadow_header { shadow.new.header ≡ shadow.old.header }
     ensures views_header { views.new.header ≡ views.old.header }
     ensures shows { views.new.shows ≡ views.old.shows }
-    ensures steps { steps.new + shadow_owed shadow.new
-        ≤ steps.old + shadow_owed shadow.old + length shadow.old.changed
+    ensures steps { OnOk result (steps.new + shadow_owed shadow.new + views.new.pending
+        ≤ steps.old + shadow_owed shadow.old + views.old.pending
+        + sum_by (C.price views.old.shows) shadow.old.changed
+        + 4 * length shadow.old.changed
         + 2 * writes_behind behind views.old.since
         + 4 * behind
-        + 1 }
+        + 1) }
 {
     views.late(behind, shadow.changed(), shadow.words(), steps)?;
     shadow.clear_changed_counted(steps);
@@ -370,11 +466,13 @@ fn give<C: Compare, L: Ledger>(
     ensures sound { OnOk result (views.new.refused ≡ false) }
     ensures header { views.new.header ≡ views.old.header }
     ensures shows { views.new.shows ≡ views.old.shows }
-    ensures steps { steps.new ≤ steps.old + length changed.now }
+    ensures steps { OnOk result (steps.new + views.new.pending ≤ steps.old + views.old.pending
+        + sum_by (C.price views.old.shows) changed.now
+        + 4 * length changed.now) }
 {
     for word in changed {
         steps.tick();
-        views.effect(*word, words[*word as usize])?;
+        views.effect(*word, words[*word as usize], steps)?;
     }
     Ok(())
 }

@@ -1,4 +1,4 @@
-use Rattle.std.proofs.Common.{ℕ, ◌+◌, take, get_or, ap, sym, ◌∙◌}
+use Rattle.std.proofs.Common.{ℕ, ◌+◌, length, arith, refl, take, get_or, ap, sym, ◌∙◌}
 use Rattle.std.proofs.lemmas.List.{take_all}
 use Rattle.vyrd_base.specs.Amounts.{Amounts, amount_of, with_amount}
 use Rattle.vyrd_base.specs.Rules.{rules_by}
@@ -34,6 +34,12 @@ loop-key-preserved g c =
           ∙ ap (λ ks. record known {
             specified = with_touched (take (i + 1) ks) shown known.specified;
           }) same;
+      steps = omega (
+        arith,
+        c.tick.ensures,
+        c.spec_changed.ensures.steps,
+        c.loop-key.invariant.steps,
+      );
     }
 
 pub returns-clause-ok : goal.returns-clause-ok
@@ -53,3 +59,26 @@ returns-clause-ok g c =
 pub returns-clause-refused : goal.returns-clause-refused
 returns-clause-refused g c =
     ap (λ (k : Known). k.refused) c.loop-key.invariant.told ∙ c.requires.sound
+
+pub loop-key-init : goal.loop-key-init
+loop-key-init g c = record { told = refl; steps = omega arith }
+
+pub returns-in_err-spec_changed-clause-steps : goal.returns-in_err-spec_changed-clause-steps
+returns-in_err-spec_changed-clause-steps g c =
+    omega (
+      arith,
+      c.tick.ensures,
+      c.spec_changed.ensures.steps,
+      c.loop-key.invariant.steps,
+      c.loop-key-test.true,
+      ap length c.touched-key-items.ensures,
+    )
+
+pub returns-clause-steps : goal.returns-clause-steps
+returns-clause-steps g c =
+    omega (
+      arith,
+      c.loop-key.invariant.steps,
+      c.loop-key.auto.key-index-end,
+      ap length c.touched-key-items.ensures,
+    )

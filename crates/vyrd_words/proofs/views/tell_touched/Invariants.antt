@@ -1,4 +1,4 @@
-use Rattle.std.proofs.Common.{◌≡◌, take}
+use Rattle.std.proofs.Common.{◌≡◌, ◌≤◌, ◌+◌, ◌*◌, take}
 use Rattle.vyrd_base.specs.Rules.{rules_by}
 use Rattle.vyrd_spec.specs.Touching.{with_touched}
 use Rattle.vyrd_words.proofs.views.tell_touched.Given as goal
@@ -11,4 +11,5 @@ invariant-loop-key g l = record {
             ((rules_by (g.S.Spec.charter l.spec)).shown (g.S.Spec.state l.spec))
             (g.C.Compare.known l.initial.compared).specified;
       };
+  steps : l.steps ≤ l.initial.steps + 2 * l.key-index;
 }

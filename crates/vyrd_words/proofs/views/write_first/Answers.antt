@@ -1,10 +1,10 @@
-use Rattle.std.proofs.Common.{◌≡◌, ◌+◌, ◌-◌, ◌∷◌, ◌++◌, [], suc, vec_len, map, take, sym, ap, ◌∙◌, arith}
+use Rattle.std.proofs.Common.{◌≡◌, ◌+◌, ◌-◌, ◌∷◌, ◌++◌, [], suc, vec_len, map, take, sym, ap, ◌∙◌, arith, append-nil}
 use Rattle.vyrd_words.proofs.CutLaws.{caught_up, dropped, range_left, one_taken, changed_more}
 use Rattle.vyrd_words.proofs.views.write_first.Goals as goal
 use Rattle.vyrd_words.proofs.views.write_first.Goals.{in-Some, in_default}
 
 pub loop-preserved : goal.loop-preserved
-loop-preserved c =
+loop-preserved g c =
     let more : c.args.count - c.loop.counter ≡ suc (c.args.count - (c.loop.counter + 1)) = omega (arith, c.loop-test.true) in
     elim c.match-pop_front.branch [
       | in-Some w ↦ record {
@@ -21,7 +21,15 @@ loop-preserved c =
             (c.args.count - (c.loop.counter + 1)) more w.in-Some.ensures.items) ∙ c.loop.invariant.writes;
         all = rw w.words-is c.loop.invariant.all;
         room = rw w.changed-is (omega (arith, more, w.note.ensures.len, w.note.ensures.capacity, c.loop.invariant.room));
+        steps = omega (arith, c.tick.ensures, c.loop.invariant.steps);
         capacity = rw w.changed-is (omega (arith, w.note.ensures.capacity, c.loop.invariant.capacity));
       }
       | in_default w ↦ absurd (omega (arith, more, c.loop.invariant.left, w.in_default.ensures.cases.0, c.loop.writes.ok.0))
     ]
+
+pub returns-clause-changed : goal.returns-clause-changed
+returns-clause-changed g c =
+    let done : c.args.count - c.loop.counter ≡ 0 = omega (arith, c.loop-test.false) in
+    sym (append-nil c.loop.changed.items)
+    ∙ sym (ap (λ n. c.loop.changed.items ++ map (λ write. write.0) (take n c.loop.writes.items)) done)
+    ∙ c.loop.invariant.changed

@@ -4,7 +4,7 @@ use Rattle.vyrd_shadow.specs.Blocks.{with_writes, AreInRange}
 use Rattle.vyrd_words.proofs.views.write_first.Given as goal
 
 abbrev pub invariant-loop : goal.invariant-loop
-invariant-loop l = record {
+invariant-loop g l = record {
   left : l.count - l.counter ≤ length l.writes.items;
   in_range : AreInRange (vec_len l.initial.words) l.writes.items;
   words : with_writes l.words.items (take (l.count - l.counter) l.writes.items) ≡ with_writes l.initial.words.items (take l.count l.initial.writes.items);
@@ -13,5 +13,6 @@ invariant-loop l = record {
   writes : drop (l.count - l.counter) l.writes.items ≡ drop l.count l.initial.writes.items;
   all : vec_len l.words ≡ vec_len l.initial.words;
   room : vec_len l.changed + (l.count - l.counter) ≤ vec_capacity l.changed;
+  steps : l.steps ≡ l.initial.steps + l.counter;
   capacity : vec_capacity l.initial.changed ≤ vec_capacity l.changed;
 }

@@ -1,5 +1,7 @@
 use Rattle.std.proofs.Common.{◌≡◌, ℕ, List, ◌+◌, ◌∷◌, ◌++◌, [], take, get_or, arith, refl, ap, sym, ◌∙◌}
 use Rattle.std.proofs.lemmas.List.{take_more, take_all}
+use Rattle.std.specs.List.{sum_by}
+use Rattle.std.proofs.lemmas.List.Sums.{sum_by_push}
 use Rattle.vyrd_words.specs.Cuts.{first_with, with_part, written}
 use Rattle.vyrd_words.proofs.CutLaws.{first_with_nothing, with_part_nothing, first_with_twice, with_part_twice, written_more}
 use Rattle.vyrd_words.proofs.words.give.Goals as goal
@@ -39,7 +41,15 @@ loop-word-preserved g c =
       sound = c.in_ok-effect.ensures.sound;
       header = c.effect.ensures.header ∙ c.loop-word.invariant.header;
       shows = c.effect.ensures.shows ∙ c.loop-word.invariant.shows;
-      steps = omega (arith, c.tick.ensures, c.loop-word.invariant.steps);
+      steps = omega (
+        arith,
+        c.tick.ensures,
+        c.loop-word.invariant.steps,
+        c.in_ok-effect.ensures.steps,
+        ap (λ shows. g.C.Compare.price shows w) c.loop-word.invariant.shows,
+        ap (sum_by (g.C.Compare.price before.shows)) (take_more all i 0 c.loop-word-test.true),
+        sum_by_push (g.C.Compare.price before.shows) (take i all) w,
+      );
     }
 
 pub returns-clause-first : goal.returns-clause-first
@@ -53,3 +63,13 @@ returns-clause-since g c =
     c.loop-word.invariant.since
     ∙ ap (λ xs. with_part 0 (written c.args.words.now xs) c.args.views.now.since)
     (take_all c.loop-word.word-index c.args.changed.now c.loop-word-test.false)
+
+pub returns-clause-steps : goal.returns-clause-steps
+returns-clause-steps g c =
+    let all = take_all c.loop-word.word-index c.args.changed.now c.loop-word-test.false in
+    omega (
+      arith,
+      c.loop-word.invariant.steps,
+      c.loop-word.auto.word-index-end,
+      ap (sum_by (g.C.Compare.price c.args.views.now.shows)) all,
+    )

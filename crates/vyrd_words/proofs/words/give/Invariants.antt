@@ -1,4 +1,5 @@
-use Rattle.std.proofs.Common.{◌≡◌, ◌+◌, false, take}
+use Rattle.std.proofs.Common.{◌≡◌, ◌≤◌, ◌+◌, ◌*◌, false, take}
+use Rattle.std.specs.List.{sum_by}
 use Rattle.vyrd_words.specs.Cuts.{first_with, with_part, written}
 use Rattle.vyrd_words.proofs.words.give.Given as goal
 
@@ -10,5 +11,6 @@ invariant-loop-word g l = record {
   sound : l.views.refused ≡ false;
   header : l.views.header ≡ l.initial.views.header;
   shows : l.views.shows ≡ l.initial.views.shows;
-  steps : l.steps ≡ l.initial.steps + l.word-index;
+  steps : l.steps + l.views.pending ≤ l.initial.steps + l.initial.views.pending
+      + sum_by (g.C.Compare.price l.initial.views.shows) (take l.word-index l.changed) + 4 * l.word-index;
 }

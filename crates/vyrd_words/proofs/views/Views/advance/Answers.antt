@@ -1,5 +1,8 @@
-use Rattle.std.proofs.Common.{◌≡◌, ◌∷◌, sum, drop, arith, ap, sym, ◌∙◌, subst}
+use Rattle.std.proofs.Common.{◌≡◌, ◌≤◌, ℕ, ◌∷◌, ◌++◌, length, sum, take, drop, arith, ap, sym, ◌∙◌, subst}
+use Rattle.std.specs.Prelude.{map}
 use Rattle.vyrd_shadow.specs.Blocks.{with_writes}
+use Rattle.vyrd_words.specs.Costs.{pending_for}
+use Rattle.vyrd_words.proofs.PendingLaws.{caught_pending}
 use Rattle.vyrd_words.specs.Cuts.{Cuts, first_of, since_of, AreCuts, AreKnown}
 use Rattle.vyrd_words.proofs.CutLaws.{sum-cons, advanced_both, first_taken, first_next, since_next}
 use Rattle.vyrd_words.proofs.views.Views.advance.Goals as goal
@@ -46,3 +49,19 @@ catch_up-requires-clause-count g c =
     let is : i.counts ≡ c.in-Some.count ∷ c.pop.new.self =
     first_taken i.counts c.pop.new.self c.in-Some.count (sym c.in-Some.ensures) c.pop.ensures in
     omega (arith, c.self.invariant.0.counted, ap sum is, sum-cons c.in-Some.count c.pop.new.self)
+
+pub returns-clause-steps : goal.returns-clause-steps
+returns-clause-steps g c =
+    let i = c.self.inside in
+    let p : ℕ → ℕ = g.C.Compare.price (g.C.Compare.known i.compared).shows in
+    let n = c.in-Some.count in
+    let is : i.counts ≡ n ∷ c.pop.new.self =
+    first_taken i.counts c.pop.new.self n (sym c.in-Some.ensures) c.pop.ensures in
+    let few : n ≤ length i.writes.items =
+    omega (arith, c.self.invariant.0.counted, ap sum is, sum-cons n c.pop.new.self) in
+    let was = ap (λ (v : Cuts). v.pending) c.self.view_is in
+    let same : pending_for p c.catch_up.new.changed.items c.catch_up.new.writes.items
+    ≡ pending_for p (i.changed.items ++ map (λ write. write.0) (take n i.writes.items)) (drop n i.writes.items) =
+    (λ j. pending_for p ((c.catch_up.ensures.changed ∙ ap (λ xs. xs ++ map (λ write. write.0) (take n i.writes.items)) c.in_ok-reserve.ensures.items) j)
+    (c.catch_up.ensures.writes j)) in
+    omega (arith, was, same, c.catch_up.ensures.steps, caught_pending p i.changed.items n i.writes.items few)

@@ -4,7 +4,9 @@ use Rattle.vyrd_base.specs.Layout.{plain_words}
 use Rattle.vyrd_shadow.specs.Blocks.{AreInRange}
 use Rattle.vyrd_words.specs.Cuts.{Cuts, AreCuts, first_of, since_of, first_with, with_part, written}
 use Rattle.std.proofs.lemmas.List.Sums.{sum_by-take-drop}
-use Rattle.vyrd_words.specs.Costs.{writes_behind}
+use Rattle.std.specs.List.{sum_by}
+use Rattle.vyrd_words.specs.Costs.{pending_for, writes_behind}
+use Rattle.vyrd_words.proofs.PendingLaws.{put_pending}
 use Rattle.vyrd_words.proofs.CutLaws.{writes_after, put_at, place_of_cut, first_late, since_late, late_cuts, written_in_range, length-written, length-since_of, first_far, since_far}
 use Rattle.vyrd_words.proofs.views.Views.late.Goals as goal
 
@@ -101,3 +103,16 @@ returns-clause-steps g c =
     let same : writes_behind (length ks - index) (since_of ks i.writes.items) ≡ writes_behind c.args.behind c.args.self.now.since =
     ap (λ n. writes_behind n (since_of ks i.writes.items)) behind ∙ ap (λ (v : Cuts). writes_behind c.args.behind v.since) c.self.view_is in
     omega (arith, c.put.ensures.steps, c.in_ok-add.ensures.steps, c.place_behind-place.ensures.steps, place, after, same, behind, low, ap length (c.in_ok-reserve.ensures.items))
+
+pub returns-clause-pending : goal.returns-clause-pending
+returns-clause-pending g c =
+    let i = c.self.inside in
+    let p : ℕ → ℕ = g.C.Compare.price (g.C.Compare.known i.compared).shows in
+    let new = written c.args.words.now c.args.changed.now in
+    let was = ap (λ (v : Cuts). v.pending) c.self.view_is in
+    let price = ap (λ (v : Cuts). sum_by (g.C.Compare.price v.shows) c.args.changed.now) c.self.view_is in
+    let writes : c.put.new.writes.items ≡ put_at c.place_behind-place.result new i.writes.items =
+    c.put.ensures.writes ∙ ap (put_at c.place_behind-place.result new) c.in_ok-reserve.ensures.items in
+    let grown = ap (pending_for p i.changed.items) writes
+    ∙ put_pending p i.changed.items c.place_behind-place.result c.args.words.now c.args.changed.now i.writes.items in
+    omega (arith, was, price, grown)

@@ -1,5 +1,9 @@
-use Rattle.std.proofs.Common.{◌≡◌, ◌<◌, [], set, ap, sym, ◌∙◌, subst}
+use Rattle.std.proofs.Common.{◌≡◌, ◌<◌, ◌≤◌, ℕ, [], ◌∷◌, ◌++◌, length, take, drop, arith, set, ap, sym, ◌∙◌, subst}
+use Rattle.std.specs.Prelude.{map}
 use Rattle.vyrd_base.specs.Layout.{plain_words}
+use Rattle.vyrd_words.specs.Costs.{pending_for}
+use Rattle.vyrd_words.proofs.PendingLaws.{caught_pending, one_pending}
+use Rattle.vyrd_words.proofs.WordsLaws.{ok_two}
 use Rattle.vyrd_words.specs.Cuts.{Cuts, AreCuts, AreKnown, first_of, since_of}
 use Rattle.vyrd_words.proofs.CutLaws.{at_once_both, now_at_once, none_waits, all_tail, always}
 use Rattle.vyrd_words.proofs.views.Views.take_effect.Goals as goal
@@ -54,3 +58,40 @@ returns-then-len-ge-MOST_CHANGED-clause-since g c =
     let i = c.self.inside in
     let none : i.counts ≡ [] = none_waits i.counts i.writes.items (ap (λ (v : Cuts). v.since) c.self.view_is ∙ c.requires.none_waits) in
     always c.compare_words.result (c.compare_words.ensures.since ∙ ap (λ ks. since_of ks c.catch_up.new.writes.items) none)
+
+pub returns-clause-steps : goal.returns-clause-steps
+returns-clause-steps g c =
+    let i = c.self.inside in
+    let p : ℕ → ℕ = g.C.Compare.price (g.C.Compare.known i.compared).shows in
+    let none : i.counts ≡ [] = none_waits i.counts i.writes.items (ap (λ (v : Cuts). v.since) c.self.view_is ∙ c.requires.none_waits) in
+    let few : i.tail ≤ length i.writes.items = omega (arith, c.self.invariant.0.counted) in
+    let was = ap (λ (v : Cuts). v.pending) c.self.view_is in
+    let price = ap (λ (v : Cuts). g.C.Compare.price v.shows c.args.word) c.self.view_is in
+    let words = map (λ write. write.0) (take i.tail i.writes.items) in
+    let same : pending_for p c.note.new.changed.items c.catch_up.new.writes.items
+    ≡ pending_for p ((i.changed.items ++ words) ++ c.args.word ∷ []) (drop i.tail i.writes.items) =
+    (λ j. pending_for p
+    ((c.note.ensures.items ∙ ap (λ xs. xs ++ c.args.word ∷ []) (c.catch_up.ensures.changed ∙ ap (λ xs. xs ++ words) c.in_ok-reserve.ensures.items)) j)
+    (c.catch_up.ensures.writes j)) in
+    let one = one_pending p (i.changed.items ++ words) c.args.word (drop i.tail i.writes.items) in
+    let caught = caught_pending p i.changed.items i.tail i.writes.items few in
+    omega (arith, was, price, same, one, caught, c.catch_up.ensures.steps)
+
+pub returns-then-len-ge-MOST_CHANGED-clause-steps : goal.returns-then-len-ge-MOST_CHANGED-clause-steps
+returns-then-len-ge-MOST_CHANGED-clause-steps g c =
+    let i = c.self.inside in
+    let p : ℕ → ℕ = g.C.Compare.price (g.C.Compare.known i.compared).shows in
+    let none : i.counts ≡ [] = none_waits i.counts i.writes.items (ap (λ (v : Cuts). v.since) c.self.view_is ∙ c.requires.none_waits) in
+    let few : i.tail ≤ length i.writes.items = omega (arith, c.self.invariant.0.counted) in
+    let was = ap (λ (v : Cuts). v.pending) c.self.view_is in
+    let price = ap (λ (v : Cuts). g.C.Compare.price v.shows c.args.word) c.self.view_is in
+    let words = map (λ write. write.0) (take i.tail i.writes.items) in
+    let same : pending_for p c.note.new.changed.items c.catch_up.new.writes.items
+    ≡ pending_for p ((i.changed.items ++ words) ++ c.args.word ∷ []) (drop i.tail i.writes.items) =
+    (λ j. pending_for p
+    ((c.note.ensures.items ∙ ap (λ xs. xs ++ c.args.word ∷ []) (c.catch_up.ensures.changed ∙ ap (λ xs. xs ++ words) c.in_ok-reserve.ensures.items)) j)
+    (c.catch_up.ensures.writes j)) in
+    let one = one_pending p (i.changed.items ++ words) c.args.word (drop i.tail i.writes.items) in
+    let caught = caught_pending p i.changed.items i.tail i.writes.items few in
+    ok_two c.compare_words.result c.compare_words.ensures.steps c.compare_words.ensures.steps
+    (λ paid twice. omega (arith, was, price, same, one, caught, c.catch_up.ensures.steps, paid))

@@ -1,7 +1,7 @@
 use Rattle.std.proofs.Common.{ap, ◌∙◌}
 use Rattle.vyrd_words.specs.HasWords.{WordsView}
 use Rattle.vyrd_words.proofs.OwedLaws.{owed_judged}
-use Rattle.vyrd_words.proofs.words.Words.difference.Goals as goal
+use Rattle.vyrd_words.proofs.words.Words.difference_counted.Goals as goal
 
 pub returns-clause-owed : goal.returns-clause-owed
 returns-clause-owed g c = λ callers earlier part rest waits.
