@@ -10,3 +10,4 @@ pub mod CountLaws
 pub mod OwedLaws
 pub mod TouchedLaws
 pub mod PendingLaws
+pub mod PriceLaws

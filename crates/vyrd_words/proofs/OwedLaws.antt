@@ -68,15 +68,15 @@ sum_apart f g c k (suc n) low same =
     let here = same k (λ e. absurd (omega (arith, low, e))) in
     omega (arith, sum_by-cons f k (numbers_from (k + 1) n), sum_by-cons g k (numbers_from (k + 1) n), rest, here)
 
-sum_at : (f g : ℕ → ℕ) (c w k n : ℕ) → k ≤ c → c < k + n → ((x : ℕ) → x ≢ c → f x ≡ g x) → f c + w ≤ g c + 1
-    → sum_by f (numbers_from k n) + w ≤ sum_by g (numbers_from k n) + 1
-sum_at f g c w k zero low high same own = absurd (omega (arith, low, high))
-sum_at f g c w k (suc n) low high same own =
-    by_test (k == c) refl (λ apart. sum_at f g c w (k + 1) n (omega (arith, low, apart)) (omega (arith, high)) same own)
+pub sum_at : (f g : ℕ → ℕ) (m c w k n : ℕ) → k ≤ c → c < k + n → ((x : ℕ) → x ≢ c → f x ≡ g x) → f c + w ≤ g c + m
+    → sum_by f (numbers_from k n) + w ≤ sum_by g (numbers_from k n) + m
+sum_at f g m c w k zero low high same own = absurd (omega (arith, low, high))
+sum_at f g m c w k (suc n) low high same own =
+    by_test (k == c) refl (λ apart. sum_at f g m c w (k + 1) n (omega (arith, low, apart)) (omega (arith, high)) same own)
   where
     by_test : (b : Bool) → (k == c) ≡ b
-        → (k ≢ c → sum_by f (numbers_from (k + 1) n) + w ≤ sum_by g (numbers_from (k + 1) n) + 1)
-        → sum_by f (k ∷ numbers_from (k + 1) n) + w ≤ sum_by g (k ∷ numbers_from (k + 1) n) + 1
+        → (k ≢ c → sum_by f (numbers_from (k + 1) n) + w ≤ sum_by g (numbers_from (k + 1) n) + m)
+        → sum_by f (k ∷ numbers_from (k + 1) n) + w ≤ sum_by g (k ∷ numbers_from (k + 1) n) + m
     by_test true is rest =
         let e = same_of k c is in
         let fs = ap f e in
@@ -93,7 +93,7 @@ all_kept : (callers : ℕ) (e : Entry) (earlier : List Entry) (effects : ℕ) �
     → effects ≤ own_effects e.kind (has_block e.caller earlier) (block_writes e.caller earlier)
     → all_kept_back callers (e ∷ earlier) + effects ≤ all_kept_back callers earlier + 1
 all_kept callers e earlier effects low few =
-    sum_at (kept_back (e ∷ earlier)) (kept_back earlier) e.caller effects 0 callers (omega arith) (omega (arith, low))
+    sum_at (kept_back (e ∷ earlier)) (kept_back earlier) 1 e.caller effects 0 callers (omega arith) (omega (arith, low))
     (λ x apart. kept_by_other x e earlier apart) (kept_by_caller e earlier effects few)
 
 -- no more words than writes

@@ -79,7 +79,21 @@ abbrev pub owed : ℕ → List Entry → List (List (ℕ × ℕ)) → ℕ
 owed callers earlier since = work_held callers earlier since + 4 * all_kept_back callers earlier
     + for_each callers (2 * all_kept_back callers earlier)
 
--- What each entry costs at most, with what is owed after it and beside the prices of its effects:
+-- the price of the word that an entry writes
+abbrev pub entry_price : (ℕ → ℕ) → Kind → ℕ
+entry_price price (Write word value) = price word
+entry_price price _ = 0
+
+-- the prices of what the caller's open block keeps back
+abbrev pub price_back : (ℕ → ℕ) → List Entry → ℕ → ℕ
+price_back price earlier c =
+    if has_block c earlier then sum_by (λ write. price write.0) (block_writes c earlier) else 0
+
+-- the prices of what all open blocks keep back: each was paid by its write
+abbrev pub price_kept : (ℕ → ℕ) → ℕ → List Entry → ℕ
+price_kept price callers earlier = sum_by (price_back price earlier) (numbers_below callers)
+
+-- What each entry costs at most, with what is owed after it and beside the price of what it writes:
 -- thirty steps of the words that are rebuilt, four to pass an effect on, and for each caller what
 -- its open block's end owes for that effect and for a commit.
 abbrev pub each_entry : ℕ → ℕ

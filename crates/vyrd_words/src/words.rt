@@ -16,6 +16,7 @@ ghost use Rattle.vyrd_view.specs.Comparing.{AgreeElsewhere};
 ghost use Rattle.vyrd_view.specs.Known.{IsNew, view_by};
 ghost use Rattle.vyrd_words.specs.Costs.{pending_for, writes_behind, work_held, most_held};
 ghost use Rattle.vyrd_words.specs.Costs.{effect_words, effect_count, each_entry, owed};
+ghost use Rattle.vyrd_words.specs.Costs.{entry_price, price_kept};
 ghost use Rattle.vyrd_words.specs.Cuts.{first_with, with_part, written};
 ghost use Rattle.vyrd_words.specs.HasWords.{HasWords, HasTaken, Keeps, MayFollow};
 
@@ -121,8 +122,8 @@ impl<C: Compare> Words<C> {
     /// that is passed on to the commits that wait, a write that waits and gives way to a late one,
     /// or a commit that waits and is looked at for that. What the end of a block costs is owed from
     /// the entries on that made it dear, and what a changed word costs is pending from its write
-    /// on. So each entry pays a constant, by the number of callers, and the price of each word that
-    /// its effects change.
+    /// on. So each entry pays a constant, by the number of callers, and a write the price of its
+    /// word.
     #[inline(always)]
     pub fn follow_counted<L: Ledger>(
         &mut self,
@@ -148,11 +149,13 @@ impl<C: Compare> Words<C> {
             → Keeps self.old.shadow.header earlier entry → commits ≡ commit_count earlier
             → OnOk result (steps.new + shadow_owed self.new.shadow + self.new.views.pending
             + owed self.old.shadow.header.callers (entry ∷ earlier) self.new.views.since
+            + price_kept (C.price self.old.views.shows) self.old.shadow.header.callers
+            (entry ∷ earlier)
             ≤ steps.old + shadow_owed self.old.shadow + self.old.views.pending
-            + sum_by (C.price self.old.views.shows)
-            (effect_words self.old.shadow entry.caller entry.kind)
             + owed self.old.shadow.header.callers earlier self.old.views.since
-            + each_entry self.old.shadow.header.callers) }
+            + price_kept (C.price self.old.views.shows) self.old.shadow.header.callers earlier
+            + (each_entry self.old.shadow.header.callers
+            + entry_price (C.price self.old.views.shows) entry.kind)) }
     {
         self.follow_kind(entry, commits, steps)
     }
