@@ -2,8 +2,8 @@
 
 ghost use Rattle.std.specs.VecDeque.{deque_len, deque_capacity};
 ghost use Rattle.std.specs.Prelude.{◌≡◌, ◌<◌, ◌≤◌, ◌^◌, ◌+◌, ◌*◌, ◌++◌, ℕ, false, List, [], ◌∷◌};
-ghost use Rattle.std.specs.Prelude.{length, map, take, drop, sum, sum_by, insert, replicate, All};
-ghost use Rattle.std.specs.Prelude.{slice_set, slice_index, Some, IfOk, OnOk, vec_len, vec_capacity};
+ghost use Rattle.std.specs.Prelude.{length, map, take, drop, sum, sum_by, insert, replicate, Some};
+ghost use Rattle.std.specs.Prelude.{slice_set, slice_index, IfOk, OnOk, vec_len, vec_capacity, All};
 ghost use Rattle.vyrd_base.specs.Rules.{rules_by};
 ghost use Rattle.vyrd_base.specs.Amounts.{first_difference as least_difference};
 ghost use Rattle.std.specs.Result.{is_err};
