@@ -9,13 +9,13 @@ use Rattle.vyrd_base.specs.declared.log.Kind.TheVariants.{Call, Return, Write, C
 use Rattle.vyrd_base.specs.declared.log.Entry.{Entry}
 use Rattle.vyrd_base.specs.declared.log.StartWord.{StartWord}
 use Rattle.vyrd_base.specs.Callers.{has_block, by_caller, open_or_close}
-use Rattle.vyrd_base.specs.Places.{first_answer}
+use Rattle.vyrd_base.specs.Places.{first_answer, numbers_below}
 use Rattle.vyrd_base.specs.Words.{block_writes, with_write}
 use Rattle.vyrd_base.proofs.TestLaws.{same_number, isnt_same}
 use Rattle.vyrd_shadow.specs.Blocks.{first_written}
 use Rattle.vyrd_shadow.specs.Following.{Kept, words_of, kept_writes}
 use Rattle.vyrd_words.specs.HasWords.{HasWords, Keeps}
-use Rattle.vyrd_words.specs.Costs.{work_held, most_held, effect_count, effect_words, each_entry, owed, entry_price, price_back, price_kept}
+use Rattle.vyrd_words.specs.Costs.{held, kept_back, all_kept_back, work_held, most_held, effect_count, effect_words, each_entry, owed, entry_price, price_back, price_kept}
 use Rattle.vyrd_words.proofs.WordsLaws.{low_caller, closes_block, commits_block}
 use Rattle.vyrd_words.proofs.OwedLaws.{sum_at, owed_paid}
 
@@ -123,3 +123,21 @@ owed_priced {T = T} {E = E} (Ok x) p kept starting inner earlier e old new s0 s1
     (omega arith) (omega (arith, low_caller keeps)) (λ x apart. priced_by_other p x e earlier apart)
     (priced_by_caller p e earlier prices (prices_few p kept starting inner earlier e has keeps)) in
     omega (arith, all, each)
+
+-- before the first entry nothing is owed
+sum_none : (f : ℕ → ℕ) (xs : List ℕ) → ((x : ℕ) → f x ≡ 0) → sum_by f xs ≡ 0
+sum_none f [] none = refl
+sum_none f (x ∷ xs) none =
+    let rest = sum_none f xs none in
+    let here = none x in
+    omega (arith, sum_by-cons f x xs, here, rest)
+
+pub owed_none : (callers : ℕ) → owed callers [] [] ≡ 0
+owed_none callers =
+    let work = sum_none (held [] []) (numbers_below callers) (λ c. refl) in
+    let back = sum_none (kept_back []) (numbers_below callers) (λ c. refl) in
+    let each = sum_none (λ c. 2 * all_kept_back callers []) (numbers_below callers) (λ c. omega (arith, back)) in
+    omega (arith, work, back, each)
+
+pub price_none : (p : ℕ → ℕ) (callers : ℕ) → price_kept p callers [] ≡ 0
+price_none p callers = sum_none (price_back p []) (numbers_below callers) (λ c. refl)

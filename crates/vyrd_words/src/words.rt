@@ -85,6 +85,10 @@ impl<C: Compare> Words<C> {
         ensures sound { IfOk result (λ w. w.views.refused ≡ false) }
         ensures pending { IfOk result (λ w. w.views.pending
             ≡ pending_for (C.price (C.known compared).shows) changed.items []) }
+        ensures rebuilt { IfOk result (λ w. shadow_owed w.shadow ≡ 0) }
+        ensures owed { IfOk result (λ w. owed w.shadow.header.callers [] w.views.since ≡ 0) }
+        ensures kept { IfOk result (λ w.
+            price_kept (C.price w.views.shows) w.shadow.header.callers [] ≡ 0) }
     {
         let mut views = Views::new(alloc, header, words, changed, compared)?;
         views.specify_start(state)?;
