@@ -239,6 +239,18 @@ paid_now {v} {w} e {kind} earlier writes new s0 s1 is at low opened count cost s
     let most = ap (most_held n) effects in
     omega (arith, paid, here, most, effects, cost))
 
+-- and whatever is kept after it
+pub paid_at_most : {v w : WordsView} (e : Entry) {kind : Kind} (earlier : List Entry) (writes : List (ℕ × ℕ)) (s0 s1 : ℕ)
+    → w ≡ v → e.kind ≡ kind → e.caller < w.shadow.header.callers → (kind ≡ BlockClose → has_block e.caller earlier ≡ true)
+    → length writes ≡ effect_count w.shadow e.caller kind
+    → s1 ≤ s0 + 4 * length writes + late_cost (parts_behind earlier e.caller kind) w.views.since
+    → s1 ≤ s0 + work_held v.shadow.header.callers earlier v.views.since + 4 * effect_count v.shadow e.caller e.kind
+    + most_held v.shadow.header.callers (effect_count v.shadow e.caller e.kind)
+paid_at_most {v} {w} e {kind} earlier writes s0 s1 is at low opened count cost =
+    let paid = paid_now {v = v} {w = w} e {kind = kind} earlier writes
+    (cut_if (is_commit kind) (with_part (parts_behind earlier e.caller kind) writes w.views.since)) s0 s1 is at low opened count cost refl in
+    omega (arith, paid)
+
 pub paid_closed : {T E : Type 0} {v w : WordsView} (r : Result T E) (e : Entry) {kind : Kind} (earlier : List Entry) (writes : List (ℕ × ℕ)) (new : List (List (ℕ × ℕ))) (s0 s1 : ℕ)
     → w ≡ v → e.kind ≡ kind → e.caller < w.shadow.header.callers → (kind ≡ BlockClose → has_block e.caller earlier ≡ true)
     → length writes ≡ effect_count w.shadow e.caller kind

@@ -162,6 +162,20 @@ owed_paid (Ok x) kept starting inner earlier e old new s0 s1 has keeps paid =
     let six = six_each 0 n in
     omega (arith, paid, all, each, six)
 
+-- and whatever is owed after it
+pub owed_at_most : (kept : Kept) (starting : List StartWord) (inner : List ℕ) (earlier : List Entry) (e : Entry)
+    (old : List (List (ℕ × ℕ))) (s0 s1 : ℕ) → HasWords kept inner starting earlier → Keeps kept.header earlier e
+    → s1 ≤ s0 + 30 + work_held kept.header.callers earlier old + 4 * effect_count kept e.caller e.kind
+    + most_held kept.header.callers (effect_count kept e.caller e.kind)
+    → s1 ≤ s0 + owed kept.header.callers earlier old + each_entry kept.header.callers
+owed_at_most kept starting inner earlier e old s0 s1 has keeps paid =
+    let n = kept.header.callers in
+    let w = effect_count kept e.caller e.kind in
+    let all = all_kept n e earlier w (low_caller keeps) (effects_few kept starting inner earlier e has keeps) in
+    let each = each_paid w (all_kept_back n earlier) (all_kept_back n (e ∷ earlier)) (numbers_below n) all in
+    let six = six_each 0 n in
+    omega (arith, paid, all, each, six)
+
 -- A commit that is judged owes nothing more: what is owed doesn't grow.
 behind_less : (behind : ℕ) (part : List (ℕ × ℕ)) (rest : List (List (ℕ × ℕ))) → writes_behind behind rest ≤ writes_behind behind (part ∷ rest)
 behind_less behind part rest = by_test (nat_le behind (length rest)) refl

@@ -17,7 +17,7 @@ use Rattle.vyrd_shadow.specs.Following.{Kept, words_of, kept_writes}
 use Rattle.vyrd_words.specs.HasWords.{HasWords, Keeps}
 use Rattle.vyrd_words.specs.Costs.{held, kept_back, all_kept_back, work_held, most_held, effect_count, effect_words, each_entry, owed, entry_price, price_back, price_kept}
 use Rattle.vyrd_words.proofs.WordsLaws.{low_caller, closes_block, commits_block}
-use Rattle.vyrd_words.proofs.OwedLaws.{sum_at, owed_paid}
+use Rattle.vyrd_words.proofs.OwedLaws.{sum_at, owed_paid, owed_at_most}
 
 abbrev prices_of : (ℕ → ℕ) → List (ℕ × ℕ) → ℕ
 prices_of p writes = sum_by (λ write. p write.0) writes
@@ -105,6 +105,17 @@ prices_few p kept starting inner earlier e has keeps = by_kind e.kind refl
     by_kind BlockClose at = block_priced p kept starting inner earlier e.caller has (low_caller keeps) (closes_block at keeps)
     by_kind BlockCommit at = block_priced p kept starting inner earlier e.caller has (low_caller keeps) (commits_block at keeps)
 
+-- what all blocks keep back, after an entry whose effects have these prices
+prices_paid : (p : ℕ → ℕ) (kept : Kept) (starting : List StartWord) (inner : List ℕ) (earlier : List Entry) (e : Entry) → HasWords kept inner starting earlier
+    → Keeps kept.header earlier e
+    → price_kept p kept.header.callers (e ∷ earlier) + sum_by p (effect_words kept e.caller e.kind)
+    ≤ price_kept p kept.header.callers earlier + entry_price p e.kind
+prices_paid p kept starting inner earlier e has keeps =
+    sum_at (price_back p (e ∷ earlier)) (price_back p earlier) (entry_price p e.kind) e.caller
+    (sum_by p (effect_words kept e.caller e.kind)) 0 kept.header.callers
+    (omega arith) (omega (arith, low_caller keeps)) (λ x apart. priced_by_other p x e earlier apart)
+    (priced_by_caller p e earlier (sum_by p (effect_words kept e.caller e.kind)) (prices_few p kept starting inner earlier e has keeps))
+
 -- what an entry costs, with what is owed after it, by the price of what it writes
 pub owed_priced : {T E : Type 0} (r : Result T E) (p : ℕ → ℕ) (kept : Kept) (starting : List StartWord) (inner : List ℕ) (earlier : List Entry) (e : Entry)
     (old new : List (List (ℕ × ℕ))) (s0 s1 : ℕ) → HasWords kept inner starting earlier → Keeps kept.header earlier e
@@ -119,9 +130,21 @@ owed_priced {T = T} {E = E} (Ok x) p kept starting inner earlier e old new s0 s1
     let n = kept.header.callers in
     let prices = sum_by p (effect_words kept e.caller e.kind) in
     let all = owed_paid {T = T} {E = E} (Ok x) kept starting inner earlier e old new (s0 + prices) s1 has keeps paid in
-    let each = sum_at (price_back p (e ∷ earlier)) (price_back p earlier) (entry_price p e.kind) e.caller prices 0 n
-    (omega arith) (omega (arith, low_caller keeps)) (λ x apart. priced_by_other p x e earlier apart)
-    (priced_by_caller p e earlier prices (prices_few p kept starting inner earlier e has keeps)) in
+    let each = prices_paid p kept starting inner earlier e has keeps in
+    omega (arith, all, each)
+
+-- and whatever is owed after it
+pub priced_at_most : (p : ℕ → ℕ) (kept : Kept) (starting : List StartWord) (inner : List ℕ) (earlier : List Entry) (e : Entry)
+    (old : List (List (ℕ × ℕ))) (s0 s1 : ℕ) → HasWords kept inner starting earlier → Keeps kept.header earlier e
+    → s1 ≤ s0 + sum_by p (effect_words kept e.caller e.kind) + 30 + work_held kept.header.callers earlier old + 4 * effect_count kept e.caller e.kind
+    + most_held kept.header.callers (effect_count kept e.caller e.kind)
+    → s1 ≤ s0 + owed kept.header.callers earlier old + price_kept p kept.header.callers earlier
+    + (each_entry kept.header.callers + entry_price p e.kind)
+priced_at_most p kept starting inner earlier e old s0 s1 has keeps paid =
+    let n = kept.header.callers in
+    let prices = sum_by p (effect_words kept e.caller e.kind) in
+    let all = owed_at_most kept starting inner earlier e old (s0 + prices) s1 has keeps paid in
+    let each = prices_paid p kept starting inner earlier e has keeps in
     omega (arith, all, each)
 
 -- before the first entry nothing is owed

@@ -143,6 +143,8 @@ impl<C: Compare> Views<C> {
         ensures shows { self.new.shows ≡ self.old.shows }
         ensures steps { OnOk result (steps.new + self.new.pending
             ≤ steps.old + self.old.pending + C.price self.old.shows word + 3) }
+        ensures most { steps.new
+            ≤ steps.old + self.old.pending + C.price self.old.shows word + 3 }
     {
         if self.counts.is_empty() {
             self.take_effect(word, value, steps)
@@ -173,6 +175,8 @@ impl<C: Compare> Views<C> {
         ensures shows { self.new.shows ≡ self.old.shows }
         ensures steps { OnOk result (steps.new + self.new.pending
             ≤ steps.old + self.old.pending + C.price self.old.shows word + 3) }
+        ensures most { steps.new
+            ≤ steps.old + self.old.pending + C.price self.old.shows word + 3 }
     {
         self.changed.reserve(self.tail + 1)?;
         catch_up(
@@ -265,6 +269,7 @@ impl<C: Compare> Views<C> {
         ensures shows { self.new.shows ≡ self.old.shows }
         ensures steps { OnOk result
             (steps.new + self.new.pending ≤ steps.old + self.old.pending) }
+        ensures most { steps.new ≤ steps.old + self.old.pending }
     {
         let Some(count) = self.counts.first() else {
             return Ok(());
@@ -293,6 +298,7 @@ impl<C: Compare> Views<C> {
         ensures shows { self.new.shows ≡ self.old.shows }
         ensures steps { OnOk result
             (steps.new + self.new.pending ≤ steps.old + self.old.pending + 2) }
+        ensures most { steps.new ≤ steps.old + self.old.pending + 2 }
     {
         self.compared
             .words_changed(&self.words, &self.changed, steps)?;
@@ -333,6 +339,8 @@ impl<C: Compare> Views<C> {
         ensures shows { self.new.shows ≡ self.old.shows }
         ensures steps { OnOk result (steps.new + self.new.pending
             ≤ steps.old + self.old.pending + 2 * length (S.touched spec.now) + 3) }
+        ensures most { steps.new
+            ≤ steps.old + self.old.pending + 2 * length (S.touched spec.now) + 3 }
     {
         self.advance(steps)?;
         self.compare_words(steps)?;

@@ -127,7 +127,7 @@ impl<C: Compare> Words<C> {
     /// or a commit that waits and is looked at for that. What the end of a block costs is owed from
     /// the entries on that made it dear, and what a changed word costs is pending from its write
     /// on. So each entry pays a constant, by the number of callers, and a write the price of its
-    /// word.
+    /// word. Where memory runs out it has taken no more than that, with all that was owed.
     #[inline(always)]
     pub fn follow_counted<L: Ledger>(
         &mut self,
@@ -160,6 +160,14 @@ impl<C: Compare> Words<C> {
             + price_kept (C.price self.old.views.shows) self.old.shadow.header.callers earlier
             + (each_entry self.old.shadow.header.callers
             + entry_price (C.price self.old.views.shows) entry.kind)) }
+        ensures most { (starting : List StartWord) (earlier : List Entry)
+            → HasWords self.old.shadow self.old.inner starting earlier
+            → Keeps self.old.shadow.header earlier entry → commits ≡ commit_count earlier
+            → steps.new ≤ steps.old + shadow_owed self.old.shadow + self.old.views.pending
+            + owed self.old.shadow.header.callers earlier self.old.views.since
+            + price_kept (C.price self.old.views.shows) self.old.shadow.header.callers earlier
+            + (each_entry self.old.shadow.header.callers
+            + entry_price (C.price self.old.views.shows) entry.kind) }
     {
         self.follow_kind(entry, commits, steps)
     }
@@ -199,6 +207,17 @@ impl<C: Compare> Words<C> {
             + 4 * effect_count self.old.shadow entry.caller entry.kind
             + most_held self.old.shadow.header.callers
             (effect_count self.old.shadow entry.caller entry.kind)) }
+        ensures most { (starting : List StartWord) (earlier : List Entry)
+            → HasWords self.old.shadow self.old.inner starting earlier
+            → Keeps self.old.shadow.header earlier entry → commits ≡ commit_count earlier
+            → steps.new ≤ steps.old + shadow_owed self.old.shadow + self.old.views.pending
+            + sum_by (C.price self.old.views.shows)
+            (effect_words self.old.shadow entry.caller entry.kind)
+            + 30
+            + work_held self.old.shadow.header.callers earlier self.old.views.since
+            + 4 * effect_count self.old.shadow entry.caller entry.kind
+            + most_held self.old.shadow.header.callers
+            (effect_count self.old.shadow entry.caller entry.kind) }
     {
         let caller = entry.caller;
         match entry.kind {
@@ -309,6 +328,8 @@ impl<C: Compare> Words<C> {
         ensures inner { self.new.inner ≡ self.old.inner }
         ensures steps { OnOk result (steps.new + self.new.views.pending
             ≤ steps.old + self.old.views.pending + 2 * length (S.touched spec.now) + 3) }
+        ensures most { steps.new
+            ≤ steps.old + self.old.views.pending + 2 * length (S.touched spec.now) + 3 }
     {
         self.views.difference(spec, steps)
     }
@@ -411,6 +432,10 @@ fn pass_on<C: Compare, L: Ledger>(
         + sum_by (C.price views.old.shows) shadow.old.changed
         + 4 * length shadow.old.changed
         + 1) }
+    ensures most { steps.new ≤ steps.old + shadow_owed shadow.old + views.old.pending
+        + sum_by (C.price views.old.shows) shadow.old.changed
+        + 4 * length shadow.old.changed
+        + 1 }
 {
     give(views, shadow.changed(), shadow.words(), steps)?;
     shadow.clear_changed_counted(steps);
@@ -447,6 +472,11 @@ fn pass_back<C: Compare, L: Ledger>(
         + 2 * writes_behind behind views.old.since
         + 4 * behind
         + 1) }
+    ensures most { steps.new ≤ steps.old + shadow_owed shadow.old
+        + length shadow.old.changed
+        + 2 * writes_behind behind views.old.since
+        + 4 * behind
+        + 1 }
 {
     views.late(behind, shadow.changed(), shadow.words(), steps)?;
     shadow.clear_changed_counted(steps);
@@ -476,6 +506,9 @@ fn give<C: Compare, L: Ledger>(
     ensures steps { OnOk result (steps.new + views.new.pending ≤ steps.old + views.old.pending
         + sum_by (C.price views.old.shows) changed.now
         + 4 * length changed.now) }
+    ensures most { steps.new ≤ steps.old + views.old.pending
+        + sum_by (C.price views.old.shows) changed.now
+        + 4 * length changed.now }
 {
     for word in changed {
         steps.tick();

@@ -1,7 +1,7 @@
 use Rattle.std.proofs.Common.{◌≡◌, ℕ, List, ◌+◌, ◌∷◌, ◌++◌, [], take, get_or, arith, refl, ap, sym, ◌∙◌}
 use Rattle.std.proofs.lemmas.List.{take_more, take_all}
 use Rattle.std.specs.List.{sum_by}
-use Rattle.std.proofs.lemmas.List.Sums.{sum_by_push}
+use Rattle.std.proofs.lemmas.List.Sums.{sum_by_push, sum_by-take-le}
 use Rattle.vyrd_words.specs.Cuts.{first_with, with_part, written}
 use Rattle.vyrd_words.proofs.CutLaws.{first_with_nothing, with_part_nothing, first_with_twice, with_part_twice, written_more}
 use Rattle.vyrd_words.proofs.words.give.Goals as goal
@@ -72,4 +72,32 @@ returns-clause-steps g c =
       c.loop-word.invariant.steps,
       c.loop-word.auto.word-index-end,
       ap (sum_by (g.C.Compare.price c.args.views.now.shows)) all,
+    )
+
+pub returns-clause-most : goal.returns-clause-most
+returns-clause-most g c =
+    let all = take_all c.loop-word.word-index c.args.changed.now c.loop-word-test.false in
+    omega (
+      arith,
+      c.loop-word.invariant.steps,
+      c.loop-word.auto.word-index-end,
+      ap (sum_by (g.C.Compare.price c.args.views.now.shows)) all,
+    )
+
+pub returns-in_err-effect-clause-most : goal.returns-in_err-effect-clause-most
+returns-in_err-effect-clause-most g c =
+    let i = c.loop-word.word-index in
+    let all = c.args.changed.now in
+    let w : ℕ = get_or all i 0 in
+    let p : ℕ → ℕ = g.C.Compare.price c.args.views.now.shows in
+    omega (
+      arith,
+      c.tick.ensures,
+      c.loop-word.invariant.steps,
+      c.effect.ensures.most,
+      c.loop-word-test.true,
+      ap (λ shows. g.C.Compare.price shows w) c.loop-word.invariant.shows,
+      ap (sum_by p) (take_more all i 0 c.loop-word-test.true),
+      sum_by_push p (take i all) w,
+      sum_by-take-le p all (i + 1),
     )

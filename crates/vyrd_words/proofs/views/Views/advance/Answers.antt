@@ -65,3 +65,19 @@ returns-clause-steps g c =
     (λ j. pending_for p ((c.catch_up.ensures.changed ∙ ap (λ xs. xs ++ map (λ write. write.0) (take n i.writes.items)) c.in_ok-reserve.ensures.items) j)
     (c.catch_up.ensures.writes j)) in
     omega (arith, was, same, c.catch_up.ensures.steps, caught_pending p i.changed.items n i.writes.items few)
+
+pub returns-clause-most : goal.returns-clause-most
+returns-clause-most g c =
+    let i = c.self.inside in
+    let p : ℕ → ℕ = g.C.Compare.price (g.C.Compare.known i.compared).shows in
+    let n = c.in-Some.count in
+    let is : i.counts ≡ n ∷ c.pop.new.self =
+    first_taken i.counts c.pop.new.self n (sym c.in-Some.ensures) c.pop.ensures in
+    let few : n ≤ length i.writes.items =
+    omega (arith, c.self.invariant.0.counted, ap sum is, sum-cons n c.pop.new.self) in
+    let was = ap (λ (v : Cuts). v.pending) c.self.view_is in
+    let same : pending_for p c.catch_up.new.changed.items c.catch_up.new.writes.items
+    ≡ pending_for p (i.changed.items ++ map (λ write. write.0) (take n i.writes.items)) (drop n i.writes.items) =
+    (λ j. pending_for p ((c.catch_up.ensures.changed ∙ ap (λ xs. xs ++ map (λ write. write.0) (take n i.writes.items)) c.in_ok-reserve.ensures.items) j)
+    (c.catch_up.ensures.writes j)) in
+    omega (arith, was, same, c.catch_up.ensures.steps, caught_pending p i.changed.items n i.writes.items few)

@@ -95,3 +95,39 @@ returns-then-len-ge-MOST_CHANGED-clause-steps g c =
     let caught = caught_pending p i.changed.items i.tail i.writes.items few in
     ok_two c.compare_words.result c.compare_words.ensures.steps c.compare_words.ensures.steps
     (λ paid twice. omega (arith, was, price, same, one, caught, c.catch_up.ensures.steps, paid))
+
+pub returns-clause-most : goal.returns-clause-most
+returns-clause-most g c =
+    let i = c.self.inside in
+    let p : ℕ → ℕ = g.C.Compare.price (g.C.Compare.known i.compared).shows in
+    let none : i.counts ≡ [] = none_waits i.counts i.writes.items (ap (λ (v : Cuts). v.since) c.self.view_is ∙ c.requires.none_waits) in
+    let few : i.tail ≤ length i.writes.items = omega (arith, c.self.invariant.0.counted) in
+    let was = ap (λ (v : Cuts). v.pending) c.self.view_is in
+    let price = ap (λ (v : Cuts). g.C.Compare.price v.shows c.args.word) c.self.view_is in
+    let words = map (λ write. write.0) (take i.tail i.writes.items) in
+    let same : pending_for p c.note.new.changed.items c.catch_up.new.writes.items
+    ≡ pending_for p ((i.changed.items ++ words) ++ c.args.word ∷ []) (drop i.tail i.writes.items) =
+    (λ j. pending_for p
+    ((c.note.ensures.items ∙ ap (λ xs. xs ++ c.args.word ∷ []) (c.catch_up.ensures.changed ∙ ap (λ xs. xs ++ words) c.in_ok-reserve.ensures.items)) j)
+    (c.catch_up.ensures.writes j)) in
+    let one = one_pending p (i.changed.items ++ words) c.args.word (drop i.tail i.writes.items) in
+    let caught = caught_pending p i.changed.items i.tail i.writes.items few in
+    omega (arith, was, price, same, one, caught, c.catch_up.ensures.steps)
+
+pub returns-then-len-ge-MOST_CHANGED-clause-most : goal.returns-then-len-ge-MOST_CHANGED-clause-most
+returns-then-len-ge-MOST_CHANGED-clause-most g c =
+    let i = c.self.inside in
+    let p : ℕ → ℕ = g.C.Compare.price (g.C.Compare.known i.compared).shows in
+    let none : i.counts ≡ [] = none_waits i.counts i.writes.items (ap (λ (v : Cuts). v.since) c.self.view_is ∙ c.requires.none_waits) in
+    let few : i.tail ≤ length i.writes.items = omega (arith, c.self.invariant.0.counted) in
+    let was = ap (λ (v : Cuts). v.pending) c.self.view_is in
+    let price = ap (λ (v : Cuts). g.C.Compare.price v.shows c.args.word) c.self.view_is in
+    let words = map (λ write. write.0) (take i.tail i.writes.items) in
+    let same : pending_for p c.note.new.changed.items c.catch_up.new.writes.items
+    ≡ pending_for p ((i.changed.items ++ words) ++ c.args.word ∷ []) (drop i.tail i.writes.items) =
+    (λ j. pending_for p
+    ((c.note.ensures.items ∙ ap (λ xs. xs ++ c.args.word ∷ []) (c.catch_up.ensures.changed ∙ ap (λ xs. xs ++ words) c.in_ok-reserve.ensures.items)) j)
+    (c.catch_up.ensures.writes j)) in
+    let one = one_pending p (i.changed.items ++ words) c.args.word (drop i.tail i.writes.items) in
+    let caught = caught_pending p i.changed.items i.tail i.writes.items few in
+    omega (arith, was, price, same, one, caught, c.catch_up.ensures.steps, c.compare_words.ensures.most)

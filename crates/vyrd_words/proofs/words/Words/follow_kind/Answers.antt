@@ -10,7 +10,7 @@ use Rattle.vyrd_words.specs.HasWords.{WordsView}
 use Rattle.vyrd_words.specs.Cuts.{with_part, written}
 use Rattle.vyrd_words.specs.Costs.{late_cost, effect_words}
 use Rattle.vyrd_words.proofs.CutLaws.{always, with_part_nothing, length-written}
-use Rattle.vyrd_words.proofs.CostLaws.{paid_now, paid_closed, one_changed, block_changed, one_word, block_words, priced}
+use Rattle.vyrd_words.proofs.CostLaws.{paid_now, paid_at_most, paid_closed, one_changed, block_changed, one_word, block_words, priced}
 use Rattle.vyrd_words.proofs.WordsLaws.{may_opened, has_opened, keeps_opened, taken_closed, may_caller, may_word, may_value, may_open, may_close, may_block_commit, may_number, keeps_as, quiet_taken, open_taken, write_taken, close_taken, commit_taken, block_commit_taken, parts_since_none, parts_since_some, ok_two, ok_three, taken_as, low_caller, closes_block, commits_block}
 use Rattle.vyrd_words.proofs.words.Words.follow_kind.Goals as goal
 
@@ -270,3 +270,117 @@ returns-in-Return-clause-steps g c = λ starting earlier has keeps counted.
     paid_now {v = before} {w = before} c.args.entry earlier [] before.views.since (c.args.steps.now + owed c.args.self.now.shadow + c.args.self.now.views.pending
     + sum_by (g.C.Compare.price c.args.self.now.views.shows) (effect_words c.args.self.now.shadow c.args.entry.caller c.args.entry.kind) + 30) (c.args.steps.now + owed before.shadow + before.views.pending)
     refl c.in-Return.is (low_caller keeps) (λ no. cc) refl (omega arith) (sym (with_part_nothing 0 before.views.since))
+
+pub returns-in-Call-clause-most : goal.returns-in-Call-clause-most
+returns-in-Call-clause-most g c = λ starting earlier has keeps counted.
+    omega arith
+
+pub returns-in-Return-clause-most : goal.returns-in-Return-clause-most
+returns-in-Return-clause-most g c = λ starting earlier has keeps counted.
+    omega arith
+
+pub returns-in-BlockOpen-clause-most : goal.returns-in-BlockOpen-clause-most
+returns-in-BlockOpen-clause-most g c = λ starting earlier seen kept counted.
+    omega (arith, c.open_block_counted.ensures.steps)
+
+pub returns-in-Commit-clause-most : goal.returns-in-Commit-clause-most
+returns-in-Commit-clause-most g c = λ starting earlier seen kept counted.
+    omega arith
+
+pub returns-in_err-write_counted-in-Write-clause-most : goal.returns-in_err-write_counted-in-Write-clause-most
+returns-in_err-write_counted-in-Write-clause-most g c = λ starting earlier seen kept counted.
+    omega (arith, c.write_counted.ensures.steps)
+
+pub returns-in_ok-write_counted-in-Write-clause-most : goal.returns-in_ok-write_counted-in-Write-clause-most
+returns-in_ok-write_counted-in-Write-clause-most g c = λ starting earlier seen kept counted.
+    let before = c.self.inside in
+    let was = ap (λ (v : WordsView). owed v.shadow + v.views.pending) c.self.view_is in
+    let has = has_opened c.self.view_is seen in
+    let keeps = keeps_opened c.self.view_is kept in
+    let mid = c.write_counted.new.self in
+    let long = length-written mid.words mid.changed in
+    let price = priced g.C.Compare.price c.args.entry mid.changed c.self.view_is c.in-Write.is
+    (one_word (is_open before.shadow c.args.entry.caller) mid.changed before.shadow.changed c.in-Write.word c.in_ok-write_counted-in-Write.ensures.changed has.unchanged) in
+    paid_at_most c.args.entry earlier (written mid.words mid.changed) (c.args.steps.now + owed c.args.self.now.shadow + c.args.self.now.views.pending
+    + sum_by (g.C.Compare.price c.args.self.now.views.shows) (effect_words c.args.self.now.shadow c.args.entry.caller c.args.entry.kind) + 30) c.pass_on.new.steps
+    c.self.view_is c.in-Write.is (low_caller keeps) (λ no. cc)
+    (long ∙ one_changed (is_open before.shadow c.args.entry.caller) mid.changed before.shadow.changed c.in-Write.word c.in_ok-write_counted-in-Write.ensures.changed has.unchanged)
+    (omega (arith, was, price, long, c.write_counted.ensures.paid, c.pass_on.ensures.most))
+
+pub returns-then-number-eq0-clause-most : goal.returns-then-number-eq0-clause-most
+returns-then-number-eq0-clause-most g c = λ starting earlier seen kept counted.
+    let before = c.self.inside in
+    let was = ap (λ (v : WordsView). owed v.shadow + v.views.pending) c.self.view_is in
+    let has = has_opened c.self.view_is seen in
+    let keeps = keeps_opened c.self.view_is kept in
+    let low : c.args.entry.caller < length before.inner.items = omega (arith, low_caller keeps, c.self.invariant.1, before.inner.ok.0) in
+    let here = slice_get-get_or before.inner.items c.args.entry.caller c.index-number.result.now low ∙ ap Some (sym c.index-number.ensures) in
+    let on = c.pass_on-then-number-eq0 in
+    let mid = c.close_block_counted.new.self in
+    let long = length-written mid.words mid.changed in
+    let none = parts_since_none before.inner.items c.args.entry.caller c.index-number.result.now earlier here (has.numbers c.args.entry.caller (low_caller keeps))
+    c.if-number-eq0.true in
+    let price = priced g.C.Compare.price c.args.entry mid.changed c.self.view_is c.in-BlockClose.is
+    (block_words mid.changed before.shadow.changed (kept_writes before.shadow c.args.entry.caller) c.close_block_counted.ensures.changed has.unchanged) in
+    paid_at_most c.args.entry earlier (written mid.words mid.changed) (c.args.steps.now + owed c.args.self.now.shadow + c.args.self.now.views.pending
+    + sum_by (g.C.Compare.price c.args.self.now.views.shows) (effect_words c.args.self.now.shadow c.args.entry.caller c.args.entry.kind) + 30) on.new.steps
+    c.self.view_is c.in-BlockClose.is (low_caller keeps) (λ closes. closes_block c.in-BlockClose.is keeps)
+    (long ∙ block_changed mid.changed before.shadow.changed (kept_writes before.shadow c.args.entry.caller) c.close_block_counted.ensures.changed has.unchanged)
+    (omega (arith, was, price, long, c.close_block_counted.ensures.paid, on.ensures.most))
+
+pub returns-else-number-eq0-clause-most : goal.returns-else-number-eq0-clause-most
+returns-else-number-eq0-clause-most g c = λ starting earlier seen kept counted.
+    let before = c.self.inside in
+    let was = ap (λ (v : WordsView). owed v.shadow + v.views.pending) c.self.view_is in
+    let has = has_opened c.self.view_is seen in
+    let keeps = keeps_opened c.self.view_is kept in
+    let low : c.args.entry.caller < length before.inner.items = omega (arith, low_caller keeps, c.self.invariant.1, before.inner.ok.0) in
+    let here = slice_get-get_or before.inner.items c.args.entry.caller c.index-number.result.now low ∙ ap Some (sym c.index-number.ensures) in
+    let mid = c.close_block_counted.new.self in
+    let long = length-written mid.words mid.changed in
+    let some = parts_since_some before.inner.items c.args.entry.caller c.index-number.result.now c.args.commits earlier here
+    (has.numbers c.args.entry.caller (low_caller keeps)) c.if-number-eq0.false counted in
+    let cost = ap (λ b. late_cost b before.views.since) some in
+    let price = priced g.C.Compare.price c.args.entry mid.changed c.self.view_is c.in-BlockClose.is
+    (block_words mid.changed before.shadow.changed (kept_writes before.shadow c.args.entry.caller) c.close_block_counted.ensures.changed has.unchanged) in
+    paid_at_most c.args.entry earlier (written mid.words mid.changed) (c.args.steps.now + owed c.args.self.now.shadow + c.args.self.now.views.pending
+    + sum_by (g.C.Compare.price c.args.self.now.views.shows) (effect_words c.args.self.now.shadow c.args.entry.caller c.args.entry.kind) + 30) c.pass_back.new.steps
+    c.self.view_is c.in-BlockClose.is (low_caller keeps) (λ closes. closes_block c.in-BlockClose.is keeps)
+    (long ∙ block_changed mid.changed before.shadow.changed (kept_writes before.shadow c.args.entry.caller) c.close_block_counted.ensures.changed has.unchanged)
+    (omega (arith, was, price, long, c.close_block_counted.ensures.paid, c.pass_back.ensures.most, cost))
+
+pub returns-in_ok-pass_on-in-BlockCommit-clause-most : goal.returns-in_ok-pass_on-in-BlockCommit-clause-most
+returns-in_ok-pass_on-in-BlockCommit-clause-most g c = λ starting earlier seen kept counted.
+    let before = c.self.inside in
+    let was = ap (λ (v : WordsView). owed v.shadow + v.views.pending) c.self.view_is in
+    let has = has_opened c.self.view_is seen in
+    let keeps = keeps_opened c.self.view_is kept in
+    let on = c.pass_on-in-BlockCommit in
+    let ok = c.in_ok-pass_on-in-BlockCommit in
+    let cut = c.cut-in-BlockCommit in
+    let mid = c.close_block_counted-in-BlockCommit.new.self in
+    let long = length-written mid.words mid.changed in
+    let price = priced g.C.Compare.price c.args.entry mid.changed c.self.view_is c.in-BlockCommit.is
+    (block_words mid.changed before.shadow.changed (kept_writes before.shadow c.args.entry.caller) c.close_block_counted-in-BlockCommit.ensures.changed has.unchanged) in
+    paid_at_most c.args.entry earlier (written mid.words mid.changed) (c.args.steps.now + owed c.args.self.now.shadow + c.args.self.now.views.pending
+    + sum_by (g.C.Compare.price c.args.self.now.views.shows) (effect_words c.args.self.now.shadow c.args.entry.caller c.args.entry.kind) + 30) on.new.steps
+    c.self.view_is c.in-BlockCommit.is (low_caller keeps) (λ no. cc)
+    (long ∙ block_changed mid.changed before.shadow.changed (kept_writes before.shadow c.args.entry.caller) c.close_block_counted-in-BlockCommit.ensures.changed has.unchanged)
+    (omega (arith, was, price, long, c.close_block_counted-in-BlockCommit.ensures.paid, on.ensures.most))
+
+pub returns-in_err-pass_on-in-BlockCommit-clause-most : goal.returns-in_err-pass_on-in-BlockCommit-clause-most
+returns-in_err-pass_on-in-BlockCommit-clause-most g c = λ starting earlier seen kept counted.
+    let before = c.self.inside in
+    let was = ap (λ (v : WordsView). owed v.shadow + v.views.pending) c.self.view_is in
+    let has = has_opened c.self.view_is seen in
+    let keeps = keeps_opened c.self.view_is kept in
+    let on = c.pass_on-in-BlockCommit in
+    let mid = c.close_block_counted-in-BlockCommit.new.self in
+    let long = length-written mid.words mid.changed in
+    let price = priced g.C.Compare.price c.args.entry mid.changed c.self.view_is c.in-BlockCommit.is
+    (block_words mid.changed before.shadow.changed (kept_writes before.shadow c.args.entry.caller) c.close_block_counted-in-BlockCommit.ensures.changed has.unchanged) in
+    paid_at_most c.args.entry earlier (written mid.words mid.changed) (c.args.steps.now + owed c.args.self.now.shadow + c.args.self.now.views.pending
+    + sum_by (g.C.Compare.price c.args.self.now.views.shows) (effect_words c.args.self.now.shadow c.args.entry.caller c.args.entry.kind) + 30) on.new.steps
+    c.self.view_is c.in-BlockCommit.is (low_caller keeps) (λ no. cc)
+    (long ∙ block_changed mid.changed before.shadow.changed (kept_writes before.shadow c.args.entry.caller) c.close_block_counted-in-BlockCommit.ensures.changed has.unchanged)
+    (omega (arith, was, price, long, c.close_block_counted-in-BlockCommit.ensures.paid, on.ensures.most))
