@@ -677,6 +677,12 @@ first_awaits ws x xs is unreturned = subst AwaitsReturn (sym is) (by_event x.eve
     by_event (Commits method args (Some reply)) e = absurd (apart e)
     by_event (Returns reply) e = absurd (apart e)
 
+-- what waits first stays, if another entry that waits is changed
+pub awaits_behind : (ws : List Waiting) (i : ℕ) (x : Waiting) → 0 < i → AwaitsReturn ws → AwaitsReturn (set ws i x)
+awaits_behind [] i x later awaits = awaits
+awaits_behind (w ∷ ws) zero x later awaits = absurd (omega (arith, later))
+awaits_behind (w ∷ ws) (suc i) x later awaits = awaits
+
 -- an execution without a commit returns exactly when what is known of the caller says so
 pub observer_is : {h : Header} {waiting : List Waiting} {taken : ℕ} {callers : List Caller} {earlier : List Entry} {e : Entry} {reply : ℕ} (caller : Caller)
     → e.kind ≡ Return reply → caller ≡ get_or callers e.caller caller → Keeps h earlier e → HasQueued h waiting taken callers earlier

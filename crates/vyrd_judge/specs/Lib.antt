@@ -2,5 +2,6 @@ pub mod WaitingView
 pub mod Waiting
 pub mod Reached
 pub mod Judged
+pub mod Costs
 pub mod Queued
 pub mod Following

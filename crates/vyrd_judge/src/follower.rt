@@ -25,7 +25,8 @@ use crate::replay::Replay;
 use crate::waiting::Waiting;
 use std::alloc::{AllocError, Global};
 use std::marker::Model;
-use vyrd_base::{Entry, Header, Kind, Rule, StartWord, Verdict};
+use std::sync::ledger::{Blank, Ledger};
+use vyrd_base::{Entry, Header, Kind, Rule, StartWord, Steps, Verdict};
 use vyrd_shape::Shape;
 use vyrd_spec::Spec;
 use vyrd_words::{Words, words_of};
@@ -67,6 +68,7 @@ impl<S: Spec> Model for Follower<S> {
       state = S.state f.replay.spec;
       made = S.made f.replay.spec;
       watches = f.replay.watches.by_caller;
+      answers = f.replay.watches.kept;
       entries = f.entries;
       commits = f.commits;
       observers = f.observers;
@@ -121,7 +123,11 @@ impl<S: Spec> Follower<S> {
     /// verdict that stands with it. After a verdict nothing is known of what is kept, and nothing
     /// after memory has run out.
     #[inline(always)]
-    pub fn take_in(&mut self, entry: Entry) -> Result<Option<Verdict>, AllocError>
+    pub fn take_in<L: Ledger>(
+        &mut self,
+        entry: Entry,
+        steps: &mut Steps<L>,
+    ) -> Result<Option<Verdict>, AllocError>
         requires few { self.old.entries < 2 ^ 62 }
         requires somewhere { IsSomewhere self.old }
         ensures answer { (starting : List StartWord) (log : List Entry)
@@ -138,40 +144,65 @@ impl<S: Spec> Follower<S> {
         // Each call is compiled for its kind, so that no part of it looks at the kind again. It is as
         // long as `take` isn't too large for that: docs/ARCHITECTURE.md, "Compiled in place".
         match entry.kind {
-            Kind::Call(method, args) => self.take(Entry {
-                caller,
-                kind: Kind::Call(method, args),
-            }),
-            Kind::Return(reply) => self.take(Entry {
-                caller,
-                kind: Kind::Return(reply),
-            }),
-            Kind::Write(word, value) => self.take(Entry {
-                caller,
-                kind: Kind::Write(word, value),
-            }),
-            Kind::Commit => self.take(Entry {
-                caller,
-                kind: Kind::Commit,
-            }),
-            Kind::BlockOpen => self.take(Entry {
-                caller,
-                kind: Kind::BlockOpen,
-            }),
-            Kind::BlockClose => self.take(Entry {
-                caller,
-                kind: Kind::BlockClose,
-            }),
-            Kind::BlockCommit => self.take(Entry {
-                caller,
-                kind: Kind::BlockCommit,
-            }),
+            Kind::Call(method, args) => self.take(
+                Entry {
+                    caller,
+                    kind: Kind::Call(method, args),
+                },
+                steps,
+            ),
+            Kind::Return(reply) => self.take(
+                Entry {
+                    caller,
+                    kind: Kind::Return(reply),
+                },
+                steps,
+            ),
+            Kind::Write(word, value) => self.take(
+                Entry {
+                    caller,
+                    kind: Kind::Write(word, value),
+                },
+                steps,
+            ),
+            Kind::Commit => self.take(
+                Entry {
+                    caller,
+                    kind: Kind::Commit,
+                },
+                steps,
+            ),
+            Kind::BlockOpen => self.take(
+                Entry {
+                    caller,
+                    kind: Kind::BlockOpen,
+                },
+                steps,
+            ),
+            Kind::BlockClose => self.take(
+                Entry {
+                    caller,
+                    kind: Kind::BlockClose,
+                },
+                steps,
+            ),
+            Kind::BlockCommit => self.take(
+                Entry {
+                    caller,
+                    kind: Kind::BlockCommit,
+                },
+                steps,
+            ),
         }
     }
 
     /// Takes in an entry, as `take_in` does.
     #[inline(always)]
-    fn take(&mut self, entry: Entry) -> Result<Option<Verdict>, AllocError>
+    fn take<L: Ledger>(
+        &mut self,
+        entry: Entry,
+        steps: &mut Steps<L>,
+    ) -> Result<Option<Verdict>, AllocError>
         requires few { self.old.entries < 2 ^ 62 }
         requires somewhere { IsSomewhere self.old }
         ensures answer { (starting : List StartWord) (log : List Entry)
@@ -184,20 +215,20 @@ impl<S: Spec> Follower<S> {
         ensures counted { self.new.entries ≤ self.old.entries + 1 }
         ensures charter { self.new.charter ≡ self.old.charter }
     {
-        if let Err(fault) = self.shape.step(&entry) {
+        if let Err(fault) = self.shape.step_counted(&entry, steps) {
             return Ok(Some(Verdict::Malformed {
                 line: self.started + self.entries + 2,
                 rule: fault.rule,
             }));
         }
         let observes = self.queue.observer_returns(entry);
-        self.words.follow(entry, self.commits)?;
+        self.words.follow_counted(entry, self.commits, steps)?;
         let position = self.entries;
         self.commits = counted(self.commits, is_commit(entry.kind));
         self.observers = counted(self.observers, observes);
         self.entries += 1;
-        let first = self.queue.follow(entry, position)?;
-        self.catch_up(first)
+        let first = self.queue.follow(entry, position, steps)?;
+        self.catch_up(first, steps)
     }
 
     /// The verdict if `end` stands after the entries.
@@ -221,7 +252,11 @@ impl<S: Spec> Follower<S> {
     /// Judges the entry that was handed out, if one was, and then those that wait, as far as they
     /// can be judged. The answer is the first fault so far.
     #[inline(always)]
-    fn catch_up(&mut self, first: Option<Waiting>) -> Result<Option<Verdict>, AllocError>
+    fn catch_up<L: Ledger>(
+        &mut self,
+        first: Option<Waiting>,
+        steps: &mut Steps<L>,
+    ) -> Result<Option<Verdict>, AllocError>
         requires may { MayCatchUp first self.old }
         requires can_leave { IfSome first CanLeave }
         ensures answer { (starting : List StartWord) (log : List Entry)
@@ -236,9 +271,9 @@ impl<S: Spec> Follower<S> {
         let Some(x) = first else {
             return Ok(None);
         };
-        match self.judge(x)? {
+        match self.judge(x, steps)? {
             Advance::Goes(None) => Ok(None),
-            Advance::Goes(next) => self.go_on(next),
+            Advance::Goes(next) => self.go_on(next, steps),
             Advance::Stops(verdict) => Ok(Some(verdict)),
         }
     }
@@ -246,7 +281,11 @@ impl<S: Spec> Follower<S> {
     /// The same, for an entry that has waited. It is a function of its own, so that `catch_up` has
     /// no loop, and is compiled for each kind of entry.
     #[inline(never)]
-    fn go_on(&mut self, first: Option<Waiting>) -> Result<Option<Verdict>, AllocError>
+    fn go_on<L: Ledger>(
+        &mut self,
+        first: Option<Waiting>,
+        steps: &mut Steps<L>,
+    ) -> Result<Option<Verdict>, AllocError>
         requires may { MayCatchUp first self.old }
         requires can_leave { IfSome first CanLeave }
         ensures answer { (starting : List StartWord) (log : List Entry)
@@ -260,7 +299,7 @@ impl<S: Spec> Follower<S> {
     {
         let mut next = first;
         while let Some(x) = next {
-            match self.judge(x)? {
+            match self.judge(x, steps)? {
                 Advance::Goes(more) => next = more,
                 Advance::Stops(verdict) => return Ok(Some(verdict)),
             }
@@ -270,7 +309,7 @@ impl<S: Spec> Follower<S> {
 
     /// Judges an entry that was handed out. The next one is handed out, if it can be judged.
     #[inline]
-    fn judge(&mut self, x: Waiting) -> Result<Advance, AllocError>
+    fn judge<L: Ledger>(&mut self, x: Waiting, steps: &mut Steps<L>) -> Result<Advance, AllocError>
         requires may { MayCatchUp (Some x) self.old }
         requires can_leave { CanLeave x }
         ensures gives { (starting : List StartWord) (log : List Entry)
@@ -283,14 +322,40 @@ impl<S: Spec> Follower<S> {
         ensures entries { self.new.entries ≡ self.old.entries }
         ensures charter { self.new.charter ≡ self.old.charter }
     {
-        match self.replay.judge(&mut self.words, x)? {
-            Outcome::Goes => Ok(Advance::Goes(self.queue.leave())),
+        match self.replay.judge(&mut self.words, x, steps)? {
+            Outcome::Goes => Ok(Advance::Goes(self.queue.leave(steps))),
             Outcome::Faults(why) => {
                 let line = self.started + x.position() + 2;
                 Ok(Advance::Stops(Verdict::Violation { line, why }))
             }
         }
     }
+}
+
+/// Takes in an entry with a count of its own.
+#[inline(always)]
+pub(crate) fn take_in_alone<S: Spec, L: Ledger>(
+    blank: Blank,
+    follower: &mut Follower<S>,
+    entry: Entry,
+) -> Result<Option<Verdict>, AllocError>
+    requires name { blank.name ≡ L.name }
+    requires parts { blank.parts ≡ L.parts }
+    requires some { 0 < blank.parts }
+    requires few { follower.old.entries < 2 ^ 62 }
+    requires somewhere { IsSomewhere follower.old }
+    ensures answer { (starting : List StartWord) (log : List Entry)
+        → IsFaultless follower.old starting log
+        → IfOk result
+        (λ v. v ≡ verdict_so_far (rules_by follower.old.charter) starting (log ++ entry ∷ [])) }
+    ensures follows { (starting : List StartWord) (log : List Entry)
+        → IsFaultless follower.old starting log → result ≡ Ok None
+        → IsFaultless follower.new starting (log ++ entry ∷ []) }
+    ensures counted { follower.new.entries ≤ follower.old.entries + 1 }
+    ensures charter { follower.new.charter ≡ follower.old.charter }
+{
+    let mut steps = Steps::<L>::new(blank);
+    follower.take_in(entry, &mut steps)
 }
 
 /// The words at the start, and what the specification's state shows there. They are compared by what

@@ -16,10 +16,11 @@ ghost use Rattle.vyrd_base.specs.Histories.{logged, log_of};
 ghost use Rattle.vyrd_base.specs.Verdicts.{verdict, verdict_so_far};
 ghost use Rattle.vyrd_judge.specs.Following.{HasFollowed};
 
-use crate::follower::Follower;
+use crate::follower::{Follower, take_in_alone};
 use crate::logged::entry_of;
 use std::alloc::{AllocError, Global};
-use std::marker::Model;
+use std::marker::{Brand, Model};
+use std::sync::ledger::Blank;
 use vyrd_base::{Entry, Header, Rule, Stamped, StartWord, Verdict};
 use vyrd_spec::{BuiltIn, Spec};
 use vyrd_words::words_at_start;
@@ -201,7 +202,7 @@ impl<S: Spec> Judge<S> {
         ensures counted { self.new.kept.entries ≤ self.old.kept.entries + 1 }
         ensures charter { self.new.kept.charter ≡ self.old.kept.charter }
     {
-        match self.follower.take_in(entry) {
+        match take_in_alone::<S, Brand>(Blank::new(1), &mut self.follower, entry) {
             Ok(None) => Ok(None),
             Ok(Some(verdict)) => {
                 self.so_far = Some(verdict);

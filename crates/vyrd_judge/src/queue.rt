@@ -1,6 +1,6 @@
 //! The queue of the entries that wait.
 
-ghost use Rattle.std.specs.Prelude.{◌≡◌, ◌<◌, ◌+◌, ◌-◌, ◌^◌, ◌∷◌, ◌++◌, ◌&&◌};
+ghost use Rattle.std.specs.Prelude.{◌≡◌, ◌<◌, ◌≤◌, ◌+◌, ◌-◌, ◌^◌, ◌∷◌, ◌++◌, ◌&&◌};
 ghost use Rattle.std.specs.Prelude.{List, [], length, Some, None, IfOk, OnOk, slice_get, slice_set};
 ghost use Rattle.std.specs.Prelude.{vec_len, not, ◌≢◌, IfSome};
 ghost use Rattle.std.specs.Bool.{then_some};
@@ -19,7 +19,8 @@ use crate::caller::Caller;
 use crate::waiting::{Event, Waiting};
 use std::alloc::{AllocError, Global};
 use std::collections::VecDeque;
-use vyrd_base::{Args, Entry, Header, Kind, Method};
+use std::sync::ledger::Ledger;
+use vyrd_base::{Args, Entry, Header, Kind, Method, Steps};
 
 /// The entries that wait to be judged, in their order. A commit is there from its entry on, and has
 /// its reply once its execution has returned. What waits first is handed out as soon as it can be
@@ -58,9 +59,15 @@ impl Queue {
 
     /// Takes in the entry at a position, which keeps the rules. It waits from then on, if it is one
     /// that is judged; and if it is the return of an execution with a commit, that has the reply.
-    /// What waits first then is handed out, if the entry lets it be judged.
+    /// What waits first then is handed out, if the entry lets it be judged. One step is an entry
+    /// that is put among those that wait, is given its reply there, or is handed out.
     #[inline(always)]
-    pub fn follow(&mut self, entry: Entry, position: u64) -> Result<Option<Waiting>, AllocError>
+    pub fn follow<L: Ledger>(
+        &mut self,
+        entry: Entry,
+        position: u64,
+        steps: &mut Steps<L>,
+    ) -> Result<Option<Waiting>, AllocError>
         requires may { MayQueue self.old.header self.old.waiting.items self.old.taken
             self.old.callers.items entry position }
         requires few { position < 2 ^ 62 }
@@ -75,13 +82,14 @@ impl Queue {
         ensures awaits { AwaitsReturn self.old.waiting.items
             → IfOk result (λ first. first ≡ None → AwaitsReturn self.new.waiting.items) }
         ensures header { self.new.header ≡ self.old.header }
+        ensures steps { steps.new ≤ steps.old + 2 }
     {
         let caller = entry.caller;
         match entry.kind {
-            Kind::Call(method, args) => self.call(caller, position, method, args),
-            Kind::Return(reply) => self.give_back(caller, position, reply),
-            Kind::Commit => self.commit(caller, position),
-            Kind::BlockCommit => self.commit(caller, position),
+            Kind::Call(method, args) => self.call(caller, position, method, args, steps),
+            Kind::Return(reply) => self.give_back(caller, position, reply, steps),
+            Kind::Commit => self.commit(caller, position, steps),
+            Kind::BlockCommit => self.commit(caller, position, steps),
             Kind::Write(_, _) => Ok(None),
             Kind::BlockOpen => Ok(None),
             Kind::BlockClose => Ok(None),
@@ -91,12 +99,13 @@ impl Queue {
     /// A call is remembered, and waits if its execution may return without a commit.
     #[inline(always)]
     #[tactic(auto, using(vyrd_base::proofs::HeaderLaws::few_callers))]
-    fn call(
+    fn call<L: Ledger>(
         &mut self,
         caller: u32,
         position: u64,
         method: Method,
         args: Args,
+        steps: &mut Steps<L>,
     ) -> Result<Option<Waiting>, AllocError>
         requires { caller < self.old.header.callers }
         ensures callers { OnOk result (self.new.callers.items ≡ slice_set self.old.callers.items
@@ -109,6 +118,7 @@ impl Queue {
         ensures awaits { AwaitsReturn self.old.waiting.items
             → IfOk result (λ first. first ≡ None → AwaitsReturn self.new.waiting.items) }
         ensures header { self.new.header ≡ self.old.header }
+        ensures steps { steps.new ≤ steps.old + 1 }
     {
         self.callers[caller as usize] = Caller {
             method,
@@ -118,12 +128,19 @@ impl Queue {
         if method.must_commit() {
             return Ok(None);
         }
-        self.wait(Waiting::new(caller, position, Event::Begins(method, args)))
+        self.wait(
+            Waiting::new(caller, position, Event::Begins(method, args)),
+            steps,
+        )
     }
 
     /// An entry waits that isn't a commit. It is handed out if nothing waits before it.
     #[inline(always)]
-    fn wait(&mut self, x: Waiting) -> Result<Option<Waiting>, AllocError>
+    fn wait<L: Ledger>(
+        &mut self,
+        x: Waiting,
+        steps: &mut Steps<L>,
+    ) -> Result<Option<Waiting>, AllocError>
         requires can_leave { CanLeave x }
         ensures waiting { IfOk result (λ first. cons_option first self.new.waiting.items
             ≡ self.old.waiting.items ++ x ∷ []) }
@@ -133,7 +150,9 @@ impl Queue {
         ensures callers { self.new.callers ≡ self.old.callers }
         ensures taken { self.new.taken ≡ self.old.taken }
         ensures header { self.new.header ≡ self.old.header }
+        ensures steps { steps.new ≤ steps.old + 1 }
     {
+        steps.tick();
         if self.waiting.is_empty() {
             return Ok(Some(x));
         }
@@ -144,7 +163,12 @@ impl Queue {
     /// A commit waits, and its caller knows its number. Nothing is handed out.
     #[inline(always)]
     #[tactic(auto, using(vyrd_base::proofs::HeaderLaws::few_callers))]
-    fn commit(&mut self, caller: u32, position: u64) -> Result<Option<Waiting>, AllocError>
+    fn commit<L: Ledger>(
+        &mut self,
+        caller: u32,
+        position: u64,
+        steps: &mut Steps<L>,
+    ) -> Result<Option<Waiting>, AllocError>
         requires caller { caller < self.old.header.callers }
         requires few { self.old.taken + length self.old.waiting.items < 2 ^ 62 }
         ensures callers { (called : Caller) → slice_get self.old.callers.items caller ≡ Some called
@@ -164,10 +188,12 @@ impl Queue {
         ensures awaits { AwaitsReturn self.old.waiting.items
             → IfOk result (λ first. first ≡ None → AwaitsReturn self.new.waiting.items) }
         ensures header { self.new.header ≡ self.old.header }
+        ensures steps { steps.new ≤ steps.old + 1 }
     {
         let number = self.taken + self.waiting.len() as u64 + 1;
         let called = self.callers[caller as usize];
         let event = Event::Commits(called.method, called.args, None);
+        steps.tick();
         push(&mut self.waiting, Waiting::new(caller, position, event))?;
         self.callers[caller as usize] = Caller {
             method: called.method,
@@ -181,11 +207,12 @@ impl Queue {
     /// no commit the return waits.
     #[inline(always)]
     #[tactic(auto, using(vyrd_base::proofs::HeaderLaws::few_callers))]
-    fn give_back(
+    fn give_back<L: Ledger>(
         &mut self,
         caller: u32,
         position: u64,
         reply: u64,
+        steps: &mut Steps<L>,
     ) -> Result<Option<Waiting>, AllocError>
         requires caller { caller < self.old.header.callers }
         requires pending { (called : Caller) → slice_get self.old.callers.items caller ≡ Some called
@@ -211,16 +238,19 @@ impl Queue {
         ensures awaits { AwaitsReturn self.old.waiting.items
             → IfOk result (λ first. first ≡ None → AwaitsReturn self.new.waiting.items) }
         ensures header { self.new.header ≡ self.old.header }
+        ensures steps { steps.new ≤ steps.old + 2 }
     {
         let called = self.callers[caller as usize];
         if called.commit == 0 {
-            return self.wait(Waiting::new(caller, position, Event::Returns(reply)));
+            return self.wait(Waiting::new(caller, position, Event::Returns(reply)), steps);
         }
+        steps.tick();
         let at = (called.commit - 1 - self.taken) as usize;
         let commit = self.waiting[at];
         let event = Event::Commits(called.method, called.args, Some(reply));
         let commit = Waiting::new(commit.caller(), commit.position(), event);
         if at == 0 {
+            steps.tick();
             let _ = self.waiting.pop_front();
             return Ok(Some(commit));
         }
@@ -246,9 +276,9 @@ impl Queue {
     }
 
     /// The entry that was handed out is judged. What waits first then is handed out, if it can be
-    /// judged.
+    /// judged. It takes one step at most, that of handing out.
     #[inline(always)]
-    pub fn leave(&mut self) -> Option<Waiting>
+    pub fn leave<L: Ledger>(&mut self, steps: &mut Steps<L>) -> Option<Waiting>
         requires few { self.old.taken + 1 < 2 ^ 64 }
         ensures left { (x : Waiting) (earlier : List Entry) → CanLeave x
             → HasQueued self.old.header (x ∷ self.old.waiting.items) self.old.taken
@@ -259,7 +289,9 @@ impl Queue {
         ensures can_leave { IfSome result CanLeave }
         ensures awaits { result ≡ None → AwaitsReturn self.new.waiting.items }
         ensures header { self.new.header ≡ self.old.header }
+        ensures steps { steps.new ≤ steps.old + 1 }
     {
+        steps.tick();
         self.taken += 1;
         let x = self.first()?;
         if x.awaits_return() {

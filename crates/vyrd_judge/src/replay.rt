@@ -1,6 +1,7 @@
 //! The part of a log that is judged.
 
-ghost use Rattle.std.specs.Prelude.{◌≡◌, ◌<◌, ◌^◌, ◌∷◌, ℕ, List, [], true, false, Some, None};
+ghost use Rattle.std.specs.Prelude.{◌≡◌, ◌<◌, ◌≤◌, ◌+◌, ◌*◌, ◌^◌, ◌∷◌, ℕ, List, [], true, false};
+ghost use Rattle.std.specs.Prelude.{Some, None};
 ghost use Rattle.std.specs.Prelude.{IfOk, OnOk, slice_get, slice_set, length};
 ghost use Rattle.vyrd_base.specs.Rules.{rules_by};
 ghost use Rattle.vyrd_base.specs.declared.log.Entry.{Entry};
@@ -8,16 +9,20 @@ ghost use Rattle.vyrd_base.specs.declared.log.StartWord.{StartWord};
 ghost use Rattle.vyrd_base.specs.Subjects.{is_observer, must_commit};
 ghost use Rattle.vyrd_judge.specs.declared.waiting.Waiting.{Waiting};
 ghost use Rattle.vyrd_base.specs.Entries.{has_method};
+ghost use Rattle.vyrd_judge.specs.Costs.{judging_cost};
 ghost use Rattle.vyrd_judge.specs.Judged.{Judged, HeadGives, MayJudge, CommitLeads, KnowsState};
 ghost use Rattle.vyrd_judge.specs.Queued.{CanLeave};
+ghost use Rattle.vyrd_observers.specs.Costs.{owed};
 ghost use Rattle.vyrd_observers.specs.Watching.{AreCurrent};
 ghost use Rattle.vyrd_observers.specs.Watching.{Seen, unwatched, has_answer};
 ghost use Rattle.vyrd_view.specs.Known.{view_by};
+ghost use Rattle.vyrd_words.specs.Costs.{owed as words_owed};
 
 use crate::outcome::Outcome;
 use crate::waiting::{Event, Waiting};
 use std::alloc::{AllocError, Global};
-use vyrd_base::{Args, Header, Method, Why};
+use std::sync::ledger::Ledger;
+use vyrd_base::{Args, Header, Method, Steps, Why};
 use vyrd_observers::Watches;
 use vyrd_spec::Spec;
 use vyrd_words::Words;
@@ -47,9 +52,16 @@ impl<S: Spec> Replay<S> {
         })
     }
 
-    /// An execution that may return without a commit begins, in the state here.
+    /// An execution that may return without a commit begins, in the state here. The specification's
+    /// answer is one step.
     #[inline(never)]
-    fn begin(&mut self, caller: u32, method: Method, args: Args) -> Result<(), AllocError>
+    fn begin<L: Ledger>(
+        &mut self,
+        caller: u32,
+        method: Method,
+        args: Args,
+        steps: &mut Steps<L>,
+    ) -> Result<(), AllocError>
         requires caller { caller < (rules_by (S.charter self.old.spec)).header.callers }
         requires allowed { has_method (rules_by (S.charter self.old.spec)).header method args
             ≡ true }
@@ -63,35 +75,43 @@ impl<S: Spec> Replay<S> {
                   (S.state self.old.spec) method args ∷ [];
             })) }
         ensures spec { self.new.spec ≡ self.old.spec }
+        ensures steps { steps.new + owed self.new.watches ≤ steps.old + owed self.old.watches
+            + (5 * (rules_by (S.charter self.old.spec)).header.callers + 4) }
     {
+        steps.tick();
         let answer = self.spec.answer(method, args);
-        self.watches.begin(caller, method, args, answer)
+        self.watches
+            .begin_counted(caller, method, args, answer, steps)
     }
 
     /// An execution without a commit returns. It says whether some state since its call answers the
     /// reply.
     #[inline(never)]
-    fn end(&mut self, caller: u32, reply: u64) -> bool
+    fn end<L: Ledger>(&mut self, caller: u32, reply: u64, steps: &mut Steps<L>) -> bool
         requires caller { caller < (rules_by (S.charter self.old.spec)).header.callers }
         ensures answered { (seen : Seen) → slice_get self.old.watches.by_caller caller ≡ Some seen
             → result ≡ has_answer seen.answers reply }
         ensures watches { self.new.watches.by_caller
             ≡ slice_set self.old.watches.by_caller caller unwatched }
         ensures spec { self.new.spec ≡ self.old.spec }
+        ensures steps { steps.new + owed self.new.watches ≤ steps.old + owed self.old.watches
+            + 3 * (rules_by (S.charter self.old.spec)).header.callers }
     {
-        self.watches.end(caller, reply)
+        self.watches.end_counted(caller, reply, steps)
     }
 
     /// A commit is judged by its reply and by the words there, which wait first. Its execution is
     /// watched no more, since it is judged by its commit. What is watched sees the state after it.
+    /// The specification's step is one step. The comparison of the words isn't counted yet.
     #[inline(never)]
-    fn commit(
+    fn commit<L: Ledger>(
         &mut self,
         words: &mut Words<S::Compared>,
         caller: u32,
         method: Method,
         args: Args,
         reply: u64,
+        steps: &mut Steps<L>,
     ) -> Result<Outcome, AllocError>
         requires caller { caller < (rules_by (S.charter self.old.spec)).header.callers }
         requires shows { view_by words.old.views.shows
@@ -123,15 +143,22 @@ impl<S: Spec> Replay<S> {
         ensures shows { words.new.views.shows ≡ words.old.views.shows }
         ensures shadow { words.new.shadow ≡ words.old.shadow }
         ensures inner { words.new.inner ≡ words.old.inner }
+        ensures steps { steps.new + owed self.new.watches ≤ steps.old + owed self.old.watches
+            + judging_cost (rules_by (S.charter self.old.spec)).header.callers }
+        ensures owed { (callers : ℕ) (earlier : List Entry) (part : List (ℕ × ℕ))
+            (rest : List (List (ℕ × ℕ))) → words.old.views.since ≡ part ∷ rest
+            → OnOk result (words_owed callers earlier words.new.views.since
+            ≤ words_owed callers earlier words.old.views.since) }
     {
+        steps.tick();
         if !self.spec.step(method, args, reply)? {
             return Ok(Outcome::Faults(Why::Reply(reply)));
         }
         if let Some(key) = words.difference(&self.spec)? {
             return Ok(Outcome::Faults(Why::View(key)));
         }
-        self.watches.close(caller);
-        self.watches.see_all(&self.spec)?;
+        self.watches.close_counted(caller, steps);
+        self.watches.see_all_counted(&self.spec, steps)?;
         Ok(Outcome::Goes)
     }
 
@@ -139,10 +166,11 @@ impl<S: Spec> Replay<S> {
     /// time in proportion to the different questions of open observers, the most that there were at
     /// one time, besides that of the specification's step and of the comparison.
     #[inline(always)]
-    pub fn judge(
+    pub fn judge<L: Ledger>(
         &mut self,
         words: &mut Words<S::Compared>,
         x: Waiting,
+        steps: &mut Steps<L>,
     ) -> Result<Outcome, AllocError>
         requires shows { view_by words.old.views.shows
             ≡ (rules_by (S.charter self.old.spec)).view }
@@ -171,18 +199,27 @@ impl<S: Spec> Replay<S> {
         ensures shows { words.new.views.shows ≡ words.old.views.shows }
         ensures shadow { words.new.shadow ≡ words.old.shadow }
         ensures inner { words.new.inner ≡ words.old.inner }
+        ensures steps { steps.new + owed self.new.watches ≤ steps.old + owed self.old.watches
+            + judging_cost (rules_by (S.charter self.old.spec)).header.callers }
+        ensures owed { (callers : ℕ) (earlier : List Entry) (starting : List StartWord)
+            (log : List Entry) (xs : List Waiting)
+            → Judged (rules_by (S.charter self.old.spec)) starting log (S.state self.old.spec)
+            (S.made self.old.spec)
+            self.old.watches.by_caller (x ∷ xs) words.old.views.first words.old.views.since
+            → OnOk result (words_owed callers earlier words.new.views.since
+            ≤ words_owed callers earlier words.old.views.since) }
     {
         match x.event() {
             Event::Begins(method, args) => {
-                self.begin(x.caller(), method, args)?;
+                self.begin(x.caller(), method, args, steps)?;
                 Ok(Outcome::Goes)
             }
             Event::Commits(method, args, reply) => match reply {
-                Some(reply) => self.commit(words, x.caller(), method, args, reply),
+                Some(reply) => self.commit(words, x.caller(), method, args, reply, steps),
                 None => unreachable!(),
             },
             Event::Returns(reply) => {
-                if self.end(x.caller(), reply) {
+                if self.end(x.caller(), reply, steps) {
                     Ok(Outcome::Goes)
                 } else {
                     Ok(Outcome::Faults(Why::Observer(reply)))

@@ -7,22 +7,22 @@ use Rattle.vyrd_judge.proofs.QueueLaws.{all_ok, write_up, open_up, close_up, cal
 use Rattle.vyrd_judge.proofs.queue.Queue.follow.Goals as goal
 
 pub give_back-requires-clause-pending : goal.give_back-requires-clause-pending
-give_back-requires-clause-pending c = λ called here has. queue_pending called c.in-Return.is here has c.requires.may
+give_back-requires-clause-pending g c = λ called here has. queue_pending called c.in-Return.is here has c.requires.may
 
 pub commit-requires-clause-caller : goal.commit-requires-clause-caller
-commit-requires-clause-caller c = queue_caller c.requires.may
+commit-requires-clause-caller g c = queue_caller c.requires.may
 
 pub commit-requires-clause-few : goal.commit-requires-clause-few
-commit-requires-clause-few c = queue_few c.requires.few c.requires.may
+commit-requires-clause-few g c = queue_few c.requires.few c.requires.may
 
 pub commit-requires-in-BlockCommit-clause-caller : goal.commit-requires-in-BlockCommit-clause-caller
-commit-requires-in-BlockCommit-clause-caller c = queue_caller c.requires.may
+commit-requires-in-BlockCommit-clause-caller g c = queue_caller c.requires.may
 
 pub commit-requires-in-BlockCommit-clause-few : goal.commit-requires-in-BlockCommit-clause-few
-commit-requires-in-BlockCommit-clause-few c = queue_few c.requires.few c.requires.may
+commit-requires-in-BlockCommit-clause-few g c = queue_few c.requires.few c.requires.may
 
 pub returns-in-Call-clause-taken_up : goal.returns-in-Call-clause-taken_up
-returns-in-Call-clause-taken_up c = λ earlier q keeps at.
+returns-in-Call-clause-taken_up g c = λ earlier q keeps at.
     let own = c.args.self.now in
     let low : c.args.entry.caller < length own.callers.items = omega (arith, low_caller keeps, own.all, own.callers.ok.0) in
     all_ok c.call.result c.call.ensures.callers c.call.ensures.waiting c.call.ensures.taken (λ first callers waiting taken.
@@ -30,13 +30,13 @@ returns-in-Call-clause-taken_up c = λ earlier q keeps at.
     (call_up c.args.entry.caller c.args.position c.in-Call.method c.in-Call.args low at (keeps_as c.in-Call.is keeps) q callers waiting taken))
 
 pub returns-in-Return-clause-taken_up : goal.returns-in-Return-clause-taken_up
-returns-in-Return-clause-taken_up c = λ earlier q keeps at.
+returns-in-Return-clause-taken_up g c = λ earlier q keeps at.
     IfOk-weaker c.give_back.result _ _ (λ first up. taken_kind c.args.entry c.in-Return.is up)
     (return_up c.give_back.result c.give_back.new.self.waiting.items c.give_back.new.self.taken c.give_back.new.self.callers.items c.args.entry.caller c.args.position c.in-Return.reply at (keeps_as c.in-Return.is keeps) q
     c.give_back.ensures.uncommitted c.give_back.ensures.committed c.give_back.ensures.callers c.give_back.ensures.taken)
 
 pub returns-in-Commit-clause-taken_up : goal.returns-in-Commit-clause-taken_up
-returns-in-Commit-clause-taken_up c = λ earlier q keeps at.
+returns-in-Commit-clause-taken_up g c = λ earlier q keeps at.
     let called = committing_called Commit c.in-Commit.is alone keeps in
     let known = known_caller keeps called.1 q in
     all_ok c.commit.result (c.commit.ensures.callers known.caller known.here) (c.commit.ensures.waiting known.caller known.here) c.commit.ensures.taken
@@ -45,7 +45,7 @@ returns-in-Commit-clause-taken_up c = λ earlier q keeps at.
     (keeps_as c.in-Commit.is keeps) q callers waiting taken))
 
 pub returns-in-BlockCommit-clause-taken_up : goal.returns-in-BlockCommit-clause-taken_up
-returns-in-BlockCommit-clause-taken_up c = λ earlier q keeps at.
+returns-in-BlockCommit-clause-taken_up g c = λ earlier q keeps at.
     let called = committing_called BlockCommit c.in-BlockCommit.is with_block keeps in
     let known = known_caller keeps called.1 q in
     all_ok c.commit-in-BlockCommit.result (c.commit-in-BlockCommit.ensures.callers known.caller known.here)
@@ -55,10 +55,10 @@ returns-in-BlockCommit-clause-taken_up c = λ earlier q keeps at.
     (keeps_as c.in-BlockCommit.is keeps) q callers waiting taken))
 
 pub returns-in-Write-clause-taken_up : goal.returns-in-Write-clause-taken_up
-returns-in-Write-clause-taken_up c = λ earlier q keeps at. taken_kind c.args.entry c.in-Write.is (write_up c.args.entry.caller _ _ q)
+returns-in-Write-clause-taken_up g c = λ earlier q keeps at. taken_kind c.args.entry c.in-Write.is (write_up c.args.entry.caller _ _ q)
 
 pub returns-in-BlockOpen-clause-taken_up : goal.returns-in-BlockOpen-clause-taken_up
-returns-in-BlockOpen-clause-taken_up c = λ earlier q keeps at. taken_kind c.args.entry c.in-BlockOpen.is (open_up c.args.entry.caller q)
+returns-in-BlockOpen-clause-taken_up g c = λ earlier q keeps at. taken_kind c.args.entry c.in-BlockOpen.is (open_up c.args.entry.caller q)
 
 pub returns-in-BlockClose-clause-taken_up : goal.returns-in-BlockClose-clause-taken_up
-returns-in-BlockClose-clause-taken_up c = λ earlier q keeps at. taken_kind c.args.entry c.in-BlockClose.is (close_up c.args.entry.caller q)
+returns-in-BlockClose-clause-taken_up g c = λ earlier q keeps at. taken_kind c.args.entry c.in-BlockClose.is (close_up c.args.entry.caller q)

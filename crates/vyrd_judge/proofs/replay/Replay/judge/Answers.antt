@@ -2,7 +2,7 @@ use Rattle.vyrd_base.specs.Rules.{rules_by}
 use Rattle.std.proofs.Common.{ap, sym, subst, ◌∙◌}
 use Rattle.vyrd_judge.specs.declared.waiting.Event.TheVariants.{Commits}
 use Rattle.vyrd_judge.specs.Judged.{Judged}
-use Rattle.vyrd_judge.proofs.JudgingLaws.{begins_caller, begins_may, begins_free, commits_caller, commits_may, commits_mutates, returns_caller, steps_few, judged_current, judged_begins, watch_there, judged_answered, judged_unanswered, judged_commits}
+use Rattle.vyrd_judge.proofs.JudgingLaws.{begins_caller, begins_may, begins_free, commits_caller, commits_may, commits_mutates, returns_caller, steps_few, judged_current, judged_begins, watch_there, judged_answered, judged_unanswered, judged_commits, commit_splits}
 use Rattle.vyrd_judge.proofs.replay.Replay.judge.Goals as goal
 
 pub begin-requires-clause-caller : goal.begin-requires-clause-caller
@@ -66,3 +66,8 @@ returns-else-end-clause-gives g c = λ starting log xs j known.
     let old = c.args.self.now in
     let seen = watch_there (sym c.event.ensures ∙ c.in-Returns.is) old.callers j in
     judged_unanswered seen.0 (sym c.event.ensures ∙ c.in-Returns.is) seen.1 (sym (c.end.ensures.answered seen.0 (rw c.caller-in-Returns.ensures.is seen.1)) ∙ c.if-end.false) j
+
+pub returns-in-Some-clause-owed : goal.returns-in-Some-clause-owed
+returns-in-Some-clause-owed g c = λ callers earlier starting log xs j.
+    let split = commit_splits (sym c.event.ensures ∙ c.in-Commits.is ∙ ap (Commits c.in-Commits.method c.in-Commits.args) c.in-Some.is) j in
+    c.commit.ensures.owed callers earlier split.0 split.1 split.2
