@@ -239,7 +239,7 @@ commits_onto earlier (x ∷ xs) =
     let whole = commit_count-cons x xs in
     omega (arith, rest, one, whole)
 
-commits_same : (log : List Entry) → commit_count (newest_first log) ≡ commit_count log
+pub commits_same : (log : List Entry) → commit_count (newest_first log) ≡ commit_count log
 commits_same log = let all = commits_onto [] log in omega (arith, all)
 
 -- what may follow

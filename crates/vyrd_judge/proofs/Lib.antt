@@ -2,6 +2,7 @@ pub mod EndingLaws
 pub mod EndFacts
 pub mod AlikeLaws
 pub mod PartLaws
+pub mod CostLaws
 pub mod HistoryLaws
 pub mod OnlineLaws
 pub mod FollowerLaws

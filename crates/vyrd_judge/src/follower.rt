@@ -11,8 +11,9 @@ ghost use Rattle.vyrd_base.specs.declared.log.StartWord.{StartWord};
 ghost use Rattle.vyrd_base.specs.Starts.{do_follow, words_at_start, state_at_start};
 ghost use Rattle.vyrd_base.specs.Commits.{is_commit};
 ghost use Rattle.vyrd_base.specs.Verdicts.{first_fault, verdict, verdict_so_far};
+ghost use Rattle.vyrd_judge.specs.Costs.{callers_of, debt, debt_after, debt_by, each_entry};
 ghost use Rattle.vyrd_judge.specs.Following.{Kept, HasTakenIn, IsFaultless, IsSomewhere};
-ghost use Rattle.vyrd_judge.specs.Following.{IsCatchingUp, MayCatchUp, AdvanceGives};
+ghost use Rattle.vyrd_judge.specs.Following.{IsCatchingUp, MayCatchUp, AdvanceGives, with_first};
 ghost use Rattle.vyrd_judge.specs.Queued.{CanLeave};
 ghost use Rattle.vyrd_view.specs.Known.{view_by};
 ghost use Rattle.vyrd_words.specs.HasWords.{HasWords};
@@ -139,6 +140,10 @@ impl<S: Spec> Follower<S> {
             → IsFaultless self.new starting (log ++ entry ∷ []) }
         ensures counted { self.new.entries ≤ self.old.entries + 1 }
         ensures charter { self.new.charter ≡ self.old.charter }
+        ensures steps { (starting : List StartWord) (log : List Entry)
+            → IsFaultless self.old starting log
+            → IfOk result (λ v. steps.new + debt_after v self.new (log ++ entry ∷ [])
+            ≤ steps.old + debt self.old log + each_entry (callers_of self.old)) }
     {
         let caller = entry.caller;
         // Each call is compiled for its kind, so that no part of it looks at the kind again. It is as
@@ -214,6 +219,10 @@ impl<S: Spec> Follower<S> {
             → IsFaultless self.new starting (log ++ entry ∷ []) }
         ensures counted { self.new.entries ≤ self.old.entries + 1 }
         ensures charter { self.new.charter ≡ self.old.charter }
+        ensures steps { (starting : List StartWord) (log : List Entry)
+            → IsFaultless self.old starting log
+            → IfOk result (λ v. steps.new + debt_after v self.new (log ++ entry ∷ [])
+            ≤ steps.old + debt self.old log + each_entry (callers_of self.old)) }
     {
         if let Err(fault) = self.shape.step_counted(&entry, steps) {
             return Ok(Some(Verdict::Malformed {
@@ -267,6 +276,10 @@ impl<S: Spec> Follower<S> {
             → IsFaultless self.new starting log }
         ensures entries { self.new.entries ≡ self.old.entries }
         ensures charter { self.new.charter ≡ self.old.charter }
+        ensures steps { (starting : List StartWord) (log : List Entry)
+            → IsCatchingUp first self.old starting log
+            → IfOk result (λ v. steps.new + debt_after v self.new log
+            ≤ steps.old + debt (with_first first self.old) log) }
     {
         let Some(x) = first else {
             return Ok(None);
@@ -296,6 +309,10 @@ impl<S: Spec> Follower<S> {
             → IsFaultless self.new starting log }
         ensures entries { self.new.entries ≡ self.old.entries }
         ensures charter { self.new.charter ≡ self.old.charter }
+        ensures steps { (starting : List StartWord) (log : List Entry)
+            → IsCatchingUp first self.old starting log
+            → IfOk result (λ v. steps.new + debt_after v self.new log
+            ≤ steps.old + debt (with_first first self.old) log) }
     {
         let mut next = first;
         while let Some(x) = next {
@@ -321,6 +338,10 @@ impl<S: Spec> Follower<S> {
             → cons_option next self.new.waiting ≡ self.old.waiting }
         ensures entries { self.new.entries ≡ self.old.entries }
         ensures charter { self.new.charter ≡ self.old.charter }
+        ensures steps { (starting : List StartWord) (log : List Entry)
+            → IsCatchingUp (Some x) self.old starting log
+            → IfOk result (λ advance. steps.new + debt_by advance self.new log
+            ≤ steps.old + debt (with_first (Some x) self.old) log) }
     {
         match self.replay.judge(&mut self.words, x, steps)? {
             Outcome::Goes => Ok(Advance::Goes(self.queue.leave(steps))),

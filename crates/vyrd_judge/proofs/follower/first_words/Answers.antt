@@ -2,7 +2,7 @@ use Rattle.std.proofs.Common.{◌<◌, ◌^◌, length, map, ap, sym, subst, ◌
 use Rattle.std.specs.Prelude.{All, replicate}
 use Rattle.vyrd_base.specs.Layout.{plain_words}
 use Rattle.vyrd_view.specs.Comparing.{AgreeElsewhere}
-use Rattle.vyrd_view.specs.Known.{IsNew, view_by}
+use Rattle.vyrd_view.specs.Known.{IsNew}
 use Rattle.vyrd_words.proofs.StartWords.{start_within, length-words_at_start, small_at_start, zero_elsewhere}
 use Rattle.vyrd_judge.proofs.follower.first_words.Goals as goal
 

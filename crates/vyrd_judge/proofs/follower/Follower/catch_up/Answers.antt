@@ -1,9 +1,12 @@
-use Rattle.std.proofs.Common.{ap, sym, subst, ◌∙◌}
+use Rattle.std.proofs.Common.{Some, ◌+◌, ◌≤◌, ap, sym, subst, ◌∙◌, arith}
+use Rattle.std.proofs.lemmas.Result.{IfOk-weaker}
 use Rattle.vyrd_base.specs.Rules.{rules_by}
 use Rattle.vyrd_base.specs.Verdicts.{first_fault}
 use Rattle.vyrd_judge.specs.declared.outcome.Advance.TheVariants.{Goes}
-use Rattle.vyrd_judge.specs.Following.{IsCatchingUp, MayCatchUp, AdvanceGives}
+use Rattle.vyrd_judge.specs.Costs.{debt, debt_by}
+use Rattle.vyrd_judge.specs.Following.{IsCatchingUp, MayCatchUp, AdvanceGives, with_first}
 use Rattle.vyrd_judge.proofs.FollowerLaws.{caught_up, may_catch_up_on}
+use Rattle.vyrd_judge.proofs.CostLaws.{at_most_then}
 use Rattle.vyrd_judge.proofs.follower.Follower.catch_up.Goals as goal
 
 pub judge-requires-clause-may : goal.judge-requires-clause-may
@@ -32,3 +35,23 @@ returns-in-Goes-None-clause-answer g c = λ starting log going.
     sym (caught_up (subst (AdvanceGives (rules_by c.args.self.now.charter) starting log c.judge.new.self) (c.in-Goes-None.is ∙ ap Goes c.in-Goes-None.field-0-is)
     (c.in_ok-judge.ensures.gives starting log (subst (λ first. IsCatchingUp first c.args.self.now starting log) c.in-Some.is going)))).faultless
     ∙ ap (λ l. first_fault (rules_by l) starting log) c.judge.ensures.charter
+
+pub returns-in_default-clause-steps : goal.returns-in_default-clause-steps
+returns-in_default-clause-steps g c = λ starting log going.
+    subst (λ first. c.args.steps.now + debt c.args.self.now log ≤ c.args.steps.now + debt (with_first first c.args.self.now) log) (sym c.in_default.is) (omega arith)
+
+pub returns-in-Goes-None-clause-steps : goal.returns-in-Goes-None-clause-steps
+returns-in-Goes-None-clause-steps g c = λ starting log going.
+    subst (λ first. c.judge.new.steps + debt c.judge.new.self log ≤ c.args.steps.now + debt (with_first first c.args.self.now) log) (sym c.in-Some.is)
+    (subst (λ a. c.judge.new.steps + debt_by a c.judge.new.self log ≤ c.args.steps.now + debt (with_first (Some c.in-Some.x) c.args.self.now) log)
+    (c.in-Goes-None.is ∙ ap Goes c.in-Goes-None.field-0-is)
+    (c.in_ok-judge.ensures.steps starting log (subst (λ first. IsCatchingUp first c.args.self.now starting log) c.in-Some.is going)))
+
+pub returns-in-Goes-clause-steps : goal.returns-in-Goes-clause-steps
+returns-in-Goes-clause-steps g c = λ starting log going.
+    let here = subst (λ first. IsCatchingUp first c.args.self.now starting log) c.in-Some.is going in
+    let one = subst (λ first. c.judge.new.steps + debt (with_first c.in-Goes.next c.judge.new.self) log ≤ c.args.steps.now + debt (with_first first c.args.self.now) log) (sym c.in-Some.is)
+    (subst (λ a. c.judge.new.steps + debt_by a c.judge.new.self log ≤ c.args.steps.now + debt (with_first (Some c.in-Some.x) c.args.self.now) log) c.in-Goes.is
+    (c.in_ok-judge.ensures.steps starting log here)) in
+    IfOk-weaker c.go_on.result _ _ (λ v paid. at_most_then paid one) (c.go_on.ensures.steps starting log
+    (subst (AdvanceGives (rules_by c.args.self.now.charter) starting log c.judge.new.self) c.in-Goes.is (c.in_ok-judge.ensures.gives starting log here)))

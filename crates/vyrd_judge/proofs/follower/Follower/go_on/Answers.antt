@@ -1,10 +1,12 @@
-use Rattle.std.proofs.Common.{Ok, List, ap, sym, subst, ◌∙◌}
+use Rattle.std.proofs.Common.{Ok, List, Some, ◌+◌, ◌≤◌, ap, sym, subst, ◌∙◌}
 use Rattle.vyrd_base.specs.Rules.{rules_by}
 use Rattle.vyrd_base.specs.declared.log.Entry.{Entry}
 use Rattle.vyrd_base.specs.declared.log.StartWord.{StartWord}
 use Rattle.vyrd_base.specs.Verdicts.{first_fault}
-use Rattle.vyrd_judge.specs.Following.{IsCatchingUp, MayCatchUp, AdvanceGives}
+use Rattle.vyrd_judge.specs.Costs.{debt, debt_by}
+use Rattle.vyrd_judge.specs.Following.{IsCatchingUp, MayCatchUp, AdvanceGives, with_first}
 use Rattle.vyrd_judge.proofs.FollowerLaws.{caught_up, may_catch_up_on}
+use Rattle.vyrd_judge.proofs.CostLaws.{at_most_then}
 use Rattle.vyrd_judge.proofs.follower.Follower.go_on.Goals as goal
 
 pub judge-requires-clause-may : goal.judge-requires-clause-may
@@ -21,6 +23,12 @@ loop-next-preserved g c =
       going = λ starting log going. on starting log (c.loop-next.invariant.going starting log going);
       may = may_catch_up_on c.loop-next.invariant.may on;
       can_leave = c.judge.ensures.can_leave c.in-Goes.more (c.in_ok-more.was ∙ ap Ok c.in-Goes.is);
+      paid = λ starting log going.
+          let here = c.loop-next.invariant.going starting log going in
+          let one = subst (λ a. c.judge.new.steps + debt_by a c.judge.new.self log ≤ c.loop-next.steps + debt (with_first (Some c.in-Some.x) c.loop-next.self) log)
+          c.in-Goes.is (c.in_ok-more.ensures.steps starting log (subst (λ next. IsCatchingUp next c.loop-next.self starting log) c.in-Some.is here)) in
+          at_most_then one (subst (λ next. c.loop-next.steps + debt (with_first next c.loop-next.self) log
+          ≤ c.args.steps.now + debt (with_first c.args.first c.args.self.now) log) c.in-Some.is (c.loop-next.invariant.paid starting log going));
     }
 
 pub returns-clause-answer : goal.returns-clause-answer

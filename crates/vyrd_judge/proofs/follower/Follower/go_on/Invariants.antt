@@ -1,10 +1,11 @@
-use Rattle.std.proofs.Common.{◌≡◌, List, length}
+use Rattle.std.proofs.Common.{◌≡◌, ◌+◌, ◌≤◌, List, length}
 use Rattle.std.specs.Prelude.{IfSome}
 use Rattle.std.specs.List.{cons_option}
 use Rattle.vyrd_base.specs.declared.log.Entry.{Entry}
 use Rattle.vyrd_base.specs.declared.log.StartWord.{StartWord}
 use Rattle.vyrd_judge.specs.Queued.{CanLeave}
-use Rattle.vyrd_judge.specs.Following.{IsCatchingUp, MayCatchUp}
+use Rattle.vyrd_judge.specs.Costs.{debt}
+use Rattle.vyrd_judge.specs.Following.{IsCatchingUp, MayCatchUp, with_first}
 use Rattle.vyrd_judge.proofs.follower.Follower.go_on.Given as goal
 
 abbrev pub invariant-loop-next : goal.invariant-loop-next
@@ -14,6 +15,8 @@ invariant-loop-next g l = record {
   going : (starting : List StartWord) (log : List Entry) → IsCatchingUp l.fn.first l.initial.self starting log → IsCatchingUp l.next l.self starting log;
   may : MayCatchUp l.next l.self;
   can_leave : IfSome l.next CanLeave;
+  paid : (starting : List StartWord) (log : List Entry) → IsCatchingUp l.fn.first l.initial.self starting log
+      → l.steps + debt (with_first l.next l.self) log ≤ l.initial.steps + debt (with_first l.fn.first l.initial.self) log;
 }
 
 abbrev pub decreases-loop-next : goal.decreases-loop-next

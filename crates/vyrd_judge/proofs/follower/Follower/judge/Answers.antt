@@ -7,6 +7,7 @@ use Rattle.vyrd_judge.specs.Judged.{HeadGives, KnowsState}
 use Rattle.vyrd_judge.specs.Queued.{HasQueued}
 use Rattle.vyrd_judge.specs.Following.{Kept, IsCatchingUp, MayCatchUp}
 use Rattle.vyrd_judge.proofs.FollowerLaws.{may_judge, few_taken, few_position, taken_on, sound_up}
+use Rattle.vyrd_judge.proofs.CostLaws.{judged_paid}
 use Rattle.vyrd_judge.proofs.follower.Follower.judge.Goals as goal
 
 pub judge-requires-clause-may : goal.judge-requires-clause-may
@@ -53,3 +54,12 @@ returns-in-Faults-clause-gives g c = λ starting log going.
     c.judge.new.self.watches.by_caller c.args.x i.queue.waiting.items c.judge.new.words.views.first c.judge.new.words.views.since) c.in-Faults.is gives
     ∙ ap (λ n. Some (Violation (n + c.args.x.position + 2) c.in-Faults.why)) (sym was.taken_in.started)
     ∙ ap (λ n. Some (Violation (i.started + n + 2) c.in-Faults.why)) (sym c.position.ensures)
+
+pub returns-in-Goes-clause-steps : goal.returns-in-Goes-clause-steps
+returns-in-Goes-clause-steps g c = λ starting log going.
+    let i = c.self.inside in
+    let was = subst (λ k. IsCatchingUp (Some c.args.x) k starting log) (sym c.self.view_is) going in
+    judged_paid _ _ _ c.args.x c.leave.result starting log c.args.steps.now c.judge.new.steps c.leave.new.steps c.self.view_is
+    (returns-in-Goes-clause-gives g c starting log going) c.judge.ensures.charter refl
+    (c.in_ok-judge.ensures.owed (rules_by (g.S.Spec.charter i.replay.spec)).header.callers (newest_first log) starting log i.queue.waiting.items was.taken_in.judged)
+    c.judge.ensures.steps c.leave.ensures.steps c.leave.ensures.waiting

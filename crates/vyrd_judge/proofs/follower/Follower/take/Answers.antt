@@ -5,6 +5,7 @@ use Rattle.vyrd_judge.specs.Queued.{MayQueue}
 use Rattle.vyrd_judge.specs.Following.{Kept, IsFaultless, IsSomewhere}
 use Rattle.std.proofs.lemmas.Result.{IfOk-weaker}
 use Rattle.vyrd_judge.proofs.FollowerLaws.{broken_so_far, may_take, may_queue, low_commits, few_commits, few_observers, low_caller_of, taken_all, may_catch_up, keeps_by, answer_with, sound_of}
+use Rattle.vyrd_judge.proofs.CostLaws.{at_most_then, broken_paid, taken_paid}
 use Rattle.vyrd_judge.proofs.follower.Follower.take.Goals as goal
 
 pub returns-in-Err-clause-answer : goal.returns-in-Err-clause-answer
@@ -76,3 +77,23 @@ returns-clause-follows g c = λ starting log f is.
     c.self.invariant.0 c.self.invariant.1 c.self.invariant.2 c.in_default.ensures.ok c.step_counted.ensures.header c.in_ok-follow_counted.ensures.taken c.follow_counted.ensures.header c.follow_counted.ensures.views_header
     c.in_ok-first.ensures.taken_up c.in_ok-first.ensures.awaits refl refl refl refl refl c.is_commit.ensures c.counted-self-inside.ensures c.observer_returns-observes.ensures
     c.counted-self-inside-2.ensures refl (c.in_ok-follow_counted.ensures.specified, c.in_ok-follow_counted.ensures.sound) starting log was) is
+
+pub returns-in-Err-clause-steps : goal.returns-in-Err-clause-steps
+returns-in-Err-clause-steps g c = λ starting log f.
+    broken_paid _ _ c.args.steps.now c.step_counted.new.steps _ c.self.view_is c.step_counted.ensures.steps
+    (subst (λ (k : Kept). k.entries < 2 ^ 62) (sym c.self.view_is) c.requires.few) starting log
+    (subst (λ k. IsFaultless k starting log) (sym c.self.view_is) f)
+
+pub returns-clause-steps : goal.returns-clause-steps
+returns-clause-steps g c = λ starting log f.
+    let was = subst (λ k. IsFaultless k starting log) (sym c.self.view_is) f in
+    let more = log ++ c.args.entry ∷ [] in
+    let going = taken_all _ _ c.in_ok-first.first c.args.entry c.self.inside.queue.header c.is_commit.result c.observer_returns-observes.result
+    c.self.invariant.0 c.self.invariant.1 c.self.invariant.2 c.in_default.ensures.ok c.step_counted.ensures.header c.in_ok-follow_counted.ensures.taken c.follow_counted.ensures.header c.follow_counted.ensures.views_header
+    c.in_ok-first.ensures.taken_up c.in_ok-first.ensures.awaits refl refl refl refl refl c.is_commit.ensures c.counted-self-inside.ensures c.observer_returns-observes.ensures
+    c.counted-self-inside-2.ensures refl (c.in_ok-follow_counted.ensures.specified, c.in_ok-follow_counted.ensures.sound) starting log was in
+    IfOk-weaker c.catch_up.result _ _ (λ v paid. at_most_then paid
+    (taken_paid _ _ _ c.in_ok-first.first c.args.entry c.self.inside.queue.header c.args.steps.now c.step_counted.new.steps c.follow_counted.new.steps c.follow.new.steps
+    c.self.view_is c.self.invariant.0 c.self.invariant.1 c.self.invariant.2 c.in_default.ensures.ok c.step_counted.ensures.steps c.in_ok-follow_counted.ensures.steps
+    c.in_ok-first.ensures.taken_up c.follow.ensures.steps refl refl refl (subst (λ (k : Kept). k.entries < 2 ^ 62) (sym c.self.view_is) c.requires.few) starting log was going))
+    (c.catch_up.ensures.steps starting more going)
