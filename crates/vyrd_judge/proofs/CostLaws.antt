@@ -19,8 +19,10 @@ use Rattle.vyrd_observers.specs.Watching.{answer_count}
 use Rattle.vyrd_judge.specs.declared.waiting.Waiting.{Waiting}
 use Rattle.vyrd_judge.specs.Waiting.{replied, waiting_at}
 use Rattle.vyrd_judge.specs.Queued.{HasQueued, HasTakenUp}
-use Rattle.vyrd_judge.specs.Following.{Kept, HasTakenIn, IsFaultless, IsCatchingUp, with_first}
-use Rattle.vyrd_judge.specs.Costs.{judging_cost, waiting_price, waiting_cost, callers_of, debt, words_cost, each_entry}
+use Rattle.std.proofs.Math.Nat.{mul-suc, mul-le-mul_left}
+use Rattle.vyrd_base.specs.declared.verdict.Verdict.{Verdict}
+use Rattle.vyrd_judge.specs.Following.{Kept, JudgeView, HasTakenIn, IsFaultless, IsCatchingUp, with_first}
+use Rattle.vyrd_judge.specs.Costs.{judging_cost, waiting_price, waiting_cost, callers_of, debt, words_cost, each_entry, debt_after, judge_debt}
 use Rattle.vyrd_judge.proofs.FollowerLaws.{commits_same}
 
 pub at_most_then : {a b c : ℕ} → a ≤ b → b ≤ c → a ≤ c
@@ -133,3 +135,43 @@ taken_paid k m n first e queue_header before shaped worded queued_up same shape_
 
     reversed : k.entries ≡ length log → k.entries ≡ length (newest_first log)
     reversed is = omega (arith, is, length-newest_first_onto [] log)
+
+-- a judge owes nothing once a verdict stands
+some_owes : (j : JudgeView) {v : Verdict} (log : List Entry) → j.so_far ≡ Some v → judge_debt j log ≡ 0
+some_owes j log is = ap (λ o. debt_after o j.kept log) is
+
+-- a verdict stands already
+pub stands_paid : (j : JudgeView) {v : Verdict} (before price : ℕ) (log more : List Entry) → j.so_far ≡ Some v
+    → before + judge_debt j more ≤ before + judge_debt j log + price
+stands_paid j before price log more is = plain (judge_debt j more) (judge_debt j log) (some_owes j more is)
+  where
+    plain : (a b : ℕ) → a ≡ 0 → before + a ≤ before + b + price
+    plain a b none = omega (arith, none)
+
+-- before the first of some entries
+pub first_paid : (before price : ℕ) (j : JudgeView) {log same : List Entry} → same ≡ log
+    → before + judge_debt j same ≤ before + judge_debt j log + price * 0
+first_paid before price j {log} {same} is = plain (judge_debt j same) (judge_debt j log) (ap (judge_debt j) is)
+  where
+    plain : (a b : ℕ) → a ≡ b → before + a ≤ before + b + price * 0
+    plain a b is = omega (arith, is)
+
+-- one more of some entries
+pub more_paid : (a b c d price i : ℕ) → a ≤ b + d → d ≡ price → b ≤ c + price * i → a ≤ c + price * (i + 1)
+more_paid a b c d price i one same before = omega (arith, one, same, before, mul-suc price i)
+
+-- a verdict comes to stand with one of some entries
+pub verdict_paid : (j : JudgeView) {v : Verdict} (a b c d e price i n : ℕ) (more : List Entry) → j.so_far ≡ Some v
+    → a + e ≤ b + d → d ≡ price → b ≤ c + price * i → i < n → a + judge_debt j more ≤ c + price * n
+verdict_paid j a b c d e price i n more is one same before low =
+    plain (judge_debt j more) (some_owes j more is) (mul-le-mul_left price upto)
+  where
+    upto : i + 1 ≤ n
+    upto = omega (arith, low)
+
+    plain : (owed : ℕ) → owed ≡ 0 → price * (i + 1) ≤ price * n → a + owed ≤ c + price * n
+    plain owed none most = omega (arith, none, most, one, same, before, mul-suc price i)
+
+-- after the last of some entries
+pub last_paid : (a c price i n : ℕ) → i ≤ n → a ≤ c + price * i → a ≤ c + price * n
+last_paid a c price i n low paid = omega (arith, paid, mul-le-mul_left price low)

@@ -26,7 +26,7 @@ use crate::replay::Replay;
 use crate::waiting::Waiting;
 use std::alloc::{AllocError, Global};
 use std::marker::Model;
-use std::sync::ledger::{Blank, Ledger};
+use std::sync::ledger::Ledger;
 use vyrd_base::{Entry, Header, Kind, Rule, StartWord, Steps, Verdict};
 use vyrd_shape::Shape;
 use vyrd_spec::Spec;
@@ -351,32 +351,6 @@ impl<S: Spec> Follower<S> {
             }
         }
     }
-}
-
-/// Takes in an entry with a count of its own.
-#[inline(always)]
-pub(crate) fn take_in_alone<S: Spec, L: Ledger>(
-    blank: Blank,
-    follower: &mut Follower<S>,
-    entry: Entry,
-) -> Result<Option<Verdict>, AllocError>
-    requires name { blank.name ≡ L.name }
-    requires parts { blank.parts ≡ L.parts }
-    requires some { 0 < blank.parts }
-    requires few { follower.old.entries < 2 ^ 62 }
-    requires somewhere { IsSomewhere follower.old }
-    ensures answer { (starting : List StartWord) (log : List Entry)
-        → IsFaultless follower.old starting log
-        → IfOk result
-        (λ v. v ≡ verdict_so_far (rules_by follower.old.charter) starting (log ++ entry ∷ [])) }
-    ensures follows { (starting : List StartWord) (log : List Entry)
-        → IsFaultless follower.old starting log → result ≡ Ok None
-        → IsFaultless follower.new starting (log ++ entry ∷ []) }
-    ensures counted { follower.new.entries ≤ follower.old.entries + 1 }
-    ensures charter { follower.new.charter ≡ follower.old.charter }
-{
-    let mut steps = Steps::<L>::new(blank);
-    follower.take_in(entry, &mut steps)
 }
 
 /// The words at the start, and what the specification's state shows there. They are compared by what

@@ -1,6 +1,6 @@
 //! The online judge.
 
-ghost use Rattle.std.specs.Prelude.{◌≡◌, length, ◌<◌, ◌≤◌, ◌+◌, ◌^◌, ◌∷◌, ◌++◌, true, false};
+ghost use Rattle.std.specs.Prelude.{◌≡◌, length, ◌<◌, ◌≤◌, ◌+◌, ◌*◌, ◌^◌, ◌∷◌, ◌++◌, true, false};
 ghost use Rattle.std.specs.Prelude.{List, [], Option, Some, None, Ok, IfOk, OnOk, OnErr, unwrap_or};
 ghost use Rattle.std.specs.Prelude.{is_none, IfSome};
 ghost use Rattle.std.specs.Result.{is_err};
@@ -14,14 +14,15 @@ ghost use Rattle.vyrd_base.specs.declared.header.Header.{Header};
 ghost use Rattle.vyrd_base.specs.Rules.{built_in, rules_of, rules_by};
 ghost use Rattle.vyrd_base.specs.Histories.{logged, log_of};
 ghost use Rattle.vyrd_base.specs.Verdicts.{verdict, verdict_so_far};
+ghost use Rattle.vyrd_judge.specs.Costs.{callers_of, each_entry, judge_debt};
 ghost use Rattle.vyrd_judge.specs.Following.{HasFollowed};
 
-use crate::follower::{Follower, take_in_alone};
+use crate::follower::Follower;
 use crate::logged::entry_of;
 use std::alloc::{AllocError, Global};
 use std::marker::{Brand, Model};
-use std::sync::ledger::Blank;
-use vyrd_base::{Entry, Header, Rule, Stamped, StartWord, Verdict};
+use std::sync::ledger::{Blank, Ledger};
+use vyrd_base::{Entry, Header, Rule, Stamped, StartWord, Steps, Verdict};
 use vyrd_spec::{BuiltIn, Spec};
 use vyrd_words::words_at_start;
 
@@ -173,18 +174,60 @@ impl<S: Spec> Judge<S> {
         ensures counted { self.new.kept.entries ≤ self.old.kept.entries + 1 }
         ensures charter { self.new.kept.charter ≡ self.old.kept.charter }
     {
+        feed_alone::<S, Brand>(Blank::new(1), self, entry)
+    }
+
+    /// The same, with its steps counted. One step is one of the rules of shape, of the work on the
+    /// words or of open observers, as `vyrd_shape`, `vyrd_words` and `vyrd_observers` count them;
+    /// an entry that is put among those that wait, is given its reply there, or is handed out; and
+    /// a step or an answer of the specification. What an entry that waits will cost is owed from
+    /// then on. So each entry pays a constant, by the number of callers, and a log costs no more
+    /// than that for each of its entries. The comparison of the words isn't counted yet.
+    #[inline(always)]
+    pub fn feed_counted<L: Ledger>(
+        &mut self,
+        entry: Entry,
+        steps: &mut Steps<L>,
+    ) -> Result<Option<Verdict>, AllocError>
+        requires few { self.old.kept.entries < 2 ^ 62 }
+        ensures answer { (starting : List StartWord) (log : List Entry)
+            → HasFollowed self.old starting log
+            → IfOk result
+            (λ v. v
+            ≡ verdict_so_far (rules_by self.old.kept.charter) starting (log ++ entry ∷ [])) }
+        ensures followed { (starting : List StartWord) (log : List Entry)
+            → HasFollowed self.old starting log
+            → OnOk result (HasFollowed self.new starting (log ++ entry ∷ [])) }
+        ensures so_far { IfOk result (λ v. self.new.so_far ≡ v) }
+        ensures stays { OnErr result (self.new.so_far ≡ self.old.so_far) }
+        ensures stands { (v : Verdict) → self.old.so_far ≡ Some v → self.old.has_failed ≡ false
+            → result ≡ Ok (Some v) }
+        ensures has_failed { self.new.has_failed ≡ is_err result }
+        ensures fails_again { self.old.has_failed ≡ true → is_err result ≡ true }
+        ensures counted { self.new.kept.entries ≤ self.old.kept.entries + 1 }
+        ensures charter { self.new.kept.charter ≡ self.old.kept.charter }
+        ensures steps { (starting : List StartWord) (log : List Entry)
+            → HasFollowed self.old starting log
+            → OnOk result (steps.new + judge_debt self.new (log ++ entry ∷ [])
+            ≤ steps.old + judge_debt self.old log
+            + each_entry (callers_of self.old.kept)) }
+    {
         if self.has_failed {
             return Err(AllocError);
         }
         if let Some(verdict) = self.so_far {
             return Ok(Some(verdict));
         }
-        self.take(entry)
+        self.take(entry, steps)
     }
 
     /// Follows one more entry, as `feed` does, where no verdict stands and memory hasn't run out.
     #[inline(always)]
-    fn take(&mut self, entry: Entry) -> Result<Option<Verdict>, AllocError>
+    fn take<L: Ledger>(
+        &mut self,
+        entry: Entry,
+        steps: &mut Steps<L>,
+    ) -> Result<Option<Verdict>, AllocError>
         requires few { self.old.kept.entries < 2 ^ 62 }
         requires works { self.old.has_failed ≡ false }
         requires undecided { self.old.so_far ≡ None }
@@ -201,8 +244,13 @@ impl<S: Spec> Judge<S> {
         ensures has_failed { self.new.has_failed ≡ is_err result }
         ensures counted { self.new.kept.entries ≤ self.old.kept.entries + 1 }
         ensures charter { self.new.kept.charter ≡ self.old.kept.charter }
+        ensures steps { (starting : List StartWord) (log : List Entry)
+            → HasFollowed self.old starting log
+            → OnOk result (steps.new + judge_debt self.new (log ++ entry ∷ [])
+            ≤ steps.old + judge_debt self.old log
+            + each_entry (callers_of self.old.kept)) }
     {
-        match take_in_alone::<S, Brand>(Blank::new(1), &mut self.follower, entry) {
+        match self.follower.take_in(entry, steps) {
             Ok(None) => Ok(None),
             Ok(Some(verdict)) => {
                 self.so_far = Some(verdict);
@@ -235,6 +283,38 @@ impl<S: Spec> Judge<S> {
         ensures counted { self.new.kept.entries ≤ self.old.kept.entries + length entries.now }
         ensures charter { self.new.kept.charter ≡ self.old.kept.charter }
     {
+        follow_alone::<S, Brand>(Blank::new(1), self, entries)
+    }
+
+    /// The same, with its steps counted as in `feed_counted`.
+    pub fn follow_counted<L: Ledger>(
+        &mut self,
+        entries: &[Entry],
+        steps: &mut Steps<L>,
+    ) -> Result<Option<Verdict>, AllocError>
+        requires few { self.old.kept.entries + length entries.now ≤ 2 ^ 62 }
+        ensures answer { (starting : List StartWord) (log : List Entry)
+            → HasFollowed self.old starting log
+            → IfOk result
+            (λ v. v
+            ≡ verdict_so_far (rules_by self.old.kept.charter) starting (log ++ entries.now)) }
+        ensures followed { (starting : List StartWord) (log : List Entry)
+            → HasFollowed self.old starting log
+            → OnOk result (HasFollowed self.new starting (log ++ entries.now)) }
+        ensures so_far { IfOk result (λ v. self.new.so_far ≡ v) }
+        ensures stays { OnErr result (self.new.so_far ≡ self.old.so_far) }
+        ensures stands { (v : Verdict) → self.old.so_far ≡ Some v → self.old.has_failed ≡ false
+            → result ≡ Ok (Some v) }
+        ensures has_failed { self.new.has_failed ≡ is_err result }
+        ensures fails_again { self.old.has_failed ≡ true → is_err result ≡ true }
+        ensures counted { self.new.kept.entries ≤ self.old.kept.entries + length entries.now }
+        ensures charter { self.new.kept.charter ≡ self.old.kept.charter }
+        ensures steps { (starting : List StartWord) (log : List Entry)
+            → HasFollowed self.old starting log
+            → OnOk result (steps.new + judge_debt self.new (log ++ entries.now)
+            ≤ steps.old + judge_debt self.old log
+            + each_entry (callers_of self.old.kept) * length entries.now) }
+    {
         if self.has_failed {
             return Err(AllocError);
         }
@@ -242,7 +322,7 @@ impl<S: Spec> Judge<S> {
             return Ok(Some(verdict));
         }
         for entry in entries {
-            if let Some(verdict) = self.take(*entry)? {
+            if let Some(verdict) = self.take(*entry, steps)? {
                 return Ok(Some(verdict));
             }
         }
@@ -271,6 +351,39 @@ impl<S: Spec> Judge<S> {
         ensures counted { self.new.kept.entries ≤ self.old.kept.entries + length history.now }
         ensures charter { self.new.kept.charter ≡ self.old.kept.charter }
     {
+        follow_history_alone::<S, Brand>(Blank::new(1), self, history)
+    }
+
+    /// The same, with its steps counted as in `feed_counted`.
+    pub fn follow_history_counted<L: Ledger>(
+        &mut self,
+        history: &[Stamped],
+        steps: &mut Steps<L>,
+    ) -> Result<Option<Verdict>, AllocError>
+        requires few { self.old.kept.entries + length history.now ≤ 2 ^ 62 }
+        ensures answer { (starting : List StartWord) (log : List Entry)
+            → HasFollowed self.old starting log
+            → IfOk result
+            (λ v. v
+            ≡ verdict_so_far (rules_by self.old.kept.charter) starting
+            (log ++ log_of history.now)) }
+        ensures followed { (starting : List StartWord) (log : List Entry)
+            → HasFollowed self.old starting log
+            → OnOk result (HasFollowed self.new starting (log ++ log_of history.now)) }
+        ensures so_far { IfOk result (λ v. self.new.so_far ≡ v) }
+        ensures stays { OnErr result (self.new.so_far ≡ self.old.so_far) }
+        ensures stands { (v : Verdict) → self.old.so_far ≡ Some v → self.old.has_failed ≡ false
+            → result ≡ Ok (Some v) }
+        ensures has_failed { self.new.has_failed ≡ is_err result }
+        ensures fails_again { self.old.has_failed ≡ true → is_err result ≡ true }
+        ensures counted { self.new.kept.entries ≤ self.old.kept.entries + length history.now }
+        ensures charter { self.new.kept.charter ≡ self.old.kept.charter }
+        ensures steps { (starting : List StartWord) (log : List Entry)
+            → HasFollowed self.old starting log
+            → OnOk result (steps.new + judge_debt self.new (log ++ log_of history.now)
+            ≤ steps.old + judge_debt self.old log
+            + each_entry (callers_of self.old.kept) * length history.now) }
+    {
         if self.has_failed {
             return Err(AllocError);
         }
@@ -278,16 +391,21 @@ impl<S: Spec> Judge<S> {
             return Ok(Some(verdict));
         }
         for event in history {
-            if let Some(verdict) = self.take_event(*event)? {
+            if let Some(verdict) = self.take_event(*event, steps)? {
                 return Ok(Some(verdict));
             }
         }
         Ok(None)
     }
 
-    /// Follows one more event of a history, as `take` does its entry, if it has one.
+    /// Follows one more event of a history, as `take` does its entry, if it has one, and
+    /// otherwise it is a step.
     #[inline(always)]
-    fn take_event(&mut self, event: Stamped) -> Result<Option<Verdict>, AllocError>
+    fn take_event<L: Ledger>(
+        &mut self,
+        event: Stamped,
+        steps: &mut Steps<L>,
+    ) -> Result<Option<Verdict>, AllocError>
         requires few { self.old.kept.entries < 2 ^ 62 }
         requires works { self.old.has_failed ≡ false }
         requires undecided { self.old.so_far ≡ None }
@@ -300,10 +418,19 @@ impl<S: Spec> Judge<S> {
         ensures has_failed { self.new.has_failed ≡ is_err result }
         ensures counted { self.new.kept.entries ≤ self.old.kept.entries + 1 }
         ensures charter { self.new.kept.charter ≡ self.old.kept.charter }
+        ensures steps { (starting : List StartWord) (log : List Entry)
+            → HasFollowed self.old starting log
+            → OnOk result (steps.new + judge_debt self.new
+            (log ++ cons_option (logged event.caller event.did) [])
+            ≤ steps.old + judge_debt self.old log
+            + each_entry (callers_of self.old.kept)) }
     {
         match entry_of(event) {
-            Some(entry) => self.take(entry),
-            None => Ok(None),
+            Some(entry) => self.take(entry, steps),
+            None => {
+                steps.tick();
+                Ok(None)
+            }
         }
     }
 
@@ -348,4 +475,99 @@ impl<S: Spec> Judge<S> {
             None => Ok(Verdict::Malformed { line, rule }),
         }
     }
+}
+
+/// Follows an entry with a count of its own.
+#[inline(always)]
+fn feed_alone<S: Spec, L: Ledger>(
+    blank: Blank,
+    judge: &mut Judge<S>,
+    entry: Entry,
+) -> Result<Option<Verdict>, AllocError>
+    requires name { blank.name ≡ L.name }
+    requires parts { blank.parts ≡ L.parts }
+    requires some { 0 < blank.parts }
+    requires few { judge.old.kept.entries < 2 ^ 62 }
+    ensures answer { (starting : List StartWord) (log : List Entry)
+        → HasFollowed judge.old starting log
+        → IfOk result
+        (λ v. v
+        ≡ verdict_so_far (rules_by judge.old.kept.charter) starting (log ++ entry ∷ [])) }
+    ensures followed { (starting : List StartWord) (log : List Entry)
+        → HasFollowed judge.old starting log
+        → OnOk result (HasFollowed judge.new starting (log ++ entry ∷ [])) }
+    ensures so_far { IfOk result (λ v. judge.new.so_far ≡ v) }
+    ensures stays { OnErr result (judge.new.so_far ≡ judge.old.so_far) }
+    ensures stands { (v : Verdict) → judge.old.so_far ≡ Some v → judge.old.has_failed ≡ false
+        → result ≡ Ok (Some v) }
+    ensures has_failed { judge.new.has_failed ≡ is_err result }
+    ensures fails_again { judge.old.has_failed ≡ true → is_err result ≡ true }
+    ensures counted { judge.new.kept.entries ≤ judge.old.kept.entries + 1 }
+    ensures charter { judge.new.kept.charter ≡ judge.old.kept.charter }
+{
+    let mut steps = Steps::<L>::new(blank);
+    judge.feed_counted(entry, &mut steps)
+}
+
+/// Follows entries with a count of its own.
+fn follow_alone<S: Spec, L: Ledger>(
+    blank: Blank,
+    judge: &mut Judge<S>,
+    entries: &[Entry],
+) -> Result<Option<Verdict>, AllocError>
+    requires name { blank.name ≡ L.name }
+    requires parts { blank.parts ≡ L.parts }
+    requires some { 0 < blank.parts }
+    requires few { judge.old.kept.entries + length entries.now ≤ 2 ^ 62 }
+    ensures answer { (starting : List StartWord) (log : List Entry)
+        → HasFollowed judge.old starting log
+        → IfOk result
+        (λ v. v
+        ≡ verdict_so_far (rules_by judge.old.kept.charter) starting (log ++ entries.now)) }
+    ensures followed { (starting : List StartWord) (log : List Entry)
+        → HasFollowed judge.old starting log
+        → OnOk result (HasFollowed judge.new starting (log ++ entries.now)) }
+    ensures so_far { IfOk result (λ v. judge.new.so_far ≡ v) }
+    ensures stays { OnErr result (judge.new.so_far ≡ judge.old.so_far) }
+    ensures stands { (v : Verdict) → judge.old.so_far ≡ Some v → judge.old.has_failed ≡ false
+        → result ≡ Ok (Some v) }
+    ensures has_failed { judge.new.has_failed ≡ is_err result }
+    ensures fails_again { judge.old.has_failed ≡ true → is_err result ≡ true }
+    ensures counted { judge.new.kept.entries ≤ judge.old.kept.entries + length entries.now }
+    ensures charter { judge.new.kept.charter ≡ judge.old.kept.charter }
+{
+    let mut steps = Steps::<L>::new(blank);
+    judge.follow_counted(entries, &mut steps)
+}
+
+/// Follows a history with a count of its own.
+fn follow_history_alone<S: Spec, L: Ledger>(
+    blank: Blank,
+    judge: &mut Judge<S>,
+    history: &[Stamped],
+) -> Result<Option<Verdict>, AllocError>
+    requires name { blank.name ≡ L.name }
+    requires parts { blank.parts ≡ L.parts }
+    requires some { 0 < blank.parts }
+    requires few { judge.old.kept.entries + length history.now ≤ 2 ^ 62 }
+    ensures answer { (starting : List StartWord) (log : List Entry)
+        → HasFollowed judge.old starting log
+        → IfOk result
+        (λ v. v
+        ≡ verdict_so_far (rules_by judge.old.kept.charter) starting
+        (log ++ log_of history.now)) }
+    ensures followed { (starting : List StartWord) (log : List Entry)
+        → HasFollowed judge.old starting log
+        → OnOk result (HasFollowed judge.new starting (log ++ log_of history.now)) }
+    ensures so_far { IfOk result (λ v. judge.new.so_far ≡ v) }
+    ensures stays { OnErr result (judge.new.so_far ≡ judge.old.so_far) }
+    ensures stands { (v : Verdict) → judge.old.so_far ≡ Some v → judge.old.has_failed ≡ false
+        → result ≡ Ok (Some v) }
+    ensures has_failed { judge.new.has_failed ≡ is_err result }
+    ensures fails_again { judge.old.has_failed ≡ true → is_err result ≡ true }
+    ensures counted { judge.new.kept.entries ≤ judge.old.kept.entries + length history.now }
+    ensures charter { judge.new.kept.charter ≡ judge.old.kept.charter }
+{
+    let mut steps = Steps::<L>::new(blank);
+    judge.follow_history_counted(history, &mut steps)
 }

@@ -1,13 +1,35 @@
-use Rattle.std.proofs.Common.{◌∷◌, ◌++◌, [], Ok, ap, ◌∙◌}
+use Rattle.std.proofs.Common.{◌+◌, ◌≤◌, ◌∷◌, ◌++◌, [], Ok, ap, sym, subst, ◌∙◌}
 use Rattle.std.proofs.Math.Logic.{∥∥₁_map}
-use Rattle.vyrd_judge.specs.Following.{JudgeView}
+use Rattle.vyrd_judge.specs.Following.{JudgeView, HasFollowed}
+use Rattle.vyrd_judge.specs.Costs.{callers_of, debt, debt_after, judge_debt, each_entry}
+use Rattle.vyrd_judge.proofs.OnlineLaws.{faultless_of}
 use Rattle.vyrd_judge.proofs.online.Judge.take.Goals as goal
 
-pub take_in_alone-requires-clause-somewhere : goal.take_in_alone-requires-clause-somewhere
-take_in_alone-requires-clause-somewhere g c =
+pub take_in-requires-clause-somewhere : goal.take_in-requires-clause-somewhere
+take_in-requires-clause-somewhere g c =
     c.self.invariant (ap (λ (j : JudgeView). j.has_failed) c.self.view_is ∙ c.requires.works) (ap (λ (j : JudgeView). j.so_far) c.self.view_is ∙ c.requires.undecided)
 
 pub invariant_of-self : goal.invariant_of-self
 invariant_of-self g c = λ works none.
     ∥∥₁_map (c.self.invariant (ap (λ (j : JudgeView). j.has_failed) c.self.view_is ∙ c.requires.works) (ap (λ (j : JudgeView). j.so_far) c.self.view_is ∙ c.requires.undecided))
     (λ s. (s.0, s.1 ++ c.args.entry ∷ [], c.in-Ok-None.ensures.follows s.0 s.1 s.2 (ap Ok c.in-Ok-None.field-0-is)))
+
+pub returns-in-Ok-None-clause-steps : goal.returns-in-Ok-None-clause-steps
+returns-in-Ok-None-clause-steps g c = λ starting log f.
+    let kept = c.self.inside.follower in
+    let more = log ++ c.args.entry ∷ [] in
+    let none = ap (λ (j : JudgeView). j.so_far) c.self.view_is ∙ c.requires.undecided in
+    subst (λ (j : JudgeView). c.take_in.new.steps + debt_after c.self.inside.so_far c.take_in.new.self more ≤ c.args.steps.now + judge_debt j log + each_entry (callers_of j.kept)) c.self.view_is
+    (subst (λ o. c.take_in.new.steps + debt_after o c.take_in.new.self more ≤ c.args.steps.now + debt_after o kept log + each_entry (callers_of kept)) (sym none)
+    (subst (λ v. c.take_in.new.steps + debt_after v c.take_in.new.self more ≤ c.args.steps.now + debt kept log + each_entry (callers_of kept))
+    c.in-Ok-None.field-0-is (c.in-Ok-None.ensures.steps starting log (faultless_of none (subst (λ j. HasFollowed j starting log) (sym c.self.view_is) f)))))
+
+pub returns-in-Ok-Some-clause-steps : goal.returns-in-Ok-Some-clause-steps
+returns-in-Ok-Some-clause-steps g c = λ starting log f.
+    let kept = c.self.inside.follower in
+    let more = log ++ c.args.entry ∷ [] in
+    let none = ap (λ (j : JudgeView). j.so_far) c.self.view_is ∙ c.requires.undecided in
+    subst (λ (j : JudgeView). c.take_in.new.steps + 0 ≤ c.args.steps.now + judge_debt j log + each_entry (callers_of j.kept)) c.self.view_is
+    (subst (λ o. c.take_in.new.steps + 0 ≤ c.args.steps.now + debt_after o kept log + each_entry (callers_of kept)) (sym none)
+    (subst (λ v. c.take_in.new.steps + debt_after v c.take_in.new.self more ≤ c.args.steps.now + debt kept log + each_entry (callers_of kept))
+    c.in-Ok-Some.field-0-is (c.in-Ok-Some.ensures.steps starting log (faultless_of none (subst (λ j. HasFollowed j starting log) (sym c.self.view_is) f)))))

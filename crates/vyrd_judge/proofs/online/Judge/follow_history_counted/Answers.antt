@@ -1,12 +1,14 @@
-use Rattle.std.proofs.Common.{◌+◌, ◌++◌, take, drop, ap, sym, subst, ◌∙◌, arith, append_assoc, append-nil, refl}
+use Rattle.std.proofs.Common.{◌+◌, ◌*◌, ◌≤◌, length, ◌++◌, take, drop, ap, sym, subst, ◌∙◌, arith, append_assoc, append-nil, refl}
 use Rattle.std.proofs.lemmas.List.{take_all}
 use Rattle.vyrd_base.specs.Rules.{rules_by}
 use Rattle.vyrd_base.specs.Verdicts.{verdict_so_far}
 use Rattle.vyrd_base.specs.Histories.{log_of}
 use Rattle.vyrd_judge.specs.Following.{JudgeView, HasFollowed}
+use Rattle.vyrd_judge.specs.Costs.{callers_of, each_entry, judge_debt}
+use Rattle.vyrd_judge.proofs.CostLaws.{stands_paid, first_paid, more_paid, verdict_paid, last_paid}
 use Rattle.vyrd_judge.proofs.OnlineLaws.{stands_on, followed_on, decided, none_stands, so_far_is_known}
 use Rattle.vyrd_judge.proofs.HistoryLaws.{log_of_none, log_more, log_around}
-use Rattle.vyrd_judge.proofs.online.Judge.follow_history.Goals as goal
+use Rattle.vyrd_judge.proofs.online.Judge.follow_history_counted.Goals as goal
 
 pub returns-in-Some-clause-answer : goal.returns-in-Some-clause-answer
 returns-in-Some-clause-answer g c = λ starting log f.
@@ -23,6 +25,7 @@ loop-event-init g c = record {
   counted = omega arith;
   works = ap (λ (j : JudgeView). j.has_failed) (sym c.self.view_is) ∙ c.if-self.false;
   undecided = ap (λ (j : JudgeView). j.so_far) (sym c.self.view_is) ∙ c.in_default.is;
+  paid = λ starting log f. first_paid c.args.steps.now (each_entry (callers_of c.args.self.now.kept)) c.args.self.now (ap (λ xs. log ++ xs) log_of_none ∙ append-nil log);
 }
 
 pub loop-event-preserved : goal.loop-event-preserved
@@ -37,6 +40,11 @@ loop-event-preserved g c =
       counted = omega (arith, c.take_event.ensures.counted, c.loop-event.invariant.counted);
       works = c.in_ok-verdict.ensures.has_failed;
       undecided = c.in_ok-verdict.ensures.so_far ∙ c.in_default-2.is;
+      paid = λ starting log f. more_paid _ _ _ _ (each_entry (callers_of c.args.self.now.kept)) i
+          (subst (λ xs. c.take_event.new.steps + judge_debt c.take_event.new.self xs ≤ c.loop-event.steps + judge_debt c.loop-event.self (log ++ log_of (take i es)) + each_entry (callers_of c.loop-event.self.kept))
+          (append_assoc log (log_of (take i es)) _ ∙ ap (λ xs. log ++ xs) (sym (log_more es i c.loop-event-test.true)))
+          (c.in_ok-verdict.ensures.steps starting (log ++ log_of (take i es)) (c.loop-event.invariant.followed starting log f)))
+          (ap (λ g. each_entry (rules_by g).header.callers) c.loop-event.invariant.header) (c.loop-event.invariant.paid starting log f);
     }
 
 -- a verdict stands with this event, and with those after it
@@ -64,3 +72,24 @@ pub returns-clause-answer : goal.returns-clause-answer
 returns-clause-answer g c = λ starting log f.
     sym (none_stands c.loop-event.invariant.undecided (returns-clause-followed g c starting log f))
     ∙ ap (λ l. verdict_so_far (rules_by l) starting (log ++ log_of c.args.history.now)) c.loop-event.invariant.header
+
+pub returns-in-Some-clause-steps : goal.returns-in-Some-clause-steps
+returns-in-Some-clause-steps g c = λ starting log f.
+    stands_paid c.args.self.now c.args.steps.now (each_entry (callers_of c.args.self.now.kept) * length c.args.history.now) log (log ++ log_of (c.args.history.now))
+    (ap (λ (j : JudgeView). j.so_far) (sym c.self.view_is) ∙ c.in-Some.is)
+
+pub returns-in-Some-2-clause-steps : goal.returns-in-Some-2-clause-steps
+returns-in-Some-2-clause-steps g c = λ starting log f.
+    let es = c.args.history.now in
+    let i = c.loop-event.event-index in
+    verdict_paid c.take_event.new.self _ _ _ _ _ (each_entry (callers_of c.args.self.now.kept)) i (length es) (log ++ log_of (c.args.history.now)) (c.in_ok-verdict.ensures.so_far ∙ c.in-Some-2.is)
+    (c.in_ok-verdict.ensures.steps starting (log ++ log_of (take i es)) (c.loop-event.invariant.followed starting log f))
+    (ap (λ g. each_entry (rules_by g).header.callers) c.loop-event.invariant.header) (c.loop-event.invariant.paid starting log f) c.loop-event-test.true
+
+pub returns-clause-steps : goal.returns-clause-steps
+returns-clause-steps g c = λ starting log f.
+    last_paid _ _ (each_entry (callers_of c.args.self.now.kept)) _ _ c.loop-event.auto.event-index-end
+    (subst (λ xs. c.loop-event.steps + judge_debt c.loop-event.self (log ++ xs)
+    ≤ c.args.steps.now + judge_debt c.args.self.now log + each_entry (callers_of c.args.self.now.kept) * c.loop-event.event-index)
+    (ap log_of (take_all c.loop-event.event-index c.args.history.now c.loop-event-test.false))
+    (c.loop-event.invariant.paid starting log f))
