@@ -1,20 +1,20 @@
 -- What each part of following an entry costs is paid by what was owed before, and a constant.
 use Rattle.std.proofs.Common.{◌≡◌, ℕ, ◌+◌, ◌*◌, ◌<◌, ◌≤◌, ◌^◌, List, [], ◌∷◌, ◌++◌, map, length, Option, Some, None, ap, refl, subst, ◌∙◌, sym, arith}
-use Rattle.std.specs.List.{cons_option}
+use Rattle.std.specs.List.{sum_by, cons_option}
 use Rattle.std.proofs.lemmas.List.Sums.{sum_by-cons, sum_by-append}
 use Rattle.vyrd_base.specs.declared.header.Header.{Header}
 use Rattle.vyrd_base.specs.declared.log.Entry.{Entry}
 use Rattle.vyrd_base.specs.declared.log.StartWord.{StartWord}
 use Rattle.vyrd_base.specs.Entries.{place_of}
 use Rattle.vyrd_base.specs.Commits.{commit_count}
-use Rattle.vyrd_base.specs.Places.{newest_first}
+use Rattle.vyrd_base.specs.Places.{newest_first, numbers_below}
 use Rattle.vyrd_base.specs.Rules.{rules_by}
 use Rattle.vyrd_base.specs.Shape.{broken_rule}
 use Rattle.vyrd_base.proofs.PlaceLaws.{length-newest_first_onto, newest_first-push}
 use Rattle.vyrd_shape.specs.Following.{HasFollowed as ShapeFollows}
 use Rattle.vyrd_shape.specs.Costs.{owed as shape_owed}
 use Rattle.vyrd_words.specs.HasWords.{HasWords, Keeps}
-use Rattle.vyrd_words.specs.Costs.{owed as words_owed}
+use Rattle.vyrd_words.specs.Costs.{work_held, all_kept_back, kept_back, for_each, held as held_by, owed as words_owed}
 use Rattle.vyrd_observers.specs.Watching.{answer_count}
 use Rattle.vyrd_judge.specs.declared.waiting.Waiting.{Waiting}
 use Rattle.vyrd_judge.specs.Waiting.{replied, waiting_at}
@@ -175,3 +175,18 @@ verdict_paid j a b c d e price i n more is one same before low =
 -- after the last of some entries
 pub last_paid : (a c price i n : ℕ) → i ≤ n → a ≤ c + price * i → a ≤ c + price * n
 last_paid a c price i n low paid = omega (arith, paid, mul-le-mul_left price low)
+
+-- a sum of nothing
+sum_none : (f : ℕ → ℕ) (xs : List ℕ) → ((x : ℕ) → f x ≡ 0) → sum_by f xs ≡ 0
+sum_none f [] none = refl
+sum_none f (x ∷ xs) none = omega (arith, sum_by-cons f x xs, none x, sum_none f xs none)
+
+-- for no entries nothing is owed
+pub nothing_owed : {k : Kept} {starting : List StartWord} → HasTakenIn k starting [] → shape_owed k.shape ≡ 0 → k.views.since ≡ [] → answer_count k.watches + 2 * k.answers ≡ 0 → k.waiting ≡ []
+    → debt k [] ≡ 0
+nothing_owed {k} t shape since watches waiting =
+    let callers = callers_of k in
+    let held : work_held callers [] [] ≡ 0 = sum_none (held_by [] []) (numbers_below callers) (λ c. refl) in
+    let kept : all_kept_back callers [] ≡ 0 = sum_none (kept_back []) (numbers_below callers) (λ c. refl) in
+    let each : for_each callers (2 * all_kept_back callers []) ≡ 0 = sum_none (λ c. 2 * all_kept_back callers []) (numbers_below callers) (λ c. omega (arith, kept)) in
+    omega (arith, shape, watches, held, kept, each, ap (words_owed callers []) since, ap (waiting_cost callers) waiting)

@@ -102,6 +102,7 @@ impl<S: Spec> Follower<S> {
         ensures taken_in { IfOk result (λ f. HasTakenIn f start.now []) }
         ensures charter { IfOk result (λ f. f.charter ≡ S.charter spec) }
         ensures entries { IfOk result (λ f. f.entries ≡ 0) }
+        ensures owed { IfOk result (λ f. debt f [] ≡ 0) }
     {
         let queue = Queue::new(alloc, header)?;
         let replay = Replay::new(alloc, header, spec)?;

@@ -87,6 +87,7 @@ impl<S: BuiltIn> Judge<S> {
         ensures entries { IfOk result (λ j. j.kept.entries ≡ 0) }
         ensures so_far { IfOk result (λ j. j.so_far ≡ None) }
         ensures has_failed { IfOk result (λ j. j.has_failed ≡ false) }
+        ensures owed { IfOk result (λ j. judge_debt j [] ≡ 0) }
     {
         let words = words_at_start(alloc, header, &[])?;
         let spec = S::start(alloc, header)?;
@@ -110,6 +111,7 @@ impl<S: BuiltIn> Judge<S> {
         ensures entries { IfOk result (λ o. IfSome o (λ j. j.kept.entries ≡ 0)) }
         ensures so_far { IfOk result (λ o. IfSome o (λ j. j.so_far ≡ None)) }
         ensures has_failed { IfOk result (λ o. IfSome o (λ j. j.has_failed ≡ false)) }
+        ensures owed { IfOk result (λ o. IfSome o (λ j. judge_debt j [] ≡ 0)) }
     {
         if start.is_empty() {
             return Ok(Some(Judge::new(alloc, header)?));
@@ -144,6 +146,7 @@ impl<S: Spec> Judge<S> {
         ensures entries { IfOk result (λ j. j.kept.entries ≡ 0) }
         ensures so_far { IfOk result (λ j. j.so_far ≡ None) }
         ensures has_failed { IfOk result (λ j. j.has_failed ≡ false) }
+        ensures owed { IfOk result (λ j. judge_debt j [] ≡ 0) }
     {
         Ok(Judge {
             follower: Follower::new(alloc, header, start, words, spec)?,

@@ -45,6 +45,7 @@ impl<S: Spec> Replay<S> {
         ensures current { IfOk result
             (λ r. AreCurrent
             ((rules_by (S.charter spec)).answer (S.state spec)) r.watches.by_caller) }
+        ensures owed { IfOk result (λ r. owed r.watches ≡ 0) }
     {
         Ok(Replay {
             spec,
