@@ -206,8 +206,10 @@ pub judged_waits : {r : Rules} {starting : List StartWord} {log : List Entry} {s
 judged_waits event j = let found = commits_at event j in head_waits found.0 found.1
 
 -- the words since such a commit wait too
-pub commit_splits : {r : Rules} {starting : List StartWord} {log : List Entry} {state : State} {made : ℕ}
-    {watches : List Seen} {x : Waiting} {xs : List Waiting} {first : List ℕ} {since : List (List (ℕ × ℕ))}
+pub commit_splits : {r : Rules} {starting : List StartWord} {log : List Entry} {state : State}
+    {made : ℕ}
+    {watches : List Seen} {x : Waiting} {xs : List Waiting} {first : List ℕ} {since : List (List
+    (ℕ × ℕ))}
     {method : Method} {args : Args} {reply : ℕ} → x.event ≡ Commits method args (Some reply)
     → Judged r starting log state made watches (x ∷ xs) first since
     → (part : List (ℕ × ℕ)) × (rest : List (List (ℕ × ℕ))) × (since ≡ part ∷ rest)

@@ -678,7 +678,8 @@ first_awaits ws x xs is unreturned = subst AwaitsReturn (sym is) (by_event x.eve
     by_event (Returns reply) e = absurd (apart e)
 
 -- what waits first stays, if another entry that waits is changed
-pub awaits_behind : (ws : List Waiting) (i : ℕ) (x : Waiting) → 0 < i → AwaitsReturn ws → AwaitsReturn (set ws i x)
+pub awaits_behind : (ws : List Waiting) (i : ℕ) (x : Waiting) → 0 < i → AwaitsReturn ws
+    → AwaitsReturn (set ws i x)
 awaits_behind [] i x later awaits = awaits
 awaits_behind (w ∷ ws) zero x later awaits = absurd (omega (arith, later))
 awaits_behind (w ∷ ws) (suc i) x later awaits = awaits

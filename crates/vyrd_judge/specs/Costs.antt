@@ -13,8 +13,8 @@ use Rattle.vyrd_judge.specs.declared.outcome.Advance.TheVariants.{Goes, Stops}
 use Rattle.vyrd_judge.specs.declared.waiting.Waiting.{Waiting}
 use Rattle.vyrd_judge.specs.Following.{Kept, JudgeView, with_first}
 
--- What it costs to judge an entry, besides what was owed: the specification makes a step or answers
--- a question, and what is known of open observers goes on.
+-- What it costs to judge an entry, besides what was owed: the specification makes a step or gives
+-- an answer, and what is known of open observers goes on.
 abbrev pub judging_cost : ℕ → ℕ
 judging_cost callers = 9 * callers + 4
 
@@ -30,8 +30,8 @@ waiting_cost callers waiting = sum_by (λ x. waiting_price callers) waiting
 abbrev pub callers_of : Kept → ℕ
 callers_of k = (rules_by k.charter).header.callers
 
--- What is owed for the entries so far: by the rules of shape, by the words, by what is known of open
--- observers, and for the entries that wait.
+-- What is owed for the entries so far: by the rules of shape, by the words, by what is known of
+-- open observers, and for the entries that wait.
 abbrev pub debt : Kept → List Entry → ℕ
 debt k log = shape_owed k.shape + words_owed (callers_of k) (newest_first log) k.views.since
     + (answer_count k.watches + 2 * k.answers) + waiting_cost (callers_of k) k.waiting
@@ -50,11 +50,11 @@ debt_by (Stops v) k log = 0
 abbrev pub judge_debt : JudgeView → List Entry → ℕ
 judge_debt j log = debt_after j.so_far j.kept log
 
--- What the work on the words costs for each entry.
+-- what the work on the words costs for each entry
 abbrev pub words_cost : ℕ → ℕ
 words_cost callers = 1 + 6 * callers
 
--- What each entry costs, by the number of callers: two steps for the rules of shape, the work on the
--- words, two steps to take it up among those that wait, and what is owed then for it if it waits.
+-- What each entry costs, by the number of callers: two steps for the rules of shape, the work on
+-- the words, two steps to take it up among those that wait, and what is owed for it if it waits.
 abbrev pub each_entry : ℕ → ℕ
 each_entry callers = 2 + words_cost callers + 2 + waiting_price callers

@@ -15,8 +15,10 @@ invariant-loop-next g l = record {
   going : (starting : List StartWord) (log : List Entry) → IsCatchingUp l.fn.first l.initial.self starting log → IsCatchingUp l.next l.self starting log;
   may : MayCatchUp l.next l.self;
   can_leave : IfSome l.next CanLeave;
-  paid : (starting : List StartWord) (log : List Entry) → IsCatchingUp l.fn.first l.initial.self starting log
-      → l.steps + debt (with_first l.next l.self) log ≤ l.initial.steps + debt (with_first l.fn.first l.initial.self) log;
+  paid : (starting : List StartWord) (log : List Entry)
+      → IsCatchingUp l.fn.first l.initial.self starting log
+      → l.steps + debt (with_first l.next l.self) log ≤ l.initial.steps + debt
+      (with_first l.fn.first l.initial.self) log;
 }
 
 abbrev pub decreases-loop-next : goal.decreases-loop-next

@@ -13,5 +13,6 @@ returns-in-Some-clause-followed g c = λ starting log f. followed_on (c.args.ent
 
 pub returns-in-Some-clause-steps : goal.returns-in-Some-clause-steps
 returns-in-Some-clause-steps g c = λ starting log f.
-    stands_paid c.args.self.now c.args.steps.now (each_entry (callers_of c.args.self.now.kept)) log (log ++ c.args.entry ∷ [])
+    stands_paid c.args.self.now c.args.steps.now (each_entry (callers_of c.args.self.now.kept)) log
+    (log ++ c.args.entry ∷ [])
     (ap (λ (j : JudgeView). j.so_far) (sym c.self.view_is) ∙ c.in-Some.is)

@@ -1,4 +1,5 @@
-use Rattle.std.proofs.Common.{◌+◌, ◌*◌, ◌≤◌, length, ◌++◌, take, drop, ap, sym, subst, ◌∙◌, arith, append_assoc, append-nil, refl}
+use Rattle.std.proofs.Common.{◌+◌, ◌*◌, ◌≤◌, length, ◌++◌, take, drop, ap, sym, subst, ◌∙◌, arith}
+use Rattle.std.proofs.Common.{append_assoc, append-nil, refl}
 use Rattle.std.proofs.lemmas.List.{take_more, take-append-drop}
 use Rattle.vyrd_base.specs.Rules.{rules_by}
 use Rattle.vyrd_base.specs.Verdicts.{verdict_so_far}
@@ -17,12 +18,14 @@ returns-in-Some-clause-followed g c = λ starting log f. followed_on c.args.entr
 
 pub loop-entry-init : goal.loop-entry-init
 loop-entry-init g c = record {
-  followed = λ starting log f. subst (HasFollowed c.args.self.now starting) (sym (append-nil log)) f;
+  followed = λ starting log f. subst (HasFollowed c.args.self.now starting) (sym
+      (append-nil log)) f;
   header = refl;
   counted = omega arith;
   works = ap (λ (j : JudgeView). j.has_failed) (sym c.self.view_is) ∙ c.if-self.false;
   undecided = ap (λ (j : JudgeView). j.so_far) (sym c.self.view_is) ∙ c.in_default.is;
-  paid = λ starting log f. first_paid c.args.steps.now (each_entry (callers_of c.args.self.now.kept)) c.args.self.now (append-nil log);
+  paid = λ starting log f. first_paid c.args.steps.now (each_entry
+      (callers_of c.args.self.now.kept)) c.args.self.now (append-nil log);
 }
 
 pub loop-entry-preserved : goal.loop-entry-preserved
@@ -31,17 +34,23 @@ loop-entry-preserved g c =
     let i = c.loop-entry.entry-index in
     record {
       followed = λ starting log f. subst (HasFollowed c.take.new.self starting)
-          (append_assoc log (take i es) _ ∙ ap (λ xs. log ++ xs) (sym (take_more es i _ c.loop-entry-test.true)))
+          (append_assoc log (take i es) _ ∙ ap (λ xs. log ++ xs) (sym
+          (take_more es i _ c.loop-entry-test.true)))
           (c.in_ok-verdict.ensures.followed starting (log ++ take i es) (c.loop-entry.invariant.followed starting log f));
       header = c.take.ensures.charter ∙ c.loop-entry.invariant.header;
       counted = omega (arith, c.take.ensures.counted, c.loop-entry.invariant.counted);
       works = c.in_ok-verdict.ensures.has_failed;
       undecided = c.in_ok-verdict.ensures.so_far ∙ c.in_default-2.is;
       paid = λ starting log f. more_paid _ _ _ _ (each_entry (callers_of c.args.self.now.kept)) i
-          (subst (λ xs. c.take.new.steps + judge_debt c.take.new.self xs ≤ c.loop-entry.steps + judge_debt c.loop-entry.self (log ++ take i es) + each_entry (callers_of c.loop-entry.self.kept))
-          (append_assoc log (take i es) _ ∙ ap (λ xs. log ++ xs) (sym (take_more es i _ c.loop-entry-test.true)))
-          (c.in_ok-verdict.ensures.steps starting (log ++ take i es) (c.loop-entry.invariant.followed starting log f)))
-          (ap (λ g. each_entry (rules_by g).header.callers) c.loop-entry.invariant.header) (c.loop-entry.invariant.paid starting log f);
+          (subst (λ xs. c.take.new.steps + judge_debt c.take.new.self xs
+          ≤ c.loop-entry.steps + judge_debt c.loop-entry.self (log ++ take i es) + each_entry
+          (callers_of c.loop-entry.self.kept))
+          (append_assoc log (take i es) _ ∙ ap (λ xs. log ++ xs) (sym
+          (take_more es i _ c.loop-entry-test.true)))
+          (c.in_ok-verdict.ensures.steps starting (log ++ take i es)
+          (c.loop-entry.invariant.followed starting log f)))
+          (ap (λ g. each_entry (rules_by g).header.callers) c.loop-entry.invariant.header)
+          (c.loop-entry.invariant.paid starting log f);
     }
 
 -- a verdict stands with this entry, and with those after it
@@ -62,7 +71,8 @@ returns-in-Some-2-clause-answer g c = λ starting log f.
 
 pub returns-clause-followed : goal.returns-clause-followed
 returns-clause-followed g c = λ starting log f. subst (λ xs. HasFollowed c.loop-entry.self starting (log ++ xs))
-    (take_past c.args.entries.now c.loop-entry.entry-index c.loop-entry.auto.entry-index-end c.loop-entry-test.false)
+    (take_past c.args.entries.now c.loop-entry.entry-index c.loop-entry.auto.entry-index-end
+    c.loop-entry-test.false)
     (c.loop-entry.invariant.followed starting log f)
 
 pub returns-clause-answer : goal.returns-clause-answer
@@ -72,21 +82,28 @@ returns-clause-answer g c = λ starting log f.
 
 pub returns-in-Some-clause-steps : goal.returns-in-Some-clause-steps
 returns-in-Some-clause-steps g c = λ starting log f.
-    stands_paid c.args.self.now c.args.steps.now (each_entry (callers_of c.args.self.now.kept) * length c.args.entries.now) log (log ++ c.args.entries.now)
+    stands_paid c.args.self.now c.args.steps.now (each_entry
+    (callers_of c.args.self.now.kept) * length c.args.entries.now) log (log ++ c.args.entries.now)
     (ap (λ (j : JudgeView). j.so_far) (sym c.self.view_is) ∙ c.in-Some.is)
 
 pub returns-in-Some-2-clause-steps : goal.returns-in-Some-2-clause-steps
 returns-in-Some-2-clause-steps g c = λ starting log f.
     let es = c.args.entries.now in
     let i = c.loop-entry.entry-index in
-    verdict_paid c.take.new.self _ _ _ _ _ (each_entry (callers_of c.args.self.now.kept)) i (length es) (log ++ c.args.entries.now) (c.in_ok-verdict.ensures.so_far ∙ c.in-Some-2.is)
-    (c.in_ok-verdict.ensures.steps starting (log ++ take i es) (c.loop-entry.invariant.followed starting log f))
-    (ap (λ g. each_entry (rules_by g).header.callers) c.loop-entry.invariant.header) (c.loop-entry.invariant.paid starting log f) c.loop-entry-test.true
+    verdict_paid c.take.new.self _ _ _ _ _ (each_entry (callers_of c.args.self.now.kept)) i
+    (length es) (log ++ c.args.entries.now) (c.in_ok-verdict.ensures.so_far ∙ c.in-Some-2.is)
+    (c.in_ok-verdict.ensures.steps starting (log ++ take i es)
+    (c.loop-entry.invariant.followed starting log f))
+    (ap (λ g. each_entry (rules_by g).header.callers) c.loop-entry.invariant.header)
+    (c.loop-entry.invariant.paid starting log f) c.loop-entry-test.true
 
 pub returns-clause-steps : goal.returns-clause-steps
 returns-clause-steps g c = λ starting log f.
-    last_paid _ _ (each_entry (callers_of c.args.self.now.kept)) _ _ c.loop-entry.auto.entry-index-end
+    last_paid _ _ (each_entry (callers_of c.args.self.now.kept)) _ _
+    c.loop-entry.auto.entry-index-end
     (subst (λ xs. c.loop-entry.steps + judge_debt c.loop-entry.self (log ++ xs)
-    ≤ c.args.steps.now + judge_debt c.args.self.now log + each_entry (callers_of c.args.self.now.kept) * c.loop-entry.entry-index)
-    (take_past c.args.entries.now c.loop-entry.entry-index c.loop-entry.auto.entry-index-end c.loop-entry-test.false)
+    ≤ c.args.steps.now + judge_debt c.args.self.now log + each_entry
+    (callers_of c.args.self.now.kept) * c.loop-entry.entry-index)
+    (take_past c.args.entries.now c.loop-entry.entry-index c.loop-entry.auto.entry-index-end
+    c.loop-entry-test.false)
     (c.loop-entry.invariant.paid starting log f))

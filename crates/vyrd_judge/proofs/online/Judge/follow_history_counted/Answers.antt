@@ -1,4 +1,5 @@
-use Rattle.std.proofs.Common.{◌+◌, ◌*◌, ◌≤◌, length, ◌++◌, take, drop, ap, sym, subst, ◌∙◌, arith, append_assoc, append-nil, refl}
+use Rattle.std.proofs.Common.{◌+◌, ◌*◌, ◌≤◌, length, ◌++◌, take, drop, ap, sym, subst, ◌∙◌, arith}
+use Rattle.std.proofs.Common.{append_assoc, append-nil, refl}
 use Rattle.std.proofs.lemmas.List.{take_all}
 use Rattle.vyrd_base.specs.Rules.{rules_by}
 use Rattle.vyrd_base.specs.Verdicts.{verdict_so_far}
@@ -25,7 +26,9 @@ loop-event-init g c = record {
   counted = omega arith;
   works = ap (λ (j : JudgeView). j.has_failed) (sym c.self.view_is) ∙ c.if-self.false;
   undecided = ap (λ (j : JudgeView). j.so_far) (sym c.self.view_is) ∙ c.in_default.is;
-  paid = λ starting log f. first_paid c.args.steps.now (each_entry (callers_of c.args.self.now.kept)) c.args.self.now (ap (λ xs. log ++ xs) log_of_none ∙ append-nil log);
+  paid = λ starting log f. first_paid c.args.steps.now (each_entry
+      (callers_of c.args.self.now.kept)) c.args.self.now (ap (λ xs. log ++ xs) log_of_none
+      ∙ append-nil log);
 }
 
 pub loop-event-preserved : goal.loop-event-preserved
@@ -34,17 +37,23 @@ loop-event-preserved g c =
     let i = c.loop-event.event-index in
     record {
       followed = λ starting log f. subst (HasFollowed c.take_event.new.self starting)
-          (append_assoc log (log_of (take i es)) _ ∙ ap (λ xs. log ++ xs) (sym (log_more es i c.loop-event-test.true)))
+          (append_assoc log (log_of (take i es)) _ ∙ ap (λ xs. log ++ xs) (sym
+          (log_more es i c.loop-event-test.true)))
           (c.in_ok-verdict.ensures.followed starting (log ++ log_of (take i es)) (c.loop-event.invariant.followed starting log f));
       header = c.take_event.ensures.charter ∙ c.loop-event.invariant.header;
       counted = omega (arith, c.take_event.ensures.counted, c.loop-event.invariant.counted);
       works = c.in_ok-verdict.ensures.has_failed;
       undecided = c.in_ok-verdict.ensures.so_far ∙ c.in_default-2.is;
       paid = λ starting log f. more_paid _ _ _ _ (each_entry (callers_of c.args.self.now.kept)) i
-          (subst (λ xs. c.take_event.new.steps + judge_debt c.take_event.new.self xs ≤ c.loop-event.steps + judge_debt c.loop-event.self (log ++ log_of (take i es)) + each_entry (callers_of c.loop-event.self.kept))
-          (append_assoc log (log_of (take i es)) _ ∙ ap (λ xs. log ++ xs) (sym (log_more es i c.loop-event-test.true)))
-          (c.in_ok-verdict.ensures.steps starting (log ++ log_of (take i es)) (c.loop-event.invariant.followed starting log f)))
-          (ap (λ g. each_entry (rules_by g).header.callers) c.loop-event.invariant.header) (c.loop-event.invariant.paid starting log f);
+          (subst (λ xs. c.take_event.new.steps + judge_debt c.take_event.new.self xs
+          ≤ c.loop-event.steps + judge_debt c.loop-event.self (log ++ log_of
+          (take i es)) + each_entry (callers_of c.loop-event.self.kept))
+          (append_assoc log (log_of (take i es)) _ ∙ ap (λ xs. log ++ xs) (sym
+          (log_more es i c.loop-event-test.true)))
+          (c.in_ok-verdict.ensures.steps starting (log ++ log_of (take i es))
+          (c.loop-event.invariant.followed starting log f)))
+          (ap (λ g. each_entry (rules_by g).header.callers) c.loop-event.invariant.header)
+          (c.loop-event.invariant.paid starting log f);
     }
 
 -- a verdict stands with this event, and with those after it
@@ -75,21 +84,29 @@ returns-clause-answer g c = λ starting log f.
 
 pub returns-in-Some-clause-steps : goal.returns-in-Some-clause-steps
 returns-in-Some-clause-steps g c = λ starting log f.
-    stands_paid c.args.self.now c.args.steps.now (each_entry (callers_of c.args.self.now.kept) * length c.args.history.now) log (log ++ log_of (c.args.history.now))
+    stands_paid c.args.self.now c.args.steps.now (each_entry
+    (callers_of c.args.self.now.kept) * length c.args.history.now) log (log ++ log_of
+    (c.args.history.now))
     (ap (λ (j : JudgeView). j.so_far) (sym c.self.view_is) ∙ c.in-Some.is)
 
 pub returns-in-Some-2-clause-steps : goal.returns-in-Some-2-clause-steps
 returns-in-Some-2-clause-steps g c = λ starting log f.
     let es = c.args.history.now in
     let i = c.loop-event.event-index in
-    verdict_paid c.take_event.new.self _ _ _ _ _ (each_entry (callers_of c.args.self.now.kept)) i (length es) (log ++ log_of (c.args.history.now)) (c.in_ok-verdict.ensures.so_far ∙ c.in-Some-2.is)
-    (c.in_ok-verdict.ensures.steps starting (log ++ log_of (take i es)) (c.loop-event.invariant.followed starting log f))
-    (ap (λ g. each_entry (rules_by g).header.callers) c.loop-event.invariant.header) (c.loop-event.invariant.paid starting log f) c.loop-event-test.true
+    verdict_paid c.take_event.new.self _ _ _ _ _ (each_entry (callers_of c.args.self.now.kept)) i
+    (length es) (log ++ log_of (c.args.history.now)) (c.in_ok-verdict.ensures.so_far
+    ∙ c.in-Some-2.is)
+    (c.in_ok-verdict.ensures.steps starting (log ++ log_of (take i es))
+    (c.loop-event.invariant.followed starting log f))
+    (ap (λ g. each_entry (rules_by g).header.callers) c.loop-event.invariant.header)
+    (c.loop-event.invariant.paid starting log f) c.loop-event-test.true
 
 pub returns-clause-steps : goal.returns-clause-steps
 returns-clause-steps g c = λ starting log f.
-    last_paid _ _ (each_entry (callers_of c.args.self.now.kept)) _ _ c.loop-event.auto.event-index-end
+    last_paid _ _ (each_entry (callers_of c.args.self.now.kept)) _ _
+    c.loop-event.auto.event-index-end
     (subst (λ xs. c.loop-event.steps + judge_debt c.loop-event.self (log ++ xs)
-    ≤ c.args.steps.now + judge_debt c.args.self.now log + each_entry (callers_of c.args.self.now.kept) * c.loop-event.event-index)
+    ≤ c.args.steps.now + judge_debt c.args.self.now log + each_entry
+    (callers_of c.args.self.now.kept) * c.loop-event.event-index)
     (ap log_of (take_all c.loop-event.event-index c.args.history.now c.loop-event-test.false))
     (c.loop-event.invariant.paid starting log f))

@@ -8,11 +8,15 @@ use Rattle.vyrd_judge.proofs.online.Judge.follow_history_counted.Given as goal
 
 abbrev pub invariant-loop-event : goal.invariant-loop-event
 invariant-loop-event g l = record {
-  followed : (starting : List StartWord) (log : List Entry) → HasFollowed l.initial.self starting log → HasFollowed l.self starting (log ++ log_of (take l.event-index l.fn.history));
+  followed : (starting : List StartWord) (log : List Entry)
+      → HasFollowed l.initial.self starting log → HasFollowed l.self starting (log ++ log_of
+      (take l.event-index l.fn.history));
   header : l.self.kept.charter ≡ l.initial.self.kept.charter;
   counted : l.self.kept.entries ≤ l.initial.self.kept.entries + l.event-index;
   works : l.self.has_failed ≡ false;
   undecided : l.self.so_far ≡ None;
   paid : (starting : List StartWord) (log : List Entry) → HasFollowed l.initial.self starting log
-      → l.steps + judge_debt l.self (log ++ log_of (take l.event-index l.fn.history)) ≤ l.initial.steps + judge_debt l.initial.self log + each_entry (callers_of l.initial.self.kept) * l.event-index;
+      → l.steps + judge_debt l.self (log ++ log_of (take l.event-index l.fn.history))
+      ≤ l.initial.steps + judge_debt l.initial.self log + each_entry
+      (callers_of l.initial.self.kept) * l.event-index;
 }

@@ -19,17 +19,26 @@ returns-in-Ok-None-clause-steps g c = λ starting log f.
     let kept = c.self.inside.follower in
     let more = log ++ c.args.entry ∷ [] in
     let none = ap (λ (j : JudgeView). j.so_far) c.self.view_is ∙ c.requires.undecided in
-    subst (λ (j : JudgeView). c.take_in.new.steps + debt_after c.self.inside.so_far c.take_in.new.self more ≤ c.args.steps.now + judge_debt j log + each_entry (callers_of j.kept)) c.self.view_is
-    (subst (λ o. c.take_in.new.steps + debt_after o c.take_in.new.self more ≤ c.args.steps.now + debt_after o kept log + each_entry (callers_of kept)) (sym none)
-    (subst (λ v. c.take_in.new.steps + debt_after v c.take_in.new.self more ≤ c.args.steps.now + debt kept log + each_entry (callers_of kept))
-    c.in-Ok-None.field-0-is (c.in-Ok-None.ensures.steps starting log (faultless_of none (subst (λ j. HasFollowed j starting log) (sym c.self.view_is) f)))))
+    subst (λ (j : JudgeView). c.take_in.new.steps + debt_after c.self.inside.so_far
+    c.take_in.new.self more ≤ c.args.steps.now + judge_debt j log + each_entry
+    (callers_of j.kept)) c.self.view_is
+    (subst (λ o. c.take_in.new.steps + debt_after o c.take_in.new.self more
+    ≤ c.args.steps.now + debt_after o kept log + each_entry (callers_of kept)) (sym none)
+    (subst (λ v. c.take_in.new.steps + debt_after v c.take_in.new.self more
+    ≤ c.args.steps.now + debt kept log + each_entry (callers_of kept))
+    c.in-Ok-None.field-0-is (c.in-Ok-None.ensures.steps starting log (faultless_of none (subst
+    (λ j. HasFollowed j starting log) (sym c.self.view_is) f)))))
 
 pub returns-in-Ok-Some-clause-steps : goal.returns-in-Ok-Some-clause-steps
 returns-in-Ok-Some-clause-steps g c = λ starting log f.
     let kept = c.self.inside.follower in
     let more = log ++ c.args.entry ∷ [] in
     let none = ap (λ (j : JudgeView). j.so_far) c.self.view_is ∙ c.requires.undecided in
-    subst (λ (j : JudgeView). c.take_in.new.steps + 0 ≤ c.args.steps.now + judge_debt j log + each_entry (callers_of j.kept)) c.self.view_is
-    (subst (λ o. c.take_in.new.steps + 0 ≤ c.args.steps.now + debt_after o kept log + each_entry (callers_of kept)) (sym none)
-    (subst (λ v. c.take_in.new.steps + debt_after v c.take_in.new.self more ≤ c.args.steps.now + debt kept log + each_entry (callers_of kept))
-    c.in-Ok-Some.field-0-is (c.in-Ok-Some.ensures.steps starting log (faultless_of none (subst (λ j. HasFollowed j starting log) (sym c.self.view_is) f)))))
+    subst (λ (j : JudgeView). c.take_in.new.steps + 0 ≤ c.args.steps.now + judge_debt j log +
+    each_entry (callers_of j.kept)) c.self.view_is
+    (subst (λ o. c.take_in.new.steps + 0 ≤ c.args.steps.now + debt_after o kept log + each_entry
+    (callers_of kept)) (sym none)
+    (subst (λ v. c.take_in.new.steps + debt_after v c.take_in.new.self more
+    ≤ c.args.steps.now + debt kept log + each_entry (callers_of kept))
+    c.in-Ok-Some.field-0-is (c.in-Ok-Some.ensures.steps starting log (faultless_of none (subst
+    (λ j. HasFollowed j starting log) (sym c.self.view_is) f)))))

@@ -7,7 +7,8 @@ use Rattle.vyrd_judge.proofs.QueueLaws.{all_ok, write_up, open_up, close_up, cal
 use Rattle.vyrd_judge.proofs.queue.Queue.follow.Goals as goal
 
 pub give_back-requires-clause-pending : goal.give_back-requires-clause-pending
-give_back-requires-clause-pending g c = λ called here has. queue_pending called c.in-Return.is here has c.requires.may
+give_back-requires-clause-pending g c = λ called here has. queue_pending called c.in-Return.is here
+    has c.requires.may
 
 pub commit-requires-clause-caller : goal.commit-requires-clause-caller
 commit-requires-clause-caller g c = queue_caller c.requires.may
@@ -55,10 +56,13 @@ returns-in-BlockCommit-clause-taken_up g c = λ earlier q keeps at.
     (keeps_as c.in-BlockCommit.is keeps) q callers waiting taken))
 
 pub returns-in-Write-clause-taken_up : goal.returns-in-Write-clause-taken_up
-returns-in-Write-clause-taken_up g c = λ earlier q keeps at. taken_kind c.args.entry c.in-Write.is (write_up c.args.entry.caller _ _ q)
+returns-in-Write-clause-taken_up g c = λ earlier q keeps at. taken_kind c.args.entry c.in-Write.is
+    (write_up c.args.entry.caller _ _ q)
 
 pub returns-in-BlockOpen-clause-taken_up : goal.returns-in-BlockOpen-clause-taken_up
-returns-in-BlockOpen-clause-taken_up g c = λ earlier q keeps at. taken_kind c.args.entry c.in-BlockOpen.is (open_up c.args.entry.caller q)
+returns-in-BlockOpen-clause-taken_up g c = λ earlier q keeps at. taken_kind c.args.entry
+    c.in-BlockOpen.is (open_up c.args.entry.caller q)
 
 pub returns-in-BlockClose-clause-taken_up : goal.returns-in-BlockClose-clause-taken_up
-returns-in-BlockClose-clause-taken_up g c = λ earlier q keeps at. taken_kind c.args.entry c.in-BlockClose.is (close_up c.args.entry.caller q)
+returns-in-BlockClose-clause-taken_up g c = λ earlier q keeps at. taken_kind c.args.entry
+    c.in-BlockClose.is (close_up c.args.entry.caller q)

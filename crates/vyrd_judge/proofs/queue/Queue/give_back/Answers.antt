@@ -4,4 +4,5 @@ use Rattle.vyrd_judge.proofs.queue.Queue.give_back.Goals as goal
 
 pub returns-clause-awaits : goal.returns-clause-awaits
 returns-clause-awaits g c = λ awaits none.
-    awaits_behind c.args.self.now.waiting.items _ c.new-commit.result (omega (arith, c.if-at-eq0.false)) awaits
+    awaits_behind c.args.self.now.waiting.items _ c.new-commit.result (omega
+    (arith, c.if-at-eq0.false)) awaits

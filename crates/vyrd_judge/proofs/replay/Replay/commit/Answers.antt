@@ -53,11 +53,13 @@ pub see_all_counted-requires-clause-current : goal.see_all_counted-requires-clau
 see_all_counted-requires-clause-current g c = λ d seen here is_open none.
     let r = rules_by (g.S.Spec.charter c.args.self.now.spec) in
     let q = rules_by (g.S.Spec.charter c.step.new.self) in
-    still_current (r.answer (g.S.Spec.state c.args.self.now.spec)) (q.answer (g.S.Spec.state c.step.new.self)) c.close_counted.new.self.by_caller
+    still_current (r.answer (g.S.Spec.state c.args.self.now.spec)) (q.answer
+    (g.S.Spec.state c.step.new.self)) c.close_counted.new.self.by_caller
     (g.S.Spec.affects c.step.new.self)
     (λ m a apart. ap (λ (p : Rules). p.answer (g.S.Spec.state c.step.new.self) m a) (ap rules_by c.step.ensures.charter)
     ∙ c.in_ok-step.ensures.answers (ap Ok c.if-not-branch.false) m a apart)
-    (subst (AreCurrent (r.answer (g.S.Spec.state c.args.self.now.spec))) (sym c.close_counted.ensures.watches)
+    (subst (AreCurrent (r.answer (g.S.Spec.state c.args.self.now.spec)))
+    (sym c.close_counted.ensures.watches)
     (current_closed r (g.S.Spec.state c.args.self.now.spec) c.args.caller c.args.self.now.watches.by_caller
     (omega (arith, c.requires.caller, c.args.self.now.callers)) c.requires.current)) d seen here is_open none
 
@@ -75,9 +77,15 @@ returns-clause-leads g c = λ part rest is known.
           ∙ ap (λ (p : Rules). first_difference (view_by c.args.words.now.views.shows first) (p.shown after)) (sym (ap rules_by c.step.ensures.charter))
           ∙ sym (c.in_ok-key.ensures.difference part rest is makes) ∙ is_none _ c.in_default.not-Some;
       count = omega (arith, c.in_ok-step.ensures.counted (ap Ok c.if-not-branch.false));
-      seen = subst (λ (p : Rules). AllSee (p.answer after) (set c.args.self.now.watches.by_caller c.args.caller unwatched) c.see_all_counted.new.self.by_caller) (ap rules_by c.step.ensures.charter)
-          (subst (λ ws. AllSee ((rules_by (g.S.Spec.charter c.step.new.self)).answer after) ws c.see_all_counted.new.self.by_caller) c.close_counted.ensures.watches c.in_ok-see_all_counted.ensures.seen);
-      current = subst (λ (p : Rules). AreCurrent (p.answer after) c.see_all_counted.new.self.by_caller) (ap rules_by c.step.ensures.charter) c.in_ok-see_all_counted.ensures.current;
+      seen = subst (λ (p : Rules). AllSee (p.answer after)
+          (set c.args.self.now.watches.by_caller c.args.caller unwatched)
+          c.see_all_counted.new.self.by_caller) (ap rules_by c.step.ensures.charter)
+          (subst (λ ws. AllSee ((rules_by (g.S.Spec.charter c.step.new.self)).answer after) ws
+          c.see_all_counted.new.self.by_caller) c.close_counted.ensures.watches
+          c.in_ok-see_all_counted.ensures.seen);
+      current = subst (λ (p : Rules). AreCurrent (p.answer after)
+          c.see_all_counted.new.self.by_caller) (ap rules_by c.step.ensures.charter)
+          c.in_ok-see_all_counted.ensures.current;
       words = c.in_ok-key.ensures.first part rest is;
       since = c.in_ok-key.ensures.since part rest is;
     }

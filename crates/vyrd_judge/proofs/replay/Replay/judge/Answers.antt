@@ -2,7 +2,11 @@ use Rattle.vyrd_base.specs.Rules.{rules_by}
 use Rattle.std.proofs.Common.{ap, sym, subst, ◌∙◌}
 use Rattle.vyrd_judge.specs.declared.waiting.Event.TheVariants.{Commits}
 use Rattle.vyrd_judge.specs.Judged.{Judged}
-use Rattle.vyrd_judge.proofs.JudgingLaws.{begins_caller, begins_may, begins_free, commits_caller, commits_may, commits_mutates, returns_caller, steps_few, judged_current, judged_begins, watch_there, judged_answered, judged_unanswered, judged_commits, commit_splits}
+use Rattle.vyrd_judge.proofs.JudgingLaws.{begins_caller, begins_may, begins_free, commits_caller}
+use Rattle.vyrd_judge.proofs.JudgingLaws.{commits_may, commits_mutates, returns_caller, steps_few}
+use Rattle.vyrd_judge.proofs.JudgingLaws.{judged_current, judged_begins, watch_there}
+use Rattle.vyrd_judge.proofs.JudgingLaws.{judged_answered, judged_unanswered, judged_commits}
+use Rattle.vyrd_judge.proofs.JudgingLaws.{commit_splits}
 use Rattle.vyrd_judge.proofs.replay.Replay.judge.Goals as goal
 
 pub begin-requires-clause-caller : goal.begin-requires-clause-caller
@@ -69,5 +73,6 @@ returns-else-end-clause-gives g c = λ starting log xs j known.
 
 pub returns-in-Some-clause-owed : goal.returns-in-Some-clause-owed
 returns-in-Some-clause-owed g c = λ callers earlier starting log xs j.
-    let split = commit_splits (sym c.event.ensures ∙ c.in-Commits.is ∙ ap (Commits c.in-Commits.method c.in-Commits.args) c.in-Some.is) j in
+    let split = commit_splits (sym c.event.ensures ∙ c.in-Commits.is ∙ ap
+    (Commits c.in-Commits.method c.in-Commits.args) c.in-Some.is) j in
     c.commit.ensures.owed callers earlier split.0 split.1 split.2
