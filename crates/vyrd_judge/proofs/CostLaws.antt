@@ -70,15 +70,15 @@ waiting_more callers e o old new is = omega (
 pub judged_paid : (k m n : Kept) (x : Waiting) (next : Option Waiting) (starting : List StartWord)
     (log : List Entry) (before judged after : ℕ)
     → k ≡ m → IsCatchingUp next n starting log → n.charter ≡ k.charter → n.shape ≡ k.shape
-    → words_owed (callers_of k) (newest_first log) n.views.since ≤ words_owed (callers_of k)
-    (newest_first log) k.views.since
-    → judged + (answer_count n.watches + 2 * n.answers) ≤ before +
-    (answer_count k.watches + 2 * k.answers) + judging_cost (callers_of k)
+    → words_owed (callers_of k) (newest_first log) n.views.since
+    ≤ words_owed (callers_of k) (newest_first log) k.views.since
+    → judged + (answer_count n.watches + 2 * n.answers)
+    ≤ before + (answer_count k.watches + 2 * k.answers) + judging_cost (callers_of k)
     → after ≤ judged + 1 → cons_option next n.waiting ≡ k.waiting
     → after + debt (with_first next n) log ≤ before + debt (with_first (Some x) m) log
 judged_paid k m n x next starting log before judged after same going charter shape words paid left
-    waiting = subst (λ was. after + debt (with_first next n) log ≤ before + debt (with_first
-    (Some x) was) log) same (omega (
+    waiting = subst (λ was. after + debt (with_first next n) log
+    ≤ before + debt (with_first (Some x) was) log) same (omega (
       arith,
       words,
       paid,
@@ -104,24 +104,24 @@ pub broken_paid : (k m : Kept) (before after held : ℕ) → k ≡ m
     → after + 0 ≤ before + debt m log + each_entry (callers_of m)
 broken_paid k m before after held same shape_paid few starting log f =
     let paid = shape_paid (newest_first log) f.taken_in.shape (short few f.taken_in) in
-    subst (λ was. after + 0 ≤ before + debt was log + each_entry (callers_of was)) same (omega
-    (arith, paid))
+    subst (λ was. after + 0 ≤ before + debt was log + each_entry (callers_of was)) same
+    (omega (arith, paid))
 
 -- one more entry that keeps the rules, by what each part does
 pub taken_paid : (k m n : Kept) (first : Option Waiting) (e : Entry) (queue_header : Header)
     (before shaped worded queued_up : ℕ)
-    → k ≡ m → k.shape.header ≡ (rules_by k.charter).header → k.shadow.header ≡
-    (rules_by k.charter).header → queue_header ≡ (rules_by k.charter).header
-    → ((earlier : List Entry) → ShapeFollows k.shape earlier →
-    (broken_rule k.shape.header earlier e ≡ None) × ShapeFollows n.shape (e ∷ earlier))
+    → k ≡ m → k.shape.header ≡ (rules_by k.charter).header
+    → k.shadow.header ≡ (rules_by k.charter).header → queue_header ≡ (rules_by k.charter).header
+    → ((earlier : List Entry) → ShapeFollows k.shape earlier
+    → (broken_rule k.shape.header earlier e ≡ None) × ShapeFollows n.shape (e ∷ earlier))
     → ((earlier : List Entry) → ShapeFollows k.shape earlier → length earlier < 2 ^ 63
     → shaped + shape_owed n.shape ≤ before + shape_owed k.shape + 2)
     → ((starting : List StartWord) (earlier : List Entry)
     → HasWords k.shadow k.inner starting earlier → Keeps k.shadow.header earlier e
     → k.commits ≡ commit_count earlier
     → worded + words_owed k.shadow.header.callers (e ∷ earlier) n.views.since
-    ≤ shaped + words_owed k.shadow.header.callers earlier k.views.since + words_cost
-    k.shadow.header.callers)
+    ≤ shaped + words_owed k.shadow.header.callers earlier k.views.since
+    + words_cost k.shadow.header.callers)
     → ((earlier : List Entry) → HasQueued queue_header k.waiting k.taken k.callers earlier
     → Keeps queue_header earlier e → k.entries ≡ length earlier
     → HasTakenUp queue_header k.waiting (cons_option first n.waiting) n.taken n.callers e earlier)
@@ -129,8 +129,8 @@ pub taken_paid : (k m n : Kept) (first : Option Waiting) (e : Entry) (queue_head
     → n.charter ≡ k.charter → n.watches ≡ k.watches → n.answers ≡ k.answers → k.entries < 2 ^ 62
     → (starting : List StartWord) (log : List Entry) → IsFaultless k starting log
     → IsCatchingUp first n starting (log ++ e ∷ [])
-    → queued_up + debt (with_first first n) (log ++ e ∷ []) ≤ before + debt m log + each_entry
-    (callers_of m)
+    → queued_up + debt (with_first first n) (log ++ e ∷ [])
+    ≤ before + debt m log + each_entry (callers_of m)
 taken_paid k m n first e queue_header before shaped worded queued_up same shape_is shadow_is
     queue_is shape shape_paid words queued queue_paid charter watches answers few starting log f
     going =
@@ -139,16 +139,16 @@ taken_paid k m n first e queue_header before shaped worded queued_up same shape_
     let words_paid = subst (λ callers. worded + words_owed callers
     (e ∷ newest_first log) n.views.since
     ≤ shaped + words_owed callers (newest_first log) k.views.since + words_cost callers) callers_is
-    (words starting (newest_first log) t.words (keeps_at shadow_is) (t.commits ∙ sym
-    (commits_same log))) in
+    (words starting (newest_first log) t.words (keeps_at shadow_is)
+    (t.commits ∙ sym (commits_same log))) in
     subst (λ was. queued_up + debt (with_first first n) (log ++ e ∷ [])
     ≤ before + debt was log + each_entry (callers_of was)) same (omega (
       arith,
       shape_paid (newest_first log) t.shape (short few t),
       words_paid,
       queue_paid,
-      ap (λ g. words_owed (rules_by g).header.callers (newest_first
-          (log ++ e ∷ [])) n.views.since) charter,
+      ap (λ g. words_owed (rules_by g).header.callers (newest_first (log ++ e ∷ []))
+          n.views.since) charter,
       ap (λ es. words_owed (callers_of k) es n.views.since) (newest_first-push log e),
       ap (λ g. waiting_cost (rules_by g).header.callers (cons_option first n.waiting)) charter,
       waiting_more (callers_of k) e (waiting_at (place_of e (newest_first log) [])) k.waiting
@@ -162,8 +162,8 @@ taken_paid k m n first e queue_header before shaped worded queued_up same shape_
 
     keeps : Keeps (rules_by k.charter).header (newest_first log) e
     keeps = record {
-      rules = ap (λ h. broken_rule h (newest_first log) e) (sym shape_is) ∙ (shape
-          (newest_first log) t.shape).0;
+      rules = ap (λ h. broken_rule h (newest_first log) e) (sym shape_is)
+          ∙ (shape (newest_first log) t.shape).0;
     }
 
     keeps_at : {h : Header} → h ≡ (rules_by k.charter).header → Keeps h (newest_first log) e
