@@ -1,22 +1,19 @@
 -- What each part of following an entry costs is paid by what was owed before, and a constant.
 use Rattle.std.proofs.Common.{◌≡◌, ℕ, ◌+◌, ◌*◌, ◌<◌, ◌≤◌, ◌^◌, List, [], ◌∷◌, ◌++◌, map, length}
 use Rattle.std.proofs.Common.{Option, Some, None, ap, refl, subst, ◌∙◌, sym, arith}
-use Rattle.std.specs.List.{sum_by, cons_option}
+use Rattle.std.specs.List.{cons_option}
 use Rattle.std.proofs.lemmas.List.Sums.{sum_by-cons, sum_by-append}
 use Rattle.vyrd_base.specs.declared.header.Header.{Header}
 use Rattle.vyrd_base.specs.declared.log.Entry.{Entry}
 use Rattle.vyrd_base.specs.declared.log.StartWord.{StartWord}
 use Rattle.vyrd_base.specs.Entries.{place_of}
-use Rattle.vyrd_base.specs.Commits.{commit_count}
-use Rattle.vyrd_base.specs.Places.{newest_first, numbers_below}
+use Rattle.vyrd_base.specs.Places.{newest_first}
 use Rattle.vyrd_base.specs.Rules.{rules_by}
 use Rattle.vyrd_base.specs.Shape.{broken_rule}
-use Rattle.vyrd_base.proofs.PlaceLaws.{length-newest_first_onto, newest_first-push}
+use Rattle.vyrd_base.proofs.PlaceLaws.{length-newest_first_onto}
 use Rattle.vyrd_shape.specs.Following.{HasFollowed as ShapeFollows}
 use Rattle.vyrd_shape.specs.Costs.{owed as shape_owed}
-use Rattle.vyrd_words.specs.HasWords.{HasWords, Keeps}
-use Rattle.vyrd_words.specs.Costs.{work_held, all_kept_back, kept_back, for_each, held as held_by}
-use Rattle.vyrd_words.specs.Costs.{owed as words_owed}
+use Rattle.vyrd_words.specs.HasWords.{Keeps}
 use Rattle.vyrd_observers.specs.Watching.{answer_count}
 use Rattle.vyrd_judge.specs.declared.waiting.Waiting.{Waiting}
 use Rattle.vyrd_judge.specs.Waiting.{replied, waiting_at}
@@ -26,8 +23,7 @@ use Rattle.vyrd_base.specs.declared.verdict.Verdict.{Verdict}
 use Rattle.vyrd_judge.specs.Following.{Kept, JudgeView, HasTakenIn, IsFaultless, IsCatchingUp}
 use Rattle.vyrd_judge.specs.Following.{with_first}
 use Rattle.vyrd_judge.specs.Costs.{judging_cost, waiting_price, waiting_cost, callers_of, debt}
-use Rattle.vyrd_judge.specs.Costs.{words_cost, each_entry, debt_after, judge_debt}
-use Rattle.vyrd_judge.proofs.FollowerLaws.{commits_same}
+use Rattle.vyrd_judge.specs.Costs.{each_entry, debt_after, judge_debt}
 
 pub at_most_then : {a b c : ℕ} → a ≤ b → b ≤ c → a ≤ c
 at_most_then first second = omega (arith, first, second)
@@ -70,21 +66,17 @@ waiting_more callers e o old new is = omega (
 pub judged_paid : (k m n : Kept) (x : Waiting) (next : Option Waiting) (starting : List StartWord)
     (log : List Entry) (before judged after : ℕ)
     → k ≡ m → IsCatchingUp next n starting log → n.charter ≡ k.charter → n.shape ≡ k.shape
-    → words_owed (callers_of k) (newest_first log) n.views.since
-    ≤ words_owed (callers_of k) (newest_first log) k.views.since
     → judged + (answer_count n.watches + 2 * n.answers)
     ≤ before + (answer_count k.watches + 2 * k.answers) + judging_cost (callers_of k)
     → after ≤ judged + 1 → cons_option next n.waiting ≡ k.waiting
     → after + debt (with_first next n) log ≤ before + debt (with_first (Some x) m) log
-judged_paid k m n x next starting log before judged after same going charter shape words paid left
-    waiting = subst (λ was. after + debt (with_first next n) log
+judged_paid k m n x next starting log before judged after same going charter shape paid left waiting
+    = subst (λ was. after + debt (with_first next n) log
     ≤ before + debt (with_first (Some x) was) log) same (omega (
       arith,
-      words,
       paid,
       left,
       ap shape_owed shape,
-      ap (λ g. words_owed (rules_by g).header.callers (newest_first log) n.views.since) charter,
       ap (λ g. waiting_cost (rules_by g).header.callers (cons_option next n.waiting)) charter,
       ap (waiting_cost (callers_of k)) waiting,
       sum_by-cons (λ (x : Waiting). waiting_price (callers_of k)) x k.waiting,
@@ -109,47 +101,30 @@ broken_paid k m before after held same shape_paid few starting log f =
 
 -- one more entry that keeps the rules, by what each part does
 pub taken_paid : (k m n : Kept) (first : Option Waiting) (e : Entry) (queue_header : Header)
-    (before shaped worded queued_up : ℕ)
+    (before shaped queued_up : ℕ)
     → k ≡ m → k.shape.header ≡ (rules_by k.charter).header
-    → k.shadow.header ≡ (rules_by k.charter).header → queue_header ≡ (rules_by k.charter).header
+    → queue_header ≡ (rules_by k.charter).header
     → ((earlier : List Entry) → ShapeFollows k.shape earlier
     → (broken_rule k.shape.header earlier e ≡ None) × ShapeFollows n.shape (e ∷ earlier))
     → ((earlier : List Entry) → ShapeFollows k.shape earlier → length earlier < 2 ^ 63
     → shaped + shape_owed n.shape ≤ before + shape_owed k.shape + 2)
-    → ((starting : List StartWord) (earlier : List Entry)
-    → HasWords k.shadow k.inner starting earlier → Keeps k.shadow.header earlier e
-    → k.commits ≡ commit_count earlier
-    → worded + words_owed k.shadow.header.callers (e ∷ earlier) n.views.since
-    ≤ shaped + words_owed k.shadow.header.callers earlier k.views.since
-    + words_cost k.shadow.header.callers)
     → ((earlier : List Entry) → HasQueued queue_header k.waiting k.taken k.callers earlier
     → Keeps queue_header earlier e → k.entries ≡ length earlier
     → HasTakenUp queue_header k.waiting (cons_option first n.waiting) n.taken n.callers e earlier)
-    → queued_up ≤ worded + 2
+    → queued_up ≤ shaped + 2
     → n.charter ≡ k.charter → n.watches ≡ k.watches → n.answers ≡ k.answers → k.entries < 2 ^ 62
     → (starting : List StartWord) (log : List Entry) → IsFaultless k starting log
     → IsCatchingUp first n starting (log ++ e ∷ [])
     → queued_up + debt (with_first first n) (log ++ e ∷ [])
     ≤ before + debt m log + each_entry (callers_of m)
-taken_paid k m n first e queue_header before shaped worded queued_up same shape_is shadow_is
-    queue_is shape shape_paid words queued queue_paid charter watches answers few starting log f
-    going =
+taken_paid k m n first e queue_header before shaped queued_up same shape_is queue_is shape
+    shape_paid queued queue_paid charter watches answers few starting log f going =
     let up = queued (newest_first log) queue (keeps_at queue_is) (reversed t.entries) in
-    let callers_is = ap (λ (h : Header). h.callers) shadow_is in
-    let words_paid = subst (λ callers. worded + words_owed callers
-    (e ∷ newest_first log) n.views.since
-    ≤ shaped + words_owed callers (newest_first log) k.views.since + words_cost callers) callers_is
-    (words starting (newest_first log) t.words (keeps_at shadow_is)
-    (t.commits ∙ sym (commits_same log))) in
     subst (λ was. queued_up + debt (with_first first n) (log ++ e ∷ [])
     ≤ before + debt was log + each_entry (callers_of was)) same (omega (
       arith,
       shape_paid (newest_first log) t.shape (short few t),
-      words_paid,
       queue_paid,
-      ap (λ g. words_owed (rules_by g).header.callers (newest_first (log ++ e ∷ []))
-          n.views.since) charter,
-      ap (λ es. words_owed (callers_of k) es n.views.since) (newest_first-push log e),
       ap (λ g. waiting_cost (rules_by g).header.callers (cons_option first n.waiting)) charter,
       waiting_more (callers_of k) e (waiting_at (place_of e (newest_first log) [])) k.waiting
           (cons_option first n.waiting) up.waiting,
@@ -222,32 +197,9 @@ verdict_paid j a b c d e price i n more is one same before low =
 pub last_paid : (a c price i n : ℕ) → i ≤ n → a ≤ c + price * i → a ≤ c + price * n
 last_paid a c price i n low paid = omega (arith, paid, mul-le-mul_left price low)
 
--- a sum of nothing
-sum_none : (f : ℕ → ℕ) (xs : List ℕ) → ((x : ℕ) → f x ≡ 0) → sum_by f xs ≡ 0
-sum_none f [] none = refl
-sum_none f (x ∷ xs) none = omega (arith, sum_by-cons f x xs, none x, sum_none f xs none)
-
 -- for no entries nothing is owed
 pub nothing_owed : {k : Kept} {starting : List StartWord} → HasTakenIn k starting []
-    → shape_owed k.shape ≡ 0 → k.views.since ≡ [] → answer_count k.watches + 2 * k.answers ≡ 0
-    → k.waiting ≡ []
+    → shape_owed k.shape ≡ 0 → answer_count k.watches + 2 * k.answers ≡ 0 → k.waiting ≡ []
     → debt k [] ≡ 0
-nothing_owed {k} t shape since watches waiting =
-    let callers = callers_of k in
-    let held : work_held callers [] [] ≡ 0 = sum_none (held_by [] []) (numbers_below callers)
-    (λ c. refl) in
-    let kept : all_kept_back callers [] ≡ 0 = sum_none (kept_back []) (numbers_below callers)
-    (λ c. refl) in
-    let each : for_each callers (2 * all_kept_back callers []) ≡ 0 = sum_none
-    (λ c. 2 * all_kept_back callers []) (numbers_below callers) (λ c. omega (arith, kept)) in
-    omega (
-      arith,
-      shape,
-      watches,
-      held,
-      kept,
-      each,
-      ap (words_owed callers []) since,
-      ap
-          (waiting_cost callers) waiting,
-    )
+nothing_owed {k} t shape watches waiting =
+    omega (arith, shape, watches, ap (waiting_cost (callers_of k)) waiting)

@@ -1,12 +1,11 @@
--- What judging a log costs, in steps.
+-- What judging a log costs, in steps, besides the work on its words. What that costs, and what is
+-- owed for it by the log, is said by `Costs` of `vyrd_words`; here it isn't added up.
 use Rattle.std.specs.Prelude.{ℕ, ◌+◌, ◌*◌, List, Option, Some, None}
 use Rattle.std.specs.List.{sum_by}
 use Rattle.vyrd_base.specs.declared.log.Entry.{Entry}
 use Rattle.vyrd_base.specs.declared.verdict.Verdict.{Verdict}
-use Rattle.vyrd_base.specs.Places.{newest_first}
 use Rattle.vyrd_base.specs.Rules.{rules_by}
 use Rattle.vyrd_shape.specs.Costs.{owed as shape_owed}
-use Rattle.vyrd_words.specs.Costs.{owed as words_owed}
 use Rattle.vyrd_observers.specs.Watching.{answer_count}
 use Rattle.vyrd_judge.specs.declared.outcome.Advance.{Advance}
 use Rattle.vyrd_judge.specs.declared.outcome.Advance.TheVariants.{Goes, Stops}
@@ -30,11 +29,11 @@ waiting_cost callers waiting = sum_by (λ x. waiting_price callers) waiting
 abbrev pub callers_of : Kept → ℕ
 callers_of k = (rules_by k.charter).header.callers
 
--- What is owed for the entries so far: by the rules of shape, by the words, by what is known of
--- open observers, and for the entries that wait.
+-- What is owed for the entries so far: by the rules of shape, by what is known of open observers,
+-- and for the entries that wait.
 abbrev pub debt : Kept → List Entry → ℕ
-debt k log = shape_owed k.shape + words_owed (callers_of k) (newest_first log) k.views.since
-    + (answer_count k.watches + 2 * k.answers) + waiting_cost (callers_of k) k.waiting
+debt k log = shape_owed k.shape + (answer_count k.watches + 2 * k.answers)
+    + waiting_cost (callers_of k) k.waiting
 
 -- the same once this verdict stands, if there is one: then no entry is looked at any more
 abbrev pub debt_after : Option Verdict → Kept → List Entry → ℕ
@@ -50,11 +49,7 @@ debt_by (Stops v) k log = 0
 abbrev pub judge_debt : JudgeView → List Entry → ℕ
 judge_debt j log = debt_after j.so_far j.kept log
 
--- what the work on the words costs for each entry
-abbrev pub words_cost : ℕ → ℕ
-words_cost callers = 1 + 6 * callers
-
--- What each entry costs, by the number of callers: two steps for the rules of shape, the work on
--- the words, two steps to take it up among those that wait, and what is owed for it if it waits.
+-- What each entry costs, by the number of callers: two steps for the rules of shape, two steps to
+-- take it up among those that wait, and what is owed for it if it waits.
 abbrev pub each_entry : ℕ → ℕ
-each_entry callers = 2 + words_cost callers + 2 + waiting_price callers
+each_entry callers = 2 + 2 + waiting_price callers

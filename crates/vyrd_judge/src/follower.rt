@@ -232,7 +232,7 @@ impl<S: Spec> Follower<S> {
             }));
         }
         let observes = self.queue.observer_returns(entry);
-        self.words.follow_counted(entry, self.commits, steps)?;
+        self.words.follow(entry, self.commits)?;
         let position = self.entries;
         self.commits = counted(self.commits, is_commit(entry.kind));
         self.observers = counted(self.observers, observes);

@@ -180,12 +180,12 @@ impl<S: Spec> Judge<S> {
         feed_alone::<S, Brand>(Blank::new(1), self, entry)
     }
 
-    /// The same, with its steps counted. One step is one of the rules of shape, of the work on the
-    /// words or of open observers, as `vyrd_shape`, `vyrd_words` and `vyrd_observers` count them;
-    /// an entry that is put among those that wait, is given its reply there, or is handed out; and
-    /// a step or an answer of the specification. What an entry that waits will cost is owed from
-    /// then on. So each entry pays a constant, by the number of callers, and a log costs no more
-    /// than that for each of its entries. The comparison of the words isn't counted yet.
+    /// The same, with its steps counted. One step is one of the rules of shape or of open observers,
+    /// as `vyrd_shape` and `vyrd_observers` count them; an entry that is put among those that wait,
+    /// is given its reply there, or is handed out; and a step or an answer of the specification.
+    /// What an entry that waits will cost is owed from then on. So each entry pays a constant, by
+    /// the number of callers, and a log costs no more than that for each of its entries. The work on
+    /// the words isn't counted here.
     #[inline(always)]
     pub fn feed_counted<L: Ledger>(
         &mut self,

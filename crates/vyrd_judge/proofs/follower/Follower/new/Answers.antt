@@ -40,5 +40,4 @@ invariant_of-result g c =
 
 pub returns-clause-owed : goal.returns-clause-owed
 returns-clause-owed g c =
-    nothing_owed (returns-clause-taken_in g c) c.in_ok-shape.ensures.owed
-    c.in_ok-words.ensures.since c.in_ok-replay.ensures.owed c.in_ok-queue.ensures.waiting
+    nothing_owed (returns-clause-taken_in g c) c.in_ok-shape.ensures.owed c.in_ok-replay.ensures.owed c.in_ok-queue.ensures.waiting
