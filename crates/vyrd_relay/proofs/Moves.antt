@@ -2,6 +2,7 @@
 use Rattle.std.proofs.Common.{◌≡◌, ◌≢◌, ◌⊎◌, ℕ, zero, suc, ◌<◌, ◌≤◌, List, [], ◌∷◌, ◌++◌, length, set, Bool, true, false, cond, eqb, Option, Some, None, refl, sym, ap, ◌∙◌, subst, ⊎_elim, inl, inr, arith, append-nil, append_assoc}
 use Rattle.std.specs.List.{All}
 use Rattle.std.proofs.lemmas.List.Elements.{All-push}
+use Rattle.std.proofs.lemmas.List.Concat.{flat_map-append, flat_map-cons}
 use mathlib.Core.Logic.{dite}
 use native.Mathlib.Decide.{dec_lt}
 use mathlib.Core.Option.{some, some-injective, some-ne-none}
@@ -17,6 +18,7 @@ use Rattle.vyrd_relay.specs.declared.known.Sent.{Sent}
 use Rattle.vyrd_base.specs.Parts.{part}
 use Rattle.vyrd_base.proofs.UpdateLaws.{upd, upd_here, upd_else}
 use Rattle.vyrd_relay.specs.Knowledge.{with_sent, new_received, with_had, lane_of, HasBeginning, IsHadAndQueued, Learned, Pushed, Popped, dealer, dealt, taking_in}
+use Rattle.vyrd_relay.specs.Lanes.{events_in}
 use Rattle.vyrd_relay.specs.Rule.{Ghost, IsSettled, Knows, Relayed}
 use Rattle.vyrd_relay.proofs.LaneLaws.{part_both, part_mine, part_other, nothing_before, none_from}
 
@@ -49,21 +51,21 @@ begins = record {
         }
     one (suc j) v e = absurd (some-ne-none v (sym e))
 
-module _ (g : Ghost) (e : Stamped) where
-  -- what was sent when e has been sent too
+module _ (g : Ghost) (es : List Stamped) (own : ℕ) (theirs : All (λ (e : Stamped). e.caller ≡ own) es) where
+  -- what was sent when these events, which are of one caller, have been sent too
   abbrev sending : Ghost
-  sending = record { senders = g.senders; reader = g.reader; seat = g.seat; sent = λ c. g.sent c ++ part c (e ∷ []); had = g.had }
+  sending = record { senders = g.senders; reader = g.reader; seat = g.seat; sent = λ c. g.sent c ++ part c es; had = g.had }
 
-  same_sent : (c : ℕ) → e.caller ≢ c → sending.sent c ≡ g.sent c
-  same_sent c apart = ap (λ (l : List Stamped). g.sent c ++ l) (part_other c e apart) ∙ append-nil (g.sent c)
+  same_sent : (c : ℕ) → own ≢ c → sending.sent c ≡ g.sent c
+  same_sent c apart = ap (λ (l : List Stamped). g.sent c ++ l) (part_other c own es theirs apart) ∙ append-nil (g.sent c)
 
-  kept_sending : (j : ℕ) (u : Known) → (seat : ℕ) → j ≢ seat → g.seat e.caller ≡ Some seat → Knows g j u → Knows sending j u
+  kept_sending : (j : ℕ) (u : Known) → (seat : ℕ) → j ≢ seat → g.seat own ≡ Some seat → Knows g j u → Knows sending j u
   kept_sending j (Receives r) seat apart is k = record {
     reader = k.reader;
     had = k.had;
     senders = k.senders;
     unmade = λ c le. let u = k.unmade c le in
-        (u.0, same_sent c (λ q. let s : g.seat e.caller ≡ g.seat c = ap g.seat q in let z = u.0 in absurd (cc)) ∙ u.1);
+        (u.0, same_sent c (λ q. let s : g.seat own ≡ g.seat c = ap g.seat q in let z = u.0 in absurd (cc)) ∙ u.1);
     settled = λ i d l. let s = k.settled i d l in
         record {
           unseated = s.unseated;
@@ -73,42 +75,48 @@ module _ (g : Ghost) (e : Stamped) where
   }
   kept_sending j (Sends s) seat apart is k = record {
     seated = k.seated;
-    whole = same_sent s.caller (λ q. let f : g.seat e.caller ≡ g.seat s.caller = ap g.seat q in let z = k.seated in
+    whole = same_sent s.caller (λ q. let f : g.seat own ≡ g.seat s.caller = ap g.seat q in let z = k.seated in
         let both : Some j ≡ Some seat = sym z ∙ sym f ∙ is in absurd (apart (cc))) ∙ k.whole;
     senders = k.senders;
     in_range = k.in_range;
   }
   kept_sending j Spent seat apart is k = tt
 
--- a sender's pass adds an item at the back
-pub sends : (n pass : ℕ) (s : Sent) (e : Stamped) → e.caller ≡ s.caller → Pushes Relayed n pass (Sends s) e (Pushed (Sends s) e)
-sends n pass s e mine queued passes room r at =
+-- the events of parcels behind which one more comes
+events_push : (queued : List (List Stamped)) (es : List Stamped) → events_in (queued ++ es ∷ []) ≡ events_in queued ++ es
+events_push queued es = flat_map-append (λ (l : List Stamped). l) queued (es ∷ [])
+    ∙ ap (λ (l : List Stamped). events_in queued ++ l) (flat_map-cons (λ (l : List Stamped). l) es [] ∙ append-nil es)
+
+-- a sender's pass adds a parcel at the back
+pub sends : (n pass : ℕ) (s : Sent) (es : List Stamped) → All (λ (e : Stamped). e.caller ≡ s.caller) es
+    → Pushes Relayed n pass (Sends s) es (Pushed (Sends s) es)
+sends n pass s es mine queued passes room r at =
     let g = r.ghost_state in
     let me = r.each pass (Sends s) at in
-    let w : Known = Sends (with_sent s e) in
-    let seat : g.seat e.caller ≡ Some pass = ap g.seat mine ∙ me.seated in (
+    let w : Known = Sends (with_sent s es) in (
       w,
       record {
-        ghost_state = sending g e;
-        order = λ c. ap (part c) (sym (append_assoc g.had queued (e ∷ []))) ∙ part_both c (g.had ++ queued) (e ∷ [])
-            ∙ ap (λ (l : List Stamped). l ++ part c (e ∷ [])) (r.order c);
-        outside = λ c le. same_sent g e c (λ q. let a = me.in_range in let b = me.senders in absurd (omega (arith, sym q ∙ mine)))
+        ghost_state = sending g es s.caller mine;
+        order = λ c. ap (λ (l : List Stamped). part c (g.had ++ l)) (events_push queued es)
+            ∙ ap (part c) (sym (append_assoc g.had (events_in queued) es)) ∙ part_both c (g.had ++ events_in queued) es
+            ∙ ap (λ (l : List Stamped). l ++ part c es) (r.order c);
+        outside = λ c le. same_sent g es s.caller mine c (λ q. let a = me.in_range in let b = me.senders in absurd (omega (arith, q)))
             ∙ r.outside c le;
-        each = each_set (sending g e) passes pass w record {
+        each = each_set (sending g es s.caller mine) passes pass w record {
           seated = me.seated;
-          whole = ap (λ (l : List Stamped). l ++ part s.caller (e ∷ [])) me.whole
-              ∙ ap (λ (l : List Stamped). s.items ++ l) (part_mine s.caller e mine);
+          whole = ap (λ (l : List Stamped). l ++ part s.caller es) me.whole
+              ∙ ap (λ (l : List Stamped). s.items ++ l) (part_mine s.caller es mine);
           senders = me.senders;
           in_range = me.in_range;
-        } (λ j u apart q. kept_sending g e j u pass apart seat (r.each j u q));
+        } (λ j u apart q. kept_sending g es s.caller mine j u pass apart me.seated (r.each j u q));
       },
       refl,
     )
 
-module _ (g : Ghost) (e : Stamped) where
-  -- what was had when e has been had too
+module _ (g : Ghost) (es : List Stamped) where
+  -- what was had when these events have been had too
   abbrev having : Ghost
-  having = record { senders = g.senders; reader = g.reader; seat = g.seat; sent = g.sent; had = g.had ++ e ∷ [] }
+  having = record { senders = g.senders; reader = g.reader; seat = g.seat; sent = g.sent; had = g.had ++ es }
 
   kept_having : (j : ℕ) (u : Known) → j ≢ g.reader → Knows g j u → Knows having j u
   kept_having j (Receives r) apart k = absurd (apart (sym k.reader))
@@ -122,45 +130,45 @@ lane_split g made had queued lane same order settled =
     sym settled.whole ∙ sym (order lane.caller) ∙ ap (λ (l : List Stamped). part lane.caller (l ++ queued)) same
     ∙ part_both lane.caller had queued
 
--- an item of a caller that has sent something is of one of the senders
-in_range_of : (g : Ghost) (had queued : List Stamped) (e : Stamped) → ((c : ℕ) → part c (had ++ e ∷ queued) ≡ g.sent c)
-    → ((c : ℕ) → g.senders ≤ c → g.sent c ≡ []) → e.caller < g.senders
-in_range_of g had queued e order outside =
-    let f = none_from g.senders (had ++ e ∷ queued) (λ c le. order c ∙ outside c le) in
-    at_place had f
-  where
-    at_place : (xs : List Stamped) → All (λ (x : Stamped). x.caller < g.senders) (xs ++ e ∷ queued) → e.caller < g.senders
-    at_place [] f = f 0 e (omega arith)
-    at_place (x ∷ xs) f = at_place xs (λ k d l. f (suc k) d (omega arith))
+-- events of callers that have sent something are of the senders
+in_range_of : (g : Ghost) (had es queued : List Stamped) → ((c : ℕ) → part c (had ++ (es ++ queued)) ≡ g.sent c)
+    → ((c : ℕ) → g.senders ≤ c → g.sent c ≡ []) → All (λ (e : Stamped). e.caller < g.senders) es
+in_range_of g had es queued order outside = none_from g.senders es (λ c le.
+    let none : part c had ++ (part c es ++ part c queued) ≡ [] = ap (λ (l : List Stamped). part c had ++ l) (sym (part_both c es queued))
+        ∙ sym (part_both c had (es ++ queued)) ∙ order c ∙ outside c le in
+    (nothing_before (part c es) (part c queued) (nothing_before (part c had) (part c es ++ part c queued) none).1).0)
 
--- the receiver's pass takes an item at the front
+-- the receiver's pass takes a parcel at the front
 pub gets : (pass : ℕ) (v : Received) → 0 < v.made → Pops Relayed pass (Receives v) (Popped (Receives v))
-gets pass v made e queued passes r at =
+gets pass v made es queued passes r at =
     let g = r.ghost_state in
     let me = r.each pass (Receives v) at in
-    let w : Known = Receives (with_had v e) in
-    let order : (c : ℕ) → part c ((g.had ++ e ∷ []) ++ queued) ≡ g.sent c
-    = λ c. ap (part c) (append_assoc g.had (e ∷ []) queued) ∙ r.order c in
-    let had : g.had ++ e ∷ [] ≡ v.had ++ e ∷ [] = ap (λ (l : List Stamped). l ++ e ∷ []) me.had in (
+    let w : Known = Receives (with_had v es) in
+    let first : (c : ℕ) → part c (g.had ++ (es ++ events_in queued)) ≡ g.sent c
+    = λ c. ap (λ (l : List Stamped). part c (g.had ++ l)) (sym (flat_map-cons (λ (l : List Stamped). l) es queued)) ∙ r.order c in
+    let order : (c : ℕ) → part c ((g.had ++ es) ++ events_in queued) ≡ g.sent c
+    = λ c. ap (part c) (append_assoc g.had es (events_in queued)) ∙ first c in
+    let had : g.had ++ es ≡ v.had ++ es = ap (λ (l : List Stamped). l ++ es) me.had in (
       w,
       record {
-        ghost_state = having g e;
+        ghost_state = having g es;
         order = order;
         outside = r.outside;
-        each = each_set (having g e) passes pass w record {
+        each = each_set (having g es) passes pass w record {
           reader = me.reader;
           had = had;
           senders = me.senders;
           unmade = me.unmade;
           settled = λ i d l. let s = me.settled i d l in record { unseated = s.unseated; whole = s.whole; old = s.old };
-        } (λ j u apart q. kept_having g e j u (λ z. apart (z ∙ me.reader)) (r.each j u q));
+        } (λ j u apart q. kept_having g es j u (λ z. apart (z ∙ me.reader)) (r.each j u q));
       },
       record {
         had = refl;
-        senders = subst (λ (n : ℕ). e.caller < n) (me.senders made) (in_range_of g g.had queued e r.order r.outside);
+        senders = subst (λ (n : ℕ). All (λ (e : Stamped). e.caller < n) es) (me.senders made)
+            (in_range_of g g.had es (events_in queued) first r.outside);
         beginnings = λ i d l. let s = me.settled i d l in (
-          part _ queued,
-          lane_split (having g e) v.made (v.had ++ e ∷ []) queued _ had order
+          part _ (events_in queued),
+          lane_split (having g es) v.made (v.had ++ es) (events_in queued) _ had order
               record { unseated = s.unseated; whole = s.whole; old = s.old },
         );
       },
@@ -171,9 +179,9 @@ pub receiver_learns : (pass : ℕ) (v : Received) → 0 < v.made → Learns Rela
 receiver_learns pass v made queued passes r at =
     let g = r.ghost_state in
     let me = r.each pass (Receives v) at in
-    let of_senders = none_from g.senders g.had (λ c le. (nothing_before (part c g.had) (part c queued)
-    (sym (part_both c g.had queued) ∙ r.order c ∙ r.outside c le)).0) in record {
-      settled = λ i d l. lane_split g v.made v.had queued _ me.had r.order (me.settled i d l);
+    let of_senders = none_from g.senders g.had (λ c le. (nothing_before (part c g.had) (part c (events_in queued))
+    (sym (part_both c g.had (events_in queued)) ∙ r.order c ∙ r.outside c le)).0) in record {
+      settled = λ i d l. lane_split g v.made v.had (events_in queued) _ me.had r.order (me.settled i d l);
       senders = subst (λ (x : ℕ × List Stamped). All (λ (e : Stamped). e.caller < x.0) x.1) (λ i. (me.senders made i, me.had i)) of_senders;
     }
 
@@ -182,10 +190,10 @@ pub sender_learns : (pass : ℕ) (s : Sent) → Learns Relayed pass (Sends s) (L
 sender_learns pass s queued passes r at =
     let g = r.ghost_state in
     let me = r.each pass (Sends s) at in record {
-      own = (part s.caller g.had, sym me.whole ∙ sym (r.order s.caller) ∙ part_both s.caller g.had queued);
-      senders = subst (λ (n : ℕ). All (λ (e : Stamped). e.caller < n) queued) me.senders
-          (none_from g.senders queued (λ c le. (nothing_before (part c g.had) (part c queued)
-          (sym (part_both c g.had queued) ∙ r.order c ∙ r.outside c le)).1));
+      own = (part s.caller g.had, sym me.whole ∙ sym (r.order s.caller) ∙ part_both s.caller g.had (events_in queued));
+      senders = subst (λ (n : ℕ). All (λ (e : Stamped). e.caller < n) (events_in queued)) me.senders
+          (none_from g.senders (events_in queued) (λ c le. (nothing_before (part c g.had) (part c (events_in queued))
+          (sym (part_both c g.had (events_in queued)) ∙ r.order c ∙ r.outside c le)).1));
     }
 
 at_end : (l : List Known) (a b : Known) (j : ℕ) → get_elem? (l ++ a ∷ []) j ≡ some b → (get_elem? l j ≡ some b) ⊎ ((j ≡ length l) × (a ≡ b))
@@ -309,5 +317,5 @@ takes_in pass v other s queued passes r at differ there =
     }
 
 -- what was had of a lane that was taken in is a beginning of it, since what is queued is the rest
-pub beginnings : (v : Received) (queued : List Stamped) → Learned (Receives v) queued → All (HasBeginning v.had) v.settled
-beginnings v queued learned = λ i d l. (part _ queued, learned.settled i d l)
+pub beginnings : (v : Received) (queued : List (List Stamped)) → Learned (Receives v) queued → All (HasBeginning v.had) v.settled
+beginnings v queued learned = λ i d l. (part _ (events_in queued), learned.settled i d l)

@@ -7,10 +7,10 @@ use Rattle.vyrd_base.specs.declared.history.Stamped.{Stamped}
 use Rattle.vyrd_relay.specs.declared.known.Known.{Known}
 use Rattle.vyrd_relay.specs.declared.known.Lane.{Lane}
 use Rattle.vyrd_base.specs.Parts.{part}
-use Rattle.vyrd_relay.specs.Lanes.{EndsWith}
+use Rattle.vyrd_relay.specs.Lanes.{EndsWith, events_in}
 use Rattle.vyrd_relay.specs.Knowledge.{received_in, sent_in, IsHadAndQueued}
 
--- a relay: which queue it is, and how many events that holds at most
+-- a relay: which queue it is, and how many parcels that holds at most
 pub record RelayView : Type 0 where
   pub queue : TableId
   pub capacity : ℕ
@@ -30,7 +30,7 @@ pub record ReceiverView : Type 0 where
   pub settled : List Lane
 
 -- what a pass knows
-abbrev pub knowledge : Pass Stamped Known → Known
+abbrev pub knowledge : Pass (List Stamped) Known → Known
 knowledge pass = view pass
 
 abbrev pub sender_of : TableId → Known → SenderView
@@ -49,15 +49,15 @@ receiver_of queue k = record {
   settled = (received_in k).settled;
 }
 
--- the sender that has sent one event more
-abbrev pub with_pushed : SenderView → Stamped → SenderView
-with_pushed s item =
-    record { queue = s.queue; senders = s.senders; caller = s.caller; sent = s.sent ++ item ∷ [] }
+-- the sender that has sent these events more
+abbrev pub with_pushed : SenderView → List Stamped → SenderView
+with_pushed s events =
+    record { queue = s.queue; senders = s.senders; caller = s.caller; sent = s.sent ++ events }
 
--- the receiver that has had one event more
-abbrev pub with_popped : ReceiverView → Stamped → ReceiverView
-with_popped r item =
-    record { queue = r.queue; senders = r.senders; had = r.had ++ item ∷ []; settled = r.settled }
+-- the receiver that has had these events more
+abbrev pub with_popped : ReceiverView → List Stamped → ReceiverView
+with_popped r events =
+    record { queue = r.queue; senders = r.senders; had = r.had ++ events; settled = r.settled }
 
 abbrev pub lane_sent : SenderView → Lane
 lane_sent s = record { caller = s.caller; items = s.sent }
@@ -71,21 +71,21 @@ with_taken_in r s = record {
   settled = r.settled ++ lane_sent s ∷ [];
 }
 
--- At a step of the call the queue held as many events as it can. Those of the sender's caller are
--- the last that it sent, and all are of callers that have a sender.
+-- At a step of the call the queue held as many parcels as it can. The events of the sender's caller
+-- in them are the last that it sent, and all are of callers that have a sender.
 pub record WasFull (relay : RelayView) (s : SenderView) : Type 0 where
-  pub queued : List Stamped
+  pub queued : List (List Stamped)
   pub full : length queued ≡ relay.capacity
-  pub own : EndsWith s.sent (part s.caller queued)
-  pub senders : All (λ (e : Stamped). e.caller < s.senders) queued
+  pub own : EndsWith s.sent (part s.caller (events_in queued))
+  pub senders : All (λ (e : Stamped). e.caller < s.senders) (events_in queued)
 
--- At a step of the call the queue held no event. What was had of a sender that was taken in, and
+-- At a step of the call the queue held no parcel. What was had of a sender that was taken in, and
 -- then what was queued of it, is what it sent, and all that was had is of callers that have a
 -- sender.
 pub record WasEmpty (r : ReceiverView) : Type 0 where
-  pub queued : List Stamped
+  pub queued : List (List Stamped)
   pub empty : length queued ≡ 0
-  pub settled : All (IsHadAndQueued r.had queued) r.settled
+  pub settled : All (IsHadAndQueued r.had (events_in queued)) r.settled
   pub senders : All (λ (e : Stamped). e.caller < r.senders) r.had
 
 -- all that the lane's caller sent was had

@@ -8,24 +8,24 @@ use Rattle.vyrd_relay.specs.declared.known.Lane.{Lane}
 use Rattle.vyrd_relay.specs.declared.known.Received.{Received}
 use Rattle.vyrd_relay.specs.declared.known.Sent.{Sent}
 use Rattle.vyrd_base.specs.Parts.{part}
-use Rattle.vyrd_relay.specs.Lanes.{Begins, EndsWith}
+use Rattle.vyrd_relay.specs.Lanes.{Begins, EndsWith, events_in}
 
 -- a sender that has sent nothing
 abbrev pub new_sent : ℕ → ℕ → Sent
 new_sent senders caller = record { senders = senders; caller = caller; items = [] }
 
--- a sender that has sent one event more
-abbrev pub with_sent : Sent → Stamped → Sent
-with_sent s item = record { senders = s.senders; caller = s.caller; items = s.items ++ item ∷ [] }
+-- a sender that has sent these events more
+abbrev pub with_sent : Sent → List Stamped → Sent
+with_sent s events = record { senders = s.senders; caller = s.caller; items = s.items ++ events }
 
 -- a receiver that has had nothing, for which that many senders were made
 abbrev pub new_received : ℕ → ℕ → Received
 new_received senders made = record { senders = senders; made = made; had = []; settled = [] }
 
--- a receiver that has had one event more
-abbrev pub with_had : Received → Stamped → Received
-with_had r item =
-    record { senders = r.senders; made = r.made; had = r.had ++ item ∷ []; settled = r.settled }
+-- a receiver that has had these events more
+abbrev pub with_had : Received → List Stamped → Received
+with_had r events =
+    record { senders = r.senders; made = r.made; had = r.had ++ events; settled = r.settled }
 
 abbrev pub lane_of : Sent → Lane
 lane_of s = record { caller = s.caller; items = s.items }
@@ -69,21 +69,22 @@ pub record SenderLearns (s : Sent) (queued : List Stamped) : Type 0 where
   pub own : EndsWith s.items (part s.caller queued)
   pub senders : All (λ (e : Stamped). e.caller < s.senders) queued
 
-abbrev pub Learned : Known → List Stamped → Type 0
-Learned (Receives r) queued = ReceiverLearns r queued
-Learned (Sends s) queued = SenderLearns s queued
+-- what a pass learns of the queued parcels
+abbrev pub Learned : Known → List (List Stamped) → Type 0
+Learned (Receives r) queued = ReceiverLearns r (events_in queued)
+Learned (Sends s) queued = SenderLearns s (events_in queued)
 Learned Spent queued = ⊤
 
--- a push: the sender has sent this event too
-abbrev pub Pushed : Known → Stamped → Known → Type 0
-Pushed before item after = after ≡ Sends (with_sent (sent_in before) item)
+-- a push: the sender has sent these events too
+abbrev pub Pushed : Known → List Stamped → Known → Type 0
+Pushed before events after = after ≡ Sends (with_sent (sent_in before) events)
 
--- A pop: the receiver has had this event too, it is of one of the senders, and what was had of each
+-- A pop: the receiver has had these events too, they are of the senders, and what was had of each
 -- sender that was taken in is still a beginning of what that one sent.
-pub record Popped (before : Known) (item : Stamped) (after : Known) : Type 0 where
-  pub had : after ≡ Receives (with_had (received_in before) item)
-  pub senders : item.caller < (received_in before).senders
-  pub beginnings : All (HasBeginning ((received_in before).had ++ item ∷ []))
+pub record Popped (before : Known) (events : List Stamped) (after : Known) : Type 0 where
+  pub had : after ≡ Receives (with_had (received_in before) events)
+  pub senders : All (λ (e : Stamped). e.caller < (received_in before).senders) events
+  pub beginnings : All (HasBeginning ((received_in before).had ++ events))
       (received_in before).settled
 
 -- The receiver's pass when it has made one sender more, and the pass of that sender. `senders` is

@@ -11,6 +11,7 @@ use Rattle.vyrd_relay.specs.declared.known.Lane.{Lane}
 use Rattle.vyrd_relay.specs.declared.known.Received.{Received}
 use Rattle.vyrd_relay.specs.declared.known.Sent.{Sent}
 use Rattle.vyrd_base.specs.Parts.{part}
+use Rattle.vyrd_relay.specs.Lanes.{events_in}
 
 -- What exists in the proofs alone: how many senders there are, the receiver's pass, for each caller
 -- the pass that sends for it and what it sent, and all that was had.
@@ -49,8 +50,8 @@ Knows g pass (Receives r) = ReceiverKnows g pass r
 Knows g pass (Sends s) = SenderKnows g pass s
 Knows g pass Spent = ⊤
 
-pub record Relayed (queued : List Stamped) (passes : List Known) : Type 0 where
+pub record Relayed (queued : List (List Stamped)) (passes : List Known) : Type 0 where
   pub ghost_state : Ghost
-  pub order : (c : ℕ) → part c (ghost_state.had ++ queued) ≡ ghost_state.sent c
+  pub order : (c : ℕ) → part c (ghost_state.had ++ events_in queued) ≡ ghost_state.sent c
   pub outside : (c : ℕ) → ghost_state.senders ≤ c → ghost_state.sent c ≡ []
   pub each : (pass : ℕ) (v : Known) → get_elem? passes pass ≡ some v → Knows ghost_state pass v

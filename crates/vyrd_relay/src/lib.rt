@@ -11,6 +11,7 @@
 #![tactic(auto)]
 
 mod known;
+mod parcel;
 mod plays;
 mod receiver;
 mod relay;
@@ -18,6 +19,7 @@ mod reorder;
 mod rule;
 mod sender;
 
+pub use parcel::Parcel;
 pub use receiver::Receiver;
 pub use relay::{Full, Relay};
 pub use reorder::Reorder;

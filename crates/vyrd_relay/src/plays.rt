@@ -3,9 +3,9 @@
 ghost use Rattle.std.specs.Prelude.{ℕ};
 
 use crate::known::Known;
+use crate::parcel::Parcel;
 use crossbeam_queue::protocol::{Join, Lesson, Outcome, Split};
 use std::marker::{Brand, PhantomData};
-use vyrd_base::Stamped;
 
 /// How many senders a relay has. A split has no arguments, so the call picks this for the proof.
 pub trait Number {
@@ -42,31 +42,31 @@ impl Join<Known> for TakesIn {
     ghost spent = { Spent };
 }
 
-/// An event joins at the back.
+/// A parcel joins at the back.
 pub struct Pushes;
 
-impl Outcome<Stamped, Known> for Pushes {
+impl Outcome<Parcel, Known> for Pushes {
     ghost use Rattle.vyrd_relay.specs.Knowledge.{Pushed};
 
     ghost then = { Pushed };
 }
 
-impl Lesson<Stamped, Known> for Pushes {
+impl Lesson<Parcel, Known> for Pushes {
     ghost use Rattle.vyrd_relay.specs.Knowledge.{Learned};
 
     ghost fact = { Learned };
 }
 
-/// An event leaves at the front.
+/// A parcel leaves at the front.
 pub struct Pops;
 
-impl Outcome<Stamped, Known> for Pops {
+impl Outcome<Parcel, Known> for Pops {
     ghost use Rattle.vyrd_relay.specs.Knowledge.{Popped};
 
     ghost then = { Popped };
 }
 
-impl Lesson<Stamped, Known> for Pops {
+impl Lesson<Parcel, Known> for Pops {
     ghost use Rattle.vyrd_relay.specs.Knowledge.{Learned};
 
     ghost fact = { Learned };

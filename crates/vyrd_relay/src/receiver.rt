@@ -1,14 +1,14 @@
 //! The end of a relay that receives.
 
 use crate::known::Known;
+use crate::parcel::Parcel;
 use crossbeam_queue::Pass;
 use std::marker::Model;
-use vyrd_base::Stamped;
 
 /// The right to receive the events of all senders. There is one for each relay.
 #[derive(Drop)]
 pub struct Receiver {
-    pub(crate) pass: Pass<Stamped, Known>,
+    pub(crate) pass: Pass<Parcel, Known>,
 }
 
 impl Model for Receiver {

@@ -10,6 +10,7 @@ ghost use Rattle.vyrd_relay.specs.Ends.{AreNew, with_pushed, with_popped, with_t
 ghost use Rattle.vyrd_relay.specs.Ends.{WasEmpty, HasAll};
 
 use crate::known::Known;
+use crate::parcel::Parcel;
 use crate::plays::{Deals, Number, Pops, Pushes, TakesIn};
 use crate::receiver::Receiver;
 use crate::rule::InOrder;
@@ -20,11 +21,10 @@ use std::error::Error;
 use std::fmt;
 use std::marker::{Brand, Model};
 use std::sync::Wait;
-use vyrd_base::Stamped;
 
-type Queue = RuledArrayQueue<Stamped, Known, InOrder>;
+type Queue = RuledArrayQueue<Parcel, Known, InOrder>;
 
-/// The queue held as many events as it can, and nothing was sent.
+/// The queue held as many parcels as it can, and nothing was sent.
 #[derive(Clone, Copy, Debug, PartialEq, Eq)]
 pub struct Full;
 
@@ -36,8 +36,8 @@ impl fmt::Display for Full {
 
 impl Error for Full {}
 
-/// A bounded queue of events, from the senders of all callers to one receiver. Threads share it by
-/// reference.
+/// A bounded queue of events in parcels, from the senders of all callers to one receiver. Threads
+/// share it by reference.
 ///
 /// What the receiver has had of a sender, and then what is queued of it, is what it sent, in its
 /// order, at every moment. Of events of different senders nothing is said.
@@ -55,7 +55,7 @@ impl Model for Relay {
 }
 
 impl Relay {
-    /// A relay for at most `capacity` events at a time, with a sender for each caller from 0 on, in
+    /// A relay for at most `capacity` parcels at a time, with a sender for each caller from 0 on, in
     /// their order, and its receiver. All of its memory is taken here.
     pub fn new(
         alloc: Global,
@@ -76,38 +76,45 @@ impl Relay {
         Ok((Relay { queue }, ends, Receiver { pass }))
     }
 
-    /// Sends an event of the sender's caller. It is one push of the queue. It may wait for another
+    /// Sends events of the sender's caller. It is one push of the queue. It may wait for another
     /// thread that is in the middle of a push or a pop, but never for room, and it takes no memory.
     ///
     /// `Full` comes only if the queue held its capacity at a step of this call. Nothing was sent
     /// then. The clause `cause` says so for one sender alone: what is queued of others may be
     /// anything to it.
-    pub fn push_next<R: Wait>(&self, rt: &R, sender: &mut Sender, item: Stamped) -> Result<(), Full>
+    pub fn push_next<R: Wait>(
+        &self,
+        rt: &R,
+        sender: &mut Sender,
+        parcel: Parcel,
+    ) -> Result<(), Full>
         requires sender { sender.old.queue ≡ self.now.queue }
-        requires caller { item.caller ≡ sender.old.caller }
+        requires caller { All (λ e. e.caller ≡ sender.old.caller) parcel }
         requires few { length sender.old.sent < 2 ^ 62 }
-        ensures sent { OnOk result (sender.new ≡ with_pushed sender.old item) }
+        ensures sent { OnOk result (sender.new ≡ with_pushed sender.old parcel) }
         ensures full { OnErr result (sender.new ≡ sender.old) }
         ensures cause { OnErr result (WasFull self.now sender.old) }
     {
-        match self.queue.push_as::<Pushes, R>(rt, &mut sender.pass, item) {
+        let count = parcel.len() as u64;
+        match self.queue.push_as::<Pushes, R>(rt, &mut sender.pass, parcel) {
             Ok(()) => {
-                sender.count += 1;
+                sender.count += count;
                 Ok(())
             }
             Err(_) => Err(Full),
         }
     }
 
-    /// The next event, the oldest in the queue. It is one pop of the queue. It may wait as
-    /// `push_next` may, but never for an event to come, and it takes no memory.
+    /// The next events, the oldest in the queue. It is one pop of the queue. It may wait as
+    /// `push_next` may, but never for events to come, and it takes no memory.
     ///
     /// `None` comes only if the queue was empty at a step of this call. The clause `all` says what
     /// follows for each sender that was taken in: all that it sent was had.
-    pub fn pop<R: Wait>(&self, rt: &R, receiver: &mut Receiver) -> Option<Stamped>
+    pub fn pop<R: Wait>(&self, rt: &R, receiver: &mut Receiver) -> Option<Parcel>
         requires receiver { receiver.old.queue ≡ self.now.queue }
-        ensures item { IfSome result (λ item. receiver.new ≡ with_popped receiver.old item) }
-        ensures sender { IfSome result (λ item. item.caller < receiver.old.senders) }
+        ensures events { IfSome result (λ events. receiver.new ≡ with_popped receiver.old events) }
+        ensures sender { IfSome result
+            (λ events. All (λ e. e.caller < receiver.old.senders) events) }
         ensures beginnings { IfSome result
             (λ _. All (HasBeginning receiver.new.had) receiver.new.settled) }
         ensures none { IfNone result (receiver.new ≡ receiver.old) }
@@ -140,7 +147,7 @@ impl Relay {
 fn deal_all<J: Number>(
     queue: &Queue,
     senders: u32,
-    pass: &mut Pass<Stamped, Known>,
+    pass: &mut Pass<Parcel, Known>,
     ends: &mut Vec<Sender>,
 )
     requires queue { IsPassOf queue.now pass.old }

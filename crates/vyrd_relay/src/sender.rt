@@ -1,9 +1,9 @@
 //! The end of a relay that sends one caller's events.
 
 use crate::known::Known;
+use crate::parcel::Parcel;
 use crossbeam_queue::Pass;
 use std::marker::Model;
-use vyrd_base::Stamped;
 
 /// The right to send the events of one caller, in the order in which they are pushed. It is made
 /// with its relay, in [`Relay::new`](crate::Relay::new), and
@@ -12,7 +12,7 @@ use vyrd_base::Stamped;
 pub struct Sender {
     // How many events were sent.
     pub(crate) count: u64,
-    pub(crate) pass: Pass<Stamped, Known>,
+    pub(crate) pass: Pass<Parcel, Known>,
 }
 
 impl Model for Sender {

@@ -1,4 +1,4 @@
-use Rattle.std.proofs.Common.{Option, Some, None, sym, subst}
+use Rattle.std.proofs.Common.{List, Option, Some, None, sym, subst}
 use Rattle.std.specs.Prelude.{MatchOption, IfSome}
 use Rattle.std.specs.List.{All}
 use Rattle.crossbeam_queue.specs.Fifo.{Pops, Learns}
@@ -16,7 +16,7 @@ pop_as-requires-clause-rule g c =
     subst (λ (k : Known). Pops Relayed pass k (Popped k) × Learns Relayed pass k (Learned k)) (sym i.0)
     (gets pass _ i.1, receiver_learns pass _ i.1)
 
-told : (r : Option Stamped) (k after : Known) (none : Type 0) → MatchOption r none (λ e. Popped k e after)
+told : (r : Option (List Stamped)) (k after : Known) (none : Type 0) → MatchOption r none (λ e. Popped k e after)
     → IfSome r (λ _. All (HasBeginning (received_in after).had) (received_in after).settled)
 told None k after none p = tt
 told (Some e) k after none p = subst (λ (w : Known). All (HasBeginning (received_in w).had) (received_in w).settled) (sym p.had) p.beginnings

@@ -1,5 +1,7 @@
-use Rattle.std.proofs.Common.{sym, ap, ◌∙◌, subst}
+use Rattle.std.proofs.Common.{◌≡◌, sym, subst}
+use Rattle.std.specs.List.{All}
 use Rattle.crossbeam_queue.specs.Fifo.{Pushes, Learns}
+use Rattle.vyrd_base.specs.declared.history.Stamped.{Stamped}
 use Rattle.vyrd_relay.specs.declared.known.Known.{Known}
 use Rattle.vyrd_relay.specs.Knowledge.{Learned, Pushed}
 use Rattle.vyrd_relay.specs.Ends.{SenderView}
@@ -11,6 +13,6 @@ pub push_as-requires-clause-rule : goal.push_as-requires-clause-rule
 push_as-requires-clause-rule g c =
     let pass = c.sender.inside.pass.id in
     let i = c.sender.invariant in
-    let mine = c.requires.caller ∙ sym (ap (λ (s : SenderView). s.caller) c.sender.view_is) in
-    subst (λ (k : Known). Pushes Relayed c.self.inside.queue.cap pass k c.args.item (Pushed k c.args.item) × Learns Relayed pass k (Learned k)) (sym i.0)
-    (sends c.self.inside.queue.cap pass _ c.args.item mine, sender_learns pass _)
+    let mine = subst (λ (s : SenderView). All (λ (e : Stamped). e.caller ≡ s.caller) c.args.parcel) (sym c.sender.view_is) c.requires.caller in
+    subst (λ (k : Known). Pushes Relayed c.self.inside.queue.cap pass k c.args.parcel (Pushed k c.args.parcel) × Learns Relayed pass k (Learned k)) (sym i.0)
+    (sends c.self.inside.queue.cap pass _ c.args.parcel mine, sender_learns pass _)
