@@ -1,13 +1,14 @@
 -- What was sent of a lane that grows.
-use Rattle.std.proofs.Common.{◌≡◌, ℕ, length, take, List, [], ◌∷◌, ◌++◌, refl, ap, ◌∙◌, sym, subst, arith, length-append}
+use Rattle.std.proofs.Common.{◌≡◌, ℕ, zero, suc, ◌+◌, length, take, drop, List, [], ◌∷◌, ◌++◌, refl, ap, ◌∙◌, sym, subst, arith, length-append}
 use Rattle.std.specs.List.{All}
-use Rattle.std.proofs.lemmas.List.{take-append-le, take_all}
-use Rattle.std.proofs.lemmas.List.Elements.{All-push}
+use Rattle.std.proofs.Math.Seq.{take-add}
+use Rattle.std.proofs.lemmas.List.{take-append-le, take_all, drop-drop, length-take, length-drop}
+use Rattle.std.proofs.lemmas.List.Elements.{All-push, All-take, All-drop}
 use Rattle.vyrd_base.specs.declared.history.Stamped.{Stamped}
 use Rattle.vyrd_memory.specs.declared.act.Act.{Act}
 use Rattle.vyrd_trace.specs.Lanes.{stamp}
 use Rattle.vyrd_trace.specs.Hands.{HandView}
-use Rattle.vyrd_relay.specs.Ends.{RelayView, SenderView, lane_sent}
+use Rattle.vyrd_relay.specs.Ends.{RelayView, SenderView, lane_sent, with_pushed}
 use Rattle.vyrd_live.specs.Acts.{HasActed}
 use Rattle.vyrd_live.specs.Sending.{HasSent}
 
@@ -61,3 +62,34 @@ pub sent_whole : (relay : RelayView) (sender : SenderView) (place : ℕ) (hand :
     → place ≡ length hand.lane → lane_sent sender ≡ record { caller = hand.caller; items = hand.lane }
 sent_whole relay sender place hand s all =
     let whole = s.sent ∙ ap (λ n. take n hand.lane) all ∙ take_all (length hand.lane) hand.lane (omega arith) in λ i. record { caller = s.caller i; items = whole i }
+
+take_of_take : (m : ℕ) (xs : List Stamped) → take (length (take m xs)) xs ≡ take m xs
+take_of_take zero xs = refl
+take_of_take (suc m) [] = refl
+take_of_take (suc m) (x ∷ xs) = ap (λ (l : List Stamped). x ∷ l) (take_of_take m xs)
+
+-- what comes next of the lane, as it is kept
+module _ (relay : RelayView) (sender : SenderView) (place : ℕ) (hand : HandView) (has : HasSent relay sender place hand)
+    (kept parcel : List Stamped) (m from : ℕ) (kept_is : kept ≡ drop hand.forgotten hand.lane) (parcel_is : parcel ≡ take m (drop from kept))
+    (from_is : hand.forgotten + from ≡ place) where
+  next_is : parcel ≡ take m (drop place hand.lane)
+  next_is = parcel_is ∙ ap (λ (l : List Stamped). take m (drop from l)) kept_is
+      ∙ ap (take m) (drop-drop from hand.forgotten hand.lane) ∙ ap (λ (n : ℕ). take m (drop n hand.lane)) from_is
+
+  pub parcel_own : All (λ (e : Stamped). e.caller ≡ sender.caller) parcel
+  parcel_own = subst (λ (x : List Stamped × ℕ). All (λ (e : Stamped). e.caller ≡ x.1) x.0) (λ i. (sym next_is i, sym has.caller i))
+      (All-take (λ (e : Stamped). e.caller ≡ hand.caller) m (drop place hand.lane)
+      (All-drop (λ (e : Stamped). e.caller ≡ hand.caller) place hand.lane has.own))
+
+  pub parcel_sent : (after : SenderView) → after ≡ with_pushed sender parcel → HasSent relay after (place + length parcel) hand
+  parcel_sent after is = subst (λ (s : SenderView). HasSent relay s (place + length parcel) hand) (sym is) record {
+    queue = has.queue;
+    caller = has.caller;
+    gone = omega (arith, has.gone);
+    within = omega (arith, ap length next_is, length-take m (drop place hand.lane), length-drop place hand.lane, has.within);
+    sent = ap (λ (l : List Stamped). l ++ parcel) has.sent
+        ∙ ap (λ (l : List Stamped). take place hand.lane ++ l)
+        (next_is ∙ sym (take_of_take m (drop place hand.lane)) ∙ ap (λ (n : ℕ). take n (drop place hand.lane)) (ap length (sym next_is)))
+        ∙ sym (take-add place (length parcel) hand.lane);
+    own = has.own;
+  }

@@ -1,9 +1,9 @@
 -- What takes in the events of a live run beside the workers.
-use Rattle.std.specs.Prelude.{◌≡◌, ℕ, ◌<◌, ◌≤◌, true, false, List, map, None, is_some}
+use Rattle.std.specs.Prelude.{◌≡◌, ℕ, ◌<◌, ◌≤◌, true, false, List, ◌∷◌, ◌++◌, map, None, is_some}
 use Rattle.std.specs.List.{All}
 use Rattle.vyrd_base.specs.declared.history.Stamped.{Stamped}
 use Rattle.vyrd_relay.specs.declared.known.Lane.{Lane}
-use Rattle.vyrd_relay.specs.Ends.{ReceiverView, lane_sent, with_popped}
+use Rattle.vyrd_relay.specs.Ends.{ReceiverView, lane_sent}
 use Rattle.vyrd_live.specs.declared.watch.Watch.{Watch}
 use Rattle.vyrd_live.specs.declared.outbox.Outbox.{Outbox}
 use Rattle.vyrd_live.specs.declared.worker.Stopped.{Stopped}
@@ -21,11 +21,30 @@ abbrev pub StaysFixed : {S F : Type 0} → (S → F) → Watch S → Watch S →
 StaysFixed fixed before after = after.stands ≡ true
     → (before.stands ≡ true) × (fixed after.sequencer.sink ≡ fixed before.sequencer.sink)
 
--- If the sequencer is set aside, it is for the one event that came.
-abbrev pub IsSetAside : {S : Type 0} → Watch S → Watch S → Type 0
-IsSetAside before after = before.stands ≡ true → after.stands ≡ false → (event : Stamped)
-    × (after.receiver ≡ with_popped before.receiver event)
-    × MayRefuse before.sequencer after.sequencer event.number
+-- The sequencer was set aside for one of these events. It had taken in those before that one.
+pub record IsSetAsideFor {S : Type 0} (has_taken : S → List Stamped → Type 0)
+    (before after : Watch S) (events : List Stamped) : Type 0 where
+  pub front : List Stamped
+  pub event : Stamped
+  pub behind : List Stamped
+  pub whole : events ≡ front ++ event ∷ behind
+  pub last : Watch S
+  pub stood : last.stands ≡ true
+  pub watched : (taken : List Stamped) → HasWatched has_taken before taken
+      → HasWatched has_taken last (taken ++ front)
+  pub may_refuse : MayRefuse last.sequencer after.sequencer event.number
+
+-- These events came, and were taken in. If the sequencer is set aside, it is for one of them.
+pub record HasTakenAll {S F : Type 0} (has_taken : S → List Stamped → Type 0) (fixed : S → F)
+    (before after : Watch S) (events : List Stamped) : Type 0 where
+  pub same : after.receiver ≡ before.receiver
+  pub watched : (taken : List Stamped) → HasWatched has_taken before taken
+      → HasWatched has_taken after (taken ++ events)
+  pub fixed_is : StaysFixed fixed before after
+  pub callers : after.callers ≡ before.callers
+  pub counted : before.taken ≤ after.taken
+  pub set_aside : before.stands ≡ true → after.stands ≡ false
+      → IsSetAsideFor has_taken before after events
 
 -- the receiver is of the same relay, and has taken in the same senders
 pub record IsSameReceiver (before after : ReceiverView) : Type 0 where

@@ -10,7 +10,7 @@ use crate::watch::Watch;
 use std::sync::Wait;
 use std::thread;
 use vyrd_memory::EventSink;
-use vyrd_relay::{Relay, Sender};
+use vyrd_relay::{Parcel, Relay, Sender};
 use vyrd_trace::Hand;
 
 /// How many calls of `send` pass without a try after one has found the relay full. Failed tries of
@@ -42,12 +42,17 @@ impl Outbox {
         let forgotten = hand.forgotten();
         let made = hand.made();
         while self.place < made {
-            let event = kept[(self.place - forgotten) as usize];
-            if relay.push_next(rt, &mut self.sender, event).is_err() {
-                self.pause = PAUSE;
-                return false;
+            let Some(parcel) = Parcel::of(&kept[(self.place - forgotten) as usize..]) else {
+                unreachable!()
+            };
+            let count = parcel.len() as u64;
+            match relay.push_next(rt, &mut self.sender, parcel) {
+                Ok(()) => self.place += count,
+                Err(_) => {
+                    self.pause = PAUSE;
+                    return false;
+                }
             }
-            self.place += 1;
         }
         true
     }

@@ -7,7 +7,8 @@ ghost use Rattle.std.specs.List.{All};
 ghost use Rattle.vyrd_base.specs.declared.history.Stamped.{Stamped};
 ghost use Rattle.vyrd_relay.specs.Ends.{with_popped, HasAll, WasEmpty};
 ghost use Rattle.vyrd_verifier.specs.Taken.{MayRefuse};
-ghost use Rattle.vyrd_live.specs.Beside.{HasWatched, StaysFixed, TakesIn, GoesOn, IsSetAside};
+ghost use Rattle.vyrd_live.specs.Beside.{HasWatched, StaysFixed, TakesIn, GoesOn, HasTakenAll};
+ghost use Rattle.vyrd_live.specs.Beside.{IsSetAsideFor};
 ghost use Rattle.vyrd_live.specs.Beside.{AreOfSenders, lanes_sent, HasShownInOrder};
 
 use crate::outbox::Outbox;
@@ -20,9 +21,10 @@ use vyrd_memory::EventSink;
 use vyrd_relay::{Receiver, Relay};
 use vyrd_verifier::Sequencer;
 
-/// How many events are taken in at most before the callers are told how far the sink has come, and
-/// before it is looked whether they have ended. It is far fewer than a caller may be ahead.
-const ROUND: u32 = 64;
+/// How many parcels are taken in at most before the callers are told how far the sink has come, and
+/// before it is looked whether they have ended. Their events are far fewer than a caller may be
+/// ahead.
+const ROUND: u32 = 8;
 
 /// The end of the relay, with the sequencer that takes in what comes there.
 #[derive(Drop)]
@@ -98,8 +100,8 @@ impl<S: EventSink + Drop> Watch<S> {
         unreachable!()
     }
 
-    /// Takes in the events that come next, each once the gate allows it, until there is none or
-    /// they are a round, and answers whether there was one.
+    /// Takes in the parcels that come next, each event once the gate allows it, until there is none
+    /// or they are a round, and answers whether there was one.
     fn take_round<R: Wait, G: Gate>(
         &mut self,
         rt: &R,
@@ -119,8 +121,8 @@ impl<S: EventSink + Drop> Watch<S> {
         true
     }
 
-    /// Takes in the event that comes next, once the gate allows it, and answers whether there was
-    /// one.
+    /// Takes in the events of the parcel that comes next, each once the gate allows it, and answers
+    /// whether there was one.
     #[inline(always)]
     fn take_when_allowed<R: Wait, G: Gate>(
         &mut self,
@@ -131,39 +133,67 @@ impl<S: EventSink + Drop> Watch<S> {
     ) -> bool
         requires { self.old.receiver.queue ≡ relay.now.queue }
         ensures goes_on { GoesOn S.has_taken S.fixed self.old self.new }
-        ensures one { result ≡ true → (event : Stamped)
-            × (self.new.receiver ≡ with_popped self.old.receiver event) }
+        ensures one { result ≡ true → (events : List Stamped)
+            × (self.new.receiver ≡ with_popped self.old.receiver events)
+            × (self.old.stands ≡ true → self.new.stands ≡ false
+            → IsSetAsideFor S.has_taken self.old self.new events) }
         ensures none { result ≡ false → WasEmpty self.old.receiver }
-        ensures set_aside { IsSetAside self.old self.new }
     {
-        let Some(event) = relay.pop(rt, &mut self.receiver) else {
+        let Some(parcel) = relay.pop(rt, &mut self.receiver) else {
             return false;
         };
-        if self.stands {
-            await_turn(rt, gate, self.callers, self.taken, signals);
-        }
-        self.take_in(event);
+        self.take_all_when_allowed(rt, gate, signals, parcel.events());
         true
     }
 
-    /// Takes in the event that comes next, and answers whether there was one. If there was none,
-    /// all was had that the senders sent which were taken in.
+    /// Takes in events, each once the gate allows it.
+    #[inline(always)]
+    fn take_all_when_allowed<R: Wait, G: Gate>(
+        &mut self,
+        rt: &R,
+        gate: &G,
+        signals: &Signals,
+        events: &[Stamped],
+    )
+        ensures { HasTakenAll S.has_taken S.fixed self.old self.new events.now }
+    {
+        for event in events {
+            if self.stands {
+                await_turn(rt, gate, self.callers, self.taken, signals);
+            }
+            self.take_in(*event);
+        }
+    }
+
+    /// Takes in the events of the parcel that comes next, and answers whether there was one. If
+    /// there was none, all was had that the senders sent which were taken in.
     pub(crate) fn take_next<R: Wait>(&mut self, rt: &R, relay: &Relay) -> bool
         requires { self.old.receiver.queue ≡ relay.now.queue }
         ensures goes_on { GoesOn S.has_taken S.fixed self.old self.new }
-        ensures one { result ≡ true → (event : Stamped)
-            × (self.new.receiver ≡ with_popped self.old.receiver event) }
+        ensures one { result ≡ true → (events : List Stamped)
+            × (self.new.receiver ≡ with_popped self.old.receiver events)
+            × (self.old.stands ≡ true → self.new.stands ≡ false
+            → IsSetAsideFor S.has_taken self.old self.new events) }
         ensures none { result ≡ false → WasEmpty self.old.receiver }
         ensures all { result ≡ false
             → All (HasAll self.new.receiver.had) self.new.receiver.settled }
         ensures theirs { result ≡ false → AreOfSenders self.new.receiver }
-        ensures set_aside { IsSetAside self.old self.new }
     {
-        let Some(event) = relay.pop(rt, &mut self.receiver) else {
+        let Some(parcel) = relay.pop(rt, &mut self.receiver) else {
             return false;
         };
-        self.take_in(event);
+        self.take_all(parcel.events());
         true
+    }
+
+    /// Takes in events.
+    #[inline(always)]
+    fn take_all(&mut self, events: &[Stamped])
+        ensures { HasTakenAll S.has_taken S.fixed self.old self.new events.now }
+    {
+        for event in events {
+            self.take_in(*event);
+        }
     }
 
     /// Takes in an event, or sets the sequencer aside.
@@ -175,6 +205,7 @@ impl<S: EventSink + Drop> Watch<S> {
         ensures fixed { StaysFixed S.fixed self.old self.new }
         ensures set_aside { self.old.stands ≡ true → self.new.stands ≡ false
             → MayRefuse self.old.sequencer self.new.sequencer event.number }
+        ensures stays { self.old.stands ≡ false → self.new ≡ self.old }
         ensures callers { self.new.callers ≡ self.old.callers }
         ensures counted { self.old.taken ≤ self.new.taken }
     {

@@ -25,9 +25,9 @@ use vyrd_memory::{EventSink, Machine};
 use vyrd_relay::{Relay, Sender};
 use vyrd_trace::{Hand, Traced};
 
-/// How many events the relay holds. A worker that finds it full within an operation goes on, and
-/// sends them later: after the operation it waits for room.
-const RELAY_CAPACITY: u64 = 8192;
+/// How many parcels of events the relay holds. A worker that finds it full within an operation goes
+/// on, and sends them later: after the operation it waits for room.
+const RELAY_CAPACITY: u64 = 512;
 
 /// Plays all workers, shows what they do to a sink that has taken nothing, and ends their memory.
 /// The workers have all of its hands, in the order of their callers.

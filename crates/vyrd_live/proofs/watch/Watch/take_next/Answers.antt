@@ -1,18 +1,29 @@
-use Rattle.std.proofs.Common.{◌∙◌}
+use Rattle.std.proofs.Common.{ap, sym, ◌∙◌}
+use Rattle.vyrd_relay.specs.Ends.{with_popped}
 use Rattle.vyrd_live.proofs.BesideLaws.{goes_on_with}
 use Rattle.vyrd_live.proofs.watch.Watch.take_next.Goals as goal
 
 pub returns-clause-goes_on : goal.returns-clause-goes_on
 returns-clause-goes_on g c =
-    goes_on_with g.S.EventSink.has_taken g.S.EventSink.fixed _ _ c.in-Some.event (c.take_in.ensures.same ∙ c.in-Some.ensures.item)
-    (c.take_in.ensures.watched c.args.self.now.receiver.had) c.take_in.ensures.fixed c.take_in.ensures.callers c.take_in.ensures.counted
+    let t = c.take_all.ensures in
+    goes_on_with g.S.EventSink.has_taken g.S.EventSink.fixed c.args.self.now c.take_all.new.self c.events.result.now
+    (t.same ∙ c.in-Some.ensures.events ∙ ap (with_popped c.args.self.now.receiver) (sym c.events.ensures))
+    (t.watched c.args.self.now.receiver.had) t.fixed_is t.callers t.counted
 
 pub returns-clause-one : goal.returns-clause-one
-returns-clause-one g c = λ _. (c.in-Some.event, c.take_in.ensures.same ∙ c.in-Some.ensures.item)
-
-pub returns-clause-set_aside : goal.returns-clause-set_aside
-returns-clause-set_aside g c = λ before after. (
-  c.in-Some.event,
-  c.take_in.ensures.same ∙ c.in-Some.ensures.item,
-  c.take_in.ensures.set_aside before after,
-)
+returns-clause-one g c =
+    let t = c.take_all.ensures in
+    λ _. (
+      c.events.result.now,
+      t.same ∙ c.in-Some.ensures.events ∙ ap (with_popped c.args.self.now.receiver) (sym c.events.ensures),
+      λ stood fell. let s = t.set_aside stood fell in record {
+        front = s.front;
+        event = s.event;
+        behind = s.behind;
+        whole = s.whole;
+        last = s.last;
+        stood = s.stood;
+        watched = s.watched;
+        may_refuse = s.may_refuse;
+      },
+    )
