@@ -1,7 +1,8 @@
 //! Each public call once with ample memory, with the answers at a full and an empty queue, and two
 //! threads.
 
-ghost use Rattle.std.specs.Prelude.{◌≡◌, ◌+◌, ◌<◌, ◌≤◌, ◌^◌, [], length, IfOk};
+ghost use Rattle.std.specs.Prelude.{◌≡◌, ◌+◌, ◌<◌, ◌≤◌, ◌^◌, [], ◌∷◌, length, IfOk};
+ghost use Rattle.std.specs.List.{All};
 
 use std::alloc::{AllocError, Global};
 use std::sync::Wait;
@@ -9,7 +10,7 @@ use std::test::Fail;
 use std::thread;
 use std::thread::{Threads, join};
 use vyrd_base::{Did, Stamped};
-use vyrd_relay::{Full, Receiver, Relay, Reorder, Sender};
+use vyrd_relay::{Full, Parcel, Receiver, Relay, Reorder, Sender};
 
 /// An event of caller 0.
 fn event(number: u64) -> Stamped
@@ -52,8 +53,8 @@ fn has_one_place<R: Wait>(
 {
     is_pushed(rt, relay, sender, 0, 7)
         && !is_pushed(rt, relay, sender, 0, 8)
-        && is_popped(rt, relay, receiver, Some(event_of(0, 7)))
-        && is_popped(rt, relay, receiver, None)
+        && is_popped(rt, relay, receiver, &[event_of(0, 7)])
+        && is_nothing_popped(rt, relay, receiver)
 }
 
 /// Puts an event that wasn't put before. It answers whether it did.
@@ -117,33 +118,50 @@ fn two(alloc: Global, capacity: u64) -> Result<(Relay, Sender, Sender, Receiver)
     Ok((relay, first, second, receiver))
 }
 
-/// Pushes an event, if there is room. It answers whether there was.
+/// A parcel of this event alone.
+fn alone(event: Stamped) -> Parcel
+    ensures { result ≡ event ∷ [] }
+{
+    let Some(parcel) = Parcel::of(&[event]) else {
+        unreachable!()
+    };
+    parcel
+}
+
+/// Pushes an event alone, if there is room. It answers whether there was.
 fn is_pushed<R: Wait>(rt: &R, relay: &Relay, sender: &mut Sender, caller: u32, number: u64) -> bool
     requires sender { (sender.old.queue ≡ relay.now.queue) × (sender.old.caller ≡ caller) }
     requires few { length sender.old.sent < 2 ^ 62 }
     ensures same { (sender.new.queue ≡ sender.old.queue) × (sender.new.caller ≡ sender.old.caller) }
     ensures one { length sender.new.sent ≤ length sender.old.sent + 1 }
 {
-    match relay.push_next(rt, sender, event_of(caller, number)) {
+    match relay.push_next(rt, sender, alone(event_of(caller, number))) {
         Ok(()) => true,
         Err(Full) => false,
     }
 }
 
-/// Whether this is what is popped.
-fn is_popped<R: Wait>(
-    rt: &R,
-    relay: &Relay,
-    receiver: &mut Receiver,
-    wanted: Option<Stamped>,
-) -> bool
+/// Whether a parcel of just these events is popped.
+fn is_popped<R: Wait>(rt: &R, relay: &Relay, receiver: &mut Receiver, wanted: &[Stamped]) -> bool
     requires { receiver.old.queue ≡ relay.now.queue }
     ensures { receiver.new.queue ≡ receiver.old.queue }
 {
-    relay.pop(rt, receiver) == wanted
+    match relay.pop(rt, receiver) {
+        Some(parcel) => parcel.len() == wanted.len() && parcel.events() == wanted,
+        None => false,
+    }
 }
 
-/// Whether there is room for two events, whoever sends them, and for one more where one was popped.
+/// Whether there is nothing to pop.
+fn is_nothing_popped<R: Wait>(rt: &R, relay: &Relay, receiver: &mut Receiver) -> bool
+    requires { receiver.old.queue ≡ relay.now.queue }
+    ensures { receiver.new.queue ≡ receiver.old.queue }
+{
+    relay.pop(rt, receiver).is_none()
+}
+
+/// Whether there is room for two parcels of an event, whoever sends them, and for one more where
+/// one was popped.
 fn has_two_places<R: Wait>(
     rt: &R,
     relay: &Relay,
@@ -161,16 +179,16 @@ fn has_two_places<R: Wait>(
         && is_pushed(rt, relay, second, 1, 6)
         && !is_pushed(rt, relay, first, 0, 7)
         && !is_pushed(rt, relay, second, 1, 8)
-        && is_popped(rt, relay, receiver, Some(event_of(0, 5)))
+        && is_popped(rt, relay, receiver, &[event_of(0, 5)])
         && is_pushed(rt, relay, second, 1, 8)
         && !is_pushed(rt, relay, first, 0, 7)
-        && is_popped(rt, relay, receiver, Some(event_of(1, 6)))
-        && is_popped(rt, relay, receiver, Some(event_of(1, 8)))
-        && is_popped(rt, relay, receiver, None)
+        && is_popped(rt, relay, receiver, &[event_of(1, 6)])
+        && is_popped(rt, relay, receiver, &[event_of(1, 8)])
+        && is_nothing_popped(rt, relay, receiver)
 }
 
 /// What no clause can say where there is more than one sender: a push finds no room only when as
-/// many events are queued as there may be, whoever sent them.
+/// many parcels are queued as there may be, whoever sent them.
 #[test]
 fn two_senders_fill_the_relay(rt: HostRuntime) -> Result<(), Fail> {
     let (relay, mut first, mut second, mut receiver) = two(rt.alloc(), 2)?;
@@ -178,7 +196,109 @@ fn two_senders_fill_the_relay(rt: HostRuntime) -> Result<(), Fail> {
     Ok(())
 }
 
-/// Sends that many events, waiting for room.
+/// Pushes the first of these events, as many as go at once, if there is room. It answers how many
+/// went.
+fn pushed<R: Wait>(rt: &R, relay: &Relay, sender: &mut Sender, events: &[Stamped]) -> usize
+    requires sender { sender.old.queue ≡ relay.now.queue }
+    requires caller { All (λ e. e.caller ≡ sender.old.caller) events.now }
+    requires few { length sender.old.sent < 2 ^ 62 }
+    ensures same { (sender.new.queue ≡ sender.old.queue) × (sender.new.caller ≡ sender.old.caller) }
+    ensures few { length sender.new.sent ≤ length sender.old.sent + 16 }
+{
+    let Some(parcel) = Parcel::of(events) else {
+        return 0;
+    };
+    let count = parcel.len();
+    match relay.push_next(rt, sender, parcel) {
+        Ok(()) => count,
+        Err(Full) => 0,
+    }
+}
+
+/// Twenty events of caller 0, of the numbers 0 to 19.
+fn twenty() -> [Stamped; 20]
+    ensures { All (λ e. e.caller ≡ 0) result }
+{
+    let mut events = [event(0); 20];
+    for number in 1..20 {
+        events[number] = event(number as u64);
+    }
+    events
+}
+
+/// Whether 20 events go as 16 and then 4, fill a relay of two places, and come as they went.
+fn go_as_two_parcels<R: Wait>(
+    rt: &R,
+    relay: &Relay,
+    sender: &mut Sender,
+    receiver: &mut Receiver,
+) -> bool
+    requires sender { (sender.old.queue ≡ relay.now.queue) × (sender.old.caller ≡ 0)
+        × (sender.old.sent ≡ []) }
+    requires receiver { receiver.old.queue ≡ relay.now.queue }
+    ensures sender { sender.new.queue ≡ sender.old.queue }
+    ensures receiver { receiver.new.queue ≡ receiver.old.queue }
+{
+    let events = twenty();
+    pushed(rt, relay, sender, &events) == 16
+        && pushed(rt, relay, sender, &events[16..]) == 4
+        && !is_pushed(rt, relay, sender, 0, 20)
+        && is_popped(rt, relay, receiver, &events[..16])
+        && is_popped(rt, relay, receiver, &events[16..])
+        && is_nothing_popped(rt, relay, receiver)
+}
+
+#[test]
+fn twenty_events_go_as_two_parcels(rt: HostRuntime) -> Result<(), Fail> {
+    assert!(rt; Parcel::of(&[]).is_none());
+    let (relay, mut sender, mut receiver) = one(rt.alloc(), 2)?;
+    assert!(rt; go_as_two_parcels(&rt, &relay, &mut sender, &mut receiver));
+    assert!(rt; relay.settle(&rt, &mut receiver, sender) == 20);
+    Ok(())
+}
+
+/// Whether the parcels of two senders come whole, in the order in which they went.
+fn come_whole<R: Wait>(
+    rt: &R,
+    relay: &Relay,
+    first: &mut Sender,
+    second: &mut Sender,
+    receiver: &mut Receiver,
+) -> bool
+    requires first { (first.old.queue ≡ relay.now.queue) × (first.old.caller ≡ 0)
+        × (first.old.sent ≡ []) }
+    requires second { (second.old.queue ≡ relay.now.queue) × (second.old.caller ≡ 1)
+        × (second.old.sent ≡ []) }
+    requires receiver { receiver.old.queue ≡ relay.now.queue }
+{
+    pushed(
+        rt,
+        relay,
+        first,
+        &[event_of(0, 0), event_of(0, 3), event_of(0, 4)],
+    ) == 3
+        && pushed(rt, relay, second, &[event_of(1, 1), event_of(1, 2)]) == 2
+        && pushed(rt, relay, first, &[event_of(0, 5), event_of(0, 6)]) == 2
+        && pushed(rt, relay, second, &[event_of(1, 7), event_of(1, 8)]) == 0
+        && is_popped(
+            rt,
+            relay,
+            receiver,
+            &[event_of(0, 0), event_of(0, 3), event_of(0, 4)],
+        )
+        && is_popped(rt, relay, receiver, &[event_of(1, 1), event_of(1, 2)])
+        && is_popped(rt, relay, receiver, &[event_of(0, 5), event_of(0, 6)])
+        && is_nothing_popped(rt, relay, receiver)
+}
+
+#[test]
+fn parcels_of_two_senders_come_whole(rt: HostRuntime) -> Result<(), Fail> {
+    let (relay, mut first, mut second, mut receiver) = two(rt.alloc(), 3)?;
+    assert!(rt; come_whole(&rt, &relay, &mut first, &mut second, &mut receiver));
+    Ok(())
+}
+
+/// Sends that many events, each alone, waiting for room.
 fn send_all<R: Wait>(rt: &R, relay: &Relay, sender: Sender, count: u64) -> Sender
     requires sender { (sender.queue ≡ relay.now.queue) × (sender.caller ≡ 0) × (sender.sent ≡ []) }
     requires few { count < 2 ^ 32 }
@@ -191,7 +311,7 @@ fn send_all<R: Wait>(rt: &R, relay: &Relay, sender: Sender, count: u64) -> Sende
     sender
 }
 
-/// Sends one event, waiting for room.
+/// Sends one event alone, waiting for room.
 fn send<R: Wait>(rt: &R, relay: &Relay, sender: &mut Sender, number: u64)
     requires sender { (sender.old.queue ≡ relay.now.queue) × (sender.old.caller ≡ 0) }
     requires few { length sender.old.sent < 2 ^ 62 }
@@ -199,7 +319,7 @@ fn send<R: Wait>(rt: &R, relay: &Relay, sender: &mut Sender, number: u64)
     ensures one { length sender.new.sent ≡ length sender.old.sent + 1 }
 {
     for _ in rt.forever() {
-        if relay.push_next(rt, sender, event(number)).is_ok() {
+        if relay.push_next(rt, sender, alone(event(number))).is_ok() {
             return;
         }
         thread::yield_now();
@@ -207,26 +327,27 @@ fn send<R: Wait>(rt: &R, relay: &Relay, sender: &mut Sender, number: u64)
     unreachable!()
 }
 
-/// Receives that many events, and answers whether their numbers were 0, 1, 2 and so on.
+/// Receives that many parcels, and answers whether they held one event each, of the numbers 0, 1, 2
+/// and so on.
 fn receive_all<R: Wait>(rt: &R, relay: &Relay, receiver: Receiver, count: u64) -> bool
     requires { receiver.queue ≡ relay.now.queue }
 {
     let mut receiver = receiver;
     let mut right = true;
     for number in 0..count {
-        right = right && receive(rt, relay, &mut receiver) == event(number);
+        right = right && receive(rt, relay, &mut receiver).events() == [event(number)].as_slice();
     }
     right
 }
 
-/// Receives one event, waiting for it.
-fn receive<R: Wait>(rt: &R, relay: &Relay, receiver: &mut Receiver) -> Stamped
+/// Receives one parcel, waiting for it.
+fn receive<R: Wait>(rt: &R, relay: &Relay, receiver: &mut Receiver) -> Parcel
     requires { receiver.old.queue ≡ relay.now.queue }
     ensures { receiver.new.queue ≡ receiver.old.queue }
 {
     for _ in rt.forever() {
-        if let Some(event) = relay.pop(rt, receiver) {
-            return event;
+        if let Some(parcel) = relay.pop(rt, receiver) {
+            return parcel;
         }
         thread::yield_now();
     }
