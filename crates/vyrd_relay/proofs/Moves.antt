@@ -135,7 +135,7 @@ in_range_of : (g : Ghost) (had es queued : List Stamped) → ((c : ℕ) → part
     → ((c : ℕ) → g.senders ≤ c → g.sent c ≡ []) → All (λ (e : Stamped). e.caller < g.senders) es
 in_range_of g had es queued order outside = none_from g.senders es (λ c le.
     let none : part c had ++ (part c es ++ part c queued) ≡ [] = ap (λ (l : List Stamped). part c had ++ l) (sym (part_both c es queued))
-        ∙ sym (part_both c had (es ++ queued)) ∙ order c ∙ outside c le in
+    ∙ sym (part_both c had (es ++ queued)) ∙ order c ∙ outside c le in
     (nothing_before (part c es) (part c queued) (nothing_before (part c had) (part c es ++ part c queued) none).1).0)
 
 -- the receiver's pass takes a parcel at the front

@@ -96,7 +96,10 @@ impl Relay {
         ensures cause { OnErr result (WasFull self.now sender.old) }
     {
         let count = parcel.len() as u64;
-        match self.queue.push_as::<Pushes, R>(rt, &mut sender.pass, parcel) {
+        match self
+            .queue
+            .push_as::<Pushes, R>(rt, &mut sender.pass, parcel)
+        {
             Ok(()) => {
                 sender.count += count;
                 Ok(())
