@@ -39,6 +39,10 @@ impl Spec for AnySpec {
 
     ghost affects = { λ s method args. is_touched (touched_in s) args.a };
 
+    ghost most_touched = { λ charter. 2 };
+
+    ghost owes = { λ s. 0 };
+
     type Compared = Compared;
 
     fn header(&self) -> Header {

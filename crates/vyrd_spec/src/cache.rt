@@ -50,6 +50,10 @@ impl Spec for CacheSpec {
 
     ghost affects = { λ s method args. is_touched s.touched args.a };
 
+    ghost most_touched = { λ charter. 2 };
+
+    ghost owes = { λ s. 0 };
+
     type Compared = Compared;
 
     fn header(&self) -> Header {

@@ -1,6 +1,6 @@
 //! What every specification offers.
 
-ghost use Rattle.std.specs.Prelude.{◌≡◌, ◌≢◌, ◌+◌, ◌++◌, ◌<◌, ◌^◌, ℕ, Bool, true, false, List, []};
+ghost use Rattle.std.specs.Prelude.{◌≡◌, ◌≢◌, ◌+◌, ◌++◌, ◌<◌, ◌≤◌, ◌^◌, ℕ, Bool, true, false, List, []};
 ghost use Rattle.std.specs.Prelude.{length, replicate, All, IfOk, IfSome, Some, None, Ok};
 ghost use Rattle.std.specs.Option.{option_map};
 ghost use Rattle.vyrd_base.specs.declared.subject.Args.{Args};
@@ -44,6 +44,12 @@ pub trait Spec: Sized + Drop {
     // Whether the last step can have changed what an observer answers.
     ghost affects: { Self → Method → Args → Bool };
 
+    // How many keys each step pays for, by the rules alone.
+    ghost most_touched: { Charter → ℕ };
+
+    // How many keys later steps may touch beyond what they pay for.
+    ghost owes: { Self → ℕ };
+
     /// What compares the words with its states.
     type Compared: Compare;
 
@@ -78,7 +84,10 @@ pub trait Spec: Sized + Drop {
         ensures answers { result ≡ Ok true → (m : Method) (a : Args)
             → affects self.new m a ≡ false
             → (rules_by (charter self.old)).answer (state self.new) m a
-            ≡ (rules_by (charter self.old)).answer (state self.old) m a };
+            ≡ (rules_by (charter self.old)).answer (state self.old) m a }
+        ensures paid { result ≡ Ok true → length (touched self.new) + owes self.new
+            ≤ owes self.old + most_touched (charter self.old) }
+        ensures unpaid { result ≢ Ok true → owes self.new ≡ owes self.old };
 
     /// What an execution without a commit answers in this state: an observer's, or one of another
     /// method that may return without a commit.
@@ -124,7 +133,8 @@ pub trait BuiltIn: Spec {
         requires serves { Self.serves header.subject }
         ensures state { IfOk result (λ s. Self.state s ≡ showing []) }
         ensures charter { IfOk result (λ s. Self.charter s ≡ built_in header) }
-        ensures made { IfOk result (λ s. Self.made s ≡ 0) };
+        ensures made { IfOk result (λ s. Self.made s ≡ 0) }
+        ensures owes { IfOk result (λ s. Self.owes s ≡ 0) };
 
     /// The state for which these words stand when all locks are 0, and `None` if they stand for
     /// none. The words are the plain words of the header, each below 2^63. `start` is the case of
@@ -139,7 +149,8 @@ pub trait BuiltIn: Spec {
             (state_of_words header (words.now ++ replicate (lock_words header) 0))) }
         ensures charter { IfOk result
             (λ found. IfSome found (λ s. Self.charter s ≡ built_in header)) }
-        ensures made { IfOk result (λ found. IfSome found (λ s. Self.made s ≡ 0)) };
+        ensures made { IfOk result (λ found. IfSome found (λ s. Self.made s ≡ 0)) }
+        ensures owes { IfOk result (λ found. IfSome found (λ s. Self.owes s ≡ 0)) };
 
     // Its rules are those of its header, whose subject is built in.
     ghost has_built_in_rules: { (s : Self)

@@ -55,6 +55,10 @@ impl Spec for TreeSpec {
 
     ghost affects = { λ s method args. is_touched s.touched args.a };
 
+    ghost most_touched = { λ charter. 2 };
+
+    ghost owes = { λ s. 0 };
+
     type Compared = Compared;
 
     fn header(&self) -> Header {
