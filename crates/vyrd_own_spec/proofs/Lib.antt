@@ -1,5 +1,6 @@
 pub mod CallLaws
 pub mod TouchLaws
+pub mod EffectCounts
 pub mod PartLaws
 pub mod StartLaws
 pub mod SmallLaws

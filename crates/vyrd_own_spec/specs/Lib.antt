@@ -1,5 +1,6 @@
 pub mod Small
 pub mod Touched
+pub mod Effects
 pub mod Counted
 pub mod Parts
 pub mod Sums

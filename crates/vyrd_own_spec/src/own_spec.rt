@@ -10,6 +10,7 @@ ghost use Rattle.vyrd_base.specs.Rules.{own, own_rules};
 ghost use Rattle.vyrd_own_spec.specs.Parts.{IsWhole};
 ghost use Rattle.vyrd_own_spec.specs.Touched.{effects_by, touches};
 ghost use Rattle.vyrd_own_spec.specs.Counted.{worths_by};
+ghost use Rattle.vyrd_own_spec.specs.Effects.{most_touched};
 
 use crate::allowing::{allows, effects, worths};
 use crate::compared::OwnCompared;
@@ -148,6 +149,11 @@ impl Spec for OwnSpec {
     ghost touched = { λ s. s.touched.items };
 
     ghost affects = { λ s method args. s.changes };
+
+    ghost most_touched = { most_touched };
+
+    // A step that clears what is shown touches all of its keys.
+    ghost owes = { λ s. length s.state.shown };
 
     type Compared = OwnCompared;
 

@@ -1,7 +1,7 @@
 //! Steps and answers by the rules of a specification's lines.
 
-ghost use Rattle.std.specs.Prelude.{◌≡◌, ◌≢◌, ◌≤◌, ◌++◌, ◌==◌, ◌||◌, [], ◌∷◌, true, false, length, map, take};
-ghost use Rattle.std.specs.Prelude.{OnOk, IfOk, Ok, Some, None, if◌then◌else◌, slice_get};
+ghost use Rattle.std.specs.Prelude.{◌≡◌, ◌≢◌, ◌≤◌, ◌+◌, ◌*◌, ◌++◌, ◌==◌, ◌||◌, [], ◌∷◌};
+ghost use Rattle.std.specs.Prelude.{true, false, length, map, take, OnOk, IfOk, Ok, Some, None, if◌then◌else◌, slice_get};
 ghost use Rattle.std.specs.Option.{option_map_or};
 ghost use Rattle.std.specs.List.{list_any};
 ghost use Rattle.vyrd_base.specs.Amounts.{IsAmounts, keys_of};
@@ -13,6 +13,7 @@ ghost use Rattle.vyrd_base.specs.Own.Reader.{written_in};
 ghost use Rattle.vyrd_base.specs.Own.Steps.{shown_keys, is_clearing};
 ghost use Rattle.vyrd_own.specs.Layout.{method_of, written};
 ghost use Rattle.vyrd_spec.specs.Touching.{with_touched};
+ghost use Rattle.vyrd_own_spec.specs.Effects.{most_effects};
 ghost use Rattle.vyrd_own_spec.specs.Small.{IsSmall};
 ghost use Rattle.vyrd_own_spec.specs.Touched.{touched_by, next_by, effects_by, touches, answer_by};
 
@@ -44,6 +45,8 @@ pub(crate) fn step(
         → with_touched touched.new.items state.new.shown state.old.shown ≡ state.new.shown }
     ensures idle { result ≡ Ok true → room.new.effects.items ≡ [] → state.new ≡ state.old }
     ensures registers { length state.new.registers ≡ length state.old.registers }
+    ensures paid { result ≡ Ok true → length touched.new.items + length state.new.shown
+        ≤ length state.old.shown + 2 * most_effects (written_in specification.now) }
 {
     if !plan(specification.program(), method, args, reply, state, room)? {
         return Ok(false);

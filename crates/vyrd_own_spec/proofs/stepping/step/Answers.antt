@@ -1,11 +1,14 @@
-use Rattle.std.proofs.Common.{length, ◌≡◌, Some, None, cond, ap, sym, ◌∙◌, subst}
+use Rattle.std.proofs.Common.{length, ◌≡◌, ◌≤◌, Some, None, cond, ap, sym, ◌∙◌, subst, arith}
 use Rattle.vyrd_base.specs.Own.Steps.{with_effects}
 use Rattle.vyrd_own.specs.Layout.{written}
 use Rattle.vyrd_own_spec.specs.Touched.{next_by}
 use Rattle.vyrd_base.specs.States.{State}
+use Rattle.vyrd_base.specs.Own.Reader.{written_in}
 use Rattle.vyrd_spec.specs.Touching.{with_touched}
 use Rattle.vyrd_own_spec.specs.Touched.{touched_by}
 use Rattle.vyrd_own_spec.proofs.TouchLaws.{touched_all, registers_stay}
+use Rattle.vyrd_own_spec.specs.Effects.{most_effects}
+use Rattle.vyrd_own_spec.proofs.EffectCounts.{touched_paid, effects_few}
 use Rattle.vyrd_own_spec.proofs.CallLaws.{next_of_effects}
 use Rattle.vyrd_own_spec.proofs.stepping.step.Goals as goal
 
@@ -38,3 +41,21 @@ returns-clause-changed c _ =
 pub returns-clause-registers : goal.returns-clause-registers
 returns-clause-registers c =
     ap (λ (t : State). length t.registers) (after c) ∙ registers_stay c.args.state.now c.plan.new.room.effects.items
+
+pub returns-clause-paid : goal.returns-clause-paid
+returns-clause-paid c _ =
+    let s : State = c.args.state.now in
+    let es = c.plan.new.room.effects.items in
+    let keys = c.in_ok-put_touched.ensures.touched ∙ ap (touched_by s) c.deref.ensures.value in
+    let done = Some es in
+    let few : length es ≤ most_effects (written_in c.args.specification.now) =
+    subst (λ w. length es ≤ most_effects w) c.program.ensures.says
+    (effects_few (written c.program.result.now) c.args.method c.args.args c.args.reply s es
+    (c.in_ok-plan.ensures ∙ ap (λ b. cond b done None) c.if-not-branch.false)) in
+    omega (
+      arith,
+      ap length keys,
+      ap (λ (t : State). length t.shown) (after c),
+      touched_paid s es,
+      few,
+    )
