@@ -22,8 +22,9 @@ use Rattle.vyrd_judge.specs.Queued.{HasQueued, AwaitsReturn}
 use Rattle.vyrd_judge.specs.Judged.{Judged}
 use Rattle.vyrd_base.specs.Rules.{Rules, Charter, rules_by}
 
--- What is kept while nothing is wrong. The number of starting words is kept in place of these. What
--- open observers may answer is kept once for all that ask the same: so many answers.
+-- What is kept while nothing is wrong. The number of starting words is kept in place of these. The
+-- specification owes for so many keys. What open observers may answer is kept once for all that ask
+-- the same: so many answers.
 pub record Kept : Type 0 where
   pub charter : Charter
   pub started : ℕ
@@ -36,6 +37,7 @@ pub record Kept : Type 0 where
   pub callers : List Caller
   pub state : State
   pub made : ℕ
+  pub owes : ℕ
   pub watches : List Seen
   pub answers : ℕ
   pub entries : ℕ

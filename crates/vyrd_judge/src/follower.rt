@@ -1,6 +1,6 @@
 //! All that is kept of a log in which nothing is wrong so far.
 
-ghost use Rattle.std.specs.Prelude.{◌≡◌, ◌<◌, ◌≤◌, ◌+◌, ◌^◌, ◌∷◌, ◌++◌, true, false, List, []};
+ghost use Rattle.std.specs.Prelude.{◌≡◌, ◌<◌, ◌≤◌, ◌+◌, ◌*◌, ◌^◌, ◌∷◌, ◌++◌, true, false, List, []};
 ghost use Rattle.std.specs.Prelude.{length};
 ghost use Rattle.std.specs.Prelude.{Option, Some, None, Ok, IfOk, IfSome, if◌then◌else◌};
 ghost use Rattle.std.specs.List.{cons_option};
@@ -11,11 +11,14 @@ ghost use Rattle.vyrd_base.specs.declared.log.StartWord.{StartWord};
 ghost use Rattle.vyrd_base.specs.Starts.{do_follow, words_at_start, state_at_start};
 ghost use Rattle.vyrd_base.specs.Commits.{is_commit};
 ghost use Rattle.vyrd_base.specs.Verdicts.{first_fault, verdict, verdict_so_far};
-ghost use Rattle.vyrd_judge.specs.Costs.{callers_of, debt, debt_after, debt_by, each_entry};
+ghost use Rattle.vyrd_judge.specs.Costs.{debt, debt_after, debt_by, entry_cost, start_cost};
+ghost use Rattle.vyrd_judge.specs.Costs.{callers_of};
 ghost use Rattle.vyrd_judge.specs.Following.{Kept, HasTakenIn, IsFaultless, IsSomewhere};
 ghost use Rattle.vyrd_judge.specs.Following.{IsCatchingUp, MayCatchUp, AdvanceGives, with_first};
 ghost use Rattle.vyrd_judge.specs.Queued.{CanLeave};
+ghost use Rattle.vyrd_shadow.specs.Costs.{owed as shadow_owed};
 ghost use Rattle.vyrd_view.specs.Known.{view_by};
+ghost use Rattle.vyrd_words.specs.Costs.{owed as words_owed, price_kept};
 ghost use Rattle.vyrd_words.specs.HasWords.{HasWords};
 ghost use Rattle.vyrd_judge.specs.declared.outcome.Advance.TheVariants.{Goes};
 ghost use Rattle.vyrd_judge.specs.declared.waiting.Waiting.{Waiting};
@@ -68,6 +71,7 @@ impl<S: Spec> Model for Follower<S> {
       callers = f.queue.callers.items;
       state = S.state f.replay.spec;
       made = S.made f.replay.spec;
+      owes = S.owes f.replay.spec;
       watches = f.replay.watches.by_caller;
       answers = f.replay.watches.kept;
       entries = f.entries;
@@ -102,7 +106,8 @@ impl<S: Spec> Follower<S> {
         ensures taken_in { IfOk result (λ f. HasTakenIn f start.now []) }
         ensures charter { IfOk result (λ f. f.charter ≡ S.charter spec) }
         ensures entries { IfOk result (λ f. f.entries ≡ 0) }
-        ensures owed { IfOk result (λ f. debt f [] ≡ 0) }
+        ensures owed { IfOk result (λ f. debt S.Compared.price S.most_touched f []
+            ≡ start_cost (S.Compared.price f.views.shows) start.now + 2 * S.owes spec) }
     {
         let queue = Queue::new(alloc, header)?;
         let replay = Replay::new(alloc, header, spec)?;
@@ -141,10 +146,13 @@ impl<S: Spec> Follower<S> {
             → IsFaultless self.new starting (log ++ entry ∷ []) }
         ensures counted { self.new.entries ≤ self.old.entries + 1 }
         ensures charter { self.new.charter ≡ self.old.charter }
+        ensures shows { self.new.views.shows ≡ self.old.views.shows }
         ensures steps { (starting : List StartWord) (log : List Entry)
             → IsFaultless self.old starting log
-            → IfOk result (λ v. steps.new + debt_after v self.new (log ++ entry ∷ [])
-            ≤ steps.old + debt self.old log + each_entry (callers_of self.old)) }
+            → IfOk result (λ v. steps.new
+            + debt_after S.Compared.price S.most_touched v self.new (log ++ entry ∷ [])
+            ≤ steps.old + debt S.Compared.price S.most_touched self.old log
+            + entry_cost S.Compared.price S.most_touched self.old entry) }
     {
         let caller = entry.caller;
         // Each call is compiled for its kind, so that no part of it looks at the kind again. It is as
@@ -220,10 +228,13 @@ impl<S: Spec> Follower<S> {
             → IsFaultless self.new starting (log ++ entry ∷ []) }
         ensures counted { self.new.entries ≤ self.old.entries + 1 }
         ensures charter { self.new.charter ≡ self.old.charter }
+        ensures shows { self.new.views.shows ≡ self.old.views.shows }
         ensures steps { (starting : List StartWord) (log : List Entry)
             → IsFaultless self.old starting log
-            → IfOk result (λ v. steps.new + debt_after v self.new (log ++ entry ∷ [])
-            ≤ steps.old + debt self.old log + each_entry (callers_of self.old)) }
+            → IfOk result (λ v. steps.new
+            + debt_after S.Compared.price S.most_touched v self.new (log ++ entry ∷ [])
+            ≤ steps.old + debt S.Compared.price S.most_touched self.old log
+            + entry_cost S.Compared.price S.most_touched self.old entry) }
     {
         if let Err(fault) = self.shape.step_counted(&entry, steps) {
             return Ok(Some(Verdict::Malformed {
@@ -232,7 +243,7 @@ impl<S: Spec> Follower<S> {
             }));
         }
         let observes = self.queue.observer_returns(entry);
-        self.words.follow(entry, self.commits)?;
+        self.words.follow_counted(entry, self.commits, steps)?;
         let position = self.entries;
         self.commits = counted(self.commits, is_commit(entry.kind));
         self.observers = counted(self.observers, observes);
@@ -241,12 +252,14 @@ impl<S: Spec> Follower<S> {
         self.catch_up(first, steps)
     }
 
-    /// The verdict if `end` stands after the entries.
-    pub fn end(&self) -> Verdict
-        ensures { (starting : List StartWord) (log : List Entry) → IsFaultless self.now starting log
+    /// The verdict if `end` stands after the entries. It takes a step for each caller.
+    pub fn end<L: Ledger>(&self, steps: &mut Steps<L>) -> Verdict
+        ensures verdict { (starting : List StartWord) (log : List Entry)
+            → IsFaultless self.now starting log
             → result ≡ verdict (rules_by self.now.charter) starting log }
+        ensures steps { steps.new ≡ steps.old + callers_of self.now }
     {
-        if self.shape.end().is_err() {
+        if self.shape.end_counted(steps).is_err() {
             return Verdict::Malformed {
                 line: self.started + self.entries + 2,
                 rule: Rule::CallOpen,
@@ -277,10 +290,12 @@ impl<S: Spec> Follower<S> {
             → IsFaultless self.new starting log }
         ensures entries { self.new.entries ≡ self.old.entries }
         ensures charter { self.new.charter ≡ self.old.charter }
+        ensures shows { self.new.views.shows ≡ self.old.views.shows }
         ensures steps { (starting : List StartWord) (log : List Entry)
             → IsCatchingUp first self.old starting log
-            → IfOk result (λ v. steps.new + debt_after v self.new log
-            ≤ steps.old + debt (with_first first self.old) log) }
+            → IfOk result (λ v. steps.new
+            + debt_after S.Compared.price S.most_touched v self.new log
+            ≤ steps.old + debt S.Compared.price S.most_touched (with_first first self.old) log) }
     {
         let Some(x) = first else {
             return Ok(None);
@@ -310,10 +325,12 @@ impl<S: Spec> Follower<S> {
             → IsFaultless self.new starting log }
         ensures entries { self.new.entries ≡ self.old.entries }
         ensures charter { self.new.charter ≡ self.old.charter }
+        ensures shows { self.new.views.shows ≡ self.old.views.shows }
         ensures steps { (starting : List StartWord) (log : List Entry)
             → IsCatchingUp first self.old starting log
-            → IfOk result (λ v. steps.new + debt_after v self.new log
-            ≤ steps.old + debt (with_first first self.old) log) }
+            → IfOk result (λ v. steps.new
+            + debt_after S.Compared.price S.most_touched v self.new log
+            ≤ steps.old + debt S.Compared.price S.most_touched (with_first first self.old) log) }
     {
         let mut next = first;
         while let Some(x) = next {
@@ -339,10 +356,13 @@ impl<S: Spec> Follower<S> {
             → cons_option next self.new.waiting ≡ self.old.waiting }
         ensures entries { self.new.entries ≡ self.old.entries }
         ensures charter { self.new.charter ≡ self.old.charter }
+        ensures shows { self.new.views.shows ≡ self.old.views.shows }
         ensures steps { (starting : List StartWord) (log : List Entry)
             → IsCatchingUp (Some x) self.old starting log
-            → IfOk result (λ advance. steps.new + debt_by advance self.new log
-            ≤ steps.old + debt (with_first (Some x) self.old) log) }
+            → IfOk result (λ advance. steps.new
+            + debt_by S.Compared.price S.most_touched advance self.new log
+            ≤ steps.old
+            + debt S.Compared.price S.most_touched (with_first (Some x) self.old) log) }
     {
         match self.replay.judge(&mut self.words, x, steps)? {
             Outcome::Goes => Ok(Advance::Goes(self.queue.leave(steps))),
@@ -376,6 +396,12 @@ fn first_words<S: Spec>(
     ensures specified { IfOk result
         (λ w. w.views.specified ≡ (rules_by (S.charter spec.now)).shown (S.state spec.now)) }
     ensures sound { IfOk result (λ w. w.views.refused ≡ false) }
+    ensures pending { IfOk result (λ w. w.views.pending
+        ≡ start_cost (S.Compared.price w.views.shows) start.now) }
+    ensures rebuilt { IfOk result (λ w. shadow_owed w.shadow ≡ 0) }
+    ensures owed { IfOk result (λ w. words_owed w.shadow.header.callers [] w.views.since ≡ 0) }
+    ensures kept { IfOk result (λ w.
+        price_kept (S.Compared.price w.views.shows) w.shadow.header.callers [] ≡ 0) }
 {
     let changed = words_of(alloc, start)?;
     let state = spec.view(alloc)?;

@@ -14,7 +14,7 @@ ghost use Rattle.vyrd_base.specs.declared.header.Header.{Header};
 ghost use Rattle.vyrd_base.specs.Rules.{built_in, rules_of, rules_by};
 ghost use Rattle.vyrd_base.specs.Histories.{logged, log_of};
 ghost use Rattle.vyrd_base.specs.Verdicts.{verdict, verdict_so_far};
-ghost use Rattle.vyrd_judge.specs.Costs.{callers_of, each_entry, judge_debt};
+ghost use Rattle.vyrd_judge.specs.Costs.{callers_of, judge_debt, entry_cost, log_cost, start_cost};
 ghost use Rattle.vyrd_judge.specs.Following.{HasFollowed};
 
 use crate::follower::Follower;
@@ -87,7 +87,8 @@ impl<S: BuiltIn> Judge<S> {
         ensures entries { IfOk result (λ j. j.kept.entries ≡ 0) }
         ensures so_far { IfOk result (λ j. j.so_far ≡ None) }
         ensures has_failed { IfOk result (λ j. j.has_failed ≡ false) }
-        ensures owed { IfOk result (λ j. judge_debt j [] ≡ 0) }
+        ensures owed { IfOk result
+            (λ j. judge_debt S.Compared.price S.most_touched j [] ≡ 0) }
     {
         let words = words_at_start(alloc, header, &[])?;
         let spec = S::start(alloc, header)?;
@@ -111,7 +112,9 @@ impl<S: BuiltIn> Judge<S> {
         ensures entries { IfOk result (λ o. IfSome o (λ j. j.kept.entries ≡ 0)) }
         ensures so_far { IfOk result (λ o. IfSome o (λ j. j.so_far ≡ None)) }
         ensures has_failed { IfOk result (λ o. IfSome o (λ j. j.has_failed ≡ false)) }
-        ensures owed { IfOk result (λ o. IfSome o (λ j. judge_debt j [] ≡ 0)) }
+        ensures owed { IfOk result
+            (λ o. IfSome o (λ j. judge_debt S.Compared.price S.most_touched j []
+            ≡ start_cost (S.Compared.price j.kept.views.shows) start.now)) }
     {
         if start.is_empty() {
             return Ok(Some(Judge::new(alloc, header)?));
@@ -127,7 +130,7 @@ impl<S: BuiltIn> Judge<S> {
 impl<S: Spec> Judge<S> {
     /// A judge that has followed no entry of a log that begins with these words, by the rules of a
     /// specification that is in its state at the start. The words are in the header's ranges, and
-    /// rise.
+    /// rise. What it owes is the comparison of these words, and what the specification owes.
     pub fn begin(
         alloc: Global,
         header: Header,
@@ -146,7 +149,8 @@ impl<S: Spec> Judge<S> {
         ensures entries { IfOk result (λ j. j.kept.entries ≡ 0) }
         ensures so_far { IfOk result (λ j. j.so_far ≡ None) }
         ensures has_failed { IfOk result (λ j. j.has_failed ≡ false) }
-        ensures owed { IfOk result (λ j. judge_debt j [] ≡ 0) }
+        ensures owed { IfOk result (λ j. judge_debt S.Compared.price S.most_touched j []
+            ≡ start_cost (S.Compared.price j.kept.views.shows) start.now + 2 * S.owes spec) }
     {
         Ok(Judge {
             follower: Follower::new(alloc, header, start, words, spec)?,
@@ -180,12 +184,13 @@ impl<S: Spec> Judge<S> {
         feed_alone::<S, Brand>(Blank::new(1), self, entry)
     }
 
-    /// The same, with its steps counted. One step is one of the rules of shape or of open observers,
-    /// as `vyrd_shape` and `vyrd_observers` count them; an entry that is put among those that wait,
-    /// is given its reply there, or is handed out; and a step or an answer of the specification.
-    /// What an entry that waits will cost is owed from then on. So each entry pays a constant, by
-    /// the number of callers, and a log costs no more than that for each of its entries. The work on
-    /// the words isn't counted here.
+    /// The same, with its steps counted. One step is one of the rules of shape, of the work on the
+    /// words and their comparison, or of open observers, as `vyrd_shape`, `vyrd_words` and
+    /// `vyrd_observers` count them; an entry that is put among those that wait, is given its reply
+    /// there, or is handed out; and a step or an answer of the specification. What an entry that
+    /// waits will cost is owed from then on, and so is the comparison of a word that it changes. So
+    /// each entry pays a constant, by the number of callers and the specification, and a write
+    /// the price of its word; and a log costs no more than that for each of its entries.
     #[inline(always)]
     pub fn feed_counted<L: Ledger>(
         &mut self,
@@ -209,11 +214,13 @@ impl<S: Spec> Judge<S> {
         ensures fails_again { self.old.has_failed ≡ true → is_err result ≡ true }
         ensures counted { self.new.kept.entries ≤ self.old.kept.entries + 1 }
         ensures charter { self.new.kept.charter ≡ self.old.kept.charter }
+        ensures shows { self.new.kept.views.shows ≡ self.old.kept.views.shows }
         ensures steps { (starting : List StartWord) (log : List Entry)
             → HasFollowed self.old starting log
-            → OnOk result (steps.new + judge_debt self.new (log ++ entry ∷ [])
-            ≤ steps.old + judge_debt self.old log
-            + each_entry (callers_of self.old.kept)) }
+            → OnOk result (steps.new
+            + judge_debt S.Compared.price S.most_touched self.new (log ++ entry ∷ [])
+            ≤ steps.old + judge_debt S.Compared.price S.most_touched self.old log
+            + entry_cost S.Compared.price S.most_touched self.old.kept entry) }
     {
         if self.has_failed {
             return Err(AllocError);
@@ -247,11 +254,13 @@ impl<S: Spec> Judge<S> {
         ensures has_failed { self.new.has_failed ≡ is_err result }
         ensures counted { self.new.kept.entries ≤ self.old.kept.entries + 1 }
         ensures charter { self.new.kept.charter ≡ self.old.kept.charter }
+        ensures shows { self.new.kept.views.shows ≡ self.old.kept.views.shows }
         ensures steps { (starting : List StartWord) (log : List Entry)
             → HasFollowed self.old starting log
-            → OnOk result (steps.new + judge_debt self.new (log ++ entry ∷ [])
-            ≤ steps.old + judge_debt self.old log
-            + each_entry (callers_of self.old.kept)) }
+            → OnOk result (steps.new
+            + judge_debt S.Compared.price S.most_touched self.new (log ++ entry ∷ [])
+            ≤ steps.old + judge_debt S.Compared.price S.most_touched self.old log
+            + entry_cost S.Compared.price S.most_touched self.old.kept entry) }
     {
         match self.follower.take_in(entry, steps) {
             Ok(None) => Ok(None),
@@ -312,11 +321,13 @@ impl<S: Spec> Judge<S> {
         ensures fails_again { self.old.has_failed ≡ true → is_err result ≡ true }
         ensures counted { self.new.kept.entries ≤ self.old.kept.entries + length entries.now }
         ensures charter { self.new.kept.charter ≡ self.old.kept.charter }
+        ensures shows { self.new.kept.views.shows ≡ self.old.kept.views.shows }
         ensures steps { (starting : List StartWord) (log : List Entry)
             → HasFollowed self.old starting log
-            → OnOk result (steps.new + judge_debt self.new (log ++ entries.now)
-            ≤ steps.old + judge_debt self.old log
-            + each_entry (callers_of self.old.kept) * length entries.now) }
+            → OnOk result (steps.new
+            + judge_debt S.Compared.price S.most_touched self.new (log ++ entries.now)
+            ≤ steps.old + judge_debt S.Compared.price S.most_touched self.old log
+            + log_cost S.Compared.price S.most_touched self.old.kept entries.now) }
     {
         if self.has_failed {
             return Err(AllocError);
@@ -357,7 +368,7 @@ impl<S: Spec> Judge<S> {
         follow_history_alone::<S, Brand>(Blank::new(1), self, history)
     }
 
-    /// The same, with its steps counted as in `feed_counted`.
+    /// The same, with its steps counted as in `feed_counted`, and one for each event.
     pub fn follow_history_counted<L: Ledger>(
         &mut self,
         history: &[Stamped],
@@ -381,11 +392,14 @@ impl<S: Spec> Judge<S> {
         ensures fails_again { self.old.has_failed ≡ true → is_err result ≡ true }
         ensures counted { self.new.kept.entries ≤ self.old.kept.entries + length history.now }
         ensures charter { self.new.kept.charter ≡ self.old.kept.charter }
+        ensures shows { self.new.kept.views.shows ≡ self.old.kept.views.shows }
         ensures steps { (starting : List StartWord) (log : List Entry)
             → HasFollowed self.old starting log
-            → OnOk result (steps.new + judge_debt self.new (log ++ log_of history.now)
-            ≤ steps.old + judge_debt self.old log
-            + each_entry (callers_of self.old.kept) * length history.now) }
+            → OnOk result (steps.new
+            + judge_debt S.Compared.price S.most_touched self.new (log ++ log_of history.now)
+            ≤ steps.old + judge_debt S.Compared.price S.most_touched self.old log
+            + log_cost S.Compared.price S.most_touched self.old.kept (log_of history.now)
+            + length history.now) }
     {
         if self.has_failed {
             return Err(AllocError);
@@ -401,8 +415,8 @@ impl<S: Spec> Judge<S> {
         Ok(None)
     }
 
-    /// Follows one more event of a history, as `take` does its entry, if it has one, and
-    /// otherwise it is a step.
+    /// Follows one more event of a history, as `take` does its entry, if it has one. The event itself
+    /// is a step.
     #[inline(always)]
     fn take_event<L: Ledger>(
         &mut self,
@@ -421,19 +435,20 @@ impl<S: Spec> Judge<S> {
         ensures has_failed { self.new.has_failed ≡ is_err result }
         ensures counted { self.new.kept.entries ≤ self.old.kept.entries + 1 }
         ensures charter { self.new.kept.charter ≡ self.old.kept.charter }
+        ensures shows { self.new.kept.views.shows ≡ self.old.kept.views.shows }
         ensures steps { (starting : List StartWord) (log : List Entry)
             → HasFollowed self.old starting log
-            → OnOk result (steps.new + judge_debt self.new
+            → OnOk result (steps.new + judge_debt S.Compared.price S.most_touched self.new
             (log ++ cons_option (logged event.caller event.did) [])
-            ≤ steps.old + judge_debt self.old log
-            + each_entry (callers_of self.old.kept)) }
+            ≤ steps.old + judge_debt S.Compared.price S.most_touched self.old log
+            + log_cost S.Compared.price S.most_touched self.old.kept
+            (cons_option (logged event.caller event.did) [])
+            + 1) }
     {
+        steps.tick();
         match entry_of(event) {
             Some(entry) => self.take(entry, steps),
-            None => {
-                steps.tick();
-                Ok(None)
-            }
+            None => Ok(None),
         }
     }
 
@@ -451,12 +466,23 @@ impl<S: Spec> Judge<S> {
             → IfOk result (λ v. v ≡ verdict (rules_by self.now.kept.charter) starting log) }
         ensures has_failed { is_err result ≡ self.now.has_failed }
     {
+        finish_alone::<S, Brand>(Blank::new(1), self)
+    }
+
+    /// The same, with its steps counted: one for each caller at most.
+    pub fn finish_counted<L: Ledger>(&self, steps: &mut Steps<L>) -> Result<Verdict, AllocError>
+        ensures verdict { (starting : List StartWord) (log : List Entry)
+            → HasFollowed self.now starting log
+            → IfOk result (λ v. v ≡ verdict (rules_by self.now.kept.charter) starting log) }
+        ensures has_failed { is_err result ≡ self.now.has_failed }
+        ensures steps { steps.new ≤ steps.old + callers_of self.now.kept }
+    {
         if self.has_failed {
             return Err(AllocError);
         }
         match self.so_far {
             Some(verdict) => Ok(verdict),
-            None => Ok(self.follower.end()),
+            None => Ok(self.follower.end(steps)),
         }
     }
 
@@ -573,4 +599,18 @@ fn follow_history_alone<S: Spec, L: Ledger>(
 {
     let mut steps = Steps::<L>::new(blank);
     judge.follow_history_counted(history, &mut steps)
+}
+
+/// Ends with a count of its own.
+fn finish_alone<S: Spec, L: Ledger>(blank: Blank, judge: &Judge<S>) -> Result<Verdict, AllocError>
+    requires name { blank.name ≡ L.name }
+    requires parts { blank.parts ≡ L.parts }
+    requires some { 0 < blank.parts }
+    ensures verdict { (starting : List StartWord) (log : List Entry)
+        → HasFollowed judge.now starting log
+        → IfOk result (λ v. v ≡ verdict (rules_by judge.now.kept.charter) starting log) }
+    ensures has_failed { is_err result ≡ judge.now.has_failed }
+{
+    let mut steps = Steps::<L>::new(blank);
+    judge.finish_counted(&mut steps)
 }

@@ -16,6 +16,7 @@ ghost use Rattle.vyrd_observers.specs.Costs.{owed};
 ghost use Rattle.vyrd_observers.specs.Watching.{AreCurrent};
 ghost use Rattle.vyrd_observers.specs.Watching.{Seen, unwatched, has_answer};
 ghost use Rattle.vyrd_view.specs.Known.{view_by};
+ghost use Rattle.vyrd_words.specs.Costs.{owed as words_owed};
 
 use crate::outcome::Outcome;
 use crate::waiting::{Event, Waiting};
@@ -102,7 +103,8 @@ impl<S: Spec> Replay<S> {
 
     /// A commit is judged by its reply and by the words there, which wait first. Its execution is
     /// watched no more, since it is judged by its commit. What is watched sees the state after it.
-    /// The specification's step is one step. The comparison of the words isn't counted here.
+    /// The specification's step is one step, and the comparison of the words is counted as
+    /// `vyrd_words` does.
     #[inline(never)]
     fn commit<L: Ledger>(
         &mut self,
@@ -143,14 +145,22 @@ impl<S: Spec> Replay<S> {
         ensures shows { words.new.views.shows ≡ words.old.views.shows }
         ensures shadow { words.new.shadow ≡ words.old.shadow }
         ensures inner { words.new.inner ≡ words.old.inner }
-        ensures steps { steps.new + owed self.new.watches ≤ steps.old + owed self.old.watches
-            + judging_cost (rules_by (S.charter self.old.spec)).header.callers }
+        ensures steps { OnOk result (steps.new + owed self.new.watches + words.new.views.pending
+            + 2 * S.owes self.new.spec
+            ≤ steps.old + owed self.old.watches + words.old.views.pending
+            + 2 * S.owes self.old.spec
+            + judging_cost (rules_by (S.charter self.old.spec)).header.callers
+            (S.most_touched (S.charter self.old.spec))) }
+        ensures owed { (callers : ℕ) (earlier : List Entry) (part : List (ℕ × ℕ))
+            (rest : List (List (ℕ × ℕ))) → words.old.views.since ≡ part ∷ rest
+            → OnOk result (words_owed callers earlier words.new.views.since
+            ≤ words_owed callers earlier words.old.views.since) }
     {
         steps.tick();
         if !self.spec.step(method, args, reply)? {
             return Ok(Outcome::Faults(Why::Reply(reply)));
         }
-        if let Some(key) = words.difference(&self.spec)? {
+        if let Some(key) = words.difference_counted(&self.spec, steps)? {
             return Ok(Outcome::Faults(Why::View(key)));
         }
         self.watches.close_counted(caller, steps);
@@ -160,7 +170,8 @@ impl<S: Spec> Replay<S> {
 
     /// Judges the entry that waits first, which isn't a commit that hasn't returned. A commit takes
     /// time in proportion to the different questions of open observers, the most that there were at
-    /// one time, besides that of the specification's step and of the comparison.
+    /// one time, besides that of the specification's step and of the comparison. That is paid by what
+    /// is pending for the words, and for the touched keys by what the specification owes.
     #[inline(always)]
     pub fn judge<L: Ledger>(
         &mut self,
@@ -195,8 +206,19 @@ impl<S: Spec> Replay<S> {
         ensures shows { words.new.views.shows ≡ words.old.views.shows }
         ensures shadow { words.new.shadow ≡ words.old.shadow }
         ensures inner { words.new.inner ≡ words.old.inner }
-        ensures steps { steps.new + owed self.new.watches ≤ steps.old + owed self.old.watches
-            + judging_cost (rules_by (S.charter self.old.spec)).header.callers }
+        ensures steps { OnOk result (steps.new + owed self.new.watches + words.new.views.pending
+            + 2 * S.owes self.new.spec
+            ≤ steps.old + owed self.old.watches + words.old.views.pending
+            + 2 * S.owes self.old.spec
+            + judging_cost (rules_by (S.charter self.old.spec)).header.callers
+            (S.most_touched (S.charter self.old.spec))) }
+        ensures owed { (callers : ℕ) (earlier : List Entry) (starting : List StartWord)
+            (log : List Entry) (xs : List Waiting)
+            → Judged (rules_by (S.charter self.old.spec)) starting log (S.state self.old.spec)
+            (S.made self.old.spec)
+            self.old.watches.by_caller (x ∷ xs) words.old.views.first words.old.views.since
+            → OnOk result (words_owed callers earlier words.new.views.since
+            ≤ words_owed callers earlier words.old.views.since) }
     {
         match x.event() {
             Event::Begins(method, args) => {

@@ -11,13 +11,14 @@ use Rattle.vyrd_judge.proofs.follower.Follower.go_on.Given as goal
 abbrev pub invariant-loop-next : goal.invariant-loop-next
 invariant-loop-next g l = record {
   header : l.self.charter ≡ l.initial.self.charter;
+  shows : l.self.views.shows ≡ l.initial.self.views.shows;
   entries : l.self.entries ≡ l.initial.self.entries;
   going : (starting : List StartWord) (log : List Entry) → IsCatchingUp l.fn.first l.initial.self starting log → IsCatchingUp l.next l.self starting log;
   may : MayCatchUp l.next l.self;
   can_leave : IfSome l.next CanLeave;
   paid : (starting : List StartWord) (log : List Entry)
       → IsCatchingUp l.fn.first l.initial.self starting log
-      → l.steps + debt (with_first l.next l.self) log ≤ l.initial.steps + debt
+      → l.steps + debt g.S.Compared.Compare.price g.S.Spec.most_touched (with_first l.next l.self) log ≤ l.initial.steps + debt g.S.Compared.Compare.price g.S.Spec.most_touched
       (with_first l.fn.first l.initial.self) log;
 }
 

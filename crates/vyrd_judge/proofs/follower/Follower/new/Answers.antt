@@ -6,7 +6,7 @@ use Rattle.vyrd_observers.specs.Watching.{AreCurrent}
 use Rattle.vyrd_base.proofs.HeaderLaws.{few_words}
 use Rattle.vyrd_words.proofs.StartWords.{start_few}
 use Rattle.vyrd_judge.proofs.FollowerLaws.{first_taken_in}
-use Rattle.vyrd_judge.proofs.CostLaws.{nothing_owed}
+use Rattle.vyrd_judge.proofs.CostLaws.{owed_first}
 use Rattle.vyrd_judge.proofs.follower.Follower.new.Goals as goal
 
 pub returns-clause-taken_in : goal.returns-clause-taken_in
@@ -40,4 +40,8 @@ invariant_of-result g c =
 
 pub returns-clause-owed : goal.returns-clause-owed
 returns-clause-owed g c =
-    nothing_owed (returns-clause-taken_in g c) c.in_ok-shape.ensures.owed c.in_ok-replay.ensures.owed c.in_ok-queue.ensures.waiting
+    owed_first g.S.Compared.Compare.price g.S.Spec.most_touched (g.S.Spec.owes c.args.spec)
+    (returns-clause-taken_in g c) c.in_ok-shape.ensures.owed
+    c.in_ok-words.ensures.pending c.in_ok-words.ensures.rebuilt c.in_ok-words.ensures.owed
+    c.in_ok-words.ensures.kept c.in_ok-replay.ensures.owed c.in_ok-queue.ensures.waiting
+    (ap g.S.Spec.owes c.in_ok-replay.ensures.spec)

@@ -19,21 +19,21 @@ observer_returns-observes-requires g c =
     rw c.self.invariant.2 (low_caller_of c.args.entry (subst IsSomewhere (sym c.self.view_is) c.requires.somewhere)
     (keeps_by c.args.entry (rules_by (g.S.Spec.charter c.self.inside.replay.spec)).header c.self.invariant.0 refl c.in_default.ensures.ok))
 
-pub follow-requires-clause-sound : goal.follow-requires-clause-sound
-follow-requires-clause-sound g c = sound_of (subst IsSomewhere
+pub follow_counted-requires-clause-sound : goal.follow_counted-requires-clause-sound
+follow_counted-requires-clause-sound g c = sound_of (subst IsSomewhere
     (sym c.self.view_is) c.requires.somewhere)
 
-pub follow-requires-clause-few : goal.follow-requires-clause-few
-follow-requires-clause-few g c =
+pub follow_counted-requires-clause-few : goal.follow_counted-requires-clause-few
+follow_counted-requires-clause-few g c =
     low_commits (subst (λ (k : Kept). k.entries < 2 ^ 62) (sym c.self.view_is) c.requires.few) (subst IsSomewhere (sym c.self.view_is) c.requires.somewhere)
 
-pub follow-requires-clause-may : goal.follow-requires-clause-may
-follow-requires-clause-may g c =
+pub follow_counted-requires-clause-may : goal.follow_counted-requires-clause-may
+follow_counted-requires-clause-may g c =
     may_take c.args.entry (subst IsSomewhere (sym c.self.view_is) c.requires.somewhere)
     (keeps_by c.args.entry c.self.inside.words.shadow.header c.self.invariant.0 c.self.invariant.1 c.in_default.ensures.ok)
 
-pub follow-requires-2-clause-may : goal.follow-requires-2-clause-may
-follow-requires-2-clause-may g c =
+pub follow-requires-clause-may : goal.follow-requires-clause-may
+follow-requires-clause-may g c =
     let i = c.self.inside in
     subst (λ h. MayQueue h i.queue.waiting.items i.queue.taken i.queue.callers.items c.args.entry i.entries) (sym c.self.invariant.2)
     (may_queue c.args.entry (subst IsSomewhere (sym c.self.view_is) c.requires.somewhere)
@@ -55,13 +55,13 @@ catch_up-requires-clause-may g c =
     (subst IsSomewhere (sym c.self.view_is) c.requires.somewhere)
     (taken_all _ _ c.in_ok-first.first c.args.entry c.self.inside.queue.header c.is_commit.result c.observer_returns-observes.result
     c.self.invariant.0 c.self.invariant.1 c.self.invariant.2 c.in_default.ensures.ok
-    c.step_counted.ensures.header c.in_ok-follow.ensures.taken
-    c.follow.ensures.header c.follow.ensures.views_header
+    c.step_counted.ensures.header c.in_ok-follow_counted.ensures.taken
+    c.follow_counted.ensures.header c.follow_counted.ensures.views_header
     c.in_ok-first.ensures.taken_up c.in_ok-first.ensures.awaits refl refl refl refl refl
     c.is_commit.ensures c.counted-self-inside.ensures c.observer_returns-observes.ensures
     c.counted-self-inside-2.ensures refl (
-      c.in_ok-follow.ensures.specified,
-      c.in_ok-follow.ensures.sound,
+      c.in_ok-follow_counted.ensures.specified,
+      c.in_ok-follow_counted.ensures.sound,
     ))
 
 pub returns-clause-answer : goal.returns-clause-answer
@@ -72,13 +72,13 @@ returns-clause-answer g c = λ starting log f.
     let going = taken_all _ _ c.in_ok-first.first c.args.entry c.self.inside.queue.header
     c.is_commit.result c.observer_returns-observes.result
     c.self.invariant.0 c.self.invariant.1 c.self.invariant.2 c.in_default.ensures.ok
-    c.step_counted.ensures.header c.in_ok-follow.ensures.taken
-    c.follow.ensures.header c.follow.ensures.views_header
+    c.step_counted.ensures.header c.in_ok-follow_counted.ensures.taken
+    c.follow_counted.ensures.header c.follow_counted.ensures.views_header
     c.in_ok-first.ensures.taken_up c.in_ok-first.ensures.awaits refl refl refl refl refl
     c.is_commit.ensures c.counted-self-inside.ensures c.observer_returns-observes.ensures
     c.counted-self-inside-2.ensures refl (
-      c.in_ok-follow.ensures.specified,
-      c.in_ok-follow.ensures.sound,
+      c.in_ok-follow_counted.ensures.specified,
+      c.in_ok-follow_counted.ensures.sound,
     ) starting log was in
     IfOk-weaker c.catch_up.result (λ v. v ≡ first_fault r starting more) (λ v. v ≡ verdict_so_far (rules_by c.args.self.now.charter) starting more)
     (λ v is. answer_with v going.taken_in is ∙ ap (λ (k : Kept). verdict_so_far (rules_by k.charter) starting more) c.self.view_is)
@@ -89,18 +89,19 @@ returns-clause-follows g c = λ starting log f is.
     let was = subst (λ k. IsFaultless k starting log) (sym c.self.view_is) f in
     c.catch_up.ensures.follows starting (log ++ c.args.entry ∷ []) (taken_all _ _ c.in_ok-first.first c.args.entry c.self.inside.queue.header c.is_commit.result c.observer_returns-observes.result
     c.self.invariant.0 c.self.invariant.1 c.self.invariant.2 c.in_default.ensures.ok
-    c.step_counted.ensures.header c.in_ok-follow.ensures.taken
-    c.follow.ensures.header c.follow.ensures.views_header
+    c.step_counted.ensures.header c.in_ok-follow_counted.ensures.taken
+    c.follow_counted.ensures.header c.follow_counted.ensures.views_header
     c.in_ok-first.ensures.taken_up c.in_ok-first.ensures.awaits refl refl refl refl refl
     c.is_commit.ensures c.counted-self-inside.ensures c.observer_returns-observes.ensures
     c.counted-self-inside-2.ensures refl (
-      c.in_ok-follow.ensures.specified,
-      c.in_ok-follow.ensures.sound,
+      c.in_ok-follow_counted.ensures.specified,
+      c.in_ok-follow_counted.ensures.sound,
     ) starting log was) is
 
 pub returns-in-Err-clause-steps : goal.returns-in-Err-clause-steps
 returns-in-Err-clause-steps g c = λ starting log f.
-    broken_paid _ _ c.args.steps.now c.step_counted.new.steps _ c.self.view_is
+    broken_paid g.S.Compared.Compare.price g.S.Spec.most_touched _ _ c.args.entry c.args.steps.now
+    c.step_counted.new.steps _ c.self.view_is
     c.step_counted.ensures.steps
     (subst (λ (k : Kept). k.entries < 2 ^ 62) (sym c.self.view_is) c.requires.few) starting log
     (subst (λ k. IsFaultless k starting log) (sym c.self.view_is) f)
@@ -112,19 +113,20 @@ returns-clause-steps g c = λ starting log f.
     let going = taken_all _ _ c.in_ok-first.first c.args.entry c.self.inside.queue.header
     c.is_commit.result c.observer_returns-observes.result
     c.self.invariant.0 c.self.invariant.1 c.self.invariant.2 c.in_default.ensures.ok
-    c.step_counted.ensures.header c.in_ok-follow.ensures.taken
-    c.follow.ensures.header c.follow.ensures.views_header
+    c.step_counted.ensures.header c.in_ok-follow_counted.ensures.taken
+    c.follow_counted.ensures.header c.follow_counted.ensures.views_header
     c.in_ok-first.ensures.taken_up c.in_ok-first.ensures.awaits refl refl refl refl refl
     c.is_commit.ensures c.counted-self-inside.ensures c.observer_returns-observes.ensures
     c.counted-self-inside-2.ensures refl (
-      c.in_ok-follow.ensures.specified,
-      c.in_ok-follow.ensures.sound,
+      c.in_ok-follow_counted.ensures.specified,
+      c.in_ok-follow_counted.ensures.sound,
     ) starting log was in
     IfOk-weaker c.catch_up.result _ _ (λ v paid. at_most_then paid
-    (taken_paid _ _ _ c.in_ok-first.first c.args.entry c.self.inside.queue.header c.args.steps.now
-    c.step_counted.new.steps c.follow-2.new.steps
-    c.self.view_is c.self.invariant.0 c.self.invariant.2 c.in_default.ensures.ok
-    c.step_counted.ensures.steps
-    c.in_ok-first.ensures.taken_up c.follow-2.ensures.steps refl refl refl (subst (λ
+    (taken_paid g.S.Compared.Compare.price g.S.Spec.most_touched _ _ _ c.in_ok-first.first
+    c.args.entry c.self.inside.queue.header c.args.steps.now c.step_counted.new.steps
+    c.follow_counted.new.steps c.follow.new.steps c.self.view_is c.self.invariant.0
+    c.self.invariant.1 c.self.invariant.2 c.in_default.ensures.ok c.step_counted.ensures.steps
+    c.in_ok-follow_counted.ensures.steps c.in_ok-first.ensures.taken_up c.follow.ensures.steps
+    refl c.follow_counted.ensures.shows refl refl refl (subst (λ
     (k : Kept). k.entries < 2 ^ 62) (sym c.self.view_is) c.requires.few) starting log was going))
     (c.catch_up.ensures.steps starting more going)

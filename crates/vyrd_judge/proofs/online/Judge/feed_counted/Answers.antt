@@ -1,6 +1,6 @@
 use Rattle.std.proofs.Common.{◌∷◌, ◌++◌, [], ap, sym, ◌∙◌}
 use Rattle.vyrd_judge.specs.Following.{JudgeView}
-use Rattle.vyrd_judge.specs.Costs.{callers_of, each_entry}
+use Rattle.vyrd_judge.specs.Costs.{entry_cost}
 use Rattle.vyrd_judge.proofs.CostLaws.{stands_paid}
 use Rattle.vyrd_judge.proofs.OnlineLaws.{stands_on, followed_on}
 use Rattle.vyrd_judge.proofs.online.Judge.feed_counted.Goals as goal
@@ -13,6 +13,7 @@ returns-in-Some-clause-followed g c = λ starting log f. followed_on (c.args.ent
 
 pub returns-in-Some-clause-steps : goal.returns-in-Some-clause-steps
 returns-in-Some-clause-steps g c = λ starting log f.
-    stands_paid c.args.self.now c.args.steps.now (each_entry (callers_of c.args.self.now.kept)) log
+    stands_paid g.S.Compared.Compare.price g.S.Spec.most_touched c.args.self.now c.args.steps.now
+    (entry_cost g.S.Compared.Compare.price g.S.Spec.most_touched c.args.self.now.kept c.args.entry) log
     (log ++ c.args.entry ∷ [])
     (ap (λ (j : JudgeView). j.so_far) (sym c.self.view_is) ∙ c.in-Some.is)

@@ -1,12 +1,13 @@
-use Rattle.std.proofs.Common.{◌+◌, ◌*◌, ◌≤◌, length, ◌++◌, take, drop, ap, sym, subst, ◌∙◌, arith}
-use Rattle.std.proofs.Common.{append_assoc, append-nil, refl}
+use Rattle.std.proofs.Common.{◌+◌, ◌≤◌, ◌++◌, take, drop, ap, sym, subst, ◌∙◌, arith}
+use Rattle.std.proofs.Common.{append_assoc, append-nil, refl, [], ◌∷◌}
+use Rattle.std.specs.Prelude.{get_or}
 use Rattle.std.proofs.lemmas.List.{take_more, take-append-drop}
 use Rattle.vyrd_base.specs.Rules.{rules_by}
 use Rattle.vyrd_base.specs.Verdicts.{verdict_so_far}
 use Rattle.vyrd_judge.specs.Following.{JudgeView, HasFollowed}
 use Rattle.vyrd_base.proofs.FrontLaws.{take_past}
-use Rattle.vyrd_judge.specs.Costs.{callers_of, each_entry, judge_debt}
-use Rattle.vyrd_judge.proofs.CostLaws.{stands_paid, first_paid, more_paid, verdict_paid, last_paid}
+use Rattle.vyrd_judge.specs.Costs.{entry_cost, judge_debt, log_cost}
+use Rattle.vyrd_judge.proofs.CostLaws.{stands_paid, first_paid, one_cost, more_paid, verdict_paid, no_entry}
 use Rattle.vyrd_judge.proofs.OnlineLaws.{stands_on, followed_on, decided, none_stands, so_far_is_known}
 use Rattle.vyrd_judge.proofs.online.Judge.follow_counted.Goals as goal
 
@@ -24,8 +25,9 @@ loop-entry-init g c = record {
   counted = omega arith;
   works = ap (λ (j : JudgeView). j.has_failed) (sym c.self.view_is) ∙ c.if-self.false;
   undecided = ap (λ (j : JudgeView). j.so_far) (sym c.self.view_is) ∙ c.in_default.is;
-  paid = λ starting log f. first_paid c.args.steps.now (each_entry
-      (callers_of c.args.self.now.kept)) c.args.self.now (append-nil log);
+  shows = refl;
+  paid = λ starting log f. first_paid g.S.Compared.Compare.price g.S.Spec.most_touched
+      c.args.steps.now c.args.self.now (append-nil log);
 }
 
 pub loop-entry-preserved : goal.loop-entry-preserved
@@ -41,15 +43,22 @@ loop-entry-preserved g c =
       counted = omega (arith, c.take.ensures.counted, c.loop-entry.invariant.counted);
       works = c.in_ok-verdict.ensures.has_failed;
       undecided = c.in_ok-verdict.ensures.so_far ∙ c.in_default-2.is;
-      paid = λ starting log f. more_paid _ _ _ _ (each_entry (callers_of c.args.self.now.kept)) i
-          (subst (λ xs. c.take.new.steps + judge_debt c.take.new.self xs
-          ≤ c.loop-entry.steps + judge_debt c.loop-entry.self (log ++ take i es) + each_entry
-          (callers_of c.loop-entry.self.kept))
-          (append_assoc log (take i es) _ ∙ ap (λ xs. log ++ xs) (sym
-          (take_more es i _ c.loop-entry-test.true)))
+      shows = c.take.ensures.shows ∙ c.loop-entry.invariant.shows;
+      paid = λ starting log f. more_paid g.S.Compared.Compare.price g.S.Spec.most_touched
+          c.args.self.now.kept c.loop-entry.self.kept _ _ _
+          (take i es) (get_or es i no_entry ∷ []) (take (i + 1) es) c.loop-entry.invariant.header c.loop-entry.invariant.shows
+          (take_more es i no_entry c.loop-entry-test.true)
+          (one_cost g.S.Compared.Compare.price g.S.Spec.most_touched c.loop-entry.self.kept (get_or es i no_entry) _ _
+          (subst (λ xs. c.take.new.steps + judge_debt g.S.Compared.Compare.price g.S.Spec.most_touched
+          c.take.new.self xs
+          ≤ c.loop-entry.steps + judge_debt g.S.Compared.Compare.price g.S.Spec.most_touched
+          c.loop-entry.self (log ++ take i es)
+          + entry_cost g.S.Compared.Compare.price g.S.Spec.most_touched c.loop-entry.self.kept
+          (get_or es i no_entry))
+          (append_assoc log (take i es) (get_or es i no_entry ∷ []) ∙ ap (λ xs. log ++ xs) (sym
+          (take_more es i no_entry c.loop-entry-test.true)))
           (c.in_ok-verdict.ensures.steps starting (log ++ take i es)
-          (c.loop-entry.invariant.followed starting log f)))
-          (ap (λ g. each_entry (rules_by g).header.callers) c.loop-entry.invariant.header)
+          (c.loop-entry.invariant.followed starting log f))))
           (c.loop-entry.invariant.paid starting log f);
     }
 
@@ -82,28 +91,41 @@ returns-clause-answer g c = λ starting log f.
 
 pub returns-in-Some-clause-steps : goal.returns-in-Some-clause-steps
 returns-in-Some-clause-steps g c = λ starting log f.
-    stands_paid c.args.self.now c.args.steps.now (each_entry
-    (callers_of c.args.self.now.kept) * length c.args.entries.now) log (log ++ c.args.entries.now)
+    stands_paid g.S.Compared.Compare.price g.S.Spec.most_touched c.args.self.now c.args.steps.now
+    (log_cost g.S.Compared.Compare.price g.S.Spec.most_touched c.args.self.now.kept c.args.entries.now) log
+    (log ++ c.args.entries.now)
     (ap (λ (j : JudgeView). j.so_far) (sym c.self.view_is) ∙ c.in-Some.is)
 
 pub returns-in-Some-2-clause-steps : goal.returns-in-Some-2-clause-steps
 returns-in-Some-2-clause-steps g c = λ starting log f.
     let es = c.args.entries.now in
     let i = c.loop-entry.entry-index in
-    verdict_paid c.take.new.self _ _ _ _ _ (each_entry (callers_of c.args.self.now.kept)) i
-    (length es) (log ++ c.args.entries.now) (c.in_ok-verdict.ensures.so_far ∙ c.in-Some-2.is)
+    verdict_paid g.S.Compared.Compare.price g.S.Spec.most_touched c.args.self.now.kept c.take.new.self _ _ _
+    (take (i + 1) es) (drop (i + 1) es) es (log ++ es)
+    (c.in_ok-verdict.ensures.so_far ∙ c.in-Some-2.is) (take-append-drop (i + 1) es)
+    (more_paid g.S.Compared.Compare.price g.S.Spec.most_touched
+    c.args.self.now.kept c.loop-entry.self.kept _ _ _
+    (take i es) (get_or es i no_entry ∷ []) (take (i + 1) es) c.loop-entry.invariant.header c.loop-entry.invariant.shows
+    (take_more es i no_entry c.loop-entry-test.true)
+    (one_cost g.S.Compared.Compare.price g.S.Spec.most_touched c.loop-entry.self.kept (get_or es i no_entry) _ _
+    (subst (λ xs. c.take.new.steps + judge_debt g.S.Compared.Compare.price g.S.Spec.most_touched
+    c.take.new.self xs
+    ≤ c.loop-entry.steps + judge_debt g.S.Compared.Compare.price g.S.Spec.most_touched
+    c.loop-entry.self (log ++ take i es)
+    + entry_cost g.S.Compared.Compare.price g.S.Spec.most_touched c.loop-entry.self.kept
+    (get_or es i no_entry))
+    (append_assoc log (take i es) (get_or es i no_entry ∷ []) ∙ ap (λ xs. log ++ xs) (sym
+    (take_more es i no_entry c.loop-entry-test.true)))
     (c.in_ok-verdict.ensures.steps starting (log ++ take i es)
-    (c.loop-entry.invariant.followed starting log f))
-    (ap (λ g. each_entry (rules_by g).header.callers) c.loop-entry.invariant.header)
-    (c.loop-entry.invariant.paid starting log f) c.loop-entry-test.true
+    (c.loop-entry.invariant.followed starting log f))))
+    (c.loop-entry.invariant.paid starting log f))
 
 pub returns-clause-steps : goal.returns-clause-steps
 returns-clause-steps g c = λ starting log f.
-    last_paid _ _ (each_entry (callers_of c.args.self.now.kept)) _ _
-    c.loop-entry.auto.entry-index-end
-    (subst (λ xs. c.loop-entry.steps + judge_debt c.loop-entry.self (log ++ xs)
-    ≤ c.args.steps.now + judge_debt c.args.self.now log + each_entry
-    (callers_of c.args.self.now.kept) * c.loop-entry.entry-index)
+    subst (λ xs. c.loop-entry.steps + judge_debt g.S.Compared.Compare.price g.S.Spec.most_touched
+    c.loop-entry.self (log ++ xs)
+    ≤ c.args.steps.now + judge_debt g.S.Compared.Compare.price g.S.Spec.most_touched c.args.self.now log
+    + log_cost g.S.Compared.Compare.price g.S.Spec.most_touched c.args.self.now.kept xs)
     (take_past c.args.entries.now c.loop-entry.entry-index c.loop-entry.auto.entry-index-end
     c.loop-entry-test.false)
-    (c.loop-entry.invariant.paid starting log f))
+    (c.loop-entry.invariant.paid starting log f)

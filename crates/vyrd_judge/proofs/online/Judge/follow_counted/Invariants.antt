@@ -1,7 +1,7 @@
-use Rattle.std.proofs.Common.{◌≡◌, false, ◌≤◌, ◌+◌, ◌*◌, ◌++◌, List, None, take}
+use Rattle.std.proofs.Common.{◌≡◌, false, ◌≤◌, ◌+◌, ◌++◌, List, None, take}
 use Rattle.vyrd_base.specs.declared.log.Entry.{Entry}
 use Rattle.vyrd_base.specs.declared.log.StartWord.{StartWord}
-use Rattle.vyrd_judge.specs.Costs.{callers_of, each_entry, judge_debt}
+use Rattle.vyrd_judge.specs.Costs.{judge_debt, log_cost}
 use Rattle.vyrd_judge.specs.Following.{HasFollowed}
 use Rattle.vyrd_judge.proofs.online.Judge.follow_counted.Given as goal
 
@@ -10,12 +10,15 @@ invariant-loop-entry g l = record {
   followed : (starting : List StartWord) (log : List Entry)
       → HasFollowed l.initial.self starting log → HasFollowed l.self starting
       (log ++ take l.entry-index l.fn.entries);
+  shows : l.self.kept.views.shows ≡ l.initial.self.kept.views.shows;
   header : l.self.kept.charter ≡ l.initial.self.kept.charter;
   counted : l.self.kept.entries ≤ l.initial.self.kept.entries + l.entry-index;
   works : l.self.has_failed ≡ false;
   undecided : l.self.so_far ≡ None;
   paid : (starting : List StartWord) (log : List Entry) → HasFollowed l.initial.self starting log
-      → l.steps + judge_debt l.self (log ++ take l.entry-index l.fn.entries)
-      ≤ l.initial.steps + judge_debt l.initial.self log + each_entry
-      (callers_of l.initial.self.kept) * l.entry-index;
+      → l.steps + judge_debt g.S.Compared.Compare.price g.S.Spec.most_touched l.self
+      (log ++ take l.entry-index l.fn.entries)
+      ≤ l.initial.steps + judge_debt g.S.Compared.Compare.price g.S.Spec.most_touched l.initial.self log
+      + log_cost g.S.Compared.Compare.price g.S.Spec.most_touched l.initial.self.kept
+      (take l.entry-index l.fn.entries);
 }

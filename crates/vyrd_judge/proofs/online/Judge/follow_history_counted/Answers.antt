@@ -1,14 +1,16 @@
-use Rattle.std.proofs.Common.{◌+◌, ◌*◌, ◌≤◌, length, ◌++◌, take, drop, ap, sym, subst, ◌∙◌, arith}
-use Rattle.std.proofs.Common.{append_assoc, append-nil, refl}
+use Rattle.std.proofs.Common.{◌+◌, ◌≤◌, length, ◌++◌, take, drop, ap, sym, subst, ◌∙◌, arith}
+use Rattle.std.proofs.Common.{append_assoc, append-nil, refl, []}
+use Rattle.std.specs.Prelude.{get_or}
+use Rattle.std.specs.List.{cons_option}
 use Rattle.std.proofs.lemmas.List.{take_all}
 use Rattle.vyrd_base.specs.Rules.{rules_by}
 use Rattle.vyrd_base.specs.Verdicts.{verdict_so_far}
-use Rattle.vyrd_base.specs.Histories.{log_of}
+use Rattle.vyrd_base.specs.Histories.{logged, log_of}
 use Rattle.vyrd_judge.specs.Following.{JudgeView, HasFollowed}
-use Rattle.vyrd_judge.specs.Costs.{callers_of, each_entry, judge_debt}
-use Rattle.vyrd_judge.proofs.CostLaws.{stands_paid, first_paid, more_paid, verdict_paid, last_paid}
+use Rattle.vyrd_judge.specs.Costs.{judge_debt, log_cost}
+use Rattle.vyrd_judge.proofs.CostLaws.{stands_events, first_events, more_events, verdict_events, last_events}
 use Rattle.vyrd_judge.proofs.OnlineLaws.{stands_on, followed_on, decided, none_stands, so_far_is_known}
-use Rattle.vyrd_judge.proofs.HistoryLaws.{log_of_none, log_more, log_around}
+use Rattle.vyrd_judge.proofs.HistoryLaws.{past, log_of_none, log_more, log_around}
 use Rattle.vyrd_judge.proofs.online.Judge.follow_history_counted.Goals as goal
 
 pub returns-in-Some-clause-answer : goal.returns-in-Some-clause-answer
@@ -26,9 +28,8 @@ loop-event-init g c = record {
   counted = omega arith;
   works = ap (λ (j : JudgeView). j.has_failed) (sym c.self.view_is) ∙ c.if-self.false;
   undecided = ap (λ (j : JudgeView). j.so_far) (sym c.self.view_is) ∙ c.in_default.is;
-  paid = λ starting log f. first_paid c.args.steps.now (each_entry
-      (callers_of c.args.self.now.kept)) c.args.self.now (ap (λ xs. log ++ xs) log_of_none
-      ∙ append-nil log);
+  shows = refl;
+  paid = λ starting log f. first_events g.S.Compared.Compare.price g.S.Spec.most_touched c.args.steps.now c.args.self.now log log_of_none;
 }
 
 pub loop-event-preserved : goal.loop-event-preserved
@@ -44,15 +45,20 @@ loop-event-preserved g c =
       counted = omega (arith, c.take_event.ensures.counted, c.loop-event.invariant.counted);
       works = c.in_ok-verdict.ensures.has_failed;
       undecided = c.in_ok-verdict.ensures.so_far ∙ c.in_default-2.is;
-      paid = λ starting log f. more_paid _ _ _ _ (each_entry (callers_of c.args.self.now.kept)) i
-          (subst (λ xs. c.take_event.new.steps + judge_debt c.take_event.new.self xs
-          ≤ c.loop-event.steps + judge_debt c.loop-event.self (log ++ log_of
-          (take i es)) + each_entry (callers_of c.loop-event.self.kept))
-          (append_assoc log (log_of (take i es)) _ ∙ ap (λ xs. log ++ xs) (sym
+      shows = c.take_event.ensures.shows ∙ c.loop-event.invariant.shows;
+      paid = λ starting log f. more_events g.S.Compared.Compare.price g.S.Spec.most_touched
+          c.args.self.now.kept c.loop-event.self.kept _ _ _ i
+          (log_of (take i es)) (cons_option (logged (get_or es i past).caller (get_or es i past).did) []) (log_of (take (i + 1) es)) c.loop-event.invariant.header
+          c.loop-event.invariant.shows (log_more es i c.loop-event-test.true)
+          (subst (λ xs. c.take_event.new.steps + judge_debt g.S.Compared.Compare.price g.S.Spec.most_touched
+          c.take_event.new.self xs
+          ≤ c.loop-event.steps + judge_debt g.S.Compared.Compare.price g.S.Spec.most_touched
+          c.loop-event.self (log ++ log_of (take i es))
+          + log_cost g.S.Compared.Compare.price g.S.Spec.most_touched c.loop-event.self.kept (cons_option (logged (get_or es i past).caller (get_or es i past).did) []) + 1)
+          (append_assoc log (log_of (take i es)) (cons_option (logged (get_or es i past).caller (get_or es i past).did) []) ∙ ap (λ xs. log ++ xs) (sym
           (log_more es i c.loop-event-test.true)))
           (c.in_ok-verdict.ensures.steps starting (log ++ log_of (take i es))
           (c.loop-event.invariant.followed starting log f)))
-          (ap (λ g. each_entry (rules_by g).header.callers) c.loop-event.invariant.header)
           (c.loop-event.invariant.paid starting log f);
     }
 
@@ -84,29 +90,42 @@ returns-clause-answer g c = λ starting log f.
 
 pub returns-in-Some-clause-steps : goal.returns-in-Some-clause-steps
 returns-in-Some-clause-steps g c = λ starting log f.
-    stands_paid c.args.self.now c.args.steps.now (each_entry
-    (callers_of c.args.self.now.kept) * length c.args.history.now) log (log ++ log_of
-    (c.args.history.now))
+    stands_events g.S.Compared.Compare.price g.S.Spec.most_touched c.args.self.now c.args.steps.now
+    (log_cost g.S.Compared.Compare.price g.S.Spec.most_touched c.args.self.now.kept
+    (log_of c.args.history.now)) (length c.args.history.now) log (log ++ log_of c.args.history.now)
     (ap (λ (j : JudgeView). j.so_far) (sym c.self.view_is) ∙ c.in-Some.is)
 
 pub returns-in-Some-2-clause-steps : goal.returns-in-Some-2-clause-steps
 returns-in-Some-2-clause-steps g c = λ starting log f.
     let es = c.args.history.now in
     let i = c.loop-event.event-index in
-    verdict_paid c.take_event.new.self _ _ _ _ _ (each_entry (callers_of c.args.self.now.kept)) i
-    (length es) (log ++ log_of (c.args.history.now)) (c.in_ok-verdict.ensures.so_far
-    ∙ c.in-Some-2.is)
+    verdict_events g.S.Compared.Compare.price g.S.Spec.most_touched c.args.self.now.kept
+    c.take_event.new.self _ _ _ i (length es) (log_of (take (i + 1) es)) (log_of (drop (i + 1) es))
+    (log_of es) (log ++ log_of es)
+    (c.in_ok-verdict.ensures.so_far ∙ c.in-Some-2.is) (log_around es (i + 1))
+    c.loop-event-test.true
+    (more_events g.S.Compared.Compare.price g.S.Spec.most_touched
+    c.args.self.now.kept c.loop-event.self.kept _ _ _ i
+    (log_of (take i es)) (cons_option (logged (get_or es i past).caller (get_or es i past).did) []) (log_of (take (i + 1) es)) c.loop-event.invariant.header
+    c.loop-event.invariant.shows (log_more es i c.loop-event-test.true)
+    (subst (λ xs. c.take_event.new.steps + judge_debt g.S.Compared.Compare.price g.S.Spec.most_touched
+    c.take_event.new.self xs
+    ≤ c.loop-event.steps + judge_debt g.S.Compared.Compare.price g.S.Spec.most_touched
+    c.loop-event.self (log ++ log_of (take i es))
+    + log_cost g.S.Compared.Compare.price g.S.Spec.most_touched c.loop-event.self.kept (cons_option (logged (get_or es i past).caller (get_or es i past).did) []) + 1)
+    (append_assoc log (log_of (take i es)) (cons_option (logged (get_or es i past).caller (get_or es i past).did) []) ∙ ap (λ xs. log ++ xs) (sym
+    (log_more es i c.loop-event-test.true)))
     (c.in_ok-verdict.ensures.steps starting (log ++ log_of (take i es))
-    (c.loop-event.invariant.followed starting log f))
-    (ap (λ g. each_entry (rules_by g).header.callers) c.loop-event.invariant.header)
-    (c.loop-event.invariant.paid starting log f) c.loop-event-test.true
+    (c.loop-event.invariant.followed starting log f)))
+    (c.loop-event.invariant.paid starting log f))
 
 pub returns-clause-steps : goal.returns-clause-steps
 returns-clause-steps g c = λ starting log f.
-    last_paid _ _ (each_entry (callers_of c.args.self.now.kept)) _ _
-    c.loop-event.auto.event-index-end
-    (subst (λ xs. c.loop-event.steps + judge_debt c.loop-event.self (log ++ xs)
-    ≤ c.args.steps.now + judge_debt c.args.self.now log + each_entry
-    (callers_of c.args.self.now.kept) * c.loop-event.event-index)
+    last_events _ _ _ _ c.loop-event.auto.event-index-end
+    (subst (λ xs. c.loop-event.steps + judge_debt g.S.Compared.Compare.price g.S.Spec.most_touched
+    c.loop-event.self (log ++ xs)
+    ≤ c.args.steps.now + judge_debt g.S.Compared.Compare.price g.S.Spec.most_touched c.args.self.now log
+    + log_cost g.S.Compared.Compare.price g.S.Spec.most_touched c.args.self.now.kept xs
+    + c.loop-event.event-index)
     (ap log_of (take_all c.loop-event.event-index c.args.history.now c.loop-event-test.false))
     (c.loop-event.invariant.paid starting log f))
