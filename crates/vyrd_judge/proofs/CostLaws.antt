@@ -78,7 +78,8 @@ waiting_more callers keys e o old new is = omega (
 pub judged_paid : (price : Shows → ℕ → ℕ) (keys : Charter → ℕ) (k m n : Kept) (x : Waiting)
     (next : Option Waiting) (starting : List StartWord) (log : List Entry)
     (before judged after : ℕ)
-    → k ≡ m → IsCatchingUp next n starting log → n.charter ≡ k.charter → n.shape ≡ k.shape → n.shadow ≡ k.shadow
+    → k ≡ m → IsCatchingUp next n starting log → n.charter ≡ k.charter → n.shape ≡ k.shape →
+    n.shadow ≡ k.shadow
     → n.views.shows ≡ k.views.shows
     → words_owed (callers_of k) (newest_first log) n.views.since
     ≤ words_owed (callers_of k) (newest_first log) k.views.since

@@ -22,9 +22,9 @@ use Rattle.vyrd_judge.specs.Following.{Kept, JudgeView, with_first}
 -- for, by the charter (`most_touched` of `Spec`).
 
 -- What it costs to judge an entry, besides what was owed, by the number of callers and by how many
--- keys a step pays for. The specification makes a step or gives an answer, and what is known of open
--- observers goes on; and the words of a commit are compared: two steps for each key that the step
--- pays for, and three more.
+-- keys a step pays for. The specification makes a step or gives an answer, and what is known of
+-- open observers goes on; and the words of a commit are compared: two steps for each key that the
+-- step pays for, and three more.
 abbrev pub judging_cost : ℕ → ℕ → ℕ
 judging_cost callers keys = 9 * callers + 4 + (2 * keys + 3)
 
@@ -47,9 +47,9 @@ words_debt price k log = shadow_owed k.shadow + k.views.pending
     + words_owed (callers_of k) (newest_first log) k.views.since
     + price_kept price (callers_of k) (newest_first log)
 
--- What is owed for the entries so far: by the rules of shape, for the words, by what is known of open
--- observers, for the entries that wait, and for the keys that the specification's steps may still
--- touch beyond what each of them pays for.
+-- What is owed for the entries so far: by the rules of shape, for the words, by what is known of
+-- open observers, for the entries that wait, and for the keys that the specification's steps may
+-- still touch beyond what each of them pays for.
 abbrev pub debt : (Shows → ℕ → ℕ) → (Charter → ℕ) → Kept → List Entry → ℕ
 debt price keys k log = shape_owed k.shape + words_debt (price k.views.shows) k log
     + (answer_count k.watches + 2 * k.answers)

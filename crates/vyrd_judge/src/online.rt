@@ -415,8 +415,8 @@ impl<S: Spec> Judge<S> {
         Ok(None)
     }
 
-    /// Follows one more event of a history, as `take` does its entry, if it has one. The event itself
-    /// is a step.
+    /// Follows one more event of a history, as `take` does its entry, if it has one. The event
+    /// itself is a step.
     #[inline(always)]
     fn take_event<L: Ledger>(
         &mut self,

@@ -170,8 +170,9 @@ impl<S: Spec> Replay<S> {
 
     /// Judges the entry that waits first, which isn't a commit that hasn't returned. A commit takes
     /// time in proportion to the different questions of open observers, the most that there were at
-    /// one time, besides that of the specification's step and of the comparison. That is paid by what
-    /// is pending for the words, and for the touched keys by what the specification owes.
+    /// one time, besides that of the specification's step and of the comparison. The comparison is
+    /// paid by what is pending for the words, and where a step touches more keys than it pays for, by
+    /// what the specification owes.
     #[inline(always)]
     pub fn judge<L: Ledger>(
         &mut self,

@@ -26,7 +26,8 @@ use Rattle.vyrd_base.specs.declared.own.effect.Effect.TheVariants.{TakeLast, Emp
 use Rattle.vyrd_base.specs.Own.Expressions.{holds, value}
 use Rattle.vyrd_base.specs.Own.Programs.{Case, Method, Written}
 use Rattle.vyrd_base.specs.Own.OwnRules.{own_method}
-use Rattle.vyrd_base.specs.Own.Steps.{with_effect, with_effects, shown_keys, is_clearing, effects_of}
+use Rattle.vyrd_base.specs.Own.Steps.{with_effect, with_effects, shown_keys, is_clearing}
+use Rattle.vyrd_base.specs.Own.Steps.{effects_of}
 use Rattle.vyrd_base.specs.Own.Steps.{allowed_effects, effect_of, at_hand}
 use Rattle.vyrd_own_spec.specs.Effects.{most_of, line_count, longest_case, most_effects}
 use Rattle.vyrd_own_spec.specs.Touched.{touched_by, own_effects, effects_by}
@@ -75,7 +76,8 @@ shown_then : (s : State) (es : List Effect) → length (with_effects s es).shown
 shown_then s [] = omega arith
 shown_then s (SetShown k a ∷ es) =
     let rest = shown_then (with_effect s (SetShown k a)) es in
-    let more = more_left (list_any is_clearing es) (length (with_amount s.shown k a)) (length s.shown)
+    let more = more_left (list_any is_clearing es) (length (with_amount s.shown k a)) (length
+    s.shown)
     (one_more s.shown k a) in
     omega (arith, rest, more)
 shown_then s (SetHidden k a ∷ es) =

@@ -1,7 +1,8 @@
 //! Steps and answers by the rules of a specification's lines.
 
 ghost use Rattle.std.specs.Prelude.{◌≡◌, ◌≢◌, ◌≤◌, ◌+◌, ◌*◌, ◌++◌, ◌==◌, ◌||◌, [], ◌∷◌};
-ghost use Rattle.std.specs.Prelude.{true, false, length, map, take, OnOk, IfOk, Ok, Some, None, if◌then◌else◌, slice_get};
+ghost use Rattle.std.specs.Prelude.{true, false, length, map, take, OnOk, IfOk, Ok, Some, None};
+ghost use Rattle.std.specs.Prelude.{if◌then◌else◌, slice_get};
 ghost use Rattle.std.specs.Option.{option_map_or};
 ghost use Rattle.std.specs.List.{list_any};
 ghost use Rattle.vyrd_base.specs.Amounts.{IsAmounts, keys_of};

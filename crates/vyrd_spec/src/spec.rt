@@ -1,7 +1,7 @@
 //! What every specification offers.
 
-ghost use Rattle.std.specs.Prelude.{◌≡◌, ◌≢◌, ◌+◌, ◌++◌, ◌<◌, ◌≤◌, ◌^◌, ℕ, Bool, true, false, List, []};
-ghost use Rattle.std.specs.Prelude.{length, replicate, All, IfOk, IfSome, Some, None, Ok};
+ghost use Rattle.std.specs.Prelude.{◌≡◌, ◌≢◌, ◌+◌, ◌++◌, ◌<◌, ◌≤◌, ◌^◌, ℕ, Bool, true, false};
+ghost use Rattle.std.specs.Prelude.{List, [], length, replicate, All, IfOk, IfSome, Some, None, Ok};
 ghost use Rattle.std.specs.Option.{option_map};
 ghost use Rattle.vyrd_base.specs.declared.subject.Args.{Args};
 ghost use Rattle.vyrd_base.specs.declared.subject.Method.{Method};

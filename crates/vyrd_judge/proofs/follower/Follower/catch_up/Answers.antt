@@ -38,14 +38,17 @@ returns-in-Goes-None-clause-answer g c = λ starting log going.
 
 pub returns-in_default-clause-steps : goal.returns-in_default-clause-steps
 returns-in_default-clause-steps g c = λ starting log going.
-    subst (λ first. c.args.steps.now + debt g.S.Compared.Compare.price g.S.Spec.most_touched c.args.self.now log ≤ c.args.steps.now + debt g.S.Compared.Compare.price g.S.Spec.most_touched
+    subst (λ first. c.args.steps.now + debt g.S.Compared.Compare.price g.S.Spec.most_touched
+    c.args.self.now log ≤ c.args.steps.now + debt g.S.Compared.Compare.price g.S.Spec.most_touched
     (with_first first c.args.self.now) log) (sym c.in_default.is) (omega arith)
 
 pub returns-in-Goes-None-clause-steps : goal.returns-in-Goes-None-clause-steps
 returns-in-Goes-None-clause-steps g c = λ starting log going.
-    subst (λ first. c.judge.new.steps + debt g.S.Compared.Compare.price g.S.Spec.most_touched c.judge.new.self log ≤ c.args.steps.now + debt g.S.Compared.Compare.price g.S.Spec.most_touched
+    subst (λ first. c.judge.new.steps + debt g.S.Compared.Compare.price g.S.Spec.most_touched
+    c.judge.new.self log ≤ c.args.steps.now + debt g.S.Compared.Compare.price g.S.Spec.most_touched
     (with_first first c.args.self.now) log) (sym c.in-Some.is)
-    (subst (λ a. c.judge.new.steps + debt_by g.S.Compared.Compare.price g.S.Spec.most_touched a c.judge.new.self log ≤ c.args.steps.now + debt g.S.Compared.Compare.price g.S.Spec.most_touched
+    (subst (λ a. c.judge.new.steps + debt_by g.S.Compared.Compare.price g.S.Spec.most_touched a
+    c.judge.new.self log ≤ c.args.steps.now + debt g.S.Compared.Compare.price g.S.Spec.most_touched
     (with_first (Some c.in-Some.x) c.args.self.now) log)
     (c.in-Goes-None.is ∙ ap Goes c.in-Goes-None.field-0-is)
     (c.in_ok-judge.ensures.steps starting log (subst (λ first. IsCatchingUp first c.args.self.now
@@ -55,9 +58,12 @@ pub returns-in-Goes-clause-steps : goal.returns-in-Goes-clause-steps
 returns-in-Goes-clause-steps g c = λ starting log going.
     let here = subst (λ first. IsCatchingUp first c.args.self.now starting log) c.in-Some.is
     going in
-    let one = subst (λ first. c.judge.new.steps + debt g.S.Compared.Compare.price g.S.Spec.most_touched (with_first c.in-Goes.next c.judge.new.self)
-    log ≤ c.args.steps.now + debt g.S.Compared.Compare.price g.S.Spec.most_touched (with_first first c.args.self.now) log) (sym c.in-Some.is)
-    (subst (λ a. c.judge.new.steps + debt_by g.S.Compared.Compare.price g.S.Spec.most_touched a c.judge.new.self log ≤ c.args.steps.now + debt g.S.Compared.Compare.price g.S.Spec.most_touched
+    let one = subst (λ first. c.judge.new.steps + debt g.S.Compared.Compare.price
+    g.S.Spec.most_touched (with_first c.in-Goes.next c.judge.new.self)
+    log ≤ c.args.steps.now + debt g.S.Compared.Compare.price g.S.Spec.most_touched (with_first first
+    c.args.self.now) log) (sym c.in-Some.is)
+    (subst (λ a. c.judge.new.steps + debt_by g.S.Compared.Compare.price g.S.Spec.most_touched a
+    c.judge.new.self log ≤ c.args.steps.now + debt g.S.Compared.Compare.price g.S.Spec.most_touched
     (with_first (Some c.in-Some.x) c.args.self.now) log) c.in-Goes.is
     (c.in_ok-judge.ensures.steps starting log here)) in
     IfOk-weaker c.go_on.result _ _ (λ v paid. at_most_then paid one)

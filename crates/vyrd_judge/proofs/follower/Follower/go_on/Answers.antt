@@ -26,13 +26,17 @@ loop-next-preserved g c =
       can_leave = c.judge.ensures.can_leave c.in-Goes.more (c.in_ok-more.was ∙ ap Ok c.in-Goes.is);
       paid = λ starting log going.
           let here = c.loop-next.invariant.going starting log going in
-          let one = subst (λ a. c.judge.new.steps + debt_by g.S.Compared.Compare.price g.S.Spec.most_touched a c.judge.new.self log
-          ≤ c.loop-next.steps + debt g.S.Compared.Compare.price g.S.Spec.most_touched (with_first (Some c.in-Some.x) c.loop-next.self) log)
+          let one = subst (λ a. c.judge.new.steps + debt_by g.S.Compared.Compare.price
+          g.S.Spec.most_touched a c.judge.new.self log
+          ≤ c.loop-next.steps + debt g.S.Compared.Compare.price g.S.Spec.most_touched (with_first
+          (Some c.in-Some.x) c.loop-next.self) log)
           c.in-Goes.is (c.in_ok-more.ensures.steps starting log (subst
           (λ next. IsCatchingUp next c.loop-next.self starting log) c.in-Some.is here)) in
-          at_most_then one (subst (λ next. c.loop-next.steps + debt g.S.Compared.Compare.price g.S.Spec.most_touched
+          at_most_then one (subst (λ next. c.loop-next.steps
+          + debt g.S.Compared.Compare.price g.S.Spec.most_touched
           (with_first next c.loop-next.self) log
-          ≤ c.args.steps.now + debt g.S.Compared.Compare.price g.S.Spec.most_touched (with_first c.args.first c.args.self.now) log) c.in-Some.is
+          ≤ c.args.steps.now + debt g.S.Compared.Compare.price g.S.Spec.most_touched (with_first
+          c.args.first c.args.self.now) log) c.in-Some.is
           (c.loop-next.invariant.paid starting log going));
     }
 

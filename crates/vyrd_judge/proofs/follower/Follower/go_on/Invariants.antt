@@ -18,7 +18,8 @@ invariant-loop-next g l = record {
   can_leave : IfSome l.next CanLeave;
   paid : (starting : List StartWord) (log : List Entry)
       → IsCatchingUp l.fn.first l.initial.self starting log
-      → l.steps + debt g.S.Compared.Compare.price g.S.Spec.most_touched (with_first l.next l.self) log ≤ l.initial.steps + debt g.S.Compared.Compare.price g.S.Spec.most_touched
+      → l.steps + debt g.S.Compared.Compare.price g.S.Spec.most_touched (with_first l.next l.self)
+      log ≤ l.initial.steps + debt g.S.Compared.Compare.price g.S.Spec.most_touched
       (with_first l.fn.first l.initial.self) log;
 }
 

@@ -63,6 +63,7 @@ returns-in-Goes-clause-steps g c = λ starting log going.
     starting log c.args.steps.now c.judge.new.steps c.leave.new.steps c.self.view_is
     (returns-in-Goes-clause-gives g c starting log going) c.judge.ensures.charter refl
     c.judge.ensures.shadow c.judge.ensures.shows
-    (c.in_ok-judge.ensures.owed (rules_by (g.S.Spec.charter i.replay.spec)).header.callers (newest_first log) starting log
+    (c.in_ok-judge.ensures.owed (rules_by (g.S.Spec.charter i.replay.spec)).header.callers
+    (newest_first log) starting log
     i.queue.waiting.items was.taken_in.judged)
     c.in_ok-judge.ensures.steps c.leave.ensures.steps c.leave.ensures.waiting

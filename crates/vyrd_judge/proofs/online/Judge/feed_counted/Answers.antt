@@ -14,6 +14,7 @@ returns-in-Some-clause-followed g c = λ starting log f. followed_on (c.args.ent
 pub returns-in-Some-clause-steps : goal.returns-in-Some-clause-steps
 returns-in-Some-clause-steps g c = λ starting log f.
     stands_paid g.S.Compared.Compare.price g.S.Spec.most_touched c.args.self.now c.args.steps.now
-    (entry_cost g.S.Compared.Compare.price g.S.Spec.most_touched c.args.self.now.kept c.args.entry) log
+    (entry_cost g.S.Compared.Compare.price g.S.Spec.most_touched c.args.self.now.kept c.args.entry)
+    log
     (log ++ c.args.entry ∷ [])
     (ap (λ (j : JudgeView). j.so_far) (sym c.self.view_is) ∙ c.in-Some.is)

@@ -7,7 +7,8 @@ use Rattle.vyrd_base.specs.Verdicts.{verdict_so_far}
 use Rattle.vyrd_judge.specs.Following.{JudgeView, HasFollowed}
 use Rattle.vyrd_base.proofs.FrontLaws.{take_past}
 use Rattle.vyrd_judge.specs.Costs.{entry_cost, judge_debt, log_cost}
-use Rattle.vyrd_judge.proofs.CostLaws.{stands_paid, first_paid, one_cost, more_paid, verdict_paid, no_entry}
+use Rattle.vyrd_judge.proofs.CostLaws.{stands_paid, first_paid, one_cost, more_paid, verdict_paid}
+use Rattle.vyrd_judge.proofs.CostLaws.{no_entry}
 use Rattle.vyrd_judge.proofs.OnlineLaws.{stands_on, followed_on, decided, none_stands, so_far_is_known}
 use Rattle.vyrd_judge.proofs.online.Judge.follow_counted.Goals as goal
 
@@ -46,10 +47,13 @@ loop-entry-preserved g c =
       shows = c.take.ensures.shows ∙ c.loop-entry.invariant.shows;
       paid = λ starting log f. more_paid g.S.Compared.Compare.price g.S.Spec.most_touched
           c.args.self.now.kept c.loop-entry.self.kept _ _ _
-          (take i es) (get_or es i no_entry ∷ []) (take (i + 1) es) c.loop-entry.invariant.header c.loop-entry.invariant.shows
+          (take i es) (get_or es i no_entry ∷ []) (take (i
+          + 1) es) c.loop-entry.invariant.header c.loop-entry.invariant.shows
           (take_more es i no_entry c.loop-entry-test.true)
-          (one_cost g.S.Compared.Compare.price g.S.Spec.most_touched c.loop-entry.self.kept (get_or es i no_entry) _ _
-          (subst (λ xs. c.take.new.steps + judge_debt g.S.Compared.Compare.price g.S.Spec.most_touched
+          (one_cost g.S.Compared.Compare.price g.S.Spec.most_touched c.loop-entry.self.kept (get_or
+          es i no_entry) _ _
+          (subst (λ xs. c.take.new.steps + judge_debt g.S.Compared.Compare.price
+          g.S.Spec.most_touched
           c.take.new.self xs
           ≤ c.loop-entry.steps + judge_debt g.S.Compared.Compare.price g.S.Spec.most_touched
           c.loop-entry.self (log ++ take i es)
@@ -92,7 +96,8 @@ returns-clause-answer g c = λ starting log f.
 pub returns-in-Some-clause-steps : goal.returns-in-Some-clause-steps
 returns-in-Some-clause-steps g c = λ starting log f.
     stands_paid g.S.Compared.Compare.price g.S.Spec.most_touched c.args.self.now c.args.steps.now
-    (log_cost g.S.Compared.Compare.price g.S.Spec.most_touched c.args.self.now.kept c.args.entries.now) log
+    (log_cost g.S.Compared.Compare.price g.S.Spec.most_touched c.args.self.now.kept
+    c.args.entries.now) log
     (log ++ c.args.entries.now)
     (ap (λ (j : JudgeView). j.so_far) (sym c.self.view_is) ∙ c.in-Some.is)
 
@@ -100,14 +105,17 @@ pub returns-in-Some-2-clause-steps : goal.returns-in-Some-2-clause-steps
 returns-in-Some-2-clause-steps g c = λ starting log f.
     let es = c.args.entries.now in
     let i = c.loop-entry.entry-index in
-    verdict_paid g.S.Compared.Compare.price g.S.Spec.most_touched c.args.self.now.kept c.take.new.self _ _ _
+    verdict_paid g.S.Compared.Compare.price g.S.Spec.most_touched c.args.self.now.kept
+    c.take.new.self _ _ _
     (take (i + 1) es) (drop (i + 1) es) es (log ++ es)
     (c.in_ok-verdict.ensures.so_far ∙ c.in-Some-2.is) (take-append-drop (i + 1) es)
     (more_paid g.S.Compared.Compare.price g.S.Spec.most_touched
     c.args.self.now.kept c.loop-entry.self.kept _ _ _
-    (take i es) (get_or es i no_entry ∷ []) (take (i + 1) es) c.loop-entry.invariant.header c.loop-entry.invariant.shows
+    (take i es) (get_or es i no_entry ∷ []) (take (i
+    + 1) es) c.loop-entry.invariant.header c.loop-entry.invariant.shows
     (take_more es i no_entry c.loop-entry-test.true)
-    (one_cost g.S.Compared.Compare.price g.S.Spec.most_touched c.loop-entry.self.kept (get_or es i no_entry) _ _
+    (one_cost g.S.Compared.Compare.price g.S.Spec.most_touched c.loop-entry.self.kept (get_or es i
+    no_entry) _ _
     (subst (λ xs. c.take.new.steps + judge_debt g.S.Compared.Compare.price g.S.Spec.most_touched
     c.take.new.self xs
     ≤ c.loop-entry.steps + judge_debt g.S.Compared.Compare.price g.S.Spec.most_touched
@@ -124,7 +132,8 @@ pub returns-clause-steps : goal.returns-clause-steps
 returns-clause-steps g c = λ starting log f.
     subst (λ xs. c.loop-entry.steps + judge_debt g.S.Compared.Compare.price g.S.Spec.most_touched
     c.loop-entry.self (log ++ xs)
-    ≤ c.args.steps.now + judge_debt g.S.Compared.Compare.price g.S.Spec.most_touched c.args.self.now log
+    ≤ c.args.steps.now + judge_debt g.S.Compared.Compare.price g.S.Spec.most_touched c.args.self.now
+    log
     + log_cost g.S.Compared.Compare.price g.S.Spec.most_touched c.args.self.now.kept xs)
     (take_past c.args.entries.now c.loop-entry.entry-index c.loop-entry.auto.entry-index-end
     c.loop-entry-test.false)

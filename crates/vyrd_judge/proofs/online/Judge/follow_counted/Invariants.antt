@@ -18,7 +18,8 @@ invariant-loop-entry g l = record {
   paid : (starting : List StartWord) (log : List Entry) → HasFollowed l.initial.self starting log
       → l.steps + judge_debt g.S.Compared.Compare.price g.S.Spec.most_touched l.self
       (log ++ take l.entry-index l.fn.entries)
-      ≤ l.initial.steps + judge_debt g.S.Compared.Compare.price g.S.Spec.most_touched l.initial.self log
+      ≤ l.initial.steps + judge_debt g.S.Compared.Compare.price g.S.Spec.most_touched l.initial.self
+      log
       + log_cost g.S.Compared.Compare.price g.S.Spec.most_touched l.initial.self.kept
       (take l.entry-index l.fn.entries);
 }

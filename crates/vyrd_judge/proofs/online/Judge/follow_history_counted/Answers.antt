@@ -8,7 +8,8 @@ use Rattle.vyrd_base.specs.Verdicts.{verdict_so_far}
 use Rattle.vyrd_base.specs.Histories.{logged, log_of}
 use Rattle.vyrd_judge.specs.Following.{JudgeView, HasFollowed}
 use Rattle.vyrd_judge.specs.Costs.{judge_debt, log_cost}
-use Rattle.vyrd_judge.proofs.CostLaws.{stands_events, first_events, more_events, verdict_events, last_events}
+use Rattle.vyrd_judge.proofs.CostLaws.{stands_events, first_events, more_events, verdict_events}
+use Rattle.vyrd_judge.proofs.CostLaws.{last_events}
 use Rattle.vyrd_judge.proofs.OnlineLaws.{stands_on, followed_on, decided, none_stands, so_far_is_known}
 use Rattle.vyrd_judge.proofs.HistoryLaws.{past, log_of_none, log_more, log_around}
 use Rattle.vyrd_judge.proofs.online.Judge.follow_history_counted.Goals as goal
@@ -29,7 +30,8 @@ loop-event-init g c = record {
   works = ap (λ (j : JudgeView). j.has_failed) (sym c.self.view_is) ∙ c.if-self.false;
   undecided = ap (λ (j : JudgeView). j.so_far) (sym c.self.view_is) ∙ c.in_default.is;
   shows = refl;
-  paid = λ starting log f. first_events g.S.Compared.Compare.price g.S.Spec.most_touched c.args.steps.now c.args.self.now log log_of_none;
+  paid = λ starting log f. first_events g.S.Compared.Compare.price g.S.Spec.most_touched
+      c.args.steps.now c.args.self.now log log_of_none;
 }
 
 pub loop-event-preserved : goal.loop-event-preserved
@@ -48,14 +50,18 @@ loop-event-preserved g c =
       shows = c.take_event.ensures.shows ∙ c.loop-event.invariant.shows;
       paid = λ starting log f. more_events g.S.Compared.Compare.price g.S.Spec.most_touched
           c.args.self.now.kept c.loop-event.self.kept _ _ _ i
-          (log_of (take i es)) (cons_option (logged (get_or es i past).caller (get_or es i past).did) []) (log_of (take (i + 1) es)) c.loop-event.invariant.header
+          (log_of (take i es)) (cons_option (logged (get_or es i past).caller (get_or es i
+          past).did) []) (log_of (take (i + 1) es)) c.loop-event.invariant.header
           c.loop-event.invariant.shows (log_more es i c.loop-event-test.true)
-          (subst (λ xs. c.take_event.new.steps + judge_debt g.S.Compared.Compare.price g.S.Spec.most_touched
+          (subst (λ xs. c.take_event.new.steps + judge_debt g.S.Compared.Compare.price
+          g.S.Spec.most_touched
           c.take_event.new.self xs
           ≤ c.loop-event.steps + judge_debt g.S.Compared.Compare.price g.S.Spec.most_touched
           c.loop-event.self (log ++ log_of (take i es))
-          + log_cost g.S.Compared.Compare.price g.S.Spec.most_touched c.loop-event.self.kept (cons_option (logged (get_or es i past).caller (get_or es i past).did) []) + 1)
-          (append_assoc log (log_of (take i es)) (cons_option (logged (get_or es i past).caller (get_or es i past).did) []) ∙ ap (λ xs. log ++ xs) (sym
+          + log_cost g.S.Compared.Compare.price g.S.Spec.most_touched c.loop-event.self.kept
+          (cons_option (logged (get_or es i past).caller (get_or es i past).did) []) + 1)
+          (append_assoc log (log_of (take i es)) (cons_option (logged (get_or es i past).caller
+          (get_or es i past).did) []) ∙ ap (λ xs. log ++ xs) (sym
           (log_more es i c.loop-event-test.true)))
           (c.in_ok-verdict.ensures.steps starting (log ++ log_of (take i es))
           (c.loop-event.invariant.followed starting log f)))
@@ -106,14 +112,18 @@ returns-in-Some-2-clause-steps g c = λ starting log f.
     c.loop-event-test.true
     (more_events g.S.Compared.Compare.price g.S.Spec.most_touched
     c.args.self.now.kept c.loop-event.self.kept _ _ _ i
-    (log_of (take i es)) (cons_option (logged (get_or es i past).caller (get_or es i past).did) []) (log_of (take (i + 1) es)) c.loop-event.invariant.header
+    (log_of (take i es)) (cons_option (logged (get_or es i past).caller (get_or es i past).did) [])
+    (log_of (take (i + 1) es)) c.loop-event.invariant.header
     c.loop-event.invariant.shows (log_more es i c.loop-event-test.true)
-    (subst (λ xs. c.take_event.new.steps + judge_debt g.S.Compared.Compare.price g.S.Spec.most_touched
+    (subst (λ xs. c.take_event.new.steps + judge_debt g.S.Compared.Compare.price
+    g.S.Spec.most_touched
     c.take_event.new.self xs
     ≤ c.loop-event.steps + judge_debt g.S.Compared.Compare.price g.S.Spec.most_touched
     c.loop-event.self (log ++ log_of (take i es))
-    + log_cost g.S.Compared.Compare.price g.S.Spec.most_touched c.loop-event.self.kept (cons_option (logged (get_or es i past).caller (get_or es i past).did) []) + 1)
-    (append_assoc log (log_of (take i es)) (cons_option (logged (get_or es i past).caller (get_or es i past).did) []) ∙ ap (λ xs. log ++ xs) (sym
+    + log_cost g.S.Compared.Compare.price g.S.Spec.most_touched c.loop-event.self.kept (cons_option
+    (logged (get_or es i past).caller (get_or es i past).did) []) + 1)
+    (append_assoc log (log_of (take i es)) (cons_option (logged (get_or es i past).caller (get_or es
+    i past).did) []) ∙ ap (λ xs. log ++ xs) (sym
     (log_more es i c.loop-event-test.true)))
     (c.in_ok-verdict.ensures.steps starting (log ++ log_of (take i es))
     (c.loop-event.invariant.followed starting log f)))
@@ -124,7 +134,8 @@ returns-clause-steps g c = λ starting log f.
     last_events _ _ _ _ c.loop-event.auto.event-index-end
     (subst (λ xs. c.loop-event.steps + judge_debt g.S.Compared.Compare.price g.S.Spec.most_touched
     c.loop-event.self (log ++ xs)
-    ≤ c.args.steps.now + judge_debt g.S.Compared.Compare.price g.S.Spec.most_touched c.args.self.now log
+    ≤ c.args.steps.now + judge_debt g.S.Compared.Compare.price g.S.Spec.most_touched c.args.self.now
+    log
     + log_cost g.S.Compared.Compare.price g.S.Spec.most_touched c.args.self.now.kept xs
     + c.loop-event.event-index)
     (ap log_of (take_all c.loop-event.event-index c.args.history.now c.loop-event-test.false))

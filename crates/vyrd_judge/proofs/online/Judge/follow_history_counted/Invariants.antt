@@ -19,7 +19,8 @@ invariant-loop-event g l = record {
   paid : (starting : List StartWord) (log : List Entry) → HasFollowed l.initial.self starting log
       → l.steps + judge_debt g.S.Compared.Compare.price g.S.Spec.most_touched l.self
       (log ++ log_of (take l.event-index l.fn.history))
-      ≤ l.initial.steps + judge_debt g.S.Compared.Compare.price g.S.Spec.most_touched l.initial.self log
+      ≤ l.initial.steps + judge_debt g.S.Compared.Compare.price g.S.Spec.most_touched l.initial.self
+      log
       + log_cost g.S.Compared.Compare.price g.S.Spec.most_touched l.initial.self.kept
       (log_of (take l.event-index l.fn.history))
       + l.event-index;

@@ -19,12 +19,19 @@ returns-in-Ok-None-clause-steps g c = λ starting log f.
     let kept = c.self.inside.follower in
     let more = log ++ c.args.entry ∷ [] in
     let none = ap (λ (j : JudgeView). j.so_far) c.self.view_is ∙ c.requires.undecided in
-    subst (λ (j : JudgeView). c.take_in.new.steps + debt_after g.S.Compared.Compare.price g.S.Spec.most_touched c.self.inside.so_far
-    c.take_in.new.self more ≤ c.args.steps.now + judge_debt g.S.Compared.Compare.price g.S.Spec.most_touched j log + entry_cost g.S.Compared.Compare.price g.S.Spec.most_touched j.kept c.args.entry) c.self.view_is
-    (subst (λ o. c.take_in.new.steps + debt_after g.S.Compared.Compare.price g.S.Spec.most_touched o c.take_in.new.self more
-    ≤ c.args.steps.now + debt_after g.S.Compared.Compare.price g.S.Spec.most_touched o kept log + entry_cost g.S.Compared.Compare.price g.S.Spec.most_touched kept c.args.entry) (sym none)
-    (subst (λ v. c.take_in.new.steps + debt_after g.S.Compared.Compare.price g.S.Spec.most_touched v c.take_in.new.self more
-    ≤ c.args.steps.now + debt g.S.Compared.Compare.price g.S.Spec.most_touched kept log + entry_cost g.S.Compared.Compare.price g.S.Spec.most_touched kept c.args.entry)
+    subst (λ (j : JudgeView). c.take_in.new.steps + debt_after g.S.Compared.Compare.price
+    g.S.Spec.most_touched c.self.inside.so_far
+    c.take_in.new.self more ≤ c.args.steps.now + judge_debt g.S.Compared.Compare.price
+    g.S.Spec.most_touched j log + entry_cost g.S.Compared.Compare.price g.S.Spec.most_touched j.kept
+    c.args.entry) c.self.view_is
+    (subst (λ o. c.take_in.new.steps + debt_after g.S.Compared.Compare.price g.S.Spec.most_touched o
+    c.take_in.new.self more
+    ≤ c.args.steps.now + debt_after g.S.Compared.Compare.price g.S.Spec.most_touched o kept log
+    + entry_cost g.S.Compared.Compare.price g.S.Spec.most_touched kept c.args.entry) (sym none)
+    (subst (λ v. c.take_in.new.steps + debt_after g.S.Compared.Compare.price g.S.Spec.most_touched v
+    c.take_in.new.self more
+    ≤ c.args.steps.now + debt g.S.Compared.Compare.price g.S.Spec.most_touched kept log
+    + entry_cost g.S.Compared.Compare.price g.S.Spec.most_touched kept c.args.entry)
     c.in-Ok-None.field-0-is (c.in-Ok-None.ensures.steps starting log (faultless_of none (subst
     (λ j. HasFollowed j starting log) (sym c.self.view_is) f)))))
 
@@ -33,10 +40,15 @@ returns-in-Ok-Some-clause-steps g c = λ starting log f.
     let kept = c.self.inside.follower in
     let more = log ++ c.args.entry ∷ [] in
     let none = ap (λ (j : JudgeView). j.so_far) c.self.view_is ∙ c.requires.undecided in
-    subst (λ (j : JudgeView). c.take_in.new.steps + 0 ≤ c.args.steps.now + judge_debt g.S.Compared.Compare.price g.S.Spec.most_touched j log +
+    subst (λ (j : JudgeView). c.take_in.new.steps + 0 ≤ c.args.steps.now
+    + judge_debt g.S.Compared.Compare.price g.S.Spec.most_touched j log +
     entry_cost g.S.Compared.Compare.price g.S.Spec.most_touched j.kept c.args.entry) c.self.view_is
-    (subst (λ o. c.take_in.new.steps + 0 ≤ c.args.steps.now + debt_after g.S.Compared.Compare.price g.S.Spec.most_touched o kept log + entry_cost g.S.Compared.Compare.price g.S.Spec.most_touched kept c.args.entry) (sym none)
-    (subst (λ v. c.take_in.new.steps + debt_after g.S.Compared.Compare.price g.S.Spec.most_touched v c.take_in.new.self more
-    ≤ c.args.steps.now + debt g.S.Compared.Compare.price g.S.Spec.most_touched kept log + entry_cost g.S.Compared.Compare.price g.S.Spec.most_touched kept c.args.entry)
+    (subst (λ o. c.take_in.new.steps + 0 ≤ c.args.steps.now
+    + debt_after g.S.Compared.Compare.price g.S.Spec.most_touched o kept log
+    + entry_cost g.S.Compared.Compare.price g.S.Spec.most_touched kept c.args.entry) (sym none)
+    (subst (λ v. c.take_in.new.steps + debt_after g.S.Compared.Compare.price g.S.Spec.most_touched v
+    c.take_in.new.self more
+    ≤ c.args.steps.now + debt g.S.Compared.Compare.price g.S.Spec.most_touched kept log
+    + entry_cost g.S.Compared.Compare.price g.S.Spec.most_touched kept c.args.entry)
     c.in-Ok-Some.field-0-is (c.in-Ok-Some.ensures.steps starting log (faultless_of none (subst
     (λ j. HasFollowed j starting log) (sym c.self.view_is) f)))))
