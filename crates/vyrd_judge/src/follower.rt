@@ -17,7 +17,7 @@ ghost use Rattle.vyrd_judge.specs.Following.{Kept, HasTakenIn, IsFaultless, IsSo
 ghost use Rattle.vyrd_judge.specs.Following.{IsCatchingUp, MayCatchUp, AdvanceGives, with_first};
 ghost use Rattle.vyrd_judge.specs.Queued.{CanLeave};
 ghost use Rattle.vyrd_shadow.specs.Costs.{owed as shadow_owed};
-ghost use Rattle.vyrd_view.specs.Known.{view_by};
+ghost use Rattle.vyrd_view.specs.Known.{by_rules, view_by};
 ghost use Rattle.vyrd_words.specs.Costs.{owed as words_owed, price_kept};
 ghost use Rattle.vyrd_words.specs.HasWords.{HasWords};
 ghost use Rattle.vyrd_judge.specs.declared.outcome.Advance.TheVariants.{Goes};
@@ -105,6 +105,7 @@ impl<S: Spec> Follower<S> {
             ≡ Some (S.state spec) }
         ensures taken_in { IfOk result (λ f. HasTakenIn f start.now []) }
         ensures charter { IfOk result (λ f. f.charter ≡ S.charter spec) }
+        ensures shows { IfOk result (λ f. f.views.shows ≡ by_rules (S.charter spec)) }
         ensures entries { IfOk result (λ f. f.entries ≡ 0) }
         ensures owed { IfOk result (λ f. debt S.Compared.price S.most_touched f []
             ≡ start_cost (S.Compared.price f.views.shows) start.now + 2 * S.owes spec) }
@@ -391,6 +392,7 @@ fn first_words<S: Spec>(
     ensures views_header { IfOk result (λ w. w.views.header ≡ header) }
     ensures shows { IfOk result
         (λ w. view_by w.views.shows ≡ (rules_by (S.charter spec.now)).view) }
+    ensures named { IfOk result (λ w. w.views.shows ≡ by_rules (S.charter spec.now)) }
     ensures first { IfOk result (λ w. w.views.first ≡ words.now) }
     ensures since { IfOk result (λ w. w.views.since ≡ []) }
     ensures specified { IfOk result

@@ -16,6 +16,7 @@ ghost use Rattle.vyrd_base.specs.Histories.{logged, log_of};
 ghost use Rattle.vyrd_base.specs.Verdicts.{verdict, verdict_so_far};
 ghost use Rattle.vyrd_judge.specs.Costs.{callers_of, judge_debt, entry_cost, log_cost, start_cost};
 ghost use Rattle.vyrd_judge.specs.Following.{HasFollowed};
+ghost use Rattle.vyrd_view.specs.Known.{by_rules};
 
 use crate::follower::Follower;
 use crate::logged::entry_of;
@@ -84,6 +85,7 @@ impl<S: BuiltIn> Judge<S> {
         requires serves { S.serves header.subject }
         ensures followed { IfOk result (λ j. HasFollowed j [] []) }
         ensures charter { IfOk result (λ j. j.kept.charter ≡ built_in header) }
+        ensures shows { IfOk result (λ j. j.kept.views.shows ≡ by_rules (built_in header)) }
         ensures entries { IfOk result (λ j. j.kept.entries ≡ 0) }
         ensures so_far { IfOk result (λ j. j.so_far ≡ None) }
         ensures has_failed { IfOk result (λ j. j.has_failed ≡ false) }
@@ -109,6 +111,8 @@ impl<S: BuiltIn> Judge<S> {
             (λ j. is_none j ≡ is_none (state_at_start (rules_of header) start.now)) }
         ensures followed { IfOk result (λ o. IfSome o (λ j. HasFollowed j start.now [])) }
         ensures charter { IfOk result (λ o. IfSome o (λ j. j.kept.charter ≡ built_in header)) }
+        ensures shows { IfOk result
+            (λ o. IfSome o (λ j. j.kept.views.shows ≡ by_rules (built_in header))) }
         ensures entries { IfOk result (λ o. IfSome o (λ j. j.kept.entries ≡ 0)) }
         ensures so_far { IfOk result (λ o. IfSome o (λ j. j.so_far ≡ None)) }
         ensures has_failed { IfOk result (λ o. IfSome o (λ j. j.has_failed ≡ false)) }
@@ -146,6 +150,7 @@ impl<S: Spec> Judge<S> {
             ≡ Some (S.state spec) }
         ensures followed { IfOk result (λ j. HasFollowed j start.now []) }
         ensures charter { IfOk result (λ j. j.kept.charter ≡ S.charter spec) }
+        ensures shows { IfOk result (λ j. j.kept.views.shows ≡ by_rules (S.charter spec)) }
         ensures entries { IfOk result (λ j. j.kept.entries ≡ 0) }
         ensures so_far { IfOk result (λ j. j.so_far ≡ None) }
         ensures has_failed { IfOk result (λ j. j.has_failed ≡ false) }

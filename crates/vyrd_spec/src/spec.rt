@@ -15,7 +15,7 @@ ghost use Rattle.vyrd_base.specs.Subjects.{subject_of, is_observer, must_commit,
 ghost use Rattle.vyrd_base.specs.Subjects.{is_built_in};
 ghost use Rattle.vyrd_spec.specs.Bounds.{AllAmounts};
 ghost use Rattle.vyrd_spec.specs.Touching.{with_touched};
-ghost use Rattle.vyrd_view.specs.Known.{IsNew, view_by};
+ghost use Rattle.vyrd_view.specs.Known.{IsNew, by_rules, view_by};
 
 use std::alloc::{AllocError, Global};
 use vyrd_base::{Args, Header, Method, View};
@@ -119,7 +119,9 @@ pub trait Spec: Sized + Drop {
         ensures new { IfOk result (λ c. IsNew
             (plain_words (rules_by (charter self.now)).header) (Self.Compared.known c)) }
         ensures view { IfOk result (λ c. view_by (Self.Compared.known c).shows
-            ≡ (rules_by (charter self.now)).view) };
+            ≡ (rules_by (charter self.now)).view) }
+        ensures shows { IfOk result
+            (λ c. (Self.Compared.known c).shows ≡ by_rules (charter self.now)) };
 }
 
 /// A specification that is built in. It is made from a header, and its rules are those of the
