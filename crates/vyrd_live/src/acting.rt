@@ -7,13 +7,12 @@ ghost use Rattle.vyrd_live.specs.Sending.{HasSent};
 
 use crate::outbox::Outbox;
 use std::sync::Wait;
-use std::thread;
 use vyrd_memory::Act;
 use vyrd_relay::Relay;
 use vyrd_trace::{Hand, Traced};
 
 /// Does the act, and answers what it found: the value that was loaded, and 0 for any other act. It
-/// waits for as long as the act is busy, and sends what it can meanwhile.
+/// waits for as long as the act is busy, and before long sends what it can meanwhile.
 pub(crate) fn act<R: Wait>(
     rt: &R,
     traced: &Traced,
@@ -28,12 +27,12 @@ pub(crate) fn act<R: Wait>(
     ensures acted { HasActed act result hand.old hand.new }
     ensures sent { HasSent relay.now outbox.new.sender outbox.new.place hand.old }
 {
+    let mut tries = 0;
     for _ in rt.forever() {
         if let Some(answer) = try_act(traced, hand, act) {
             return answer;
         }
-        outbox.send(rt, relay, hand);
-        thread::yield_now();
+        outbox.pass_round(rt, relay, hand, &mut tries);
     }
     unreachable!()
 }

@@ -1,6 +1,9 @@
 //! What the workers of a live run and what takes in their events tell each other.
 
+use std::sync::Wait;
 use std::sync::atomic::{AtomicBool, AtomicU64, Ordering};
+use std::thread;
+use std::time::Duration;
 
 /// A caller waits with its next operation while its last event is this many numbers or more ahead
 /// of the events that the sink has taken. So few are held at a time for the order's sake.
@@ -8,16 +11,26 @@ const AHEAD: u64 = 4096;
 
 /// The callers are told how far the sink has come each time that it has taken this many events
 /// more. What is told more often is read more often.
-const TOLD: u64 = 64;
+const TOLD: u64 = 1024;
+
+/// In how many rounds of the sink nothing comes before it sleeps.
+const IDLE: u32 = 4;
+
+/// For how many microseconds the sink sleeps at most when nothing comes.
+const NAP: u64 = 50;
+
+/// For how many microseconds a caller sleeps at most that waits for the sink.
+const WAIT: u64 = 1000;
 
 /// Three flags, each of which may be raised once, whether the sink is held, and how far it has come.
 #[derive(Drop)]
 pub(crate) struct Signals {
     begun: AtomicBool,
     left: AtomicBool,
-    ended: AtomicBool,
+    ended: AtomicU64,
     held: AtomicBool,
     next: AtomicU64,
+    waiting: AtomicU64,
 }
 
 impl Signals {
@@ -26,9 +39,10 @@ impl Signals {
         Signals {
             begun: AtomicBool::new(false),
             left: AtomicBool::new(false),
-            ended: AtomicBool::new(false),
+            ended: AtomicU64::new(0),
             held: AtomicBool::new(false),
             next: AtomicU64::new(0),
+            waiting: AtomicU64::new(0),
         }
     }
 
@@ -46,21 +60,24 @@ impl Signals {
     /// can't come past them, and nobody must wait for it.
     pub(crate) fn leave(&self) {
         self.left.store(true, Ordering::SeqCst);
+        self.next.wake_all();
     }
 
     /// All workers have ended.
     pub(crate) fn end(&self) {
-        self.ended.store(true, Ordering::SeqCst);
+        self.ended.store(1, Ordering::SeqCst);
+        self.ended.wake_all();
     }
 
     /// Whether all workers have ended.
     pub(crate) fn has_ended(&self) -> bool {
-        self.ended.load(Ordering::SeqCst)
+        self.ended.load(Ordering::SeqCst) != 0
     }
 
     /// The sink waits for its gate.
     pub(crate) fn hold(&self) {
         self.held.store(true, Ordering::SeqCst);
+        self.next.wake_all();
     }
 
     /// The sink takes events again.
@@ -80,6 +97,9 @@ impl Signals {
         let next = next.unwrap_or(u64::MAX);
         if next.saturating_sub(self.next.load(Ordering::SeqCst)) >= TOLD {
             self.next.store(next, Ordering::SeqCst);
+            if self.waiting.load(Ordering::SeqCst) != 0 {
+                self.next.wake_all();
+            }
         }
     }
 
@@ -88,5 +108,31 @@ impl Signals {
     pub(crate) fn is_near(&self, number: u64) -> bool {
         number.saturating_sub(self.next.load(Ordering::SeqCst)) < AHEAD
             || self.left.load(Ordering::SeqCst)
+    }
+
+    /// Sleeps until the sink has come further, or nobody needs to wait for it, if that isn't so
+    /// already. It may return for no reason.
+    pub(crate) fn await_sink<R: Wait>(&self, rt: &R, number: u64) {
+        self.waiting.fetch_add(1, Ordering::SeqCst);
+        let next = self.next.load(Ordering::SeqCst);
+        if !self.is_near(number) && self.is_awaited() {
+            self.next
+                .park_timeout(rt, (next & 0xffff_ffff) as u32, Duration::from_micros(WAIT));
+        }
+        self.waiting.fetch_sub(1, Ordering::SeqCst);
+    }
+
+    /// Ends a round of the sink, in which something came or not. After some rounds in which nothing
+    /// came, which `idle` counts, it sleeps for a short time, or until the workers have ended.
+    pub(crate) fn rest<R: Wait>(&self, rt: &R, came: bool, idle: &mut u32) {
+        if came {
+            *idle = 0;
+        } else if *idle < IDLE {
+            *idle += 1;
+            thread::yield_now();
+        } else {
+            self.ended
+                .park_timeout(rt, 0, Duration::from_micros(NAP));
+        }
     }
 }

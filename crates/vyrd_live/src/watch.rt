@@ -87,15 +87,14 @@ impl<S: EventSink + Drop> Watch<S> {
         ensures goes_on { GoesOn S.has_taken S.fixed self.old self.new }
     {
         signals.begin();
+        let mut idle = 0;
         for _ in rt.forever() {
             if signals.has_ended() {
                 return;
             }
             let came = self.take_round(rt, relay, gate, signals);
             signals.advance(self.next());
-            if !came {
-                thread::yield_now();
-            }
+            signals.rest(rt, came, &mut idle);
         }
         unreachable!()
     }

@@ -16,7 +16,6 @@ use crate::acting::act;
 use crate::outbox::Outbox;
 use crate::signals::Signals;
 use std::sync::Wait;
-use std::thread;
 use vyrd_base::Gate;
 use vyrd_memory::{Act, Machine};
 use vyrd_relay::Relay;
@@ -84,6 +83,7 @@ impl<M: Machine> Worker<M> {
         let mut outbox = outbox;
         let ending = worker.play(rt, traced, gate, relay, signals, &mut outbox);
         let Worker { machine: _, hand } = worker;
+        outbox.flush(rt, relay, &hand, signals);
         if outbox.place < hand.made() {
             signals.leave();
         }
@@ -172,7 +172,7 @@ impl<M: Machine> Worker<M> {
         ensures sent { HasSent relay.now outbox.new.sender outbox.new.place self.new.hand }
     {
         if self.machine.between() {
-            outbox.empty(rt, relay, &mut self.hand, signals);
+            outbox.keep_up(rt, relay, &mut self.hand, signals);
         }
     }
 }
@@ -183,12 +183,12 @@ fn wait_for<R: Wait, G: Gate>(rt: &R, gate: &G, hand: &Hand, relay: &Relay, outb
     ensures { HasSent relay.now outbox.new.sender outbox.new.place hand.now }
 {
     let place = hand.made();
+    let mut rounds = 0;
     for _ in rt.forever() {
         if gate.may_start(hand.caller(), place) {
             return;
         }
-        outbox.send(rt, relay, hand);
-        thread::yield_now();
+        outbox.pass_round(rt, relay, hand, &mut rounds);
     }
     unreachable!()
 }

@@ -19,7 +19,7 @@ mod reorder;
 mod rule;
 mod sender;
 
-pub use parcel::Parcel;
+pub use parcel::{PARCEL_ROOM, Parcel};
 pub use receiver::Receiver;
 pub use relay::{Full, Relay};
 pub use reorder::Reorder;

@@ -6,14 +6,14 @@ use std::marker::Model;
 use vyrd_base::Stamped;
 
 /// How many events a parcel holds at most.
-const MOST: usize = 16;
+pub const PARCEL_ROOM: usize = 64;
 
-/// A few events, in their order: 1 to 16. A push and a pop cost the same for a parcel of any number
+/// A few events, in their order: 1 to 64. A push and a pop cost the same for a parcel of any number
 /// of them, and it is these that threads slow one another down with.
 #[derive(Drop)]
 pub struct Parcel {
     count: usize,
-    events: [Stamped; MOST],
+    events: [Stamped; PARCEL_ROOM],
 }
 
 impl Model for Parcel {
@@ -24,18 +24,18 @@ impl Model for Parcel {
 
     ghost view = { λ p. take p.count p.events };
 
-    ghost invariant = { λ p. p.count ≤ 16 };
+    ghost invariant = { λ p. p.count ≤ 64 };
 }
 
 impl Parcel {
     /// The first of these events, as many as a parcel holds. There is none if there are no events.
     pub fn of(events: &[Stamped]) -> Option<Parcel>
-        ensures first { IfSome result (λ p. p ≡ take 16 events.now) }
+        ensures first { IfSome result (λ p. p ≡ take 64 events.now) }
         ensures none { IfNone result (events.now ≡ []) }
     {
         let first = *events.first()?;
-        let count = events.len().min(MOST);
-        let mut all = [first; MOST];
+        let count = events.len().min(PARCEL_ROOM);
+        let mut all = [first; PARCEL_ROOM];
         all[..count].copy_from_slice(&events[..count]);
         Some(Parcel { count, events: all })
     }

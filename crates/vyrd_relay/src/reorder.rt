@@ -1,9 +1,12 @@
 //! Events put in order by their numbers.
 
-ghost use Rattle.std.specs.Prelude.{◌≡◌, ℕ, ◌+◌, ◌<◌, ◌≤◌, ◌^◌, ◌==◌, true, false, None, Some};
+ghost use Rattle.std.specs.Prelude.{◌≡◌, ◌≢◌, ℕ, ◌+◌, ◌<◌, ◌≤◌, ◌^◌, ◌==◌, true, false, None, Some};
 ghost use Rattle.std.specs.Prelude.{IfOk, OnOk, OnErr, IfSome, IfNone, OnSome, slice_index_or};
-ghost use Rattle.std.specs.Prelude.{if◌then◌else◌};
+ghost use Rattle.std.specs.Prelude.{if◌then◌else◌, is_some};
 ghost use Rattle.std.specs.VecDeque.{deque_len};
+ghost use Rattle.std.specs.Ordering.{nat_cmp};
+ghost use Rattle.std.specs.Map.{lookup};
+ghost use Rattle.std.specs.BTreeMap.{is_at};
 ghost use Rattle.vyrd_relay.specs.Numbers.{held, has};
 
 use std::alloc::{AllocError, Global};
@@ -83,6 +86,7 @@ impl Reorder {
 
     /// Whether it is this number's turn. If so, the event counts as handed out, as if it had been
     /// put and taken again. Its number isn't held and wasn't handed out. It takes no memory.
+    #[inline(always)]
     pub fn take_turn(&mut self, number: u64) -> bool
         requires range { number < 2 ^ 62 }
         requires new { has self.old number ≡ false }
@@ -101,14 +105,29 @@ impl Reorder {
     }
 
     /// Whether the event with this number is held or was handed out. It takes no memory.
+    #[inline(always)]
     pub fn had(&self, number: u64) -> bool
         ensures { result ≡ has self.now number }
     {
-        number < self.next || self.find(number).is_some()
+        number < self.next || self.holds(number)
+    }
+
+    /// Whether the event with this number, which wasn't handed out, is held. It is asked of each
+    /// event that comes, so it copies none.
+    #[inline(always)]
+    fn holds(&self, number: u64) -> bool
+        requires { self.now.next ≤ number }
+        ensures { result ≡ is_some (held self.now number) }
+    {
+        match self.near.get((number - self.next) as usize) {
+            Some(Some(_)) => true,
+            _ => find_far(&self.far, number).is_some(),
+        }
     }
 
     /// Hands out the event with the next number. `None` comes exactly when it isn't held. It takes
     /// no memory.
+    #[inline(always)]
     pub fn next_in_order(&mut self) -> Option<Stamped>
         ensures item { result ≡ held self.old self.old.next }
         ensures number { IfSome result
@@ -121,20 +140,44 @@ impl Reorder {
     {
         let item = self.find(self.next)?;
         self.near.pop_front();
-        self.far.remove(&self.next);
+        remove_far(&mut self.far, self.next);
         self.next += 1;
         Some(item)
     }
 
     /// The event with this number, which wasn't handed out, if it is held.
+    #[inline(always)]
     fn find(&self, number: u64) -> Option<Stamped>
         requires { self.now.next ≤ number }
         ensures { result ≡ held self.now number }
     {
         match self.near.get((number - self.next) as usize) {
             Some(Some(item)) => Some(*item),
-            _ => self.far.get(&number).copied(),
+            _ => find_far(&self.far, number),
         }
+    }
+}
+
+/// The event with this number among those that came far too early. There mostly are none.
+#[inline(always)]
+fn find_far(far: &BTreeMap<u64, Stamped>, number: u64) -> Option<Stamped>
+    ensures { result ≡ lookup (is_at (nat_cmp number)) far.now.entries }
+{
+    if far.is_empty() {
+        return None;
+    }
+    far.get(&number).copied()
+}
+
+/// Lets go of the event with this number, if it came far too early.
+#[inline(always)]
+fn remove_far(far: &mut BTreeMap<u64, Stamped>, number: u64)
+    ensures gone { lookup (is_at (nat_cmp number)) far.new.entries ≡ None }
+    ensures rest { (n : ℕ) → number ≢ n → lookup (is_at (nat_cmp n)) far.new.entries
+        ≡ lookup (is_at (nat_cmp n)) far.old.entries }
+{
+    if !far.is_empty() {
+        far.remove(&number);
     }
 }
 
