@@ -34,9 +34,9 @@ pub(crate) struct Outbox {
 }
 
 impl Outbox {
-    /// Sends the events of the lane that weren't sent yet, until one finds the relay full, and
-    /// answers whether none is left. It never waits for room, and some calls after one that found
-    /// none do nothing.
+    /// Sends the events of the lane that weren't sent yet, as long as there are at least so many,
+    /// until a parcel finds the relay full, and answers whether fewer are left. It never waits for
+    /// room, and some calls after one that found none do nothing.
     pub(crate) fn send<R: Wait>(
         &mut self,
         rt: &R,

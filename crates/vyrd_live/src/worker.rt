@@ -61,9 +61,9 @@ impl<M: Machine> Worker<M> {
     ///
     /// It asks the gate before each event. Before an operation it makes room for all of the
     /// operation's events, so that it stops only between operations. While it waits it sends what
-    /// the relay has room for. After an operation it waits until all is sent, as long as the events
-    /// are taken in beside it, and lets go of them. It may wait forever: for the gate, for a lock
-    /// that nobody gives back, or for room in the relay.
+    /// the relay has room for. Once it keeps many events, it waits after the operation until all
+    /// are sent, as long as they are taken in beside it, and lets go of them. It may wait forever:
+    /// for the gate, for a lock that nobody gives back, or for room in the relay.
     pub(crate) fn work<R: Wait, G: Gate>(
         self,
         rt: &R,
@@ -163,8 +163,8 @@ impl<M: Machine> Worker<M> {
         self.machine.took(answer);
     }
 
-    /// Where an operation has ended, sends all events that weren't sent yet. Then nothing of the
-    /// lane has to be kept. Events sent one after the other cost less than single ones.
+    /// Where an operation has ended, sends the full parcels that there are, or all events that
+    /// weren't sent yet, so that nothing of the lane has to be kept.
     fn pass_on<R: Wait>(&mut self, rt: &R, relay: &Relay, signals: &Signals, outbox: &mut Outbox)
         requires { HasSent relay.now outbox.old.sender outbox.old.place self.old.hand }
         ensures machine { self.new.machine ≡ self.old.machine }

@@ -27,7 +27,7 @@ use vyrd_trace::{Hand, Traced};
 
 /// How many parcels of events the relay holds. A worker that finds it full within an operation goes
 /// on, and sends them later: after the operation it waits for room.
-const RELAY_CAPACITY: u64 = 128;
+const RELAY_CAPACITY: u64 = 256;
 
 /// Plays all workers, shows what they do to a sink that has taken nothing, and ends their memory.
 /// The workers have all of its hands, in the order of their callers.

@@ -6,9 +6,9 @@ use std::marker::Model;
 use vyrd_base::Stamped;
 
 /// How many events a parcel holds at most.
-pub const PARCEL_ROOM: usize = 64;
+pub const PARCEL_ROOM: usize = 32;
 
-/// A few events, in their order: 1 to 64. A push and a pop cost the same for a parcel of any number
+/// A few events, in their order: 1 to 32. A push and a pop cost the same for a parcel of any number
 /// of them, and it is these that threads slow one another down with.
 #[derive(Drop)]
 pub struct Parcel {
@@ -24,13 +24,13 @@ impl Model for Parcel {
 
     ghost view = { λ p. take p.count p.events };
 
-    ghost invariant = { λ p. p.count ≤ 64 };
+    ghost invariant = { λ p. p.count ≤ 32 };
 }
 
 impl Parcel {
     /// The first of these events, as many as a parcel holds. There is none if there are no events.
     pub fn of(events: &[Stamped]) -> Option<Parcel>
-        ensures first { IfSome result (λ p. p ≡ take 64 events.now) }
+        ensures first { IfSome result (λ p. p ≡ take 32 events.now) }
         ensures none { IfNone result (events.now ≡ []) }
     {
         let first = *events.first()?;

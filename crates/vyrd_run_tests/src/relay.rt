@@ -203,7 +203,7 @@ fn pushed<R: Wait>(rt: &R, relay: &Relay, sender: &mut Sender, events: &[Stamped
     requires caller { All (λ e. e.caller ≡ sender.old.caller) events.now }
     requires few { length sender.old.sent < 2 ^ 62 }
     ensures same { (sender.new.queue ≡ sender.old.queue) × (sender.new.caller ≡ sender.old.caller) }
-    ensures few { length sender.new.sent ≤ length sender.old.sent + 16 }
+    ensures few { length sender.new.sent ≤ length sender.old.sent + 32 }
 {
     let Some(parcel) = Parcel::of(events) else {
         return 0;
@@ -215,18 +215,18 @@ fn pushed<R: Wait>(rt: &R, relay: &Relay, sender: &mut Sender, events: &[Stamped
     }
 }
 
-/// Twenty events of caller 0, of the numbers 0 to 19.
-fn twenty() -> [Stamped; 20]
+/// Events of caller 0, of the numbers 0 to 35.
+fn thirty_six() -> [Stamped; 36]
     ensures { All (λ e. e.caller ≡ 0) result }
 {
-    let mut events = [event(0); 20];
-    for number in 1..20 {
+    let mut events = [event(0); 36];
+    for number in 1..36 {
         events[number] = event(number as u64);
     }
     events
 }
 
-/// Whether 20 events go as 16 and then 4, fill a relay of two places, and come as they went.
+/// Whether 36 events go as 32 and then 4, fill a relay of two places, and come as they went.
 fn go_as_two_parcels<R: Wait>(
     rt: &R,
     relay: &Relay,
@@ -239,21 +239,21 @@ fn go_as_two_parcels<R: Wait>(
     ensures sender { sender.new.queue ≡ sender.old.queue }
     ensures receiver { receiver.new.queue ≡ receiver.old.queue }
 {
-    let events = twenty();
-    pushed(rt, relay, sender, &events) == 16
-        && pushed(rt, relay, sender, &events[16..]) == 4
-        && !is_pushed(rt, relay, sender, 0, 20)
-        && is_popped(rt, relay, receiver, &events[..16])
-        && is_popped(rt, relay, receiver, &events[16..])
+    let events = thirty_six();
+    pushed(rt, relay, sender, &events) == 32
+        && pushed(rt, relay, sender, &events[32..]) == 4
+        && !is_pushed(rt, relay, sender, 0, 36)
+        && is_popped(rt, relay, receiver, &events[..32])
+        && is_popped(rt, relay, receiver, &events[32..])
         && is_nothing_popped(rt, relay, receiver)
 }
 
 #[test]
-fn twenty_events_go_as_two_parcels(rt: HostRuntime) -> Result<(), Fail> {
+fn many_events_go_as_two_parcels(rt: HostRuntime) -> Result<(), Fail> {
     assert!(rt; Parcel::of(&[]).is_none());
     let (relay, mut sender, mut receiver) = one(rt.alloc(), 2)?;
     assert!(rt; go_as_two_parcels(&rt, &relay, &mut sender, &mut receiver));
-    assert!(rt; relay.settle(&rt, &mut receiver, sender) == 20);
+    assert!(rt; relay.settle(&rt, &mut receiver, sender) == 36);
     Ok(())
 }
 

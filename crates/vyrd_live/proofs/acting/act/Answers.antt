@@ -33,8 +33,8 @@ try_act-requires-clause-may g c =
     subst (λ (v : HandView). MayAct c.args.traced.now.plan v c.args.act) (sym c.loop.invariant.hand)
     (may_still c.args.traced.now.plan c.args.hand.now c.loop.hand.look c.args.act c.requires.may)
 
-pub send-requires : goal.send-requires
-send-requires g c =
+pub pass_round-requires : goal.pass_round-requires
+pass_round-requires g c =
     let hand = c.in_default.ensures.busy ∙ ap (λ (v : HandView). with_look v c.try_act.new.hand.look) c.loop.invariant.hand in
     sent_same c.args.relay.now c.loop.outbox.sender c.loop.outbox.place c.args.hand.now c.try_act.new.hand
     (ap (λ (v : HandView). v.caller) hand) (ap (λ (v : HandView). v.lane) hand) (ap (λ (v : HandView). v.forgotten) hand) c.loop.invariant.sent
@@ -43,9 +43,9 @@ pub loop-preserved : goal.loop-preserved
 loop-preserved g c =
     let hand = c.in_default.ensures.busy ∙ ap (λ (v : HandView). with_look v c.try_act.new.hand.look) c.loop.invariant.hand in record {
       hand = hand;
-      sent = sent_same c.args.relay.now c.send.new.self.sender c.send.new.self.place c.try_act.new.hand c.args.hand.now
+      sent = sent_same c.args.relay.now c.pass_round.new.self.sender c.pass_round.new.self.place c.try_act.new.hand c.args.hand.now
           (sym (ap (λ (v : HandView). v.caller) hand)) (sym (ap (λ (v : HandView). v.lane) hand)) (sym (ap (λ (v : HandView). v.forgotten) hand))
-          c.send.ensures.sent;
+          c.pass_round.ensures;
     }
 
 pub returns-in-Some-try_act-clause-acted : goal.returns-in-Some-try_act-clause-acted

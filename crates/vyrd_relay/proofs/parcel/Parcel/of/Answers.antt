@@ -12,4 +12,4 @@ front_is front rest events n count is counted =
     ∙ ap (λ (m : ℕ). take m events) counted ∙ take_min n events
 
 pub returns-clause-first : goal.returns-clause-first
-returns-clause-first c = front_is _ _ c.args.events.now 64 _ c.copy_from_slice.ensures.after (omega arith)
+returns-clause-first c = front_is _ _ c.args.events.now 32 _ c.copy_from_slice.ensures.after (omega arith)
