@@ -47,9 +47,9 @@ use vyrd_work::{AnyMachine, Work, WorkMachine};
 /// The sink takes the events in a thread beside the callers. While these run it asks the gate
 /// before each event, as if it were one caller more, and the place is how many it has taken in.
 /// Between two operations a caller that keeps 256 events or more waits until all of them are on
-/// their way to the sink, and then lets go of them. So the memory doesn't grow with the run, except for that of the sink. While
-/// the gate holds the sink, nobody waits for it, and the events are kept; and if its thread can't be
-/// started, all events are kept until the callers have ended.
+/// their way to the sink, and then lets go of them. So the memory doesn't grow with the run, except
+/// for that of the sink. While the gate holds the sink, nobody waits for it, and the events are
+/// kept; and if its thread can't be started, all events are kept until the callers have ended.
 ///
 /// It may wait forever: if the gate never lets a caller's event start, or if callers wait for one
 /// another's locks. The only error is that memory ran out, which may be met at any time.

@@ -37,13 +37,7 @@ impl Outbox {
     /// Sends the events of the lane that weren't sent yet, as long as there are at least so many,
     /// until a parcel finds the relay full, and answers whether fewer are left. It never waits for
     /// room, and some calls after one that found none do nothing.
-    pub(crate) fn send<R: Wait>(
-        &mut self,
-        rt: &R,
-        relay: &Relay,
-        hand: &Hand,
-        least: u64,
-    ) -> bool
+    pub(crate) fn send<R: Wait>(&mut self, rt: &R, relay: &Relay, hand: &Hand, least: u64) -> bool
         requires least { 1 ≤ least }
         requires sent { HasSent relay.now self.old.sender self.old.place hand.now }
         ensures sent { HasSent relay.now self.new.sender self.new.place hand.now }
@@ -116,13 +110,7 @@ impl Outbox {
     /// Sends all events of the lane, and lets the hand forget them. While what is in the relay is
     /// taken in beside the workers, it waits for room, and for the sink to come near to the last of
     /// them. If that hasn't begun, or a gate holds the sink, it may leave all as it is.
-    fn empty<R: Wait>(
-        &mut self,
-        rt: &R,
-        relay: &Relay,
-        hand: &mut Hand,
-        signals: &Signals,
-    )
+    fn empty<R: Wait>(&mut self, rt: &R, relay: &Relay, hand: &mut Hand, signals: &Signals)
         requires { HasSent relay.now self.old.sender self.old.place hand.old }
         ensures hand { hand.new ≡ with_forgotten hand.old hand.new.forgotten }
         ensures sent { HasSent relay.now self.new.sender self.new.place hand.new }

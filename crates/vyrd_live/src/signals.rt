@@ -116,8 +116,7 @@ impl Signals {
         self.waiting.fetch_add(1, Ordering::SeqCst);
         let next = self.next.load(Ordering::SeqCst);
         if !self.is_near(number) && self.is_awaited() {
-            self.next
-                .park_timeout(rt, (next & 0xffff_ffff) as u32, Duration::from_micros(WAIT));
+            self.next.park_timeout(rt, (next & 0xffff_ffff) as u32, Duration::from_micros(WAIT));
         }
         self.waiting.fetch_sub(1, Ordering::SeqCst);
     }
@@ -131,8 +130,7 @@ impl Signals {
             *idle += 1;
             thread::yield_now();
         } else {
-            self.ended
-                .park_timeout(rt, 0, Duration::from_micros(NAP));
+            self.ended.park_timeout(rt, 0, Duration::from_micros(NAP));
         }
     }
 }
