@@ -1,3 +1,4 @@
+pub mod KeepingLaws
 pub mod EndingLaws
 pub mod EndFacts
 pub mod AlikeLaws

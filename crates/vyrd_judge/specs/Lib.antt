@@ -1,3 +1,4 @@
+pub mod Keeping
 pub mod WaitingView
 pub mod Waiting
 pub mod Reached

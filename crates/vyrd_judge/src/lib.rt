@@ -20,6 +20,7 @@
 mod any;
 mod caller;
 mod follower;
+pub mod laws;
 mod logged;
 mod online;
 mod outcome;
