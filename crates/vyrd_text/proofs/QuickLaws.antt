@@ -1,5 +1,5 @@
 -- Digits at the front of a text are a number's spelling.
-use Rattle.std.proofs.Common.{◌≡◌, ℕ, ◌+◌, ◌-◌, ◌*◌, ◌%◌, ◌<◌, ◌≤◌, ◌≢◌, ◌^◌, true, List, [], ◌∷◌, ◌++◌, take, drop, length, get_or, refl, ap, sym, ◌∙◌, arith, subst, append_assoc, length-append}
+use Rattle.std.proofs.Common.{rules, ◌≡◌, ℕ, ◌+◌, ◌-◌, ◌*◌, ◌%◌, ◌<◌, ◌≤◌, ◌≢◌, ◌^◌, true, List, [], ◌∷◌, ◌++◌, take, drop, length, get_or, refl, ap, sym, ◌∙◌, arith, subst, append_assoc, length-append}
 use Rattle.std.specs.Str.Parse.{AllDigits, digits_value}
 use Rattle.std.specs.Prelude.{slice_range, decimal}
 use Rattle.std.specs.Char.{digit_value}
@@ -8,16 +8,16 @@ use Rattle.std.proofs.lemmas.Str.Parse.{digit_from_value}
 use Rattle.std.specs.Float.Numeral.{digits_len}
 use Rattle.std.specs.List.{list_all}
 use Rattle.std.proofs.Math.Nat.{pow-le-pow_right, mod-eq_of_lt}
-use Rattle.std.proofs.lemmas.Int.Digits.{digits_value-lt}
+use Rattle.std.proofs.lemmas.Int.Digits.{digits_value-lt, digits_more, digits_value_more}
 use Rattle.core.proofs.dec2flt.Rows.{AllDigits-digits_len}
-use Rattle.std.proofs.lemmas.List.{length-take, length-take-le, get_or-take, take_all}
+use Rattle.std.proofs.lemmas.List.{length-take, length-take-le, get_or-take, take_all, take-append-drop, drop_more, take_rest}
 use Rattle.vyrd_base.specs.declared.subject.Subject.{Subject}
 use Rattle.vyrd_base.specs.declared.log.Entry.{Entry}
 use Rattle.vyrd_base.specs.Spelling.{entry_line, is_entry_of}
 use Rattle.vyrd_base.proofs.TestLaws.{both_true, first_true, second_true}
 use Rattle.vyrd_text.specs.Fields.{IsDigitField}
 use Rattle.vyrd_text.specs.Quick.{IsFrontNumber, IsEntryAtFront, AreEntriesAtFront, entries_text}
-use Rattle.vyrd_text.proofs.NumberLaws.{one_digit, more_digits}
+use Rattle.vyrd_text.proofs.NumberLaws.{one_digit, more_digits, digit_is}
 
 module _ (text : List ℕ) (value end : ℕ) (within : end ≤ length text) (digits : AllDigits 10 (take end text))
     (is : value ≡ digits_value 10 (take end text)) (small : value < 2 ^ 64) where
@@ -100,3 +100,34 @@ digit_front (d ∷ b ∷ rest) n byte long digit is next =
     let spelled : decimal n ≡ d ∷ [] = decimal_digit n small ∙ ap (λ x. x ∷ []) same in
     let tail : take (length (d ∷ b ∷ rest) - 2) rest ≡ rest = take_all (length (d ∷ b ∷ rest) - 2) rest (omega arith) in
     λ i. sym spelled i ++ next i ∷ sym tail i
+
+-- that many digits at the front, and the number that they write
+abbrev pub AreFrontDigits : List ℕ → ℕ → ℕ → Type 0
+AreFrontDigits text value end = (end ≤ length text) × AllDigits 10 (take end text) × (value ≡ digits_value 10 (take end text))
+
+-- none
+pub no_digits : (text : List ℕ) → AreFrontDigits text 0 0
+no_digits text = (omega arith, search rules, refl)
+
+-- one more
+pub digit_after : (text : List ℕ) (value end more : ℕ) → AreFrontDigits text value end → end < length text → digit_value (get_or text end 0) < 10
+    → more ≡ value * 10 + (get_or text end 0 - 48) → AreFrontDigits text more (end + 1)
+digit_after text value end more are within digit is = (
+  omega arith,
+  digits_more 10 text end within are.1 digit,
+  omega (arith, is, are.2, digit_is (get_or text end 0) digit, digits_value_more 10 text end within),
+)
+
+-- digits that don't begin with 0, before a byte
+pub digits_front : (text : List ℕ) (value end byte : ℕ) → AreFrontDigits text value end → 1 < end → end ≤ 4 → end < length text
+    → get_or text 0 0 ≢ 48 → get_or text end 0 ≡ byte
+    → text ≡ decimal value ++ byte ∷ take (length text - (end + 1)) (drop (end + 1) text)
+digits_front text value end byte are some few within first next =
+    let below : digits_value 10 (take end text) < 10 ^ length (take end text) = digits_value-lt 10 (take end text) are.1 in
+    let short : length (take end text) ≤ 4 = omega (arith, length-take end text, few) in
+    let bound : 10 ^ length (take end text) ≤ 10 ^ 4 = pow-le-pow_right (let p : 0 < 10 = omega arith in p) short in
+    let small : value < 2 ^ 64 = omega (arith, are.2, below, bound) in
+    sym (take-append-drop end text)
+    ∙ ap (λ t. take end text ++ t) (drop_more text end 0 within ∙ (λ i. next i ∷ sym (take_rest text (end + 1)) i))
+    ∙ ap (λ t. t ++ byte ∷ take (length text - (end + 1)) (drop (end + 1) text))
+    (front_digits text value end are.0 are.1 are.2 small some first).spelled

@@ -4,7 +4,7 @@
 //! What isn't such an entry is left where it is, for the reader of lines, which knows the rules. So
 //! nothing here says why a text is refused: every `None` means only that these bytes were not read.
 
-ghost use Rattle.std.specs.Prelude.{◌≡◌, ◌+◌, ◌<◌, ◌≤◌, ◌==◌, ◌∷◌, ◌++◌, true, decimal, count_by};
+ghost use Rattle.std.specs.Prelude.{◌≡◌, ◌+◌, ◌-◌, ◌*◌, ◌<◌, ◌≤◌, ◌==◌, ◌∷◌, ◌++◌, true, decimal, count_by};
 ghost use Rattle.std.specs.Prelude.{vec_len, vec_capacity, IfSome};
 ghost use Rattle.vyrd_base.specs.declared.subject.Subject.{Subject};
 ghost use Rattle.vyrd_base.specs.Subjects.{is_named};
@@ -74,6 +74,15 @@ pub fn number_before(text: &[u8], byte: u8) -> Option<(u64, &[u8])>
     if let Some(read) = digit_before(text, byte) {
         return Some(read);
     }
+    if let Some(read) = two_before(text, byte) {
+        return Some(read);
+    }
+    if let Some(read) = three_before(text, byte) {
+        return Some(read);
+    }
+    if let Some(read) = four_before(text, byte) {
+        return Some(read);
+    }
     let (number, end) = front_number(text)?;
     if end == text.len() || text[end] != byte {
         return None;
@@ -94,6 +103,65 @@ fn digit_before(text: &[u8], byte: u8) -> Option<(u64, &[u8])>
         return None;
     }
     Some((u64::from(*digit - b'0'), rest))
+}
+
+/// The same for a number of two digits, without a loop.
+#[inline(always)]
+fn two_before(text: &[u8], byte: u8) -> Option<(u64, &[u8])>
+    ensures { IfSome result (λ r. text.now ≡ decimal r.0 ++ byte ∷ r.1.now) }
+{
+    let [a, b, next, rest @ ..] = text else {
+        return None;
+    };
+    if *next != byte || *a == b'0' || !a.is_ascii_digit() || !b.is_ascii_digit() {
+        return None;
+    }
+    Some((then_digit(u64::from(*a - b'0'), *b), rest))
+}
+
+/// The same for a number of three digits.
+#[inline(always)]
+fn three_before(text: &[u8], byte: u8) -> Option<(u64, &[u8])>
+    ensures { IfSome result (λ r. text.now ≡ decimal r.0 ++ byte ∷ r.1.now) }
+{
+    let [a, b, c, next, rest @ ..] = text else {
+        return None;
+    };
+    if *next != byte || *a == b'0' || !a.is_ascii_digit() || !b.is_ascii_digit() {
+        return None;
+    }
+    if !c.is_ascii_digit() {
+        return None;
+    }
+    Some((then_digit(then_digit(u64::from(*a - b'0'), *b), *c), rest))
+}
+
+/// The same for a number of four digits.
+#[inline(always)]
+fn four_before(text: &[u8], byte: u8) -> Option<(u64, &[u8])>
+    ensures { IfSome result (λ r. text.now ≡ decimal r.0 ++ byte ∷ r.1.now) }
+{
+    let [a, b, c, d, next, rest @ ..] = text else {
+        return None;
+    };
+    if *next != byte || *a == b'0' || !a.is_ascii_digit() || !b.is_ascii_digit() {
+        return None;
+    }
+    if !c.is_ascii_digit() || !d.is_ascii_digit() {
+        return None;
+    }
+    let front = then_digit(then_digit(u64::from(*a - b'0'), *b), *c);
+    Some((then_digit(front, *d), rest))
+}
+
+/// The value with one digit more behind it.
+#[inline(always)]
+fn then_digit(value: u64, digit: u8) -> u64
+    requires small { value < 1000 }
+    requires digit { (48 ≤ digit) × (digit ≤ 57) }
+    ensures { result ≡ value * 10 + (digit - 48) }
+{
+    value * 10 + u64::from(digit - b'0')
 }
 
 /// The caller's number before a space, and what stands after that space. There are at most 64
