@@ -1,9 +1,8 @@
 -- How what is kept goes on with one more entry.
 use Rattle.std.proofs.Common.{◌≡◌, ℕ, suc, zero, ◌+◌, ◌<◌, Bool, true, false, cond, List, [], ◌∷◌, ◌++◌, length, map, Option, Some, None, refl, ap, ◌∙◌, sym, subst, arith, get_or, set, get_or-set_other, get_or-set_same}
-use Rattle.std.specs.Prelude.{◌==◌, unwrap_or, is_some, nat_eq, replicate}
+use Rattle.std.specs.Prelude.{◌==◌, unwrap_or, is_some, replicate}
 use Rattle.std.specs.Option.{option_or}
 use Rattle.std.proofs.lemmas.List.{length-replicate}
-use Rattle.indexmap.specs.IndexMap.{insert_entry}
 use Rattle.vyrd_base.specs.declared.header.Header.{Header}
 use Rattle.vyrd_base.specs.declared.subject.Method.{Method}
 use Rattle.vyrd_base.specs.declared.subject.Args.{Args}
@@ -25,7 +24,7 @@ use Rattle.vyrd_base.proofs.PlaceLaws.{first_answer-append, at_map}
 use Rattle.vyrd_base.proofs.WordLaws.{words_after-write, words_after-quiet}
 use Rattle.vyrd_base.proofs.BlockLaws.{entry, by_same, other_answer, no_answer, other_writes, own_block, own_writes}
 use Rattle.vyrd_base.proofs.ListLaws.{zeros}
-use Rattle.vyrd_shadow.specs.Blocks.{with_writes, with_word, first_written}
+use Rattle.vyrd_shadow.specs.Blocks.{with_writes, with_word, with_kept, first_written}
 use Rattle.vyrd_shadow.specs.Following.{Kept, HasFollowed, is_open, kept_writes, words_of}
 use Rattle.vyrd_shadow.proofs.KeptWrites.{value_kept, words_kept, AllOnce, once_written, length-with_writes, value_with, differs}
 
@@ -121,7 +120,7 @@ words_held h starting earlier c word value inside = words_after-quiet h starting
     (ap (λ b. cond b [] ((word, value) ∷ [])) inside)
 
 own_kept : (c word value : ℕ) (block : Option (List (ℕ × ℕ))) (earlier : List Entry) → has_block c earlier ≡ true → Own c block earlier
-    → Own c (Some (insert_entry nat_eq (unwrap_or block []) word value)) (entry c (Write word value) ∷ earlier)
+    → Own c (Some (with_kept (unwrap_or block []) word value)) (entry c (Write word value) ∷ earlier)
 own_kept c word value block earlier inside own = record {
   opened = sym (block_write c c word value earlier ∙ inside);
   order = λ e. words_kept word value (unwrap_or block []) ∙ ap (λ ws. with_word ws word) (own.order inside)
@@ -135,7 +134,7 @@ pub followed_kept : (kept : Kept) (starting : List StartWord) (earlier : List En
     → HasFollowed (record {
       header = kept.header;
       words = kept.words;
-      blocks = set kept.blocks c (Some (insert_entry nat_eq (kept_writes kept c) word value));
+      blocks = set kept.blocks c (Some (with_kept (kept_writes kept c) word value));
       changed = kept.changed;
     })
     starting (entry c (Write word value) ∷ earlier)

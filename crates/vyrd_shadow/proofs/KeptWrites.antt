@@ -1,17 +1,16 @@
 -- What a block keeps, with one more write, and what its writes do to the words.
 use Rattle.std.proofs.Common.{◌≡◌, ◌≢◌, ℕ, suc, zero, ◌^◌, ◌<◌, Bool, true, false, cond, ◌||◌, List, [], ◌∷◌, ◌++◌, length, Option, Some, None, refl, ap, ◌∙◌, sym, subst, arith, get_or, set, get_or-set_other, get_or-set_same, length-set}
-use Rattle.std.specs.Prelude.{◌==◌, unwrap_or, nat_eq}
+use Rattle.std.specs.Prelude.{◌==◌, unwrap_or}
 use Rattle.std.specs.Option.{option_or}
 use Rattle.std.specs.List.{list_any, All}
 use Rattle.std.specs.Map.{keys_of}
 use Rattle.std.proofs.lemmas.Bool.Decides.{nat_tests}
 use Rattle.std.proofs.lemmas.List.Folds.{list_any-append}
 use Rattle.std.proofs.lemmas.List.Elements.{All-nil, All-cons}
-use Rattle.indexmap.specs.IndexMap.{insert_entry}
 use Rattle.vyrd_base.specs.Places.{first_answer}
 use Rattle.vyrd_base.specs.Words.{given_to}
 use Rattle.vyrd_base.proofs.TestLaws.{same_of, flipped, neither_true}
-use Rattle.vyrd_shadow.specs.Blocks.{with_writes, with_word, first_written, AreInRange}
+use Rattle.vyrd_shadow.specs.Blocks.{with_writes, with_word, with_kept, first_written, AreInRange}
 
 pub differs : (k d : ℕ) → (k == d) ≡ false → d ≢ k
 differs k d e = grind (arith, nat_tests)
@@ -42,18 +41,18 @@ other_place w k v q u rest e = swapped v u rest (q == w) (k == w) (λ f g. diffe
 
 -- an insertion, by whether the key is the first one
 inserted : (k v q u : ℕ) (es : List (ℕ × ℕ)) (b : Bool) → (k == q) ≡ b
-    → insert_entry nat_eq ((q, u) ∷ es) k v ≡ cond b ((q, v) ∷ es) ((q, u) ∷ insert_entry nat_eq es k v)
-inserted k v q u es b e = ap (λ b. cond b ((q, v) ∷ es) ((q, u) ∷ insert_entry nat_eq es k v)) e
+    → with_kept ((q, u) ∷ es) k v ≡ cond b ((q, v) ∷ es) ((q, u) ∷ with_kept es k v)
+inserted k v q u es b e = ap (λ b. cond b ((q, v) ∷ es) ((q, u) ∷ with_kept es k v)) e
 
 -- the value of a word among the writes of a block, with one more
 pub value_kept : (w k v : ℕ) (es : List (ℕ × ℕ))
-    → first_answer (given_to w) (insert_entry nat_eq es k v) ≡ option_or (given_to w (k, v)) (first_answer (given_to w) es)
+    → first_answer (given_to w) (with_kept es k v) ≡ option_or (given_to w (k, v)) (first_answer (given_to w) es)
 value_kept w k v [] = refl
 value_kept w k v ((q, u) ∷ es) = by_place (k == q) refl (value_kept w k v es)
   where
     by_place : (b : Bool) → (k == q) ≡ b
-        → first_answer (given_to w) (insert_entry nat_eq es k v) ≡ option_or (given_to w (k, v)) (first_answer (given_to w) es)
-        → first_answer (given_to w) (insert_entry nat_eq ((q, u) ∷ es) k v)
+        → first_answer (given_to w) (with_kept es k v) ≡ option_or (given_to w (k, v)) (first_answer (given_to w) es)
+        → first_answer (given_to w) (with_kept ((q, u) ∷ es) k v)
         ≡ option_or (given_to w (k, v)) (option_or (given_to w (q, u)) (first_answer (given_to w) es))
     by_place true e rest = ap (first_answer (given_to w)) (inserted k v q u es true e)
         ∙ same_place w k v q u (first_answer (given_to w) es) (same_of k q e)
@@ -61,7 +60,7 @@ value_kept w k v ((q, u) ∷ es) = by_place (k == q) refl (value_kept w k v es)
         ∙ other_place w k v q u (first_answer (given_to w) es) e
 
 -- the words of a block, with one more write
-pub words_kept : (k v : ℕ) (es : List (ℕ × ℕ)) → keys_of (insert_entry nat_eq es k v) ≡ with_word (keys_of es) k
+pub words_kept : (k v : ℕ) (es : List (ℕ × ℕ)) → keys_of (with_kept es k v) ≡ with_word (keys_of es) k
 words_kept k v [] = refl
 words_kept k v ((q, u) ∷ es) = by_place (k == q) refl (words_kept k v es)
   where
@@ -69,18 +68,18 @@ words_kept k v ((q, u) ∷ es) = by_place (k == q) refl (words_kept k v es)
     pushed true = refl
     pushed false = refl
 
-    by_place : (b : Bool) → (k == q) ≡ b → keys_of (insert_entry nat_eq es k v) ≡ with_word (keys_of es) k
-        → keys_of (insert_entry nat_eq ((q, u) ∷ es) k v) ≡ with_word (q ∷ keys_of es) k
+    by_place : (b : Bool) → (k == q) ≡ b → keys_of (with_kept es k v) ≡ with_word (keys_of es) k
+        → keys_of (with_kept ((q, u) ∷ es) k v) ≡ with_word (q ∷ keys_of es) k
     by_place true e rest = ap keys_of (inserted k v q u es true e)
         ∙ ap (λ b. cond (b || list_any (λ other. k == other) (keys_of es)) (q ∷ keys_of es) ((q ∷ keys_of es) ++ k ∷ [])) (sym e)
     by_place false e rest = ap keys_of (inserted k v q u es false e) ∙ ap (λ t. q ∷ t) rest ∙ pushed (list_any (λ other. k == other) (keys_of es))
         ∙ ap (λ b. cond (b || list_any (λ other. k == other) (keys_of es)) (q ∷ keys_of es) ((q ∷ keys_of es) ++ k ∷ [])) (sym e)
 
-pub in_range_kept : (n k v : ℕ) (es : List (ℕ × ℕ)) → k < n → v < 2 ^ 63 → AreInRange n es → AreInRange n (insert_entry nat_eq es k v)
+pub in_range_kept : (n k v : ℕ) (es : List (ℕ × ℕ)) → k < n → v < 2 ^ 63 → AreInRange n es → AreInRange n (with_kept es k v)
 in_range_kept n k v [] low small all = (low, small, tt)
 in_range_kept n k v ((q, u) ∷ es) low small all = by_place (k == q) refl (in_range_kept n k v es low small all.2)
   where
-    by_place : (b : Bool) → (k == q) ≡ b → AreInRange n (insert_entry nat_eq es k v) → AreInRange n (insert_entry nat_eq ((q, u) ∷ es) k v)
+    by_place : (b : Bool) → (k == q) ≡ b → AreInRange n (with_kept es k v) → AreInRange n (with_kept ((q, u) ∷ es) k v)
     by_place true e rest = subst (AreInRange n) (sym (inserted k v q u es true e)) (all.0, small, all.2)
     by_place false e rest = subst (AreInRange n) (sym (inserted k v q u es false e)) (all.0, all.1, rest)
 

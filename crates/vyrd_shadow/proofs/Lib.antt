@@ -1,5 +1,6 @@
 pub mod WriteLaws
 pub mod FollowLaws
 pub mod KeptWrites
+pub mod PlacedLaws
 pub mod QuietLaws
 pub mod SoundLaws

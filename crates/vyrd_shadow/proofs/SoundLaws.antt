@@ -1,17 +1,16 @@
 -- What stays true of the words, the blocks and the changed words.
 use Rattle.std.proofs.Common.{◌≡◌, ℕ, ◌+◌, ◌^◌, ◌<◌, ◌≤◌, ◌-◌, List, [], length, length-append, Option, Some, None, ap, ◌∙◌, sym, subst, arith, get_or, set, get_or-set_other, get_or-set_same, length-set, take, drop, ◌++◌}
-use Rattle.std.specs.Prelude.{unwrap_or, nat_eq}
+use Rattle.std.specs.Prelude.{unwrap_or}
 use Rattle.std.specs.List.{All}
 use Rattle.std.specs.Map.{keys_of}
 use Rattle.std.proofs.Math.Seq.{take-append_seam}
 use Rattle.std.proofs.lemmas.List.{length-map}
 use Rattle.std.proofs.lemmas.List.Elements.{All-append}
-use Rattle.indexmap.specs.IndexMap.{insert_entry}
 use Rattle.std.proofs.lemmas.List.Sums.{sum_by-set}
 use Rattle.vyrd_base.specs.declared.header.Header.{Header}
 use Rattle.vyrd_base.specs.Layout.{plain_words}
 use Rattle.vyrd_base.proofs.BlockLaws.{by_same}
-use Rattle.vyrd_shadow.specs.Blocks.{with_writes, AreInRange, kept_count, IsSound}
+use Rattle.vyrd_shadow.specs.Blocks.{with_writes, with_kept, AreInRange, kept_count, IsSound}
 use Rattle.vyrd_shadow.proofs.KeptWrites.{differs, in_range_kept, length-with_writes, below_with, keys_below}
 
 -- what is known of the rest when a block is replaced
@@ -55,7 +54,7 @@ kept_at_most blocks c low =
 pub sound_kept : (h : Header) (words : List ℕ) (blocks : List (Option (List (ℕ × ℕ)))) (changed : List ℕ) (count capacity : ℕ)
     → IsSound h words blocks changed count capacity
     → (c word value : ℕ) (read block : Option (List (ℕ × ℕ))) → c < h.callers → word < plain_words h → value < 2 ^ 63
-    → read ≡ get_or blocks c None → block ≡ Some (insert_entry nat_eq (unwrap_or read []) word value)
+    → read ≡ get_or blocks c None → block ≡ Some (with_kept (unwrap_or read []) word value)
     → (changed' : List ℕ) (more count' capacity' : ℕ) → changed' ≡ changed
     → length (unwrap_or block []) ≡ length (unwrap_or read []) + more → count' ≡ count + more → length changed' + count' ≤ capacity'
     → IsSound h words (set blocks c block) changed' count' capacity'
@@ -93,11 +92,10 @@ sound_closed h words blocks changed count capacity sound c low count' capacity' 
       room = omega (arith, few, sound.counted, sound.room, length-append changed (keys_of writes), length-map writes (λ e. e.0));
     })
 
--- words that were lent whole have the writes of the block that was read
-pub effect_is : (n : ℕ) (new lent words : List ℕ) (read block : Option (List (ℕ × ℕ))) → n ≡ length words → lent ≡ words
-    → read ≡ block → new ≡ with_writes lent (unwrap_or read [])
-    → take n (new ++ drop (length new) words) ≡ with_writes words (unwrap_or block [])
-effect_is n new lent words read block size same is effect =
-    let whole : new ≡ with_writes words (unwrap_or block []) = effect ∙ (λ i. with_writes (same i) (unwrap_or (is i) [])) in
-    let long : length new ≡ length words = ap length whole ∙ length-with_writes words (unwrap_or block []) in
+-- words that were lent whole have the writes of the block
+pub effect_is : (n : ℕ) (new lent words : List ℕ) (writes : List (ℕ × ℕ)) → n ≡ length words → lent ≡ words → new ≡ with_writes lent writes
+    → take n (new ++ drop (length new) words) ≡ with_writes words writes
+effect_is n new lent words writes size same effect =
+    let whole : new ≡ with_writes words writes = effect ∙ ap (λ l. with_writes l writes) same in
+    let long : length new ≡ length words = ap length whole ∙ length-with_writes words writes in
     ap (λ k. take k (new ++ drop (length new) words)) (size ∙ sym long) ∙ take-append_seam new (drop (length new) words) ∙ whole

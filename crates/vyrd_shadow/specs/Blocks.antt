@@ -1,7 +1,7 @@
 -- The writes that an open block keeps back: pairs of a word and a value, each word once.
-use Rattle.std.specs.Prelude.{◌≡◌, ℕ, ◌+◌, ◌^◌, ◌<◌, ◌≤◌, ◌==◌, List, [], ◌∷◌, ◌++◌, length, Option}
-use Rattle.std.specs.Prelude.{None, unwrap_or, slice_index, slice_index_or, slice_set}
-use Rattle.std.specs.Prelude.{if◌then◌else◌}
+use Rattle.std.specs.Prelude.{◌≡◌, ℕ, Bool, true, ◌&&◌, ◌+◌, ◌^◌, ◌<◌, ◌≤◌, ◌==◌, nat_lt, List, []}
+use Rattle.std.specs.Prelude.{◌∷◌, ◌++◌, length, Option, None, unwrap_or, slice_index}
+use Rattle.std.specs.Prelude.{slice_index_or, slice_set, if◌then◌else◌}
 use Rattle.std.specs.List.{list_any, sum_by, All}
 use Rattle.vyrd_base.specs.declared.header.Header.{Header}
 use Rattle.vyrd_base.specs.Layout.{plain_words}
@@ -22,10 +22,37 @@ abbrev pub first_written : List (ℕ × ℕ) → List ℕ
 first_written [] = []
 first_written ((word, value) ∷ earlier) = with_word (first_written earlier) word
 
+-- some writes with one more: one to the same word takes its value, and a write to a new word goes
+-- last
+abbrev pub with_kept : List (ℕ × ℕ) → ℕ → ℕ → List (ℕ × ℕ)
+with_kept [] word value = (word, value) ∷ []
+with_kept ((other, old) ∷ writes) word value =
+    if word == other
+    then (other, value) ∷ writes
+    else (other, old) ∷ with_kept writes word value
+
+-- whether the write at this place is to the word
+abbrev pub is_at : ℕ → ℕ → List (ℕ × ℕ) → Bool
+is_at place word writes =
+    nat_lt place (length writes) && (slice_index_or writes place (0, 0)).0 == word
+
 -- the writes are to words below n, and of values below 2^63
 abbrev pub AreInRange : ℕ → List (ℕ × ℕ) → Type 0
 AreInRange n [] = Unit {0}
 AreInRange n ((word, value) ∷ writes) = (word < n) × (value < 2 ^ 63) × AreInRange n writes
+
+-- what the caller's block keeps, nothing if it is closed
+abbrev pub kept_by : List (Option (List (ℕ × ℕ))) → ℕ → List (ℕ × ℕ)
+kept_by blocks c = unwrap_or (slice_index_or blocks c None) []
+
+-- no other caller's block keeps a write to the word
+abbrev pub IsFree : List (Option (List (ℕ × ℕ))) → ℕ → ℕ → Type 0
+IsFree blocks caller word = (c i : ℕ) → is_at i word (kept_by blocks c) ≡ true → c ≡ caller
+
+-- for each write that a block keeps, its caller and its place are those of its word
+abbrev pub ArePlaced : List (Option (List (ℕ × ℕ))) → List (ℕ × ℕ) → Type 0
+ArePlaced blocks holders = (c i w : ℕ) → is_at i w (kept_by blocks c) ≡ true
+    → slice_index_or holders w (0, 0) ≡ (c, i)
 
 -- how many writes all blocks keep
 abbrev pub kept_count : List (Option (List (ℕ × ℕ))) → ℕ

@@ -9,8 +9,8 @@
 #![tactic(auto)]
 
 mod block;
+mod blocks;
 pub mod laws;
 mod shadow;
-mod writes;
 
 pub use shadow::Shadow;

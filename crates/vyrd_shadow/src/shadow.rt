@@ -1,10 +1,9 @@
 //! The words, and what open blocks keep back.
 
 ghost use Rattle.std.specs.Prelude.{◌≡◌, ℕ, ◌+◌, ◌*◌, ◌<◌, ◌≤◌, ◌^◌, true, false, List, [], ◌∷◌};
-ghost use Rattle.std.specs.Prelude.{◌++◌, length, replicate, Some, None, IfOk, OnOk, OnErr, nat_eq};
+ghost use Rattle.std.specs.Prelude.{◌++◌, length, replicate, Some, None, IfOk, OnOk, OnErr};
 ghost use Rattle.std.specs.Prelude.{slice_index, slice_set, vec_capacity, if◌then◌else◌};
 ghost use Rattle.std.specs.List.{All};
-ghost use Rattle.indexmap.specs.IndexMap.{insert_entry};
 ghost use Rattle.vyrd_base.specs.declared.log.Kind.TheVariants.{Write, BlockOpen, BlockClose};
 ghost use Rattle.vyrd_base.specs.declared.log.Kind.TheVariants.{BlockCommit};
 ghost use Rattle.vyrd_base.specs.declared.log.Entry.{Entry};
@@ -12,11 +11,11 @@ ghost use Rattle.vyrd_base.specs.declared.log.StartWord.{StartWord};
 ghost use Rattle.vyrd_base.specs.Layout.{plain_words};
 ghost use Rattle.vyrd_base.specs.Shape.{broken_rule};
 ghost use Rattle.vyrd_base.specs.Starts.{words_at_start};
-ghost use Rattle.vyrd_shadow.specs.Blocks.{kept_count};
+ghost use Rattle.vyrd_shadow.specs.Blocks.{kept_count, with_kept, IsFree};
 ghost use Rattle.vyrd_shadow.specs.Costs.{owed};
 ghost use Rattle.vyrd_shadow.specs.Following.{Kept, HasFollowed, is_open, kept_writes, words_of};
 
-use crate::block::Block;
+use crate::blocks::Blocks;
 use std::alloc::{AllocError, Global};
 use std::marker::{Brand, Model};
 use std::sync::ledger::{Blank, Ledger};
@@ -29,7 +28,7 @@ pub struct Shadow {
     header: Header,
     words: Vec<u64>,
     /// By caller.
-    blocks: Vec<Block>,
+    blocks: Blocks,
     changed: Vec<u32>,
     /// How many words all blocks keep. `changed` has room for that many more.
     count: usize,
@@ -45,11 +44,11 @@ impl Model for Shadow {
     ghost view = { λ s. record {
       header = s.header;
       words = s.words.items;
-      blocks = s.blocks.items;
+      blocks = s.blocks;
       changed = s.changed.items;
     } };
 
-    ghost invariant = { λ s. IsSound s.header s.words.items s.blocks.items s.changed.items s.count
+    ghost invariant = { λ s. IsSound s.header s.words.items s.blocks s.changed.items s.count
         (vec_capacity s.changed) };
 }
 
@@ -97,7 +96,7 @@ impl Shadow {
         Ok(Shadow {
             header,
             words,
-            blocks: closed_blocks(alloc, header.callers())?,
+            blocks: Blocks::new(alloc, header.callers())?,
             changed: Vec::new(alloc),
             count: 0,
         })
@@ -129,10 +128,9 @@ impl Shadow {
         write_alone::<Brand>(Blank::new(1), self, caller, word, value)
     }
 
-    /// The same, with its steps counted. A write in a block looks for its word among the first eight
-    /// at most, one by one, and then in a table. That counts as one step, which it is on average; and
-    /// to make room, which takes no time on average, isn't counted. The block's end costs up to
-    /// eighteen steps for each word, and they are paid by the word's first write.
+    /// The same, with its steps counted. A write is one step: in a block it looks at the one place
+    /// where its word would stand. To make room, which takes no time on average, isn't counted. The
+    /// block's end costs two steps for each word, and they are paid by the word's first write.
     #[inline(always)]
     pub fn write_counted<L: Ledger>(
         &mut self,
@@ -157,12 +155,12 @@ impl Shadow {
             else self.old.changed ++ word ∷ [])) }
         ensures refused { OnErr result (self.new ≡ self.old) }
         ensures header { self.new.header ≡ self.old.header }
-        ensures steps { steps.new ≤ steps.old + 10 }
-        ensures paid { steps.new + owed self.new ≤ steps.old + owed self.old + 29 }
+        ensures steps { steps.new ≡ steps.old + 1 }
+        ensures paid { steps.new + owed self.new ≤ steps.old + owed self.old + 4 }
     {
         steps.tick();
-        if self.blocks[caller as usize].is_open() {
-            self.keep(caller, word, value, steps)
+        if self.blocks.is_open(caller) {
+            self.keep(caller, word, value)
         } else {
             self.write_through(word, value)
         }
@@ -204,7 +202,7 @@ impl Shadow {
         ensures paid { steps.new + owed self.new ≤ steps.old + owed self.old + 1 }
     {
         steps.tick();
-        self.blocks[caller as usize].open();
+        self.blocks.open(caller);
     }
 
     /// The caller's block ends, with a commit or without: the writes that it kept back take effect
@@ -233,8 +231,8 @@ impl Shadow {
         close_block_alone::<Brand>(Blank::new(1), self, caller)
     }
 
-    /// The same, with its steps counted: for each word that the block kept one to write it, one to
-    /// note it, and at most sixteen to drop it, since to empty a table takes time for all of its room.
+    /// The same, with its steps counted: for each word that the block kept one to write and note it,
+    /// and one to drop it.
     #[inline(always)]
     pub fn close_block_counted<L: Ledger>(&mut self, caller: u32, steps: &mut Steps<L>)
         requires caller { caller < self.old.header.callers }
@@ -254,13 +252,13 @@ impl Shadow {
         ensures changed { self.new.changed
             ≡ self.old.changed ++ words_of (kept_writes self.old caller) }
         ensures header { self.new.header ≡ self.old.header }
-        ensures steps { steps.new ≤ steps.old + 18 * length (kept_writes self.old caller) + 1 }
+        ensures steps { steps.new ≡ steps.old + 2 * length (kept_writes self.old caller) + 1 }
         ensures paid { steps.new + owed self.new ≤ steps.old + owed self.old + 1 }
     {
         steps.tick();
-        let block = &mut self.blocks[caller as usize];
-        self.count -= block.len();
-        block.end(&mut self.words, &mut self.changed, steps);
+        self.count -= self.blocks.len_of(caller);
+        self.blocks
+            .end(caller, &mut self.words, &mut self.changed, steps);
     }
 
     /// The plain words.
@@ -326,29 +324,29 @@ impl Shadow {
         Ok(())
     }
 
-    /// A write in the caller's block is kept back.
+    /// A write in the caller's block is kept back, if no other block keeps one to its word: the rules
+    /// of shape refuse such a write.
     #[inline(always)]
-    fn keep<L: Ledger>(
-        &mut self,
-        caller: u32,
-        word: u32,
-        value: u64,
-        steps: &mut Steps<L>,
-    ) -> Result<(), AllocError>
+    fn keep(&mut self, caller: u32, word: u32, value: u64) -> Result<(), AllocError>
         requires caller { caller < self.old.header.callers }
         requires opened { is_open self.old caller ≡ true }
         requires word { word < plain_words self.old.header }
         requires value { value < 2 ^ 63 }
-        ensures ok { OnOk result (self.new ≡ record self.old {
+        ensures ok { IsFree self.old.blocks caller word → OnOk result (self.new ≡ record self.old {
           blocks = slice_set self.old.blocks caller
-              (Some (insert_entry nat_eq (kept_writes self.old caller) word value));
+              (Some (with_kept (kept_writes self.old caller) word value));
         }) }
+        ensures blocks { (c : ℕ) → is_open self.new c ≡ is_open self.old c }
+        ensures changed { self.new.changed ≡ self.old.changed }
+        ensures header { self.new.header ≡ self.old.header }
         ensures refused { OnErr result (self.new ≡ self.old) }
         ensures count { kept_count self.new.blocks ≤ kept_count self.old.blocks + 1 }
-        ensures steps { steps.new ≤ steps.old + 9 }
     {
         self.changed.reserve(self.count + 1)?;
-        let is_new = self.blocks[caller as usize].keep(word, value, steps)?;
+        if self.blocks.is_held_elsewhere(caller, word) {
+            return Ok(());
+        }
+        let is_new = self.blocks.keep(caller, word, value, self.words.len())?;
         if is_new {
             self.count += 1;
         }
@@ -463,15 +461,4 @@ fn forget<L: Ledger>(changed: &mut Vec<u32>, steps: &mut Steps<L>)
 {
     steps.add(changed.len());
     changed.clear();
-}
-
-/// A closed block for each caller.
-fn closed_blocks(alloc: Global, callers: u32) -> Result<Vec<Block>, AllocError>
-    ensures { IfOk result (λ blocks. blocks.items ≡ replicate callers None) }
-{
-    let mut blocks = Vec::with_capacity(alloc, callers as usize)?;
-    for _ in 0..callers {
-        blocks.push(Block::new(alloc))?;
-    }
-    Ok(blocks)
 }

@@ -12,13 +12,13 @@ returns-clause-followed g c = λ starting earlier followed keeps. let s = c.self
     let inside : HasFollowed (record {
       header = s.header;
       words = s.words.items;
-      blocks = s.blocks.items;
+      blocks = s.blocks;
       changed = s.changed.items;
     }) starting earlier = rw c.self.view_is followed in
     rw c.open.ensures (followed_open (record {
       header = s.header;
       words = s.words.items;
-      blocks = s.blocks.items;
+      blocks = s.blocks;
       changed = s.changed.items;
     }) starting earlier c.args.caller (omega (arith, low, c.self.invariant.all_blocks)) inside
     (subst (λ (k : Kept). broken_rule k.header earlier (entry c.args.caller BlockOpen) ≡ None) (sym c.self.view_is) keeps))

@@ -1,11 +1,14 @@
 use Rattle.std.proofs.Common.{◌≡◌, ◌+◌, ◌≤◌, ◌++◌, length, drop, vec_len}
 use Rattle.std.specs.Prelude.{vec_capacity}
 use Rattle.std.specs.Map.{keys_of}
-use Rattle.vyrd_shadow.proofs.writes.note_few.Given as goal
+use Rattle.vyrd_shadow.specs.Blocks.{with_writes, AreInRange}
+use Rattle.vyrd_shadow.proofs.block.take_effect.Given as goal
 
 abbrev pub invariant-loop-word : goal.invariant-loop-word
 invariant-loop-word g l = record {
-  left : l.changed.items ++ keys_of (drop l.word-index l.writes) ≡ l.initial.changed.items ++ keys_of l.writes;
+  left : with_writes l.words (drop l.word-index l.writes) ≡ with_writes l.initial.words l.writes;
+  in_range : AreInRange (length l.words) (drop l.word-index l.writes);
+  words : l.changed.items ++ keys_of (drop l.word-index l.writes) ≡ l.initial.changed.items ++ keys_of l.writes;
   room : vec_len l.changed + length l.writes ≤ vec_capacity l.changed + l.word-index;
   within : l.word-index ≤ length l.writes;
   capacity : vec_capacity l.changed ≡ vec_capacity l.initial.changed;

@@ -1,6 +1,6 @@
 use Rattle.std.proofs.Common.{◌≡◌, None}
 use Rattle.std.specs.Prelude.{replicate}
-use Rattle.vyrd_shadow.proofs.shadow.closed_blocks.Given as goal
+use Rattle.vyrd_shadow.proofs.blocks.closed_blocks.Given as goal
 
 abbrev pub invariant-loop : goal.invariant-loop
 invariant-loop l = l.blocks.items ≡ replicate l.counter None
