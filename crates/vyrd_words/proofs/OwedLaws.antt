@@ -151,7 +151,7 @@ six_each k (suc n) =
 pub owed_paid : {T E : Type 0} (r : Result T E) (kept : Kept) (starting : List StartWord) (inner : List ℕ) (earlier : List Entry) (e : Entry)
     (old new : List (List (ℕ × ℕ))) (s0 s1 : ℕ) → HasWords kept inner starting earlier → Keeps kept.header earlier e
     → OnOk r (s1 + work_held kept.header.callers (e ∷ earlier) new
-    ≤ s0 + 30 + work_held kept.header.callers earlier old + 4 * effect_count kept e.caller e.kind + most_held kept.header.callers (effect_count kept e.caller e.kind))
+    ≤ s0 + 5 + work_held kept.header.callers earlier old + 4 * effect_count kept e.caller e.kind + most_held kept.header.callers (effect_count kept e.caller e.kind))
     → OnOk r (s1 + owed kept.header.callers (e ∷ earlier) new ≤ s0 + owed kept.header.callers earlier old + each_entry kept.header.callers)
 owed_paid (Err x) kept starting inner earlier e old new s0 s1 has keeps paid = tt
 owed_paid (Ok x) kept starting inner earlier e old new s0 s1 has keeps paid =
@@ -165,7 +165,7 @@ owed_paid (Ok x) kept starting inner earlier e old new s0 s1 has keeps paid =
 -- and whatever is owed after it
 pub owed_at_most : (kept : Kept) (starting : List StartWord) (inner : List ℕ) (earlier : List Entry) (e : Entry)
     (old : List (List (ℕ × ℕ))) (s0 s1 : ℕ) → HasWords kept inner starting earlier → Keeps kept.header earlier e
-    → s1 ≤ s0 + 30 + work_held kept.header.callers earlier old + 4 * effect_count kept e.caller e.kind
+    → s1 ≤ s0 + 5 + work_held kept.header.callers earlier old + 4 * effect_count kept e.caller e.kind
     + most_held kept.header.callers (effect_count kept e.caller e.kind)
     → s1 ≤ s0 + owed kept.header.callers earlier old + each_entry kept.header.callers
 owed_at_most kept starting inner earlier e old s0 s1 has keeps paid =

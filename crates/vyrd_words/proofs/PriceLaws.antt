@@ -120,7 +120,7 @@ prices_paid p kept starting inner earlier e has keeps =
 pub owed_priced : {T E : Type 0} (r : Result T E) (p : ℕ → ℕ) (kept : Kept) (starting : List StartWord) (inner : List ℕ) (earlier : List Entry) (e : Entry)
     (old new : List (List (ℕ × ℕ))) (s0 s1 : ℕ) → HasWords kept inner starting earlier → Keeps kept.header earlier e
     → OnOk r (s1 + work_held kept.header.callers (e ∷ earlier) new
-    ≤ s0 + sum_by p (effect_words kept e.caller e.kind) + 30 + work_held kept.header.callers earlier old + 4 * effect_count kept e.caller e.kind
+    ≤ s0 + sum_by p (effect_words kept e.caller e.kind) + 5 + work_held kept.header.callers earlier old + 4 * effect_count kept e.caller e.kind
     + most_held kept.header.callers (effect_count kept e.caller e.kind))
     → OnOk r (s1 + owed kept.header.callers (e ∷ earlier) new + price_kept p kept.header.callers (e ∷ earlier)
     ≤ s0 + owed kept.header.callers earlier old + price_kept p kept.header.callers earlier
@@ -136,7 +136,7 @@ owed_priced {T = T} {E = E} (Ok x) p kept starting inner earlier e old new s0 s1
 -- and whatever is owed after it
 pub priced_at_most : (p : ℕ → ℕ) (kept : Kept) (starting : List StartWord) (inner : List ℕ) (earlier : List Entry) (e : Entry)
     (old : List (List (ℕ × ℕ))) (s0 s1 : ℕ) → HasWords kept inner starting earlier → Keeps kept.header earlier e
-    → s1 ≤ s0 + sum_by p (effect_words kept e.caller e.kind) + 30 + work_held kept.header.callers earlier old + 4 * effect_count kept e.caller e.kind
+    → s1 ≤ s0 + sum_by p (effect_words kept e.caller e.kind) + 5 + work_held kept.header.callers earlier old + 4 * effect_count kept e.caller e.kind
     + most_held kept.header.callers (effect_count kept e.caller e.kind)
     → s1 ≤ s0 + owed kept.header.callers earlier old + price_kept p kept.header.callers earlier
     + (each_entry kept.header.callers + entry_price p e.kind)

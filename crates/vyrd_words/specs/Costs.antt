@@ -94,7 +94,7 @@ abbrev pub price_kept : (ℕ → ℕ) → ℕ → List Entry → ℕ
 price_kept price callers earlier = sum_by (price_back price earlier) (numbers_below callers)
 
 -- What each entry costs at most, with what is owed after it and beside the price of what it writes:
--- thirty steps of the words that are rebuilt, four to pass an effect on, and for each caller what
+-- five steps of the words that are rebuilt, four to pass an effect on, and for each caller what
 -- its open block's end owes for that effect and for a commit.
 abbrev pub each_entry : ℕ → ℕ
-each_entry callers = 34 + 6 * callers
+each_entry callers = 9 + 6 * callers

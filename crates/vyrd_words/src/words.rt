@@ -202,7 +202,7 @@ impl<C: Compare> Words<C> {
             ≤ steps.old + shadow_owed self.old.shadow + self.old.views.pending
             + sum_by (C.price self.old.views.shows)
             (effect_words self.old.shadow entry.caller entry.kind)
-            + 30
+            + 5
             + work_held self.old.shadow.header.callers earlier self.old.views.since
             + 4 * effect_count self.old.shadow entry.caller entry.kind
             + most_held self.old.shadow.header.callers
@@ -213,7 +213,7 @@ impl<C: Compare> Words<C> {
             → steps.new ≤ steps.old + shadow_owed self.old.shadow + self.old.views.pending
             + sum_by (C.price self.old.views.shows)
             (effect_words self.old.shadow entry.caller entry.kind)
-            + 30
+            + 5
             + work_held self.old.shadow.header.callers earlier self.old.views.since
             + 4 * effect_count self.old.shadow entry.caller entry.kind
             + most_held self.old.shadow.header.callers

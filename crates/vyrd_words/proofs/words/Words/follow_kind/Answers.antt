@@ -159,7 +159,7 @@ returns-in-BlockOpen-clause-steps g c = λ starting earlier seen kept counted.
     let was = ap (λ (v : WordsView). owed v.shadow + v.views.pending) c.self.view_is in
     let keeps = keeps_opened c.self.view_is kept in
     paid_now c.args.entry earlier [] before.views.since (c.args.steps.now + owed c.args.self.now.shadow + c.args.self.now.views.pending
-    + sum_by (g.C.Compare.price c.args.self.now.views.shows) (effect_words c.args.self.now.shadow c.args.entry.caller c.args.entry.kind) + 30) (c.open_block_counted.new.steps + owed c.open_block_counted.new.self + before.views.pending) c.self.view_is c.in-BlockOpen.is (low_caller keeps) (λ no. cc) refl
+    + sum_by (g.C.Compare.price c.args.self.now.views.shows) (effect_words c.args.self.now.shadow c.args.entry.caller c.args.entry.kind) + 5) (c.open_block_counted.new.steps + owed c.open_block_counted.new.self + before.views.pending) c.self.view_is c.in-BlockOpen.is (low_caller keeps) (λ no. cc) refl
     (omega (arith, was, c.open_block_counted.ensures.paid)) (sym (with_part_nothing 0 before.views.since))
 
 pub returns-in-Commit-clause-steps : goal.returns-in-Commit-clause-steps
@@ -168,7 +168,7 @@ returns-in-Commit-clause-steps g c = λ starting earlier seen kept counted.
     let was = ap (λ (v : WordsView). owed v.shadow + v.views.pending) c.self.view_is in
     let keeps = keeps_opened c.self.view_is kept in
     paid_closed c.cut.result c.args.entry earlier [] c.cut.new.self.since (c.args.steps.now + owed c.args.self.now.shadow + c.args.self.now.views.pending
-    + sum_by (g.C.Compare.price c.args.self.now.views.shows) (effect_words c.args.self.now.shadow c.args.entry.caller c.args.entry.kind) + 30) (c.args.steps.now + owed before.shadow + c.cut.new.self.pending) c.self.view_is c.in-Commit.is (low_caller keeps) (λ no. cc) refl
+    + sum_by (g.C.Compare.price c.args.self.now.views.shows) (effect_words c.args.self.now.shadow c.args.entry.caller c.args.entry.kind) + 5) (c.args.steps.now + owed before.shadow + c.cut.new.self.pending) c.self.view_is c.in-Commit.is (low_caller keeps) (λ no. cc) refl
     (always c.cut.result (omega (arith, was, c.cut.ensures.pending))) (ok_two c.cut.result c.cut.ensures.since c.cut.ensures.since
     (λ since twice. since ∙ ap (λ parts. parts ++ [] ∷ []) (sym (with_part_nothing 0 before.views.since))))
 
@@ -183,7 +183,7 @@ returns-in_ok-write_counted-in-Write-clause-steps g c = λ starting earlier seen
     let price = priced g.C.Compare.price c.args.entry mid.changed c.self.view_is c.in-Write.is
     (one_word (is_open before.shadow c.args.entry.caller) mid.changed before.shadow.changed c.in-Write.word c.in_ok-write_counted-in-Write.ensures.changed has.unchanged) in
     paid_closed c.pass_on.result c.args.entry earlier (written mid.words mid.changed) c.pass_on.new.views.since (c.args.steps.now + owed c.args.self.now.shadow + c.args.self.now.views.pending
-    + sum_by (g.C.Compare.price c.args.self.now.views.shows) (effect_words c.args.self.now.shadow c.args.entry.caller c.args.entry.kind) + 30) (c.pass_on.new.steps + owed c.pass_on.new.shadow + c.pass_on.new.views.pending)
+    + sum_by (g.C.Compare.price c.args.self.now.views.shows) (effect_words c.args.self.now.shadow c.args.entry.caller c.args.entry.kind) + 5) (c.pass_on.new.steps + owed c.pass_on.new.shadow + c.pass_on.new.views.pending)
     c.self.view_is c.in-Write.is (low_caller keeps) (λ no. cc)
     (long ∙ one_changed (is_open before.shadow c.args.entry.caller) mid.changed before.shadow.changed c.in-Write.word c.in_ok-write_counted-in-Write.ensures.changed has.unchanged)
     (ok_two c.pass_on.result c.pass_on.ensures.steps c.pass_on.ensures.steps
@@ -205,7 +205,7 @@ returns-then-number-eq0-clause-steps g c = λ starting earlier seen kept counted
     let price = priced g.C.Compare.price c.args.entry mid.changed c.self.view_is c.in-BlockClose.is
     (block_words mid.changed before.shadow.changed (kept_writes before.shadow c.args.entry.caller) c.close_block_counted.ensures.changed has.unchanged) in
     paid_closed on.result c.args.entry earlier (written mid.words mid.changed) on.new.views.since (c.args.steps.now + owed c.args.self.now.shadow + c.args.self.now.views.pending
-    + sum_by (g.C.Compare.price c.args.self.now.views.shows) (effect_words c.args.self.now.shadow c.args.entry.caller c.args.entry.kind) + 30) (on.new.steps + owed on.new.shadow + on.new.views.pending)
+    + sum_by (g.C.Compare.price c.args.self.now.views.shows) (effect_words c.args.self.now.shadow c.args.entry.caller c.args.entry.kind) + 5) (on.new.steps + owed on.new.shadow + on.new.views.pending)
     c.self.view_is c.in-BlockClose.is (low_caller keeps) (λ closes. closes_block c.in-BlockClose.is keeps)
     (long ∙ block_changed mid.changed before.shadow.changed (kept_writes before.shadow c.args.entry.caller) c.close_block_counted.ensures.changed has.unchanged)
     (ok_two on.result on.ensures.steps on.ensures.steps
@@ -229,7 +229,7 @@ returns-else-number-eq0-clause-steps g c = λ starting earlier seen kept counted
     let price = priced g.C.Compare.price c.args.entry mid.changed c.self.view_is c.in-BlockClose.is
     (block_words mid.changed before.shadow.changed (kept_writes before.shadow c.args.entry.caller) c.close_block_counted.ensures.changed has.unchanged) in
     paid_closed c.pass_back.result c.args.entry earlier (written mid.words mid.changed) c.pass_back.new.views.since (c.args.steps.now + owed c.args.self.now.shadow + c.args.self.now.views.pending
-    + sum_by (g.C.Compare.price c.args.self.now.views.shows) (effect_words c.args.self.now.shadow c.args.entry.caller c.args.entry.kind) + 30) (c.pass_back.new.steps + owed c.pass_back.new.shadow + c.pass_back.new.views.pending)
+    + sum_by (g.C.Compare.price c.args.self.now.views.shows) (effect_words c.args.self.now.shadow c.args.entry.caller c.args.entry.kind) + 5) (c.pass_back.new.steps + owed c.pass_back.new.shadow + c.pass_back.new.views.pending)
     c.self.view_is c.in-BlockClose.is (low_caller keeps) (λ closes. closes_block c.in-BlockClose.is keeps)
     (long ∙ block_changed mid.changed before.shadow.changed (kept_writes before.shadow c.args.entry.caller) c.close_block_counted.ensures.changed has.unchanged)
     (ok_two c.pass_back.result c.pass_back.ensures.steps c.pass_back.ensures.steps
@@ -251,7 +251,7 @@ returns-in_ok-pass_on-in-BlockCommit-clause-steps g c = λ starting earlier seen
     let price = priced g.C.Compare.price c.args.entry mid.changed c.self.view_is c.in-BlockCommit.is
     (block_words mid.changed before.shadow.changed (kept_writes before.shadow c.args.entry.caller) c.close_block_counted-in-BlockCommit.ensures.changed has.unchanged) in
     paid_closed cut.result c.args.entry earlier (written mid.words mid.changed) cut.new.self.since (c.args.steps.now + owed c.args.self.now.shadow + c.args.self.now.views.pending
-    + sum_by (g.C.Compare.price c.args.self.now.views.shows) (effect_words c.args.self.now.shadow c.args.entry.caller c.args.entry.kind) + 30) (on.new.steps + owed on.new.shadow + cut.new.self.pending)
+    + sum_by (g.C.Compare.price c.args.self.now.views.shows) (effect_words c.args.self.now.shadow c.args.entry.caller c.args.entry.kind) + 5) (on.new.steps + owed on.new.shadow + cut.new.self.pending)
     c.self.view_is c.in-BlockCommit.is (low_caller keeps) (λ no. cc)
     (long ∙ block_changed mid.changed before.shadow.changed (kept_writes before.shadow c.args.entry.caller) c.close_block_counted-in-BlockCommit.ensures.changed has.unchanged)
     (always cut.result (omega (arith, was, price, long, c.close_block_counted-in-BlockCommit.ensures.paid, ok.ensures.steps, cut.ensures.pending)))
@@ -261,14 +261,14 @@ pub returns-in-Call-clause-steps : goal.returns-in-Call-clause-steps
 returns-in-Call-clause-steps g c = λ starting earlier has keeps counted.
     let before = c.args.self.now in
     paid_now {v = before} {w = before} c.args.entry earlier [] before.views.since (c.args.steps.now + owed c.args.self.now.shadow + c.args.self.now.views.pending
-    + sum_by (g.C.Compare.price c.args.self.now.views.shows) (effect_words c.args.self.now.shadow c.args.entry.caller c.args.entry.kind) + 30) (c.args.steps.now + owed before.shadow + before.views.pending)
+    + sum_by (g.C.Compare.price c.args.self.now.views.shows) (effect_words c.args.self.now.shadow c.args.entry.caller c.args.entry.kind) + 5) (c.args.steps.now + owed before.shadow + before.views.pending)
     refl c.in-Call.is (low_caller keeps) (λ no. cc) refl (omega arith) (sym (with_part_nothing 0 before.views.since))
 
 pub returns-in-Return-clause-steps : goal.returns-in-Return-clause-steps
 returns-in-Return-clause-steps g c = λ starting earlier has keeps counted.
     let before = c.args.self.now in
     paid_now {v = before} {w = before} c.args.entry earlier [] before.views.since (c.args.steps.now + owed c.args.self.now.shadow + c.args.self.now.views.pending
-    + sum_by (g.C.Compare.price c.args.self.now.views.shows) (effect_words c.args.self.now.shadow c.args.entry.caller c.args.entry.kind) + 30) (c.args.steps.now + owed before.shadow + before.views.pending)
+    + sum_by (g.C.Compare.price c.args.self.now.views.shows) (effect_words c.args.self.now.shadow c.args.entry.caller c.args.entry.kind) + 5) (c.args.steps.now + owed before.shadow + before.views.pending)
     refl c.in-Return.is (low_caller keeps) (λ no. cc) refl (omega arith) (sym (with_part_nothing 0 before.views.since))
 
 pub returns-in-Call-clause-most : goal.returns-in-Call-clause-most
@@ -302,7 +302,7 @@ returns-in_ok-write_counted-in-Write-clause-most g c = λ starting earlier seen 
     let price = priced g.C.Compare.price c.args.entry mid.changed c.self.view_is c.in-Write.is
     (one_word (is_open before.shadow c.args.entry.caller) mid.changed before.shadow.changed c.in-Write.word c.in_ok-write_counted-in-Write.ensures.changed has.unchanged) in
     paid_at_most c.args.entry earlier (written mid.words mid.changed) (c.args.steps.now + owed c.args.self.now.shadow + c.args.self.now.views.pending
-    + sum_by (g.C.Compare.price c.args.self.now.views.shows) (effect_words c.args.self.now.shadow c.args.entry.caller c.args.entry.kind) + 30) c.pass_on.new.steps
+    + sum_by (g.C.Compare.price c.args.self.now.views.shows) (effect_words c.args.self.now.shadow c.args.entry.caller c.args.entry.kind) + 5) c.pass_on.new.steps
     c.self.view_is c.in-Write.is (low_caller keeps) (λ no. cc)
     (long ∙ one_changed (is_open before.shadow c.args.entry.caller) mid.changed before.shadow.changed c.in-Write.word c.in_ok-write_counted-in-Write.ensures.changed has.unchanged)
     (omega (arith, was, price, long, c.write_counted.ensures.paid, c.pass_on.ensures.most))
@@ -323,7 +323,7 @@ returns-then-number-eq0-clause-most g c = λ starting earlier seen kept counted.
     let price = priced g.C.Compare.price c.args.entry mid.changed c.self.view_is c.in-BlockClose.is
     (block_words mid.changed before.shadow.changed (kept_writes before.shadow c.args.entry.caller) c.close_block_counted.ensures.changed has.unchanged) in
     paid_at_most c.args.entry earlier (written mid.words mid.changed) (c.args.steps.now + owed c.args.self.now.shadow + c.args.self.now.views.pending
-    + sum_by (g.C.Compare.price c.args.self.now.views.shows) (effect_words c.args.self.now.shadow c.args.entry.caller c.args.entry.kind) + 30) on.new.steps
+    + sum_by (g.C.Compare.price c.args.self.now.views.shows) (effect_words c.args.self.now.shadow c.args.entry.caller c.args.entry.kind) + 5) on.new.steps
     c.self.view_is c.in-BlockClose.is (low_caller keeps) (λ closes. closes_block c.in-BlockClose.is keeps)
     (long ∙ block_changed mid.changed before.shadow.changed (kept_writes before.shadow c.args.entry.caller) c.close_block_counted.ensures.changed has.unchanged)
     (omega (arith, was, price, long, c.close_block_counted.ensures.paid, on.ensures.most))
@@ -344,7 +344,7 @@ returns-else-number-eq0-clause-most g c = λ starting earlier seen kept counted.
     let price = priced g.C.Compare.price c.args.entry mid.changed c.self.view_is c.in-BlockClose.is
     (block_words mid.changed before.shadow.changed (kept_writes before.shadow c.args.entry.caller) c.close_block_counted.ensures.changed has.unchanged) in
     paid_at_most c.args.entry earlier (written mid.words mid.changed) (c.args.steps.now + owed c.args.self.now.shadow + c.args.self.now.views.pending
-    + sum_by (g.C.Compare.price c.args.self.now.views.shows) (effect_words c.args.self.now.shadow c.args.entry.caller c.args.entry.kind) + 30) c.pass_back.new.steps
+    + sum_by (g.C.Compare.price c.args.self.now.views.shows) (effect_words c.args.self.now.shadow c.args.entry.caller c.args.entry.kind) + 5) c.pass_back.new.steps
     c.self.view_is c.in-BlockClose.is (low_caller keeps) (λ closes. closes_block c.in-BlockClose.is keeps)
     (long ∙ block_changed mid.changed before.shadow.changed (kept_writes before.shadow c.args.entry.caller) c.close_block_counted.ensures.changed has.unchanged)
     (omega (arith, was, price, long, c.close_block_counted.ensures.paid, c.pass_back.ensures.most, cost))
@@ -363,7 +363,7 @@ returns-in_ok-pass_on-in-BlockCommit-clause-most g c = λ starting earlier seen 
     let price = priced g.C.Compare.price c.args.entry mid.changed c.self.view_is c.in-BlockCommit.is
     (block_words mid.changed before.shadow.changed (kept_writes before.shadow c.args.entry.caller) c.close_block_counted-in-BlockCommit.ensures.changed has.unchanged) in
     paid_at_most c.args.entry earlier (written mid.words mid.changed) (c.args.steps.now + owed c.args.self.now.shadow + c.args.self.now.views.pending
-    + sum_by (g.C.Compare.price c.args.self.now.views.shows) (effect_words c.args.self.now.shadow c.args.entry.caller c.args.entry.kind) + 30) on.new.steps
+    + sum_by (g.C.Compare.price c.args.self.now.views.shows) (effect_words c.args.self.now.shadow c.args.entry.caller c.args.entry.kind) + 5) on.new.steps
     c.self.view_is c.in-BlockCommit.is (low_caller keeps) (λ no. cc)
     (long ∙ block_changed mid.changed before.shadow.changed (kept_writes before.shadow c.args.entry.caller) c.close_block_counted-in-BlockCommit.ensures.changed has.unchanged)
     (omega (arith, was, price, long, c.close_block_counted-in-BlockCommit.ensures.paid, on.ensures.most))
@@ -380,7 +380,7 @@ returns-in_err-pass_on-in-BlockCommit-clause-most g c = λ starting earlier seen
     let price = priced g.C.Compare.price c.args.entry mid.changed c.self.view_is c.in-BlockCommit.is
     (block_words mid.changed before.shadow.changed (kept_writes before.shadow c.args.entry.caller) c.close_block_counted-in-BlockCommit.ensures.changed has.unchanged) in
     paid_at_most c.args.entry earlier (written mid.words mid.changed) (c.args.steps.now + owed c.args.self.now.shadow + c.args.self.now.views.pending
-    + sum_by (g.C.Compare.price c.args.self.now.views.shows) (effect_words c.args.self.now.shadow c.args.entry.caller c.args.entry.kind) + 30) on.new.steps
+    + sum_by (g.C.Compare.price c.args.self.now.views.shows) (effect_words c.args.self.now.shadow c.args.entry.caller c.args.entry.kind) + 5) on.new.steps
     c.self.view_is c.in-BlockCommit.is (low_caller keeps) (λ no. cc)
     (long ∙ block_changed mid.changed before.shadow.changed (kept_writes before.shadow c.args.entry.caller) c.close_block_counted-in-BlockCommit.ensures.changed has.unchanged)
     (omega (arith, was, price, long, c.close_block_counted-in-BlockCommit.ensures.paid, on.ensures.most))
