@@ -1,28 +1,28 @@
 -- Writes that wait, and the words at the commits among them.
-use Rattle.std.proofs.Common.{◌≡◌, ℕ, zero, suc, ◌+◌, ◌<◌, ◌≤◌, ◌^◌, List, [], ◌∷◌, ◌++◌, length, sum, take, drop, set, refl, ap, subst, ◌∙◌, sym, arith, length-drop, length-append}
-use Rattle.std.proofs.lemmas.List.Sums.{sum_by-cons}
-use Rattle.std.proofs.lemmas.List.{take-append-le, drop-append-le, take-append-drop}
+use Rattle.std.proofs.Common.{◌≡◌, ℕ, zero, suc, ◌+◌, ◌<◌, ◌≤◌, ◌^◌, List, [], ◌∷◌, ◌++◌, length, take, drop, set, refl, ap, subst, ◌∙◌, sym, arith, length-drop, length-append}
+use Rattle.std.proofs.lemmas.List.Sums.{sum_by-cons, sum_by_push}
+use Rattle.std.proofs.lemmas.List.{take-append-le, drop-append-le}
 use Rattle.std.proofs.Math.Seq.{take-length}
 use Rattle.std.proofs.Math.ListN.{length-set}
 use Rattle.std.proofs.Math.Seq.{drop-length}
 use Rattle.vyrd_base.specs.declared.header.Header.{Header}
 use Rattle.vyrd_base.specs.Layout.{plain_words}
 use Rattle.std.specs.Prelude.{◌==◌, true, false, get_or, map, All, Result, Ok, Err, OnOk}
-use Rattle.std.specs.List.{list_any, sum_by}
+use Rattle.std.specs.List.{list_any}
 use Rattle.std.proofs.Common.{append_assoc, get_or-set_other}
 use Rattle.std.proofs.lemmas.List.Folds.{list_any-append}
-use Rattle.std.proofs.lemmas.List.Elements.{All-append, All-head, All-tail}
+use Rattle.std.proofs.lemmas.List.Elements.{All-append, All-head, All-tail, All-cons, All-nil}
 use Rattle.vyrd_view.specs.Comparing.{AgreeElsewhere}
 use Rattle.vyrd_view.specs.Known.{Known}
 use Rattle.vyrd_base.proofs.TestLaws.{same_of, apart_of, is_same, flipped, lower_isnt, neither_true}
 use Rattle.vyrd_shadow.proofs.WriteLaws.{with_writes-append}
 use Rattle.vyrd_shadow.specs.Blocks.{with_writes, AreInRange}
 use Rattle.vyrd_shadow.proofs.KeptWrites.{length-with_writes, below_set, below_with, keys_below}
-use Rattle.vyrd_words.specs.Costs.{writes_behind}
+use Rattle.vyrd_words.specs.Counts.{just, with_late, total}
 use Rattle.vyrd_words.specs.Cuts.{first_of, split_at, since_of, with_part, first_with, written, AreCuts, AreKnown}
 use Rattle.std.specs.Prelude.{cond, ◌-◌, Some, slice_get}
-use Rattle.std.proofs.lemmas.Option.{same_Some}
-use Rattle.std.proofs.Math.Seq.{take-append_seam}
+use Rattle.std.proofs.lemmas.Option.{same_Some, none-some}
+use Rattle.std.specs.Option.{option_map}
 use Rattle.std.proofs.Common.{append-nil, Bool}
 
 pub in_range-append : (n : ℕ) (xs ys : List (ℕ × ℕ)) → AreInRange n xs → AreInRange n ys → AreInRange n (xs ++ ys)
@@ -39,38 +39,39 @@ in_range-drop n zero xs all = all
 in_range-drop n (suc k) [] all = all
 in_range-drop n (suc k) ((w, v) ∷ xs) all = in_range-drop n k xs all.2
 
-pub sum-cons : (k : ℕ) (ks : List ℕ) → sum (k ∷ ks) ≡ k + sum ks
-sum-cons k ks = sum_by-cons (λ x. x) k ks
+pub sum-cons : (k : ℕ × List (ℕ × ℕ)) (ks : List (ℕ × List (ℕ × ℕ))) → total (k ∷ ks) ≡ k.0 + total ks
+sum-cons k ks = sum_by-cons (λ (commit : ℕ × List (ℕ × ℕ)). commit.0) k ks
 
 -- how many lists there are
-pub length-split_at : (ks : List ℕ) (ws : List (ℕ × ℕ)) → length (split_at ks ws) ≡ suc (length ks)
+pub length-split_at : (ks : List (ℕ × List (ℕ × ℕ))) (ws : List (ℕ × ℕ)) → length (split_at ks ws) ≡ suc (length ks)
 length-split_at [] ws = refl
-length-split_at (k ∷ ks) ws = ap suc (length-split_at ks (drop k ws))
+length-split_at (k ∷ ks) ws = ap suc (length-split_at ks (drop k.0 ws))
 
-pub length-since_of : (ks : List ℕ) (ws : List (ℕ × ℕ)) → length (since_of ks ws) ≡ length ks
+pub length-since_of : (ks : List (ℕ × List (ℕ × ℕ))) (ws : List (ℕ × ℕ)) → length (since_of ks ws) ≡ length ks
 length-since_of [] ws = refl
-length-since_of (k ∷ ks) ws = length-split_at ks (drop k ws)
+length-since_of (k ∷ ks) ws = length-split_at ks (drop k.0 ws)
 
 never_same : (n m : ℕ) → n < m → (m == n) ≡ false
 never_same n m less = flipped n m (lower_isnt n m less)
 
 -- one more commit
-split_push : (ks : List ℕ) (t : ℕ) (ws : List (ℕ × ℕ)) → sum ks + t ≡ length ws → split_at (ks ++ t ∷ []) ws ≡ split_at ks ws ++ [] ∷ []
+split_push : (ks : List (ℕ × List (ℕ × ℕ))) (t : ℕ) (ws : List (ℕ × ℕ)) → total ks + t ≡ length ws → split_at (ks ++ just t ∷ []) ws ≡ split_at ks ws ++ [] ∷ []
 split_push [] t ws counted =
     let same : t ≡ length ws = omega (arith, counted) in
-    (λ i. take (same i) ws ∷ drop (same i) ws ∷ []) ∙ (λ i. take-length ws i ∷ drop-length ws i ∷ [])
+    (λ i. (take (same i) ws ++ []) ∷ drop (same i) ws ∷ []) ∙ (λ i. (take-length ws i ++ []) ∷ drop-length ws i ∷ [])
+    ∙ ap (λ xs. xs ∷ [] ∷ []) (append-nil ws)
 split_push (k ∷ ks) t ws counted =
-    ap (λ rest. take k ws ∷ rest) (split_push ks t (drop k ws) (omega (arith, counted, length-drop k ws, sum-cons k ks)))
+    ap (λ rest. (take k.0 ws ++ k.1) ∷ rest) (split_push ks t (drop k.0 ws) (omega (arith, counted, length-drop k.0 ws, sum-cons k ks)))
 
-pub since_push : (ks : List ℕ) (t : ℕ) (ws : List (ℕ × ℕ)) → sum ks + t ≡ length ws → since_of (ks ++ t ∷ []) ws ≡ since_of ks ws ++ [] ∷ []
+pub since_push : (ks : List (ℕ × List (ℕ × ℕ))) (t : ℕ) (ws : List (ℕ × ℕ)) → total ks + t ≡ length ws → since_of (ks ++ just t ∷ []) ws ≡ since_of ks ws ++ [] ∷ []
 since_push [] t ws counted =
     let same : t ≡ length ws = omega (arith, counted) in (λ i. drop (same i) ws ∷ []) ∙ (λ i. drop-length ws i ∷ [])
-since_push (k ∷ ks) t ws counted = split_push ks t (drop k ws) (omega (arith, counted, length-drop k ws, sum-cons k ks))
+since_push (k ∷ ks) t ws counted = split_push ks t (drop k.0 ws) (omega (arith, counted, length-drop k.0 ws, sum-cons k ks))
 
-pub first_push : (words ks : List ℕ) (t : ℕ) (ws : List (ℕ × ℕ)) → sum ks + t ≡ length ws → first_of words (ks ++ t ∷ []) ws ≡ first_of words ks ws
+pub first_push : (words : List ℕ) (ks : List (ℕ × List (ℕ × ℕ))) (t : ℕ) (ws : List (ℕ × ℕ)) → total ks + t ≡ length ws → first_of words (ks ++ just t ∷ []) ws ≡ first_of words ks ws
 first_push words [] t ws counted =
     let same : t ≡ length ws = omega (arith, counted) in
-    ap (λ n. with_writes words (take n ws)) same ∙ ap (with_writes words) (take-length ws)
+    ap (λ n. with_writes words (take n ws ++ [])) same ∙ ap (λ xs. with_writes words (xs ++ [])) (take-length ws) ∙ ap (with_writes words) (append-nil ws)
 first_push words (k ∷ ks) t ws counted = refl
 
 cons_first : {A : Type 0} {x y : A} {xs ys : List A} → x ∷ xs ≡ y ∷ ys → x ≡ y
@@ -80,40 +81,40 @@ cons_rest : {A : Type 0} {x y : A} {xs ys : List A} → x ∷ xs ≡ y ∷ ys �
 cons_rest e = cc
 
 -- the first commit no longer waits: the words at the next one, and what took effect since that
-pub first_next : (words ks : List ℕ) (ws part : List (ℕ × ℕ)) (rest : List (List (ℕ × ℕ))) → split_at ks ws ≡ part ∷ rest
+pub first_next : (words : List ℕ) (ks : List (ℕ × List (ℕ × ℕ))) (ws part : List (ℕ × ℕ)) (rest : List (List (ℕ × ℕ))) → split_at ks ws ≡ part ∷ rest
     → first_of words ks ws ≡ with_writes words part
 first_next words [] ws part rest is = ap (with_writes words) (cons_first is)
 first_next words (k ∷ ks) ws part rest is = ap (with_writes words) (cons_first is)
 
-pub since_next : (ks : List ℕ) (ws part : List (ℕ × ℕ)) (rest : List (List (ℕ × ℕ))) → split_at ks ws ≡ part ∷ rest → since_of ks ws ≡ rest
+pub since_next : (ks : List (ℕ × List (ℕ × ℕ))) (ws part : List (ℕ × ℕ)) (rest : List (List (ℕ × ℕ))) → split_at ks ws ≡ part ∷ rest → since_of ks ws ≡ rest
 since_next [] ws part rest is = cons_rest is
 since_next (k ∷ ks) ws part rest is = cons_rest is
 
 -- further writes after the last commit
-split_more : (ks : List ℕ) (ws more : List (ℕ × ℕ)) → sum ks ≤ length ws → split_at ks (ws ++ more) ≡ with_part 0 more (split_at ks ws)
+split_more : (ks : List (ℕ × List (ℕ × ℕ))) (ws more : List (ℕ × ℕ)) → total ks ≤ length ws → split_at ks (ws ++ more) ≡ with_part 0 more (split_at ks ws)
 split_more [] ws more within = refl
 split_more (k ∷ ks) ws more within =
-    let long : k ≤ length ws = omega (arith, within, sum-cons k ks) in
-    (λ i. take-append-le k ws more long i ∷ split_at ks (drop-append-le k ws more long i))
-    ∙ ap (λ rest. take k ws ∷ rest) (split_more ks (drop k ws) more (omega (arith, within, length-drop k ws, sum-cons k ks)))
-    ∙ ap (λ b. cond b ((take k ws ++ more) ∷ split_at ks (drop k ws)) (take k ws ∷ with_part 0 more (split_at ks (drop k ws))))
-    (sym (never_same 0 (length (split_at ks (drop k ws))) (omega (arith, length-split_at ks (drop k ws)))))
+    let long : k.0 ≤ length ws = omega (arith, within, sum-cons k ks) in
+    (λ i. (take-append-le k.0 ws more long i ++ k.1) ∷ split_at ks (drop-append-le k.0 ws more long i))
+    ∙ ap (λ rest. (take k.0 ws ++ k.1) ∷ rest) (split_more ks (drop k.0 ws) more (omega (arith, within, length-drop k.0 ws, sum-cons k ks)))
+    ∙ ap (λ b. cond b (((take k.0 ws ++ k.1) ++ more) ∷ split_at ks (drop k.0 ws)) ((take k.0 ws ++ k.1) ∷ with_part 0 more (split_at ks (drop k.0 ws))))
+    (sym (never_same 0 (length (split_at ks (drop k.0 ws))) (omega (arith, length-split_at ks (drop k.0 ws)))))
 
-pub since_more : (ks : List ℕ) (ws more : List (ℕ × ℕ)) → sum ks ≤ length ws → 0 < length ks
+pub since_more : (ks : List (ℕ × List (ℕ × ℕ))) (ws more : List (ℕ × ℕ)) → total ks ≤ length ws → 0 < length ks
     → since_of ks (ws ++ more) ≡ with_part 0 more (since_of ks ws)
 since_more [] ws more within some = absurd (omega (arith, some))
 since_more (k ∷ ks) ws more within some =
-    let long : k ≤ length ws = omega (arith, within, sum-cons k ks) in
-    ap (split_at ks) (drop-append-le k ws more long) ∙ split_more ks (drop k ws) more (omega (arith, within, length-drop k ws, sum-cons k ks))
+    let long : k.0 ≤ length ws = omega (arith, within, sum-cons k ks) in
+    ap (split_at ks) (drop-append-le k.0 ws more long) ∙ split_more ks (drop k.0 ws) more (omega (arith, within, length-drop k.0 ws, sum-cons k ks))
 
-pub first_more : (words ks : List ℕ) (ws more : List (ℕ × ℕ)) → sum ks ≤ length ws → 0 < length ks
+pub first_more : (words : List ℕ) (ks : List (ℕ × List (ℕ × ℕ))) (ws more : List (ℕ × ℕ)) → total ks ≤ length ws → 0 < length ks
     → first_of words ks (ws ++ more) ≡ first_with 0 more (first_of words ks ws) (since_of ks ws)
 first_more words [] ws more within some = absurd (omega (arith, some))
 first_more words (k ∷ ks) ws more within some =
-    let long : k ≤ length ws = omega (arith, within, sum-cons k ks) in
-    ap (with_writes words) (take-append-le k ws more long)
-    ∙ ap (λ b. cond b (with_writes (with_writes words (take k ws)) more) (with_writes words (take k ws)))
-    (sym (never_same 0 (length (split_at ks (drop k ws))) (omega (arith, length-split_at ks (drop k ws)))))
+    let long : k.0 ≤ length ws = omega (arith, within, sum-cons k ks) in
+    ap (λ xs. with_writes words (xs ++ k.1)) (take-append-le k.0 ws more long)
+    ∙ ap (λ b. cond b (with_writes (with_writes words (take k.0 ws ++ k.1)) more) (with_writes words (take k.0 ws ++ k.1)))
+    (sym (never_same 0 (length (split_at ks (drop k.0 ws))) (omega (arith, length-split_at ks (drop k.0 ws)))))
 
 -- further writes in a list that isn't there
 pub with_part_none : (behind : ℕ) (new : List (ℕ × ℕ)) (parts : List (List (ℕ × ℕ))) → length parts ≤ behind → with_part behind new parts ≡ parts
@@ -174,127 +175,55 @@ pub written_more : (words changed : List ℕ) (w : ℕ) → written words (chang
 written_more words [] w = refl
 written_more words (x ∷ changed) w = ap (λ ws. (x, get_or words x 0) ∷ ws) (written_more words changed w)
 
--- writes that are put between others
-abbrev pub put_at : ℕ → List (ℕ × ℕ) → List (ℕ × ℕ) → List (ℕ × ℕ)
-put_at place new ws = (take place ws ++ new) ++ drop place ws
+-- a commit has further late writes
+abbrev pub late_at : List (ℕ × List (ℕ × ℕ)) → ℕ → List (ℕ × ℕ) → List (ℕ × List (ℕ × ℕ))
+late_at ks i new = set ks i (with_late (get_or ks i (just 0)) new)
 
-take_put : (place : ℕ) (new ws : List (ℕ × ℕ)) → place ≤ length ws → take (place + length new) (put_at place new ws) ≡ take place ws ++ new
-take_put zero new ws within =
-    let e : 0 + length new ≡ length new = omega arith in
-    ap (λ n. take n (new ++ ws)) e ∙ take-append_seam new ws
-take_put (suc place) new [] within = absurd (omega (arith, within))
-take_put (suc place) new (x ∷ ws) within =
-    let e : suc place + length new ≡ suc (place + length new) = omega arith in
-    ap (λ n. take n (x ∷ put_at place new ws)) e ∙ ap (λ ys. x ∷ ys) (take_put place new ws (omega (arith, within)))
-
-drop_put : (place : ℕ) (new ws : List (ℕ × ℕ)) → place ≤ length ws → drop (place + length new) (put_at place new ws) ≡ drop place ws
-drop_put zero new ws within =
-    let e : 0 + length new ≡ length new = omega arith in
-    ap (λ n. drop n (new ++ ws)) e ∙ drop_seam new
-  where
-    drop_seam : (xs : List (ℕ × ℕ)) → drop (length xs) (xs ++ ws) ≡ ws
-    drop_seam [] = refl
-    drop_seam (x ∷ xs) = drop_seam xs
-drop_put (suc place) new [] within = absurd (omega (arith, within))
-drop_put (suc place) new (x ∷ ws) within =
-    let e : suc place + length new ≡ suc (place + length new) = omega arith in
-    ap (λ n. drop n (x ∷ put_at place new ws)) e ∙ drop_put place new ws (omega (arith, within))
-
--- before the place nothing changes
-take_before : (k place : ℕ) (new ws : List (ℕ × ℕ)) → k ≤ place → place ≤ length ws → take k (put_at place new ws) ≡ take k ws
-take_before zero place new ws before within = refl
-take_before (suc k) zero new ws before within = absurd (omega (arith, before))
-take_before (suc k) (suc place) new [] before within = absurd (omega (arith, within))
-take_before (suc k) (suc place) new (x ∷ ws) before within = ap (λ ys. x ∷ ys) (take_before k place new ws (omega (arith, before)) (omega (arith, within)))
-
-drop_before : (k place : ℕ) (new ws : List (ℕ × ℕ)) → k + place ≤ length ws → drop k (put_at (k + place) new ws) ≡ put_at place new (drop k ws)
-drop_before zero place new ws within = let e : 0 + place ≡ place = omega arith in ap (λ n. put_at n new ws) e
-drop_before (suc k) place new [] within = absurd (omega (arith, within))
-drop_before (suc k) place new (x ∷ ws) within =
-    let e : suc k + place ≡ suc (k + place) = omega arith in
-    ap (λ n. drop (suc k) (put_at n new (x ∷ ws))) e ∙ drop_before k place new ws (omega (arith, within))
-
--- the place after the writes of a commit
-abbrev pub place_of_cut : List ℕ → ℕ → ℕ
-place_of_cut ks i = sum (take (suc i) ks)
-
-place_more : (k : ℕ) (ks : List ℕ) (i : ℕ) → place_of_cut (k ∷ ks) (suc i) ≡ k + place_of_cut ks i
-place_more k ks i = sum-cons k (take (suc i) ks)
-
-sum-take : (n : ℕ) (ks : List ℕ) → sum (take n ks) ≤ sum ks
-sum-take zero ks = omega arith
-sum-take (suc n) [] = omega arith
-sum-take (suc n) (k ∷ ks) = omega (arith, sum-cons k (take n ks), sum-cons k ks, sum-take n ks)
-
-pub place_within : (ks : List ℕ) (i : ℕ) → place_of_cut ks i ≤ sum ks
-place_within ks i = sum-take (suc i) ks
-
--- writes are put after those of a commit
-split_late : (ks : List ℕ) (i : ℕ) (new ws : List (ℕ × ℕ)) → i < length ks → sum ks ≤ length ws
-    → split_at (set ks i (get_or ks i 0 + length new)) (put_at (place_of_cut ks i) new ws) ≡ with_part (length ks - i) new (split_at ks ws)
-split_late [] i new ws low within = absurd (omega (arith, low))
-split_late (k ∷ ks) zero new ws low within =
-    let only : place_of_cut (k ∷ ks) 0 ≡ k = omega (arith, sum-cons k []) in
-    let long : k ≤ length ws = omega (arith, within, sum-cons k ks) in
-    ap (λ n. split_at ((k + length new) ∷ ks) (put_at n new ws)) only
-    ∙ (λ j. take_put k new ws long j ∷ split_at ks (drop_put k new ws long j))
-    ∙ ap (λ b. cond b ((take k ws ++ new) ∷ split_at ks (drop k ws)) (take k ws ∷ with_part (suc (length ks) - 0) new (split_at ks (drop k ws))))
-    (sym (is_same (length (split_at ks (drop k ws))) (suc (length ks) - 0) (omega (arith, length-split_at ks (drop k ws)))))
-split_late (k ∷ ks) (suc i) new ws low within =
-    let long : k + place_of_cut ks i ≤ length ws = omega (arith, within, sum-cons k ks, place_within ks i) in
+split_late : (ks : List (ℕ × List (ℕ × ℕ))) (i : ℕ) (new ws : List (ℕ × ℕ)) → i < length ks → split_at (late_at ks i new) ws ≡ with_part (length ks - i) new (split_at ks ws)
+split_late [] i new ws low = absurd (omega (arith, low))
+split_late (k ∷ ks) zero new ws low =
+    ap (λ part. part ∷ split_at ks (drop k.0 ws)) (sym (append_assoc (take k.0 ws) k.1 new))
+    ∙ ap (λ b. cond b (((take k.0 ws ++ k.1) ++ new) ∷ split_at ks (drop k.0 ws)) ((take k.0 ws ++ k.1) ∷ with_part (suc (length ks) - 0) new (split_at ks (drop k.0 ws))))
+    (sym (is_same (length (split_at ks (drop k.0 ws))) (suc (length ks) - 0) (omega (arith, length-split_at ks (drop k.0 ws)))))
+split_late (k ∷ ks) (suc i) new ws low =
     let fewer : suc (length ks) - suc i ≡ length ks - i = omega arith in
-    ap (λ n. split_at (k ∷ set ks i (get_or ks i 0 + length new)) (put_at n new ws)) (place_more k ks i)
-    ∙ (λ j. take_before k (k + place_of_cut ks i) new ws (omega arith) long j
-    ∷ split_at (set ks i (get_or ks i 0 + length new)) (drop_before k (place_of_cut ks i) new ws long j))
-    ∙ ap (λ rest. take k ws ∷ rest) (split_late ks i new (drop k ws) (omega (arith, low)) (omega (arith, within, sum-cons k ks, length-drop k ws)))
-    ∙ ap (λ b. cond b ((take k ws ++ new) ∷ split_at ks (drop k ws)) (take k ws ∷ with_part (length ks - i) new (split_at ks (drop k ws))))
-    (sym (never_same (length ks - i) (length (split_at ks (drop k ws))) (omega (arith, length-split_at ks (drop k ws)))))
+    ap (λ rest. (take k.0 ws ++ k.1) ∷ rest) (split_late ks i new (drop k.0 ws) (omega (arith, low)))
+    ∙ ap (λ b. cond b (((take k.0 ws ++ k.1) ++ new) ∷ split_at ks (drop k.0 ws)) ((take k.0 ws ++ k.1) ∷ with_part (length ks - i) new (split_at ks (drop k.0 ws))))
+    (sym (never_same (length ks - i) (length (split_at ks (drop k.0 ws))) (omega (arith, length-split_at ks (drop k.0 ws)))))
     ∙ ap (λ n. with_part n new (split_at (k ∷ ks) ws)) (sym fewer)
 
-pub since_late : (ks : List ℕ) (i : ℕ) (new ws : List (ℕ × ℕ)) → i < length ks → sum ks ≤ length ws
-    → since_of (set ks i (get_or ks i 0 + length new)) (put_at (place_of_cut ks i) new ws) ≡ with_part (length ks - i) new (since_of ks ws)
-since_late [] i new ws low within = absurd (omega (arith, low))
-since_late (k ∷ ks) zero new ws low within =
-    let only : place_of_cut (k ∷ ks) 0 ≡ k = omega (arith, sum-cons k []) in
-    let long : k ≤ length ws = omega (arith, within, sum-cons k ks) in
-    ap (λ n. split_at ks (drop (k + length new) (put_at n new ws))) only ∙ ap (split_at ks) (drop_put k new ws long)
-    ∙ sym (with_part_none (suc (length ks) - 0) new (split_at ks (drop k ws)) (omega (arith, length-split_at ks (drop k ws))))
-since_late (k ∷ ks) (suc i) new ws low within =
-    let long : k + place_of_cut ks i ≤ length ws = omega (arith, within, sum-cons k ks, place_within ks i) in
+pub since_late : (ks : List (ℕ × List (ℕ × ℕ))) (i : ℕ) (new ws : List (ℕ × ℕ)) → i < length ks → since_of (late_at ks i new) ws ≡ with_part (length ks - i) new (since_of ks ws)
+since_late [] i new ws low = absurd (omega (arith, low))
+since_late (k ∷ ks) zero new ws low =
+    sym (with_part_none (suc (length ks) - 0) new (split_at ks (drop k.0 ws)) (omega (arith, length-split_at ks (drop k.0 ws))))
+since_late (k ∷ ks) (suc i) new ws low =
     let fewer : suc (length ks) - suc i ≡ length ks - i = omega arith in
-    ap (λ n. split_at (set ks i (get_or ks i 0 + length new)) (drop k (put_at n new ws))) (place_more k ks i)
-    ∙ ap (split_at (set ks i (get_or ks i 0 + length new))) (drop_before k (place_of_cut ks i) new ws long)
-    ∙ split_late ks i new (drop k ws) (omega (arith, low)) (omega (arith, within, sum-cons k ks, length-drop k ws))
-    ∙ ap (λ n. with_part n new (split_at ks (drop k ws))) (sym fewer)
+    split_late ks i new (drop k.0 ws) (omega (arith, low)) ∙ ap (λ n. with_part n new (split_at ks (drop k.0 ws))) (sym fewer)
 
-pub first_late : (words ks : List ℕ) (i : ℕ) (new ws : List (ℕ × ℕ)) → i < length ks → sum ks ≤ length ws
-    → first_of words (set ks i (get_or ks i 0 + length new)) (put_at (place_of_cut ks i) new ws)
-    ≡ first_with (length ks - i) new (first_of words ks ws) (since_of ks ws)
-first_late words [] i new ws low within = absurd (omega (arith, low))
-first_late words (k ∷ ks) zero new ws low within =
-    let only : place_of_cut (k ∷ ks) 0 ≡ k = omega (arith, sum-cons k []) in
-    let long : k ≤ length ws = omega (arith, within, sum-cons k ks) in
-    ap (λ n. with_writes words (take (k + length new) (put_at n new ws))) only ∙ ap (with_writes words) (take_put k new ws long)
-    ∙ with_writes-append words (take k ws) new
-    ∙ ap (λ b. cond b (with_writes (with_writes words (take k ws)) new) (with_writes words (take k ws)))
-    (sym (is_same (length (split_at ks (drop k ws))) (suc (length ks) - 0) (omega (arith, length-split_at ks (drop k ws)))))
-first_late words (k ∷ ks) (suc i) new ws low within =
-    let long : k + place_of_cut ks i ≤ length ws = omega (arith, within, sum-cons k ks, place_within ks i) in
-    ap (λ n. with_writes words (take k (put_at n new ws))) (place_more k ks i)
-    ∙ ap (with_writes words) (take_before k (k + place_of_cut ks i) new ws (omega arith) long)
-    ∙ ap (λ b. cond b (with_writes (with_writes words (take k ws)) new) (with_writes words (take k ws)))
-    (sym (never_same (suc (length ks) - suc i) (length (split_at ks (drop k ws))) (omega (arith, length-split_at ks (drop k ws)))))
+pub first_late : (words : List ℕ) (ks : List (ℕ × List (ℕ × ℕ))) (i : ℕ) (new ws : List (ℕ × ℕ)) → i < length ks
+    → first_of words (late_at ks i new) ws ≡ first_with (length ks - i) new (first_of words ks ws) (since_of ks ws)
+first_late words [] i new ws low = absurd (omega (arith, low))
+first_late words (k ∷ ks) zero new ws low =
+    ap (with_writes words) (sym (append_assoc (take k.0 ws) k.1 new)) ∙ with_writes-append words (take k.0 ws ++ k.1) new
+    ∙ ap (λ b. cond b (with_writes (with_writes words (take k.0 ws ++ k.1)) new) (with_writes words (take k.0 ws ++ k.1)))
+    (sym (is_same (length (split_at ks (drop k.0 ws))) (suc (length ks) - 0) (omega (arith, length-split_at ks (drop k.0 ws)))))
+first_late words (k ∷ ks) (suc i) new ws low =
+    ap (λ b. cond b (with_writes (with_writes words (take k.0 ws ++ k.1)) new) (with_writes words (take k.0 ws ++ k.1)))
+    (sym (never_same (suc (length ks) - suc i) (length (split_at ks (drop k.0 ws))) (omega (arith, length-split_at ks (drop k.0 ws)))))
 
-sum-set : (ks : List ℕ) (i n : ℕ) → i < length ks → sum (set ks i (get_or ks i 0 + n)) ≡ sum ks + n
-sum-set [] i n low = absurd (omega (arith, low))
-sum-set (k ∷ ks) zero n low = omega (arith, sum-cons k ks, sum-cons (k + n) ks)
-sum-set (k ∷ ks) (suc i) n low =
-    omega (arith, sum-cons k ks, sum-cons k (set ks i (get_or ks i 0 + n)), sum-set ks i n (omega (arith, low)))
+total-late : (ks : List (ℕ × List (ℕ × ℕ))) (i : ℕ) (new : List (ℕ × ℕ)) → i < length ks → total (late_at ks i new) ≡ total ks
+total-late [] i new low = absurd (omega (arith, low))
+total-late (k ∷ ks) zero new low = omega (arith, sum-cons k ks, sum-cons (with_late k new) ks)
+total-late (k ∷ ks) (suc i) new low =
+    omega (arith, sum-cons k ks, sum-cons k (late_at ks i new), total-late ks i new (omega (arith, low)))
 
-pub length-put : (place : ℕ) (new ws : List (ℕ × ℕ)) → length (put_at place new ws) ≡ length ws + length new
-length-put zero new ws = length-append new ws ∙ omega arith
-length-put (suc place) new [] = length-append new [] ∙ omega arith
-length-put (suc place) new (x ∷ ws) = let rest = length-put place new ws in omega (arith, rest)
+late_in_range : (n : ℕ) (ks : List (ℕ × List (ℕ × ℕ))) (i : ℕ) (new : List (ℕ × ℕ)) → AreInRange n new → All (λ (commit : ℕ × List (ℕ × ℕ)). AreInRange n commit.1) ks
+    → All (λ (commit : ℕ × List (ℕ × ℕ)). AreInRange n commit.1) (late_at ks i new)
+late_in_range n [] i new fits all = all
+late_in_range n (k ∷ ks) zero new fits all = All-cons (λ (commit : ℕ × List (ℕ × ℕ)). AreInRange n commit.1) (with_late k new) ks
+    (in_range-append n k.1 new (All-head (λ (commit : ℕ × List (ℕ × ℕ)). AreInRange n commit.1) k ks all) fits) (All-tail (λ (commit : ℕ × List (ℕ × ℕ)). AreInRange n commit.1) k ks all)
+late_in_range n (k ∷ ks) (suc i) new fits all = All-cons (λ (commit : ℕ × List (ℕ × ℕ)). AreInRange n commit.1) k (late_at ks i new)
+    (All-head (λ (commit : ℕ × List (ℕ × ℕ)). AreInRange n commit.1) k ks all) (late_in_range n ks i new fits (All-tail (λ (commit : ℕ × List (ℕ × ℕ)). AreInRange n commit.1) k ks all))
 
 -- no commit that waits has that many after it
 pub first_far : (behind : ℕ) (new : List (ℕ × ℕ)) (first : List ℕ) (since : List (List (ℕ × ℕ))) → length since < behind
@@ -321,15 +250,14 @@ written_in_range n words [] all low = tt
 written_in_range n words (w ∷ changed) all low =
     (All-head (λ x. x < n) w changed all, low w, written_in_range n words changed (All-tail (λ x. x < n) w changed all) low)
 
-pub late_cuts : (h : Header) (words ks : List ℕ) (i : ℕ) (new ws : List (ℕ × ℕ)) (tail : ℕ) → i < length ks → AreInRange (plain_words h) new
-    → AreCuts h words ks ws tail → AreCuts h words (set ks i (get_or ks i 0 + length new)) (put_at (place_of_cut ks i) new ws) tail
+pub late_cuts : (h : Header) (words : List ℕ) (ks : List (ℕ × List (ℕ × ℕ))) (i : ℕ) (new ws : List (ℕ × ℕ)) (tail : ℕ) → i < length ks → AreInRange (plain_words h) new
+    → AreCuts h words ks ws tail → AreCuts h words (late_at ks i new) ws tail
 late_cuts h words ks i new ws tail low fits are = record {
   all = are.all;
   values = are.values;
-  in_range = in_range-append (plain_words h) (take (place_of_cut ks i) ws ++ new) (drop (place_of_cut ks i) ws)
-      (in_range-append (plain_words h) (take (place_of_cut ks i) ws) new (in_range-take (plain_words h) (place_of_cut ks i) ws are.in_range) fits)
-      (in_range-drop (plain_words h) (place_of_cut ks i) ws are.in_range);
-  counted = omega (arith, are.counted, sum-set ks i (length new) low, length-put (place_of_cut ks i) new ws);
+  in_range = are.in_range;
+  late = late_in_range (plain_words h) ks i new fits are.late;
+  counted = omega (arith, are.counted, total-late ks i new low);
 }
 
 -- the next write takes effect
@@ -340,14 +268,38 @@ caught_up words old new w v k j more is = ap (λ n. with_writes words (take n ol
 pub dropped : (old new : List (ℕ × ℕ)) (w v k j : ℕ) → k ≡ suc j → old ≡ (w, v) ∷ new → drop k old ≡ drop j new
 dropped old new w v k j more is = ap (λ n. drop n old) more ∙ ap (drop (suc j)) is
 
--- What is kept stays sound: the first commit no longer waits;
-pub advanced : (h : Header) (words : List ℕ) (k : ℕ) (ks : List ℕ) (writes : List (ℕ × ℕ)) (tail : ℕ) → AreCuts h words (k ∷ ks) writes tail
-    → AreCuts h (with_writes words (take k writes)) ks (drop k writes) tail
+-- What is kept stays sound: the first commit no longer waits, and its late writes aren't known yet;
+pub advanced : (h : Header) (words : List ℕ) (k : ℕ × List (ℕ × ℕ)) (ks : List (ℕ × List (ℕ × ℕ))) (writes : List (ℕ × ℕ)) (tail : ℕ) → AreCuts h words (k ∷ ks) writes tail
+    → AreCuts h (with_writes words (take k.0 writes)) ks (drop k.0 writes) tail
 advanced h words k ks writes tail are = record {
-  all = length-with_writes words (take k writes) ∙ are.all;
-  values = below_with words (plain_words h) (take k writes) are.values (in_range-take (plain_words h) k writes are.in_range);
-  in_range = in_range-drop (plain_words h) k writes are.in_range;
-  counted = omega (arith, are.counted, sum-cons k ks, length-drop k writes);
+  all = length-with_writes words (take k.0 writes) ∙ are.all;
+  values = below_with words (plain_words h) (take k.0 writes) are.values (in_range-take (plain_words h) k.0 writes are.in_range);
+  in_range = in_range-drop (plain_words h) k.0 writes are.in_range;
+  late = All-tail (λ (commit : ℕ × List (ℕ × ℕ)). AreInRange (plain_words h) commit.1) k ks are.late;
+  counted = omega (arith, are.counted, sum-cons k ks, length-drop k.0 writes);
+}
+
+-- further writes take effect at once;
+pub written_cuts : (h : Header) (words : List ℕ) (ks : List (ℕ × List (ℕ × ℕ))) (writes : List (ℕ × ℕ)) (tail : ℕ) (late : List (ℕ × ℕ)) → AreInRange (plain_words h) late
+    → AreCuts h words ks writes tail → AreCuts h (with_writes words late) ks writes tail
+written_cuts h words ks writes tail late fits are = record {
+  all = length-with_writes words late ∙ are.all;
+  values = below_with words (plain_words h) late are.values fits;
+  in_range = are.in_range;
+  late = are.late;
+  counted = are.counted;
+}
+
+-- one more commit waits;
+pub pushed_cuts : (h : Header) (words : List ℕ) (ks : List (ℕ × List (ℕ × ℕ))) (writes : List (ℕ × ℕ)) (tail : ℕ) → AreCuts h words ks writes tail
+    → AreCuts h words (ks ++ just tail ∷ []) writes 0
+pushed_cuts h words ks writes tail are = record {
+  all = are.all;
+  values = are.values;
+  in_range = are.in_range;
+  late = All-append (λ (commit : ℕ × List (ℕ × ℕ)). AreInRange (plain_words h) commit.1) ks (just tail ∷ []) are.late
+      (All-cons (λ (commit : ℕ × List (ℕ × ℕ)). AreInRange (plain_words h) commit.1) (just tail) [] tt (All-nil (λ (commit : ℕ × List (ℕ × ℕ)). AreInRange (plain_words h) commit.1)));
+  counted = omega (arith, are.counted, sum_by_push (λ (commit : ℕ × List (ℕ × ℕ)). commit.0) ks (just tail));
 }
 
 -- a write takes effect at once, where no commit waits;
@@ -358,16 +310,18 @@ at_once h words writes tail w v low are = record {
   values = below_set (with_writes words (take tail writes)) w v (2 ^ 63)
       (below_with words (plain_words h) (take tail writes) are.values (in_range-take (plain_words h) tail writes are.in_range)) low;
   in_range = in_range-drop (plain_words h) tail writes are.in_range;
+  late = are.late;
   counted = omega (arith, are.counted, length-drop tail writes);
 }
 
 -- a write waits.
-pub one_waits : (h : Header) (words ks : List ℕ) (writes : List (ℕ × ℕ)) (tail w v : ℕ) → w < plain_words h → v < 2 ^ 63
+pub one_waits : (h : Header) (words : List ℕ) (ks : List (ℕ × List (ℕ × ℕ))) (writes : List (ℕ × ℕ)) (tail w v : ℕ) → w < plain_words h → v < 2 ^ 63
     → AreCuts h words ks writes tail → AreCuts h words ks (writes ++ (w, v) ∷ []) (tail + 1)
 one_waits h words ks writes tail w v fits low are = record {
   all = are.all;
   values = are.values;
   in_range = in_range-append (plain_words h) writes ((w, v) ∷ []) are.in_range (fits, low, tt);
+  late = are.late;
   counted = omega (arith, are.counted, length-append writes ((w, v) ∷ []));
 }
 
@@ -395,14 +349,14 @@ pub nothing_in : {A : Type 0} (xs : List A) (n : ℕ) → n ≡ length xs → (n
 nothing_in [] n long none = refl
 nothing_in (x ∷ xs) n long none = absurd (omega (arith, long, same_of n 0 none))
 
-pub none_since : (ks : List ℕ) (ws : List (ℕ × ℕ)) (n : ℕ) → n ≡ length ks → (n == 0) ≡ true → since_of ks ws ≡ []
+pub none_since : (ks : List (ℕ × List (ℕ × ℕ))) (ws : List (ℕ × ℕ)) (n : ℕ) → n ≡ length ks → (n == 0) ≡ true → since_of ks ws ≡ []
 none_since ks ws n long none = ap (λ xs. since_of xs ws) (nothing_in ks n long none)
 
 -- some commit waits
-pub some_wait : (ks : List ℕ) (n : ℕ) → n ≡ length ks → (n == 0) ≡ false → 0 < length ks
+pub some_wait : (ks : List (ℕ × List (ℕ × ℕ))) (n : ℕ) → n ≡ length ks → (n == 0) ≡ false → 0 < length ks
 some_wait ks n long some = by_list ks long
   where
-    by_list : (xs : List ℕ) → n ≡ length xs → 0 < length xs
+    by_list : (xs : List (ℕ × List (ℕ × ℕ))) → n ≡ length xs → 0 < length xs
     by_list [] e = absurd (apart_of n 0 some e)
     by_list (x ∷ xs) e = omega arith
 
@@ -453,19 +407,37 @@ known_more h words changed compared ws in_range known = record {
 }
 
 -- no commit waits
-pub none_waits : (ks : List ℕ) (writes : List (ℕ × ℕ)) → since_of ks writes ≡ [] → ks ≡ []
+pub none_waits : (ks : List (ℕ × List (ℕ × ℕ))) (writes : List (ℕ × ℕ)) → since_of ks writes ≡ [] → ks ≡ []
 none_waits [] writes e = refl
-none_waits (k ∷ ks) writes e = absurd (omega (arith, length-split_at ks (drop k writes), ap length e))
+none_waits (k ∷ ks) writes e = absurd (omega (arith, length-split_at ks (drop k.0 writes), ap length e))
 
--- the first commit no longer waits: what is kept stays sound
-pub advanced_both : (h : Header) (words : List ℕ) (k : ℕ) (ks : List ℕ) (writes : List (ℕ × ℕ)) (tail : ℕ) (changed : List ℕ) (compared : Known)
+-- the first commit no longer waits: what is kept stays sound, whether its late writes take effect,
+pub advanced_both : (h : Header) (words : List ℕ) (k : ℕ × List (ℕ × ℕ)) (ks : List (ℕ × List (ℕ × ℕ))) (writes : List (ℕ × ℕ)) (tail : ℕ) (changed : List ℕ) (compared : Known)
     → AreCuts h words (k ∷ ks) writes tail × AreKnown h words changed compared
-    → AreCuts h (with_writes words (take k writes)) ks (drop k writes) tail
-    × AreKnown h (with_writes words (take k writes)) (changed ++ map (λ write. write.0) (take k writes)) compared
+    → AreCuts h (with_writes words (take k.0 writes)) ks (drop k.0 writes) tail
+    × AreKnown h (with_writes words (take k.0 writes)) (changed ++ map (λ write. write.0) (take k.0 writes)) compared
 advanced_both h words k ks writes tail changed compared both = (
   advanced h words k ks writes tail both.0,
-  known_more h words changed compared (take k writes) (in_range-take (plain_words h) k writes both.0.in_range) both.1,
+  known_more h words changed compared (take k.0 writes) (in_range-take (plain_words h) k.0 writes both.0.in_range) both.1,
 )
+
+-- or are refused
+pub late_both : (h : Header) (words : List ℕ) (ks : List (ℕ × List (ℕ × ℕ))) (writes : List (ℕ × ℕ)) (tail : ℕ) (changed : List ℕ) (compared : Known) (late : List (ℕ × ℕ)) (b : Bool)
+    (words' changed' : List ℕ) → AreInRange (plain_words h) late → words' ≡ cond b (with_writes words late) words
+    → changed' ≡ cond b (changed ++ map (λ write. write.0) late) changed
+    → AreCuts h words ks writes tail × AreKnown h words changed compared → AreCuts h words' ks writes tail × AreKnown h words' changed' compared
+late_both h words ks writes tail changed compared late true words' changed' fits is more both =
+    subst (λ ws. AreCuts h ws ks writes tail × AreKnown h ws changed' compared) (sym is)
+    (subst (λ cs. AreCuts h (with_writes words late) ks writes tail × AreKnown h (with_writes words late) cs compared) (sym more)
+    (written_cuts h words ks writes tail late fits both.0, known_more h words changed compared late fits both.1))
+late_both h words ks writes tail changed compared late false words' changed' fits is more both =
+    subst (λ ws. AreCuts h ws ks writes tail × AreKnown h ws changed' compared) (sym is)
+    (subst (λ cs. AreCuts h words ks writes tail × AreKnown h words cs compared) (sym more) both)
+
+-- the late writes of the first commit are in range
+pub first_in_range : (h : Header) (words : List ℕ) (k : ℕ × List (ℕ × ℕ)) (ks : List (ℕ × List (ℕ × ℕ))) (writes : List (ℕ × ℕ)) (tail : ℕ) → AreCuts h words (k ∷ ks) writes tail
+    → AreInRange (plain_words h) k.1
+first_in_range h words k ks writes tail are = All-head (λ (commit : ℕ × List (ℕ × ℕ)). AreInRange (plain_words h) commit.1) k ks are.late
 
 -- a write takes effect at once
 pub at_once_both : (h : Header) (words : List ℕ) (writes : List (ℕ × ℕ)) (tail w v : ℕ) (changed : List ℕ) (compared : Known)
@@ -480,45 +452,16 @@ at_once_both h words writes tail w v changed compared fits low both = (
 )
 
 -- where no commit waits all writes come after the last
-pub all_tail : (ks : List ℕ) (tail : ℕ) (n : ℕ) → ks ≡ [] → sum ks + tail ≡ n → tail ≡ n
-all_tail ks tail n none counted = let e : sum ks ≡ 0 = ap sum none in omega (arith, e, counted)
+pub all_tail : (ks : List (ℕ × List (ℕ × ℕ))) (tail : ℕ) (n : ℕ) → ks ≡ [] → total ks + tail ≡ n → tail ≡ n
+all_tail ks tail n none counted = let e : total ks ≡ 0 = ap total none in omega (arith, e, counted)
 
 -- what holds whatever the answer
 pub always : {T E P : Type 0} (r : Result T E) → P → OnOk r P
 always (Ok x) p = p
 always (Err x) p = tt
 
--- the first of a queue was looked at, and then taken
-pub first_taken : (xs new : List ℕ) (n : ℕ) → slice_get xs 0 ≡ Some n → new ≡ drop 1 xs → xs ≡ n ∷ new
-first_taken [] new n is rest = cc
-first_taken (x ∷ xs) new n is rest = (λ j. same_Some x n is j ∷ xs) ∙ ap (λ ys. n ∷ ys) (sym rest)
-
--- each write stands in one of the lists between the commits
-all_writes : (ks : List ℕ) (ws : List (ℕ × ℕ)) → sum_by (λ part. length part) (split_at ks ws) ≡ length ws
-all_writes [] ws = omega (arith, sum_by-cons (λ part. length part) ws [])
-all_writes (k ∷ ks) ws =
-    let rest = all_writes ks (drop k ws) in
-    omega (arith, sum_by-cons (λ part. length part) (take k ws) (split_at ks (drop k ws)), rest, length-append (take k ws) (drop k ws), ap length (take-append-drop k ws))
-
-after_split : (ks : List ℕ) (i : ℕ) (ws : List (ℕ × ℕ)) → i ≤ length ks → sum (take i ks) ≤ length ws
-    → sum_by (λ part. length part) (drop i (split_at ks ws)) + sum (take i ks) ≡ length ws
-after_split ks zero ws low within = let all = all_writes ks ws in omega (arith, all)
-after_split [] (suc i) ws low within = absurd (omega (arith, low))
-after_split (k ∷ ks) (suc i) ws low within =
-    let cut = sum-cons k (take i ks) in
-    let left = length-drop k ws in
-    let rest = after_split ks i (drop k ws) (omega (arith, low)) (omega (arith, cut, left, within)) in
-    omega (arith, cut, left, rest, within)
-
--- the writes that a late write is put before
-pub writes_after : (ks : List ℕ) (i : ℕ) (ws : List (ℕ × ℕ)) → i < length ks → place_of_cut ks i ≤ length ws
-    → writes_behind (length ks - i) (since_of ks ws) + place_of_cut ks i ≡ length ws
-writes_after [] i ws low within = absurd (omega (arith, low))
-writes_after (k ∷ ks) i ws low within =
-    let cut = sum-cons k (take i ks) in
-    let left = length-drop k ws in
-    let long = length-split_at ks (drop k ws) in
-    let from : length (split_at ks (drop k ws)) - (suc (length ks) - i) ≡ i = omega (arith, long, low) in
-    let rest = after_split ks i (drop k ws) (omega (arith, low)) (omega (arith, cut, left, within)) in
-    let at = ap (λ n. sum_by (λ part. length part) (drop n (split_at ks (drop k ws)))) from in
-    omega (arith, at, cut, left, rest, within)
+-- the first commit was looked at, and then taken
+pub first_taken : (xs new : List (ℕ × List (ℕ × ℕ))) (n : ℕ) (late : List (ℕ × ℕ)) → option_map (λ (commit : ℕ × List (ℕ × ℕ)). commit.0) (slice_get xs 0) ≡ Some n → new ≡ drop 1 xs
+    → late ≡ (get_or xs 0 (just 0)).1 → xs ≡ (n, late) ∷ new
+first_taken [] new n late is rest late_is = absurd (none-some n is)
+first_taken (x ∷ xs) new n late is rest late_is = (λ j. (same_Some x.0 n is j, sym late_is j) ∷ xs) ∙ ap (λ ys. (n, late) ∷ ys) (sym rest)

@@ -1,12 +1,13 @@
 -- The words at the commits that wait, as they are kept: the words at one commit, and the writes
 -- that took effect since then.
 use Rattle.std.specs.Prelude.{◌≡◌, ℕ, Bool, false, ◌+◌, ◌<◌, ◌^◌, ◌==◌, List, [], ◌∷◌, ◌++◌, length}
-use Rattle.std.specs.Prelude.{map, sum, take, drop, slice_index, if◌then◌else◌}
+use Rattle.std.specs.Prelude.{map, take, drop, slice_index, if◌then◌else◌}
 use Rattle.std.specs.List.{All}
 use Rattle.vyrd_base.specs.declared.header.Header.{Header}
 use Rattle.vyrd_base.specs.Amounts.{Amounts}
 use Rattle.vyrd_base.specs.Layout.{plain_words}
 use Rattle.vyrd_shadow.specs.Blocks.{with_writes, AreInRange}
+use Rattle.vyrd_words.specs.Counts.{total}
 use Rattle.vyrd_view.specs.Comparing.{AgreeElsewhere}
 use Rattle.vyrd_view.specs.Known.{Known, Shows}
 
@@ -26,21 +27,21 @@ pub record Cuts : Type 0 where
   pub refused : Bool
   pub pending : ℕ
 
--- the words at the first commit, by how many writes took effect between each commit and the one
--- before
-abbrev pub first_of : List ℕ → List ℕ → List (ℕ × ℕ) → List ℕ
+-- the words at the first commit, by what each commit has: how many writes took effect between it and
+-- the one before, and its late writes, which came after these
+abbrev pub first_of : List ℕ → List (ℕ × List (ℕ × ℕ)) → List (ℕ × ℕ) → List ℕ
 first_of words [] writes = with_writes words writes
-first_of words (n ∷ ns) writes = with_writes words (take n writes)
+first_of words (k ∷ ks) writes = with_writes words (take k.0 writes ++ k.1)
 
 -- the writes between the commits, and those after the last of them
-abbrev pub split_at : List ℕ → List (ℕ × ℕ) → List (List (ℕ × ℕ))
+abbrev pub split_at : List (ℕ × List (ℕ × ℕ)) → List (ℕ × ℕ) → List (List (ℕ × ℕ))
 split_at [] writes = writes ∷ []
-split_at (n ∷ ns) writes = take n writes ∷ split_at ns (drop n writes)
+split_at (k ∷ ks) writes = (take k.0 writes ++ k.1) ∷ split_at ks (drop k.0 writes)
 
 -- the same from the first commit on
-abbrev pub since_of : List ℕ → List (ℕ × ℕ) → List (List (ℕ × ℕ))
+abbrev pub since_of : List (ℕ × List (ℕ × ℕ)) → List (ℕ × ℕ) → List (List (ℕ × ℕ))
 since_of [] writes = []
-since_of (n ∷ ns) writes = split_at ns (drop n writes)
+since_of (k ∷ ks) writes = split_at ks (drop k.0 writes)
 
 -- further writes at the end of the list after which that many stand
 abbrev pub with_part : ℕ → List (ℕ × ℕ) → List (List (ℕ × ℕ)) → List (List (ℕ × ℕ))
@@ -59,13 +60,14 @@ first_with behind writes first since =
 abbrev pub written : List ℕ → List ℕ → List (ℕ × ℕ)
 written words changed = map (λ w. (w, slice_index words w)) changed
 
--- all words and writes are the header's, and each write is counted once
-pub record AreCuts (h : Header) (words counts : List ℕ) (writes : List (ℕ × ℕ))
-    (tail : ℕ) : Type 0 where
+-- all words and writes are the header's, and each write is counted once, or late
+pub record AreCuts (h : Header) (words : List ℕ) (counts : List (ℕ × List (ℕ × ℕ)))
+    (writes : List (ℕ × ℕ)) (tail : ℕ) : Type 0 where
   pub all : length words ≡ plain_words h
   pub values : (w : ℕ) → slice_index words w < 2 ^ 63
   pub in_range : AreInRange (plain_words h) writes
-  pub counted : sum counts + tail ≡ length writes
+  pub late : All (λ commit. AreInRange (plain_words h) commit.1) counts
+  pub counted : total counts + tail ≡ length writes
 
 -- the words that were compared last are these except for the changed ones
 pub record AreKnown (h : Header) (words changed : List ℕ) (compared : Known) : Type 0 where

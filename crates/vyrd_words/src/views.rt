@@ -1,15 +1,14 @@
 //! The words at the commits that wait, and what they show.
 
-ghost use Rattle.std.specs.VecDeque.{deque_len, deque_capacity};
 ghost use Rattle.std.specs.Prelude.{◌≡◌, ◌<◌, ◌≤◌, ◌^◌, ◌+◌, ◌*◌, ◌++◌, ℕ, false, List, [], ◌∷◌};
-ghost use Rattle.std.specs.Prelude.{length, map, take, drop, sum, sum_by, insert, replicate, Some};
+ghost use Rattle.std.specs.Prelude.{length, map, take, drop, sum_by, replicate, Some, if◌then◌else◌};
 ghost use Rattle.std.specs.Prelude.{slice_set, slice_index, IfOk, OnOk, vec_len, vec_capacity, All};
 ghost use Rattle.vyrd_base.specs.Rules.{rules_by};
 ghost use Rattle.vyrd_base.specs.Amounts.{first_difference as least_difference};
-ghost use Rattle.std.specs.Result.{is_err};
+ghost use Rattle.std.specs.Result.{is_err, is_ok};
 ghost use Rattle.vyrd_base.specs.Layout.{plain_words};
 ghost use Rattle.vyrd_shadow.specs.Blocks.{with_writes, AreInRange};
-ghost use Rattle.vyrd_words.specs.Costs.{pending_for, writes_behind};
+ghost use Rattle.vyrd_words.specs.Costs.{pending_for};
 ghost use Rattle.vyrd_words.specs.Cuts.{first_with, with_part, written};
 ghost use Rattle.vyrd_spec.specs.Touching.{with_touched};
 ghost use Rattle.vyrd_view.specs.Comparing.{AgreeElsewhere};
@@ -38,8 +37,9 @@ const MOST_CHANGED: usize = 1024;
 pub(crate) struct Views<C: Compare> {
     header: Header,
     words: Vec<u64>,
-    /// How many of the writes took effect between each commit that waits and the commit before it.
-    /// Those of a block take effect at the lone commit inside it, if there is one.
+    /// How many of the writes took effect between each commit that waits and the commit before it,
+    /// and the late writes of each, which aren't among the writes: those of a block take effect at
+    /// the lone commit inside it, if there is one, and aren't known before the block's end.
     counts: Counts,
     writes: VecDeque<Write>,
     /// How many of the writes took effect after the last commit.
@@ -50,7 +50,9 @@ pub(crate) struct Views<C: Compare> {
 }
 
 impl<C: Compare> Model for Views<C> {
+    ghost use Rattle.std.specs.Prelude.{◌++◌};
     ghost use Rattle.vyrd_words.specs.Costs.{pending_for};
+    ghost use Rattle.vyrd_words.specs.Counts.{late_writes};
     ghost use Rattle.vyrd_words.specs.Cuts.{Cuts, first_of, since_of, AreCuts, AreKnown};
 
     ghost Value = { Cuts };
@@ -64,7 +66,8 @@ impl<C: Compare> Model for Views<C> {
       compared = (C.known v.compared).words;
       specified = (C.known v.compared).specified;
       refused = (C.known v.compared).refused;
-      pending = pending_for (C.price (C.known v.compared).shows) v.changed.items v.writes.items;
+      pending = pending_for (C.price (C.known v.compared).shows) v.changed.items
+          (v.writes.items ++ late_writes v.counts);
     } };
 
     ghost invariant = { λ v. AreCuts v.header v.words.items v.counts v.writes.items v.tail
@@ -197,7 +200,7 @@ impl<C: Compare> Views<C> {
 
     /// The changed words have these values at a commit already, after which that many lists of
     /// writes stand: their writes take effect there, after all others. If no such commit waits,
-    /// nothing happens. It costs time in what took effect since then.
+    /// nothing happens. It takes time for each of the words, and for each commit since.
     pub fn late<L: Ledger>(
         &mut self,
         behind: usize,
@@ -217,9 +220,7 @@ impl<C: Compare> Views<C> {
         ensures sound { self.new.refused ≡ self.old.refused }
         ensures header { self.new.header ≡ self.old.header }
         ensures shows { self.new.shows ≡ self.old.shows }
-        ensures steps { steps.new ≤ steps.old + length changed.now
-            + 2 * writes_behind behind self.old.since
-            + 4 * behind }
+        ensures steps { steps.new ≤ steps.old + length changed.now + 2 * behind }
         ensures pending { OnOk result (self.new.pending ≤ self.old.pending
             + sum_by (C.price self.old.shows) changed.now
             + 2 * length changed.now) }
@@ -228,10 +229,7 @@ impl<C: Compare> Views<C> {
             return Ok(());
         }
         let index = self.counts.len() - behind;
-        self.writes.reserve(changed.len())?;
-        let place = place_behind(&self.counts, self.writes.len() - self.tail, index, steps);
-        self.counts.add(index, changed.len(), steps)?;
-        put(&mut self.writes, place, changed, words, steps);
+        self.counts.add_late(index, changed, words, steps)?;
         Ok(())
     }
 
@@ -275,7 +273,7 @@ impl<C: Compare> Views<C> {
             return Ok(());
         };
         self.changed.reserve(count)?;
-        self.counts.pop();
+        let late = self.counts.pop();
         catch_up(
             &mut self.words,
             &mut self.changed,
@@ -283,6 +281,7 @@ impl<C: Compare> Views<C> {
             count,
             steps,
         );
+        take_late(&mut self.words, &mut self.changed, &late, steps)?;
         Ok(())
     }
 
@@ -479,103 +478,51 @@ fn write_first<L: Ledger>(
     }
 }
 
-/// The place after the writes of the commit with this index. `all` is how many writes all commits
-/// have.
-fn place_behind<L: Ledger>(counts: &Counts, all: usize, index: usize, steps: &mut Steps<L>) -> usize
-    requires index { index < length counts.now }
-    requires all { sum counts.now ≡ all }
-    ensures place { result ≡ sum (take (index + 1) counts.now) }
-    ensures steps { steps.new + 2 * (index + 1) ≤ steps.old + 2 * length counts.now }
-{
-    all - counts.sum_behind(index, steps)
-}
-
-/// The changed words are written from this place on. There is room for that. It takes time for each
-/// of them, and for each write from that place on, or before it if these are fewer: all that stand
-/// there give way once, and not once for each new write.
-fn put<L: Ledger>(
-    writes: &mut VecDeque<Write>,
-    place: usize,
-    changed: &[u32],
-    words: &[u64],
+/// The late writes of a commit take effect. Mostly there are none. An error, that memory has run out,
+/// leaves the words as they were.
+#[inline(always)]
+fn take_late<L: Ledger>(
+    words: &mut Vec<u64>,
+    changed: &mut Vec<u32>,
+    late: &[Write],
     steps: &mut Steps<L>,
-)
-    requires place { place ≤ length writes.old.items }
-    requires room { deque_len writes.old + length changed.now ≤ deque_capacity writes.old }
-    requires changed { All (λ w. w < length words.now) changed.now }
-    requires few { length words.now ≤ 2 ^ 16 }
-    ensures writes { writes.new.items ≡ take place writes.old.items ++ written words.now changed.now
-        ++ drop place writes.old.items }
-    ensures steps { steps.new + 2 * place
-        ≤ steps.old + length changed.now + 2 * length writes.old.items }
+) -> Result<(), AllocError>
+    requires in_range { AreInRange (vec_len words.old) late.now }
+    ensures words { words.new.items
+        ≡ (if is_ok result then with_writes words.old.items late.now else words.old.items) }
+    ensures changed { changed.new.items ≡ (if is_ok result
+        then changed.old.items ++ map (λ write. write.0) late.now
+        else changed.old.items) }
+    ensures all { vec_len words.new ≡ vec_len words.old }
+    ensures steps { steps.new ≤ steps.old + length late.now }
 {
-    if let [word] = changed {
-        put_one(
-            writes,
-            place,
-            Write::new(*word, words[*word as usize]),
-            steps,
-        );
-        return;
+    if late.is_empty() {
+        return Ok(());
     }
-    let behind = writes.len() - place;
-    turn(writes, place, steps);
-    put_last(writes, changed, words, steps);
-    turn(writes, behind, steps);
+    changed.reserve(late.len())?;
+    write_late(words, changed, late, steps);
+    Ok(())
 }
 
-/// One write comes at this place. There is room for it. Those on one side of the place give way, the
-/// fewer of the two, and once: two turns would move them twice.
-fn put_one<L: Ledger>(
-    writes: &mut VecDeque<Write>,
-    place: usize,
-    write: Write,
+/// The late writes take effect, however many they are.
+fn write_late<L: Ledger>(
+    words: &mut Vec<u64>,
+    changed: &mut Vec<u32>,
+    late: &[Write],
     steps: &mut Steps<L>,
 )
-    requires place { place ≤ length writes.old.items }
-    requires room { deque_len writes.old < deque_capacity writes.old }
-    ensures writes { writes.new.items ≡ insert writes.old.items place write }
-    ensures steps { steps.new + 2 * place ≤ steps.old + 1 + 2 * length writes.old.items }
+    requires in_range { AreInRange (vec_len words.old) late.now }
+    requires room { vec_len changed.old + length late.now ≤ vec_capacity changed.old }
+    ensures words { words.new.items ≡ with_writes words.old.items late.now }
+    ensures changed { changed.new.items ≡ changed.old.items ++ map (λ write. write.0) late.now }
+    ensures all { vec_len words.new ≡ vec_len words.old }
+    ensures steps { steps.new ≡ steps.old + length late.now }
 {
-    steps.add(1 + place.min(writes.len() - place));
-    let Ok(()) = writes.insert(place, write) else {
-        unreachable!()
-    };
-}
-
-/// The first writes come last. It goes by the shorter way round: those writes are moved, or the
-/// others if they are fewer.
-fn turn<L: Ledger>(writes: &mut VecDeque<Write>, count: usize, steps: &mut Steps<L>)
-    requires count { count ≤ length writes.old.items }
-    ensures writes { writes.new.items
-        ≡ drop count writes.old.items ++ take count writes.old.items }
-    ensures len { deque_len writes.new ≡ deque_len writes.old }
-    ensures capacity { deque_capacity writes.new ≡ deque_capacity writes.old }
-    ensures first { steps.new ≤ steps.old + count }
-    ensures others { steps.new + count ≤ steps.old + length writes.old.items }
-{
-    let others = writes.len() - count;
-    steps.add(count.min(others));
-    writes.rotate_left(count);
-}
-
-/// The changed words are written last. There is room for that.
-fn put_last<L: Ledger>(
-    writes: &mut VecDeque<Write>,
-    changed: &[u32],
-    words: &[u64],
-    steps: &mut Steps<L>,
-)
-    requires room { deque_len writes.old + length changed.now ≤ deque_capacity writes.old }
-    requires changed { All (λ w. w < length words.now) changed.now }
-    requires few { length words.now ≤ 2 ^ 16 }
-    ensures writes { writes.new.items ≡ writes.old.items ++ written words.now changed.now }
-    ensures len { deque_len writes.new ≡ deque_len writes.old + length changed.now }
-    ensures steps { steps.new ≡ steps.old + length changed.now }
-{
-    for word in changed {
+    for write in late {
         steps.tick();
-        writes.push_back_reserved(Write::new(*word, words[*word as usize]));
+        let word = write.word();
+        words[word as usize] = write.value();
+        note(changed, word);
     }
 }
 

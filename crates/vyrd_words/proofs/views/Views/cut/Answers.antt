@@ -1,6 +1,9 @@
-use Rattle.std.proofs.Common.{◌++◌, ◌∷◌, [], ap, ◌∙◌}
-use Rattle.vyrd_words.specs.Cuts.{Cuts, first_of, since_of}
-use Rattle.vyrd_words.proofs.CutLaws.{first_push, since_push}
+use Rattle.std.proofs.Common.{ℕ, ◌++◌, ◌∷◌, [], ap, sym, subst, ◌∙◌}
+use Rattle.vyrd_words.specs.Costs.{pending_for}
+use Rattle.vyrd_words.specs.Counts.{late_writes}
+use Rattle.vyrd_words.proofs.PendingLaws.{push_pending}
+use Rattle.vyrd_words.specs.Cuts.{Cuts, AreCuts, first_of, since_of}
+use Rattle.vyrd_words.proofs.CutLaws.{first_push, since_push, pushed_cuts}
 use Rattle.vyrd_words.proofs.views.Views.cut.Goals as goal
 
 pub returns-clause-first : goal.returns-clause-first
@@ -16,3 +19,19 @@ returns-clause-since g c =
     ap (λ ks. since_of ks i.writes.items) c.in_ok-push.ensures
     ∙ since_push i.counts i.tail i.writes.items c.self.invariant.0.counted
     ∙ ap (λ (v : Cuts). v.since ++ [] ∷ []) c.self.view_is
+
+pub invariant_of-self-2 : goal.invariant_of-self-2
+invariant_of-self-2 g c =
+    let i = c.self.inside in (
+      subst (λ ks. AreCuts i.header i.words.items ks i.writes.items 0) (sym c.in_ok-push.ensures)
+          (pushed_cuts i.header i.words.items i.counts i.writes.items i.tail c.self.invariant.0),
+      c.self.invariant.1,
+    )
+
+pub returns-clause-pending : goal.returns-clause-pending
+returns-clause-pending g c =
+    let i = c.self.inside in
+    let p : ℕ → ℕ = g.C.Compare.price (g.C.Compare.known i.compared).shows in
+    ap (λ ks. pending_for p i.changed.items (i.writes.items ++ late_writes ks)) c.in_ok-push.ensures
+    ∙ ap (λ xs. pending_for p i.changed.items (i.writes.items ++ xs)) (push_pending i.counts i.tail)
+    ∙ ap (λ (v : Cuts). v.pending) c.self.view_is

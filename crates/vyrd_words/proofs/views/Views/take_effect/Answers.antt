@@ -2,7 +2,7 @@ use Rattle.std.proofs.Common.{◌≡◌, ◌<◌, ◌≤◌, ℕ, [], ◌∷◌,
 use Rattle.std.specs.Prelude.{map}
 use Rattle.vyrd_base.specs.Layout.{plain_words}
 use Rattle.vyrd_words.specs.Costs.{pending_for}
-use Rattle.vyrd_words.proofs.PendingLaws.{caught_pending, one_pending}
+use Rattle.vyrd_words.proofs.PendingLaws.{caught_pending, one_pending, none_late}
 use Rattle.vyrd_words.proofs.WordsLaws.{ok_two}
 use Rattle.vyrd_words.specs.Cuts.{Cuts, AreCuts, AreKnown, first_of, since_of}
 use Rattle.vyrd_words.proofs.CutLaws.{at_once_both, now_at_once, none_waits, all_tail, always}
@@ -73,9 +73,11 @@ returns-clause-steps g c =
     (λ j. pending_for p
     ((c.note.ensures.items ∙ ap (λ xs. xs ++ c.args.word ∷ []) (c.catch_up.ensures.changed ∙ ap (λ xs. xs ++ words) c.in_ok-reserve.ensures.items)) j)
     (c.catch_up.ensures.writes j)) in
+    let before = none_late p i.changed.items i.counts i.writes.items none in
+    let after = none_late p c.note.new.changed.items i.counts c.catch_up.new.writes.items none in
     let one = one_pending p (i.changed.items ++ words) c.args.word (drop i.tail i.writes.items) in
     let caught = caught_pending p i.changed.items i.tail i.writes.items few in
-    omega (arith, was, price, same, one, caught, c.catch_up.ensures.steps)
+    omega (arith, was, price, before, after, same, one, caught, c.catch_up.ensures.steps)
 
 pub returns-then-len-ge-MOST_CHANGED-clause-steps : goal.returns-then-len-ge-MOST_CHANGED-clause-steps
 returns-then-len-ge-MOST_CHANGED-clause-steps g c =
@@ -91,10 +93,12 @@ returns-then-len-ge-MOST_CHANGED-clause-steps g c =
     (λ j. pending_for p
     ((c.note.ensures.items ∙ ap (λ xs. xs ++ c.args.word ∷ []) (c.catch_up.ensures.changed ∙ ap (λ xs. xs ++ words) c.in_ok-reserve.ensures.items)) j)
     (c.catch_up.ensures.writes j)) in
+    let before = none_late p i.changed.items i.counts i.writes.items none in
+    let after = none_late p c.note.new.changed.items i.counts c.catch_up.new.writes.items none in
     let one = one_pending p (i.changed.items ++ words) c.args.word (drop i.tail i.writes.items) in
     let caught = caught_pending p i.changed.items i.tail i.writes.items few in
     ok_two c.compare_words.result c.compare_words.ensures.steps c.compare_words.ensures.steps
-    (λ paid twice. omega (arith, was, price, same, one, caught, c.catch_up.ensures.steps, paid))
+    (λ paid twice. omega (arith, was, price, before, after, same, one, caught, c.catch_up.ensures.steps, paid))
 
 pub returns-clause-most : goal.returns-clause-most
 returns-clause-most g c =
@@ -110,9 +114,11 @@ returns-clause-most g c =
     (λ j. pending_for p
     ((c.note.ensures.items ∙ ap (λ xs. xs ++ c.args.word ∷ []) (c.catch_up.ensures.changed ∙ ap (λ xs. xs ++ words) c.in_ok-reserve.ensures.items)) j)
     (c.catch_up.ensures.writes j)) in
+    let before = none_late p i.changed.items i.counts i.writes.items none in
+    let after = none_late p c.note.new.changed.items i.counts c.catch_up.new.writes.items none in
     let one = one_pending p (i.changed.items ++ words) c.args.word (drop i.tail i.writes.items) in
     let caught = caught_pending p i.changed.items i.tail i.writes.items few in
-    omega (arith, was, price, same, one, caught, c.catch_up.ensures.steps)
+    omega (arith, was, price, before, after, same, one, caught, c.catch_up.ensures.steps)
 
 pub returns-then-len-ge-MOST_CHANGED-clause-most : goal.returns-then-len-ge-MOST_CHANGED-clause-most
 returns-then-len-ge-MOST_CHANGED-clause-most g c =
@@ -128,6 +134,8 @@ returns-then-len-ge-MOST_CHANGED-clause-most g c =
     (λ j. pending_for p
     ((c.note.ensures.items ∙ ap (λ xs. xs ++ c.args.word ∷ []) (c.catch_up.ensures.changed ∙ ap (λ xs. xs ++ words) c.in_ok-reserve.ensures.items)) j)
     (c.catch_up.ensures.writes j)) in
+    let before = none_late p i.changed.items i.counts i.writes.items none in
+    let after = none_late p c.note.new.changed.items i.counts c.catch_up.new.writes.items none in
     let one = one_pending p (i.changed.items ++ words) c.args.word (drop i.tail i.writes.items) in
     let caught = caught_pending p i.changed.items i.tail i.writes.items few in
-    omega (arith, was, price, same, one, caught, c.catch_up.ensures.steps, c.compare_words.ensures.most)
+    omega (arith, was, price, before, after, same, one, caught, c.catch_up.ensures.steps, c.compare_words.ensures.most)
