@@ -1,11 +1,9 @@
 -- What late writes cost over a whole log: the work that open blocks hold is a potential.
-use Rattle.std.proofs.Common.{◌≡◌, ◌≢◌, ℕ, zero, suc, ◌+◌, ◌*◌, ◌-◌, ◌<◌, ◌≤◌, List, [], ◌∷◌, ◌++◌, length, drop, refl, ap, subst, ◌∙◌, sym, arith, Bool, true, false, cond, length-append, Option, None}
+use Rattle.std.proofs.Common.{◌≡◌, ◌≢◌, ℕ, zero, suc, ◌+◌, ◌*◌, ◌-◌, ◌<◌, ◌≤◌, List, [], ◌∷◌, ◌++◌, length, refl, ap, subst, ◌∙◌, sym, arith, Bool, true, false, cond, Option, None}
 use Rattle.std.specs.Prelude.{◌==◌, ◌||◌, unwrap_or}
 use Rattle.std.specs.Option.{option_or}
 use Rattle.std.specs.List.{sum_by, list_any}
-use Rattle.std.proofs.lemmas.List.Sums.{sum_by-cons, sum_by_push}
-use Rattle.std.proofs.lemmas.List.{drop-append-le}
-use Rattle.std.proofs.Math.Seq.{drop-length}
+use Rattle.std.proofs.lemmas.List.Sums.{sum_by-cons}
 use Rattle.vyrd_base.specs.declared.log.Kind.{Kind}
 use Rattle.vyrd_base.specs.declared.log.Kind.TheVariants.{Call, Return, Write, Commit, BlockOpen, BlockClose, BlockCommit}
 use Rattle.vyrd_base.specs.declared.log.Entry.{Entry}
@@ -20,113 +18,48 @@ use Rattle.std.specs.Prelude.{Result, Ok, Err, OnOk}
 use Rattle.vyrd_shadow.specs.Following.{words_of}
 use Rattle.vyrd_words.specs.HasWords.{WordsView}
 use Rattle.vyrd_view.specs.Known.{Shows}
-use Rattle.vyrd_words.specs.Costs.{effect_count, effect_words, writes_behind, late_cost, held_if, held, work_held, most_held}
-use Rattle.vyrd_words.proofs.CutLaws.{length-with_part}
+use Rattle.vyrd_words.specs.Costs.{effect_count, effect_words, late_cost, held_if, held, work_held, most_held}
 use Rattle.vyrd_words.proofs.WordsLaws.{number_low}
-
--- no writes stand behind the last list
-pub none_behind : (since : List (List (ℕ × ℕ))) → writes_behind 0 since ≡ 0
-none_behind since =
-    let all : length since - 0 ≡ length since = omega arith in
-    ap (λ n. sum_by (λ part. length part) (drop n since)) all ∙ ap (sum_by (λ part. length part)) (drop-length since)
-
--- after a commit, one list more
-pub behind_cut : (behind : ℕ) (since : List (List (ℕ × ℕ))) → writes_behind (suc behind) (since ++ [] ∷ []) ≡ writes_behind behind since
-behind_cut behind since =
-    let long = length-append since ([] ∷ []) in
-    let n : ℕ = length since - behind in
-    let same : length (since ++ [] ∷ []) - suc behind ≡ n = omega (arith, long) in
-    let cut : drop n (since ++ [] ∷ []) ≡ drop n since ++ [] ∷ [] = drop-append-le n since ([] ∷ []) (omega arith) in
-    let sums = ap (sum_by (λ part. length part)) cut ∙ sum_by_push (λ part. length part) (drop n since) [] in
-    let moved = ap (λ m. sum_by (λ part. length part) (drop m (since ++ [] ∷ []))) same in
-    omega (arith, sums, moved)
-
--- further writes in some list
-all_more : (k : ℕ) (new : List (ℕ × ℕ)) (since : List (List (ℕ × ℕ)))
-    → sum_by (λ part. length part) (with_part k new since) ≤ sum_by (λ part. length part) since + length new
-all_more k new [] = omega arith
-all_more k new (part ∷ parts) = by_test (length parts == k) (all_more k new parts)
-  where
-    by_test : (b : Bool) → sum_by (λ p. length p) (with_part k new parts) ≤ sum_by (λ p. length p) parts + length new
-        → sum_by (λ p. length p) (cond b ((part ++ new) ∷ parts) (part ∷ with_part k new parts)) ≤ sum_by (λ p. length p) (part ∷ parts) + length new
-    by_test true rest =
-        omega (arith, sum_by-cons (λ p. length p) (part ++ new) parts, sum_by-cons (λ p. length p) part parts, length-append part new)
-    by_test false rest =
-        omega (arith, sum_by-cons (λ p. length p) part (with_part k new parts), sum_by-cons (λ p. length p) part parts, rest)
-
-drop_more_writes : (n k : ℕ) (new : List (ℕ × ℕ)) (since : List (List (ℕ × ℕ)))
-    → sum_by (λ part. length part) (drop n (with_part k new since)) ≤ sum_by (λ part. length part) (drop n since) + length new
-drop_more_writes zero k new since = all_more k new since
-drop_more_writes (suc n) k new [] = omega arith
-drop_more_writes (suc n) k new (part ∷ parts) = by_test (length parts == k) (drop_more_writes n k new parts)
-  where
-    by_test : (b : Bool) → sum_by (λ p. length p) (drop n (with_part k new parts)) ≤ sum_by (λ p. length p) (drop n parts) + length new
-        → sum_by (λ p. length p) (drop (suc n) (cond b ((part ++ new) ∷ parts) (part ∷ with_part k new parts)))
-        ≤ sum_by (λ p. length p) (drop n parts) + length new
-    by_test true rest = omega arith
-    by_test false rest = rest
-
-pub behind_more : (behind k : ℕ) (new : List (ℕ × ℕ)) (since : List (List (ℕ × ℕ)))
-    → writes_behind behind (with_part k new since) ≤ writes_behind behind since + length new
-behind_more behind k new since =
-    let same = ap (λ n. sum_by (λ part. length part) (drop (n - behind) (with_part k new since))) (length-with_part k new since) in
-    let more = drop_more_writes (length since - behind) k new since in
-    omega (arith, same, more)
 
 -- an entry's effects and its commit, seen from an open block
 pub grown : (cuts : Bool) (commits n k : ℕ) (new : List (ℕ × ℕ)) (since : List (List (ℕ × ℕ))) → n ≤ commits
-    → late_cost (parts_since (cond cuts 1 0 + commits) n) (cut_if cuts (with_part k new since))
-    ≤ late_cost (parts_since commits n) since + (2 * length new + 4)
-grown cuts commits zero k new since low =
-    let none = none_behind (cut_if cuts (with_part k new since)) in omega (arith, none)
+    → late_cost (parts_since (cond cuts 1 0 + commits) n) (cut_if cuts (with_part k new since)) ≤ late_cost (parts_since commits n) since + 2
+grown cuts commits zero k new since low = omega arith
 grown true commits (suc m) k new since low =
-    let one : 1 + commits - m ≡ suc (commits - m) = omega (arith, low) in
-    let cut = behind_cut (commits - m) (with_part k new since) in
-    let more = behind_more (commits - m) k new since in
-    let same = ap (λ b. writes_behind b (with_part k new since ++ [] ∷ [])) one in
-    omega (arith, one, cut, more, same)
+    let one : 1 + commits - m ≡ suc (commits - m) = omega (arith, low) in omega (arith, one)
 grown false commits (suc m) k new since low =
-    let none : 0 + commits - m ≡ commits - m = omega arith in
-    let more = behind_more (commits - m) k new since in
-    let same = ap (λ b. writes_behind b (with_part k new since)) none in
-    omega (arith, none, more, same)
+    let none : 0 + commits - m ≡ commits - m = omega arith in omega (arith, none)
 
 -- the same, of a block that may be closed
 seen_by_other : (is_open cuts : Bool) (commits n k : ℕ) (new : List (ℕ × ℕ)) (since : List (List (ℕ × ℕ))) → n ≤ commits
-    → held_if is_open n (cond cuts 1 0 + commits) (cut_if cuts (with_part k new since)) ≤ held_if is_open n commits since + (2 * length new + 4)
+    → held_if is_open n (cond cuts 1 0 + commits) (cut_if cuts (with_part k new since)) ≤ held_if is_open n commits since + 2
 seen_by_other true cuts commits n k new since low = grown cuts commits n k new since low
 seen_by_other false cuts commits n k new since low = omega arith
 
 -- a lone commit holds a commit alone
 new_commit : (is_open : Bool) (commits : ℕ) (since : List (List (ℕ × ℕ)))
-    → held_if is_open (suc commits) (1 + commits) (since ++ [] ∷ []) ≤ 4
+    → held_if is_open (suc commits) (1 + commits) (since ++ [] ∷ []) ≤ 2
 new_commit false commits since = omega arith
-new_commit true commits since =
-    let one : 1 + commits - commits ≡ 1 = omega arith in
-    let same = ap (λ b. writes_behind b (since ++ [] ∷ [])) one in
-    let cut = behind_cut 0 since in
-    let none = none_behind since in
-    omega (arith, one, same, cut, none)
+new_commit true commits since = let one : 1 + commits - commits ≡ 1 = omega arith in omega (arith, one)
 
 -- a caller's part of what is held, after an entry of this caller or another
 by_same : (same : Bool) (kind : Kind) (commits n : ℕ) (answer : Option Bool) (k : ℕ) (new : List (ℕ × ℕ)) (since : List (List (ℕ × ℕ))) → n ≤ commits
     → held_if (unwrap_or (option_or (cond same (open_or_close kind) None) answer) false) (cond same (number_at kind commits n) n)
     (cond (is_commit kind) 1 0 + commits) (cut_if (is_commit kind) (with_part k new since))
-    ≤ held_if (unwrap_or answer false) n commits since + (2 * length new + 4)
+    ≤ held_if (unwrap_or answer false) n commits since + 2
 by_same false kind commits n answer k new since low = seen_by_other (unwrap_or answer false) (is_commit kind) commits n k new since low
 by_same true (Call method args) commits n answer k new since low = seen_by_other (unwrap_or answer false) false commits n k new since low
 by_same true (Return reply) commits n answer k new since low = seen_by_other (unwrap_or answer false) false commits n k new since low
 by_same true (Write word value) commits n answer k new since low = seen_by_other (unwrap_or answer false) false commits n k new since low
 by_same true Commit commits n answer k new since low =
     let one = new_commit (unwrap_or answer false) commits (with_part k new since) in omega (arith, one)
-by_same true BlockOpen commits n answer k new since low =
-    let none = none_behind (with_part k new since) in omega (arith, none)
+by_same true BlockOpen commits n answer k new since low = omega arith
 by_same true BlockClose commits n answer k new since low = omega arith
 by_same true BlockCommit commits n answer k new since low = omega arith
 
 pub held_more : (c : ℕ) (e : Entry) (earlier : List Entry) (k : ℕ) (writes : List (ℕ × ℕ)) (old new : List (List (ℕ × ℕ)))
     → new ≡ cut_if (is_commit e.kind) (with_part k writes old)
-    → held (e ∷ earlier) new c ≤ held earlier old c + (2 * length writes + 4)
+    → held (e ∷ earlier) new c ≤ held earlier old c + 2
 held_more c e earlier k writes old new is =
     let more = by_same (e.caller == c) e.kind (commit_count earlier) (inner_number c earlier) (first_answer (by_caller c open_or_close) earlier)
     k writes old (number_low c earlier) in
@@ -174,7 +107,7 @@ is_among_from k (suc n) c low high =
     by_test true is rest = refl
     by_test false is rest = rest (apart_of k c is)
 
--- What an end of a block costs is what was held, and what is held grows by the effects alone.
+-- What an end of a block costs is what was held, and what is held grows by a commit alone.
 pub late_paid : (callers : ℕ) (e : Entry) (earlier : List Entry) (writes : List (ℕ × ℕ)) (old new : List (List (ℕ × ℕ)))
     → e.caller < callers → (e.kind ≡ BlockClose → has_block e.caller earlier ≡ true)
     → new ≡ cut_if (is_commit e.kind) (with_part (parts_behind earlier e.caller e.kind) writes old)
@@ -183,7 +116,7 @@ pub late_paid : (callers : ℕ) (e : Entry) (earlier : List Entry) (writes : Lis
 late_paid callers e earlier writes old new low opened is = by_kind e.kind refl
   where
     k : ℕ
-    k = 2 * length writes + 4
+    k = 2
 
     more : (x : ℕ) → held (e ∷ earlier) new x ≤ held earlier old x + k
     more x = held_more x e earlier (parts_behind earlier e.caller e.kind) writes old new is
@@ -194,8 +127,7 @@ late_paid callers e earlier writes old new low opened is = by_kind e.kind refl
     quiet none =
         let all = sum_more (held (e ∷ earlier) new) (held earlier old) k (numbers_below callers) more in
         let free = ap (λ b. late_cost b old) none in
-        let nothing = none_behind old in
-        omega (arith, all, free, nothing)
+        omega (arith, all, free)
 
     by_kind : (kind : Kind) → e.kind ≡ kind
         → late_cost (parts_behind earlier e.caller e.kind) old + work_held callers (e ∷ earlier) new

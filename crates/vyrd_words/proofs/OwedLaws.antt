@@ -1,6 +1,6 @@
 -- An entry's steps are paid by what is owed before it and a constant.
-use Rattle.std.proofs.Common.{◌≡◌, ◌≢◌, ℕ, zero, suc, ◌+◌, ◌*◌, ◌-◌, ◌<◌, ◌≤◌, List, [], ◌∷◌, ◌++◌, length, subst, drop, refl, ap, sym, arith, Bool, true, false, cond, length-append, Option, None}
-use Rattle.std.specs.Prelude.{nat_le, ◌==◌, unwrap_or, Result, Ok, Err, OnOk}
+use Rattle.std.proofs.Common.{◌≡◌, ◌≢◌, ℕ, zero, suc, ◌+◌, ◌*◌, ◌<◌, ◌≤◌, List, [], ◌∷◌, ◌++◌, length, subst, refl, ap, sym, arith, Bool, true, false, cond, length-append, Option, None}
+use Rattle.std.specs.Prelude.{◌==◌, unwrap_or, Result, Ok, Err, OnOk}
 use Rattle.std.specs.Option.{option_or}
 use Rattle.std.specs.List.{sum_by, list_any}
 use Rattle.std.proofs.lemmas.List.Sums.{sum_by-cons}
@@ -11,13 +11,13 @@ use Rattle.vyrd_base.specs.declared.log.StartWord.{StartWord}
 use Rattle.vyrd_base.specs.Callers.{has_block, by_caller, open_or_close}
 use Rattle.vyrd_base.specs.Places.{first_answer, numbers_from, numbers_below}
 use Rattle.vyrd_base.specs.Words.{block_writes, with_write}
-use Rattle.vyrd_base.proofs.TestLaws.{at_most_of, above_of, apart_of, same_of, same_number, isnt_same}
+use Rattle.vyrd_base.proofs.TestLaws.{apart_of, same_of, same_number, isnt_same}
 use Rattle.vyrd_shadow.specs.Blocks.{first_written}
 use Rattle.vyrd_shadow.specs.Following.{Kept, words_of, kept_writes}
 use Rattle.vyrd_base.specs.Commits.{commit_count}
-use Rattle.vyrd_words.specs.Effects.{inner_number, parts_since}
+use Rattle.vyrd_words.specs.Effects.{inner_number}
 use Rattle.vyrd_words.specs.HasWords.{HasWords, Keeps}
-use Rattle.vyrd_words.specs.Costs.{writes_behind, held_if, held, work_held, most_held, effect_count, kept_back, all_kept_back, each_entry, owed}
+use Rattle.vyrd_words.specs.Costs.{held_if, held, work_held, most_held, effect_count, kept_back, all_kept_back, each_entry, owed}
 use Rattle.vyrd_words.proofs.WordsLaws.{low_caller, closes_block, commits_block}
 
 -- the effects of an entry, by whether the caller's block is open and what it has written
@@ -134,18 +134,11 @@ effects_few kept starting inner earlier e has keeps = by_kind e.kind refl
     by_kind BlockClose at = block_few kept starting inner earlier e.caller has (low_caller keeps) (closes_block at keeps)
     by_kind BlockCommit at = block_few kept starting inner earlier e.caller has (low_caller keeps) (commits_block at keeps)
 
--- sums of the same for each caller
-each_paid : (effects old new : ℕ) (xs : List ℕ) → new + effects ≤ old + 1
-    → sum_by (λ c. 2 * effects + 4) xs + sum_by (λ c. 2 * new) xs ≤ sum_by (λ c. 2 * old) xs + sum_by (λ c. 6) xs
-each_paid effects old new [] paid = omega arith
-each_paid effects old new (x ∷ xs) paid =
-    let rest = each_paid effects old new xs paid in
-    omega (arith, sum_by-cons (λ c. 2 * effects + 4) x xs, sum_by-cons (λ c. 2 * new) x xs, sum_by-cons (λ c. 2 * old) x xs, sum_by-cons (λ c. 6) x xs, rest, paid)
-
-six_each : (k n : ℕ) → sum_by (λ c. 6) (numbers_from k n) ≡ 6 * n
-six_each k zero = refl
-six_each k (suc n) =
-    let rest = six_each (k + 1) n in omega (arith, sum_by-cons (λ c. 6) k (numbers_from (k + 1) n), rest)
+-- the same for each caller
+two_each : (k n : ℕ) → sum_by (λ c. 2) (numbers_from k n) ≡ 2 * n
+two_each k zero = refl
+two_each k (suc n) =
+    let rest = two_each (k + 1) n in omega (arith, sum_by-cons (λ c. 2) k (numbers_from (k + 1) n), rest)
 
 -- what an entry costs, with what is owed after it
 pub owed_paid : {T E : Type 0} (r : Result T E) (kept : Kept) (starting : List StartWord) (inner : List ℕ) (earlier : List Entry) (e : Entry)
@@ -158,9 +151,8 @@ owed_paid (Ok x) kept starting inner earlier e old new s0 s1 has keeps paid =
     let n = kept.header.callers in
     let w = effect_count kept e.caller e.kind in
     let all = all_kept n e earlier w (low_caller keeps) (effects_few kept starting inner earlier e has keeps) in
-    let each = each_paid w (all_kept_back n earlier) (all_kept_back n (e ∷ earlier)) (numbers_below n) all in
-    let six = six_each 0 n in
-    omega (arith, paid, all, each, six)
+    let two = two_each 0 n in
+    omega (arith, paid, all, two)
 
 -- and whatever is owed after it
 pub owed_at_most : (kept : Kept) (starting : List StartWord) (inner : List ℕ) (earlier : List Entry) (e : Entry)
@@ -172,31 +164,13 @@ owed_at_most kept starting inner earlier e old s0 s1 has keeps paid =
     let n = kept.header.callers in
     let w = effect_count kept e.caller e.kind in
     let all = all_kept n e earlier w (low_caller keeps) (effects_few kept starting inner earlier e has keeps) in
-    let each = each_paid w (all_kept_back n earlier) (all_kept_back n (e ∷ earlier)) (numbers_below n) all in
-    let six = six_each 0 n in
-    omega (arith, paid, all, each, six)
+    let two = two_each 0 n in
+    omega (arith, paid, all, two)
 
 -- A commit that is judged owes nothing more: what is owed doesn't grow.
-behind_less : (behind : ℕ) (part : List (ℕ × ℕ)) (rest : List (List (ℕ × ℕ))) → writes_behind behind rest ≤ writes_behind behind (part ∷ rest)
-behind_less behind part rest = by_test (nat_le behind (length rest)) refl
-  where
-    by_test : (b : Bool) → nat_le behind (length rest) ≡ b → writes_behind behind rest ≤ writes_behind behind (part ∷ rest)
-    by_test true is =
-        let low = at_most_of behind (length rest) is in
-        let more : suc (length rest) - behind ≡ suc (length rest - behind) = omega (arith, low) in
-        let same = ap (λ n. sum_by (λ p. length p) (drop n (part ∷ rest))) more in
-        omega (arith, same)
-    by_test false is =
-        let high = above_of behind (length rest) is in
-        let none : length rest - behind ≡ 0 = omega (arith, high) in
-        let nothing : suc (length rest) - behind ≡ 0 = omega (arith, high) in
-        let left = ap (λ n. sum_by (λ p. length p) (drop n rest)) none in
-        let all = ap (λ n. sum_by (λ p. length p) (drop n (part ∷ rest))) nothing in
-        omega (arith, left, all, sum_by-cons (λ p. length p) part rest)
-
 held_less : (is_open : Bool) (number commits : ℕ) (part : List (ℕ × ℕ)) (rest : List (List (ℕ × ℕ)))
     → held_if is_open number commits rest ≤ held_if is_open number commits (part ∷ rest)
-held_less true number commits part rest = let less = behind_less (parts_since commits number) part rest in omega (arith, less)
+held_less true number commits part rest = omega arith
 held_less false number commits part rest = omega arith
 
 sum_less : (f g : ℕ → ℕ) (xs : List ℕ) → ((x : ℕ) → f x ≤ g x) → sum_by f xs ≤ sum_by g xs

@@ -15,7 +15,7 @@ use Rattle.vyrd_base.proofs.TestLaws.{same_number, isnt_same}
 use Rattle.vyrd_shadow.specs.Blocks.{first_written}
 use Rattle.vyrd_shadow.specs.Following.{Kept, words_of, kept_writes}
 use Rattle.vyrd_words.specs.HasWords.{HasWords, Keeps}
-use Rattle.vyrd_words.specs.Costs.{held, kept_back, all_kept_back, work_held, most_held, effect_count, effect_words, each_entry, owed, entry_price, price_back, price_kept}
+use Rattle.vyrd_words.specs.Costs.{held, kept_back, work_held, most_held, effect_count, effect_words, each_entry, owed, entry_price, price_back, price_kept}
 use Rattle.vyrd_words.proofs.WordsLaws.{low_caller, closes_block, commits_block}
 use Rattle.vyrd_words.proofs.OwedLaws.{sum_at, owed_paid, owed_at_most}
 
@@ -159,8 +159,7 @@ pub owed_none : (callers : ℕ) → owed callers [] [] ≡ 0
 owed_none callers =
     let work = sum_none (held [] []) (numbers_below callers) (λ c. refl) in
     let back = sum_none (kept_back []) (numbers_below callers) (λ c. refl) in
-    let each = sum_none (λ c. 2 * all_kept_back callers []) (numbers_below callers) (λ c. omega (arith, back)) in
-    omega (arith, work, back, each)
+    omega (arith, work, back)
 
 pub price_none : (p : ℕ → ℕ) (callers : ℕ) → price_kept p callers [] ≡ 0
 price_none p callers = sum_none (price_back p []) (numbers_below callers) (λ c. refl)

@@ -1,5 +1,5 @@
 -- What the work on the words costs, in steps.
-use Rattle.std.specs.Prelude.{ℕ, Bool, true, false, ◌-◌, ◌+◌, ◌*◌, List, [], ◌∷◌, length, drop}
+use Rattle.std.specs.Prelude.{ℕ, Bool, true, false, ◌+◌, ◌*◌, List, [], ◌∷◌, length}
 use Rattle.std.specs.Prelude.{if◌then◌else◌}
 use Rattle.std.specs.List.{sum_by}
 use Rattle.vyrd_base.specs.declared.log.Kind.{Kind}
@@ -19,14 +19,10 @@ abbrev pub pending_for : (ℕ → ℕ) → List ℕ → List (ℕ × ℕ) → �
 pending_for price changed writes = sum_by price changed + length changed
     + sum_by (λ write. price write.0) writes + 2 * length writes
 
--- how many writes stand in the last `behind` of these lists
-abbrev pub writes_behind : ℕ → List (List (ℕ × ℕ)) → ℕ
-writes_behind behind since = sum_by (λ part. length part) (drop (length since - behind) since)
-
--- what it costs to put late writes before that many lists, besides one step for each of them: two
--- for each write that gives way, and four for each commit since
+-- what it costs to hand late writes to the commit after which that many lists stand, besides one step
+-- for each of them: two for each commit since, whatever stands in the lists
 abbrev pub late_cost : ℕ → List (List (ℕ × ℕ)) → ℕ
-late_cost behind since = 2 * writes_behind behind since + 4 * behind
+late_cost behind since = 2 * behind
 
 -- the same, if a block is open
 abbrev pub held_if : Bool → ℕ → ℕ → List (List (ℕ × ℕ)) → ℕ
@@ -42,10 +38,10 @@ held earlier since c =
 abbrev pub work_held : ℕ → List Entry → List (List (ℕ × ℕ)) → ℕ
 work_held callers earlier since = sum_by (held earlier since) (numbers_below callers)
 
--- how much the work that is held grows at most with an entry that has that many effects: for each
--- caller two steps for each of them, and four for a commit
+-- how much the work that is held grows at most with an entry, however many effects it has: for each
+-- caller two steps for a commit
 abbrev pub most_held : ℕ → ℕ → ℕ
-most_held callers effects = sum_by (λ c. 2 * effects + 4) (numbers_below callers)
+most_held callers effects = sum_by (λ c. 2) (numbers_below callers)
 
 -- the words that an entry's effects change
 abbrev pub effect_words : Kept → ℕ → Kind → List ℕ
@@ -69,15 +65,10 @@ kept_back earlier c = if has_block c earlier then length (block_writes c earlier
 abbrev pub all_kept_back : ℕ → List Entry → ℕ
 all_kept_back callers earlier = sum_by (kept_back earlier) (numbers_below callers)
 
--- that much for each caller
-abbrev pub for_each : ℕ → ℕ → ℕ
-for_each callers amount = sum_by (λ c. amount) (numbers_below callers)
-
--- What is owed for the entries so far: what the ends of open blocks would cost, and for each write
--- that is kept back four steps, and two for each caller.
+-- What is owed for the entries so far: what the ends of open blocks would cost, and four steps for each
+-- write that is kept back.
 abbrev pub owed : ℕ → List Entry → List (List (ℕ × ℕ)) → ℕ
 owed callers earlier since = work_held callers earlier since + 4 * all_kept_back callers earlier
-    + for_each callers (2 * all_kept_back callers earlier)
 
 -- the price of the word that an entry writes
 abbrev pub entry_price : (ℕ → ℕ) → Kind → ℕ
@@ -94,7 +85,7 @@ abbrev pub price_kept : (ℕ → ℕ) → ℕ → List Entry → ℕ
 price_kept price callers earlier = sum_by (price_back price earlier) (numbers_below callers)
 
 -- What each entry costs at most, with what is owed after it and beside the price of what it writes:
--- five steps of the words that are rebuilt, four to pass an effect on, and for each caller what
--- its open block's end owes for that effect and for a commit.
+-- five steps of the words that are rebuilt, four to pass an effect on, and for each caller the two
+-- that its open block's end owes for a commit.
 abbrev pub each_entry : ℕ → ℕ
-each_entry callers = 9 + 6 * callers
+each_entry callers = 9 + 2 * callers

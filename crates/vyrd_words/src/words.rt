@@ -14,7 +14,7 @@ ghost use Rattle.vyrd_shadow.specs.Costs.{owed as shadow_owed};
 ghost use Rattle.vyrd_spec.specs.Touching.{with_touched};
 ghost use Rattle.vyrd_view.specs.Comparing.{AgreeElsewhere};
 ghost use Rattle.vyrd_view.specs.Known.{IsNew, view_by};
-ghost use Rattle.vyrd_words.specs.Costs.{pending_for, writes_behind, work_held, most_held};
+ghost use Rattle.vyrd_words.specs.Costs.{pending_for, work_held, most_held};
 ghost use Rattle.vyrd_words.specs.Costs.{effect_words, effect_count, each_entry, owed};
 ghost use Rattle.vyrd_words.specs.Costs.{entry_price, price_kept};
 ghost use Rattle.vyrd_words.specs.Cuts.{first_with, with_part, written};
@@ -102,7 +102,7 @@ impl<C: Compare> Words<C> {
     /// Takes in an entry that keeps the rules, after this many commits. A commit waits from then
     /// on. An entry takes constant time, and the end of a block takes time for each of its writes.
     /// If a lone commit stands in the block and still waits, the end takes time for each commit
-    /// since then too, and each of the block's writes takes time for the writes since then.
+    /// since then too. What else took effect since then costs nothing.
     #[inline(always)]
     pub fn follow(&mut self, entry: Entry, commits: u64) -> Result<(), AllocError>
         requires may { MayFollow self.old.shadow self.old.inner entry commits }
@@ -123,8 +123,8 @@ impl<C: Compare> Words<C> {
     }
 
     /// The same, with its steps counted. One step is one of those that rebuild the words, a write
-    /// that is passed on to the commits that wait, a write that waits and gives way to a late one,
-    /// or a commit that waits and is looked at for that. What the end of a block costs is owed from
+    /// that is passed on to the commits that wait, or a commit that waits and is looked at, or gives
+    /// way, since a late write is handed to one before it. What the end of a block costs is owed from
     /// the entries on that made it dear, and what a changed word costs is pending from its write
     /// on. So each entry pays a constant, by the number of callers, and a write the price of its
     /// word. Where memory runs out it has taken no more than that, with all that was owed.
@@ -469,13 +469,11 @@ fn pass_back<C: Compare, L: Ledger>(
         ≤ steps.old + shadow_owed shadow.old + views.old.pending
         + sum_by (C.price views.old.shows) shadow.old.changed
         + 4 * length shadow.old.changed
-        + 2 * writes_behind behind views.old.since
-        + 4 * behind
+        + 2 * behind
         + 1) }
     ensures most { steps.new ≤ steps.old + shadow_owed shadow.old
         + length shadow.old.changed
-        + 2 * writes_behind behind views.old.since
-        + 4 * behind
+        + 2 * behind
         + 1 }
 {
     views.late(behind, shadow.changed(), shadow.words(), steps)?;

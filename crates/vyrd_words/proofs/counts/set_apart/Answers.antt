@@ -4,12 +4,23 @@ use Rattle.vyrd_words.proofs.CountLaws.{apart_few, says_count, apart_in-parts, s
 use Rattle.vyrd_words.proofs.counts.set_apart.Goals as goal
 
 pub overflow_sub-len : goal.overflow_sub-len
-overflow_sub-len g c = omega (arith, c.len-2.ensures, c.args.large.now.ok.0, c.place_apart-place.ensures.place,
-    apart_in-parts c.args.index c.args.bytes.now.items, c.requires.all)
+overflow_sub-len g c = omega (
+  arith,
+  c.len-2.ensures,
+  c.args.large.now.ok.0,
+  c.place_apart-place.ensures.place,
+  apart_in-parts c.args.index c.args.bytes.now.items,
+  c.requires.all,
+)
 
 pub insert-requires : goal.insert-requires
-insert-requires g c = omega (arith, c.args.large.now.ok.0, c.place_apart-place.ensures.place,
-    apart_in-parts c.args.index c.args.bytes.now.items, c.requires.all)
+insert-requires g c = omega (
+  arith,
+  c.args.large.now.ok.0,
+  c.place_apart-place.ensures.place,
+  apart_in-parts c.args.index c.args.bytes.now.items,
+  c.requires.all,
+)
 
 pub returns-in_err-insert-clause-steps : goal.returns-in_err-insert-clause-steps
 returns-in_err-insert-clause-steps g c = omega (
@@ -36,8 +47,14 @@ returns-clause-same g c = let bytes = c.args.bytes.now.items in
 pub returns-clause-all : goal.returns-clause-all
 returns-clause-all g c = let bytes = c.args.bytes.now.items in
     let small = says_count bytes c.args.index c.index-byte.result.now c.requires.index c.index-byte.ensures c.if-byte.false in
-    omega (arith, apart_set_grown bytes c.args.index c.requires.index small, c.requires.all, c.in_ok-insert.ensures.len,
-    c.args.large.now.ok.0, c.insert.new.self.ok.0)
+    omega (
+      arith,
+      apart_set_grown bytes c.args.index c.requires.index small,
+      c.requires.all,
+      c.in_ok-insert.ensures.len,
+      c.args.large.now.ok.0,
+      c.insert.new.self.ok.0,
+    )
 
 pub returns-clause-steps : goal.returns-clause-steps
 returns-clause-steps g c = omega (
