@@ -1,7 +1,9 @@
 -- What a piece that was read and judged makes of what is kept.
-use Rattle.std.proofs.Common.{◌≡◌, ℕ, true, false, ◌||◌, List, [], ◌++◌, length, Option, Some, None, refl, ap, subst, ◌∙◌, sym, arith}
-use Rattle.std.specs.Prelude.{option_map}
+use Rattle.std.proofs.Common.{◌≡◌, ℕ, ◌+◌, ◌≤◌, true, false, cond, ◌||◌, List, [], ◌++◌, length}
+use Rattle.std.proofs.Common.{Option, Some, None, refl, ap, subst, ◌∙◌, sym, arith}
+use Rattle.std.specs.Prelude.{option_map, option_and_then}
 use Rattle.std.specs.Option.{option_or}
+use Rattle.std.proofs.lemmas.Bool.{or_right}
 use Rattle.std.proofs.Math.Logic.{∥∥₁_elim}
 use Rattle.std.proofs.Math.Bool.{Bool-set}
 use Rattle.vyrd_base.specs.declared.header.Header.{Header}
@@ -10,18 +12,26 @@ use Rattle.vyrd_base.specs.declared.verdict.Verdict.{Verdict}
 use Rattle.vyrd_base.specs.declared.verdict.Verdict.TheVariants.{Malformed}
 use Rattle.vyrd_base.specs.Starts.{may_start}
 use Rattle.vyrd_base.specs.Subjects.{is_built_in}
-use Rattle.vyrd_base.specs.Reading.{has_any}
+use Rattle.vyrd_base.specs.Reading.{Reading, has_any}
+use Rattle.vyrd_base.specs.Rules.{built_in, rules_of}
+use Rattle.vyrd_base.specs.Verdicts.{verdict_so_far, end_verdict}
 use Rattle.vyrd_base.specs.TextVerdicts.{text_verdict_so_far}
-use Rattle.vyrd_base.proofs.ReadingGrows.{reading_grows, input_of}
+use Rattle.vyrd_base.proofs.ReadingGrows.{TextGrown, reading_grows, input_of}
 use Rattle.vyrd_base.proofs.ReadingSound.{reading_writable}
 use Rattle.vyrd_base.proofs.TestLaws.{at_most_of, is_at_most}
 use Rattle.vyrd_text.specs.Readers.{ReaderState, HasRead}
 use Rattle.vyrd_text.specs.Answered.{IsGrownBy}
-use Rattle.vyrd_judge.specs.Following.{JudgeView}
+use Rattle.vyrd_view.specs.Comparing.{price_by}
+use Rattle.vyrd_judge.specs.Costs.{judge_debt}
+use Rattle.vyrd_judge.specs.Following.{JudgeView, HasFollowed}
 use Rattle.vyrd_check.specs.LogReadings.{read_so_far}
 use Rattle.vyrd_check.specs.Checking.{IsLimit, IsJudging, IsReady, IsBegun, HasRoom, Kept, IsUndecided, IsSomewhere, wrong_in}
+use Rattle.vyrd_check.specs.Checking.{has_begun}
+use Rattle.vyrd_check.specs.Costs.{starting_cost, bytes_cost, judge_owes, following_cost, kept_debt}
 use Rattle.vyrd_check.proofs.ReadingFacts.{entries_few, headless_empty, text_right, known_so_far}
+use Rattle.vyrd_check.proofs.ReadingFacts.{entries_right}
 use Rattle.vyrd_check.proofs.PieceLaws.{judge_before, has_room}
+use Rattle.vyrd_check.proofs.CostLaws.{piece_paid, bytes_more}
 use Rattle.vyrd_check.proofs.BuiltInLaws.{reading_built_in}
 
 -- a piece was read, and the judge is there if it may be
@@ -129,3 +139,156 @@ fed_undecided old reader begun after piece entries fault fed bytes read judging 
   judging = subst (λ m. IsJudging after (read_so_far m (bytes ++ piece))) (sym fed.limit) judging;
   nothing = ap (λ m. text_verdict_so_far m (bytes ++ piece)) fed.limit ∙ nothing;
 }
+
+paid_then : (owes begun moves before was now after n m later : ℕ) → later ≡ owes
+    → begun + moves + was ≤ before + now → n + owes ≤ m + begun + moves
+    → n + later + was ≤ m + before + now
+paid_then owes begun moves before was now after n m later same paid taken =
+    omega (arith, same, paid, taken)
+
+-- what a piece that was read and judged has cost is paid
+pub fed_paid : (old : Kept) (reader : ReaderState) (begun after : Option JudgeView)
+    (piece : List ℕ) (entries : List Entry) (fault : Option Verdict)
+    → Fed old reader begun piece entries fault → IsLimit old.reader.max_lines
+    → old.reader.ended ≡ false → (bytes : List ℕ) → IsUndecided old bytes → (m n : ℕ)
+    → n + judge_owes after (read_so_far old.reader.max_lines (bytes ++ piece))
+    (read_so_far old.reader.max_lines (bytes ++ piece)).entries
+    ≤ m + judge_owes begun (read_so_far old.reader.max_lines (bytes ++ piece))
+    (read_so_far old.reader.max_lines bytes).entries + following_cost begun entries reader.ended
+    → n + kept_debt (record { reader = reader; judge = after }) (bytes ++ piece)
+    + bytes_cost old.reader.max_lines bytes
+    ≤ m + kept_debt old bytes + bytes_cost old.reader.max_lines (bytes ++ piece)
+fed_paid old reader begun after piece entries fault fed limit going bytes u m n taken =
+    let max = old.reader.max_lines in
+    let was = read_so_far max bytes in
+    let is = read_so_far max (bytes ++ piece) in
+    let read = read_to reader (bytes ++ piece) max fed.limit (fed.read bytes u.read) in
+    let judge : IsBegun (has_any entries || is.ended) is.header is.starting old.judge begun =
+    rw (← read.ended, ← read.header, ← read.start) fed.judge in
+    let more = reading_grows max false bytes piece limit.low in
+    let ready = fed_ready old reader begun piece entries fault fed limit bytes u in
+    paid_then (judge_owes after is is.entries) (judge_owes begun is was.entries)
+    (following_cost begun entries reader.ended) (kept_debt old bytes) (bytes_cost max bytes)
+    (bytes_cost max (bytes ++ piece)) n n m
+    (kept_debt (record { reader = reader; judge = after }) (bytes ++ piece))
+    (ap (λ l. judge_owes after (read_so_far l (bytes ++ piece))
+    (read_so_far l (bytes ++ piece)).entries) fed.limit)
+    (piece_paid old.judge begun was is entries reader.ended u.judging more
+    (text_right max bytes u.nothing) (sym u.read.ended ∙ going) ready judge)
+    taken
+
+-- what was read is the same, except for a fault of text
+pub record IsSameLog (old new : Reading) : Type 0 where
+  pub header : new.header ≡ old.header
+  pub starting : new.starting ≡ old.starting
+  pub entries : new.entries ≡ old.entries
+  pub ended : new.ended ≡ old.ended
+
+never : {A : Type 0} → false ≡ true → A
+never e = cc
+
+-- after `end` nothing more is read
+after_end : (old : Kept) (bytes piece : List ℕ) → IsLimit old.reader.max_lines
+    → IsUndecided old bytes → old.reader.ended ≡ true
+    → IsSameLog (read_so_far old.reader.max_lines bytes)
+    (read_so_far old.reader.max_lines (bytes ++ piece))
+after_end old bytes piece limit u ended = record {
+  header = by_header was.header refl;
+  starting = g.grown.begun none begun;
+  entries = (g.grown.ended none done).0;
+  ended = (g.grown.ended none done).1 ∙ sym done;
+}
+  where
+    was : Reading
+    was = read_so_far old.reader.max_lines bytes
+
+    is : Reading
+    is = read_so_far old.reader.max_lines (bytes ++ piece)
+
+    g : TextGrown was is
+    g = reading_grows old.reader.max_lines false bytes piece limit.low
+
+    none : was.fault ≡ None
+    none = text_right old.reader.max_lines bytes u.nothing
+
+    done : was.ended ≡ true
+    done = sym u.read.ended ∙ ended
+
+    begun : has_begun was ≡ true
+    begun = or_right (has_any was.entries) was.ended done
+
+    by_header : (o : Option Header) → was.header ≡ o → is.header ≡ was.header
+    by_header None has = never (sym (headless_empty old.reader.max_lines bytes has) ∙ begun)
+    by_header (Some h) has = g.header h has ∙ sym has
+
+-- so its entries are as right as before
+same_wrong : (old new : Reading) → IsSameLog old new → wrong_in new ≡ wrong_in old
+same_wrong old new s = λ i. option_and_then (λ h.
+    option_or (verdict_so_far (rules_of h) (s.starting i) (s.entries i))
+    (cond (s.ended i) (end_verdict (rules_of h) (s.starting i) (s.entries i)) None)) (s.header i)
+
+-- and the judge has followed them
+same_judging : (judge : Option JudgeView) (old new : Reading) → IsSameLog old new
+    → IsJudging judge old → IsJudging judge new
+same_judging None old new s judging = (s.entries ∙ judging.0, s.ended ∙ judging.1)
+same_judging (Some j) old new s judging = record {
+  charter = ap (option_map built_in) s.header ∙ judging.charter;
+  shows = judging.shows;
+  followed = subst (HasFollowed j new.starting) (sym s.entries)
+      (subst (λ ss. HasFollowed j ss old.entries) (sym s.starting) judging.followed);
+  so_far = judging.so_far;
+  begun = (λ i. has_any (s.entries i) || s.ended i) ∙ judging.begun;
+}
+
+same_owes : (judge : Option JudgeView) (old new : Reading) → IsSameLog old new
+    → judge_owes judge new new.entries ≡ judge_owes judge old old.entries
+same_owes None old new s = λ i. starting_cost (s.header i) (s.starting i)
+same_owes (Some j) old new s = ap (judge_debt price_by (λ charter. 2) j) s.entries
+
+-- the answer after `end` is the fault of text
+pub ended_answer : (old : Kept) (bytes piece : List ℕ) (fault : Option Verdict)
+    → IsLimit old.reader.max_lines → IsUndecided old bytes → old.reader.ended ≡ true
+    → fault ≡ option_map (λ fault. Malformed fault.line fault.rule)
+    (read_so_far old.reader.max_lines (bytes ++ piece)).fault
+    → fault ≡ text_verdict_so_far old.reader.max_lines (bytes ++ piece)
+ended_answer old bytes piece fault limit u ended is =
+    let max = old.reader.max_lines in
+    known_so_far max (bytes ++ piece) None fault
+    (sym (same_wrong (read_so_far max bytes) (read_so_far max (bytes ++ piece))
+    (after_end old bytes piece limit u ended) ∙ entries_right max bytes u.nothing)) is
+
+-- without a fault what is kept goes on
+pub ended_undecided : (old : Kept) (reader : ReaderState) (bytes piece : List ℕ)
+    → IsLimit old.reader.max_lines → IsUndecided old bytes → old.reader.ended ≡ true
+    → reader.max_lines ≡ old.reader.max_lines → HasRead reader (bytes ++ piece)
+    → text_verdict_so_far old.reader.max_lines (bytes ++ piece) ≡ None
+    → IsUndecided (record { reader = reader; judge = old.judge }) (bytes ++ piece)
+ended_undecided old reader bytes piece limit u ended same read nothing =
+    let max = old.reader.max_lines in
+    record {
+      read = read;
+      judging = subst (λ m. IsJudging old.judge (read_so_far m (bytes ++ piece))) (sym same)
+          (same_judging old.judge (read_so_far max bytes) (read_so_far max (bytes ++ piece))
+          (after_end old bytes piece limit u ended) u.judging);
+      nothing = ap (λ m. text_verdict_so_far m (bytes ++ piece)) same ∙ nothing;
+    }
+
+still_paid : (n later owed was now : ℕ) → later ≡ owed → was ≤ now
+    → n + later + was ≤ n + owed + now
+still_paid n later owed was now same more = omega (arith, same, more)
+
+-- and nothing was paid
+pub ended_paid : (old : Kept) (reader : ReaderState) (bytes piece : List ℕ) (n : ℕ)
+    → IsLimit old.reader.max_lines → IsUndecided old bytes → old.reader.ended ≡ true
+    → reader.max_lines ≡ old.reader.max_lines
+    → n + kept_debt (record { reader = reader; judge = old.judge }) (bytes ++ piece)
+    + bytes_cost old.reader.max_lines bytes
+    ≤ n + kept_debt old bytes + bytes_cost old.reader.max_lines (bytes ++ piece)
+ended_paid old reader bytes piece n limit u ended same =
+    let max = old.reader.max_lines in
+    still_paid n _ (kept_debt old bytes) (bytes_cost max bytes) (bytes_cost max (bytes ++ piece))
+    (ap (λ l. judge_owes old.judge (read_so_far l (bytes ++ piece))
+    (read_so_far l (bytes ++ piece)).entries) same
+    ∙ same_owes old.judge (read_so_far max bytes) (read_so_far max (bytes ++ piece))
+    (after_end old bytes piece limit u ended))
+    (bytes_more max bytes piece limit.low)

@@ -4,3 +4,4 @@ pub mod PieceLaws
 pub mod FedLaws
 pub mod BuiltInLaws
 pub mod CheckedLaws
+pub mod CostLaws

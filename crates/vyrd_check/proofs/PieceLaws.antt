@@ -1,6 +1,6 @@
 -- How what is kept goes on with a piece of the text.
 use Rattle.std.proofs.Common.{◌≡◌, ◌≤◌, Bool, true, false, cond, ◌||◌, List, [], ◌∷◌, ◌++◌, length, Option, Some, None, refl, ap, subst, ◌∙◌, sym, arith, length-append, option_map}
-use Rattle.std.specs.Prelude.{option_and_then, is_none}
+use Rattle.std.specs.Prelude.{option_and_then, is_none, is_some, IfSome}
 use Rattle.std.specs.Bool.{then_some}
 use Rattle.std.specs.Option.{option_or}
 use Rattle.std.proofs.lemmas.Bool.{or_left, or_right}
@@ -19,6 +19,9 @@ use Rattle.vyrd_base.specs.TextVerdicts.{entries_verdict, text_verdict_so_far}
 use Rattle.vyrd_base.proofs.ReadingGrows.{TextGrown}
 use Rattle.vyrd_base.proofs.TextLasts.{nothing_so_far}
 use Rattle.vyrd_text.specs.Readers.{ReaderState, HasRead}
+use Rattle.vyrd_view.specs.Comparing.{price_by}
+use Rattle.vyrd_view.specs.Known.{by_rules}
+use Rattle.vyrd_judge.specs.Costs.{judge_debt, start_cost}
 use Rattle.vyrd_judge.specs.Following.{JudgeView, HasFollowed}
 use Rattle.vyrd_judge.proofs.OnlineLaws.{faultless_of}
 use Rattle.vyrd_check.specs.Checking.{wrong_in, has_begun, IsJudging, IsBefore, IsReady, HasRoom, IsMade, IsBegun, IsUndecided}
@@ -69,6 +72,29 @@ begun_on old new g none begun = by_end old.ended refl begun
             or_left (has_any new.entries) new.ended
             (ap has_any more.1 ∙ any_more old.entries more.0 is)
 
+-- the judge that was made, if one was
+pub made_from : (h : Header) (starting : List StartWord) (made : Option JudgeView)
+    → is_none made ≡ is_none (state_at_start (rules_of h) starting)
+    → IfSome made (λ j. HasFollowed j starting [])
+    → IfSome made (λ j. j.kept.charter ≡ built_in h)
+    → IfSome made (λ j. j.so_far ≡ None)
+    → IfSome made (λ j. j.kept.views.shows ≡ by_rules (built_in h))
+    → IfSome made (λ j. judge_debt price_by (λ charter. 2) j []
+    ≡ start_cost (price_by j.kept.views.shows) starting)
+    → IsMade h starting made
+made_from h starting None none followed charter so_far shows owed = sym none
+made_from h starting (Some j) none followed charter so_far shows owed =
+    (charter, followed, so_far, shows, owed ∙ ap (λ s. start_cost (price_by s) starting) shows)
+
+-- it is the judge from now on, since there was none
+pub begun_by : (begun : Bool) (o : Option Header) (starting : List StartWord)
+    (old made : Option JudgeView) (h : Header) → is_some old ≡ false → begun ≡ true → o ≡ Some h
+    → IsMade h starting made → IsBegun begun o starting old made
+begun_by begun o starting (Some j) made h none now has is = cc
+begun_by begun o starting None made h none now has is =
+    subst (λ b. IsBegun b o starting None made) (sym now)
+    (subst (λ x. IsBegun true x starting None made) (sym has) is)
+
 -- Once an entry or `end` may have been read, the judge has followed the entries from before.
 pub judge_before : (before after : Option JudgeView) (old new : Reading) (more : List Entry)
     → IsJudging before old → TextGrown old new
@@ -81,6 +107,7 @@ judge_before (Some j) after old new more judging g none headed all begun =
     let same : new.starting ≡ old.starting = g.grown.begun none judging.begun in
     subst (λ o. IsBefore o new old.entries) (sym begun) (record {
       charter = still_read old.header new.header j.kept.charter g.header judging.charter;
+      shows = judging.shows;
       followed = subst (λ ss. HasFollowed j ss old.entries) (sym same) judging.followed;
       so_far = judging.so_far;
       begun = now;
@@ -96,6 +123,7 @@ judge_before None after old new more judging g none headed all begun =
     by_made h None has now made = (judging.0, λ f. (h, has, made))
     by_made h (Some j) has now made = record {
       charter = ap (option_map built_in) has ∙ ap Some (sym made.0);
+      shows = made.3 ∙ ap by_rules (sym made.0);
       followed = subst (HasFollowed j new.starting) (sym judging.0) made.1;
       so_far = made.2;
       begun = now;
@@ -137,10 +165,12 @@ wrong_by j read log more done ready =
 -- a judge that has followed the last entries, with no verdict
 pub judging_on : (old new : JudgeView) (read : Reading) (log more : List Entry) (done : Bool)
     → IsReady (Some old) read log more done
-    → new.kept.charter ≡ old.kept.charter → HasFollowed new read.starting (log ++ more)
+    → new.kept.charter ≡ old.kept.charter → new.kept.views.shows ≡ old.kept.views.shows
+    → HasFollowed new read.starting (log ++ more)
     → new.so_far ≡ None → IsJudging (Some new) read
-judging_on old new read log more done ready same followed none = record {
+judging_on old new read log more done ready same shows followed none = record {
   charter = ready.before.charter ∙ ap Some (sym same);
+  shows = shows ∙ ready.before.shows ∙ ap by_rules (sym same);
   followed = subst (HasFollowed new read.starting) (sym ready.entries) followed;
   so_far = none;
   begun = ready.before.begun;

@@ -149,7 +149,7 @@ second_none None b e = e
 second_none (Some x) b e = cc
 
 -- what is wrong with the entries of bytes about which nothing is known
-entries_right : (max : ℕ) (bytes : List ℕ) → text_verdict_so_far max bytes ≡ None
+pub entries_right : (max : ℕ) (bytes : List ℕ) → text_verdict_so_far max bytes ≡ None
     → wrong_in (read_so_far max bytes) ≡ None
 unfolding text_verdict_so_far
 entries_right max bytes nothing = first_none _ _ nothing

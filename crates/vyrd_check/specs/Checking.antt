@@ -10,6 +10,9 @@ use Rattle.vyrd_base.specs.Reading.{Reading, has_any}
 use Rattle.vyrd_base.specs.Rules.{built_in, rules_of}
 use Rattle.vyrd_base.specs.TextVerdicts.{entries_verdict, text_verdict_so_far}
 use Rattle.vyrd_text.specs.Readers.{ReaderState, HasRead}
+use Rattle.vyrd_view.specs.Comparing.{price_by, word_price}
+use Rattle.vyrd_view.specs.Known.{by_rules}
+use Rattle.vyrd_judge.specs.Costs.{judge_debt, start_cost}
 use Rattle.vyrd_judge.specs.Following.{JudgeView, HasFollowed}
 use Rattle.vyrd_check.specs.LogReadings.{read_so_far}
 
@@ -32,9 +35,10 @@ abbrev pub has_begun : Reading → Bool
 has_begun read = has_any read.entries || read.ended
 
 -- a judge with no verdict that has followed these entries of what was read, by the rules of the
--- header that was read
+-- header that was read, which its words show too
 pub record IsAt (j : JudgeView) (read : Reading) (log : List Entry) : Type 0 where
   pub charter : option_map built_in read.header ≡ Some j.kept.charter
+  pub shows : j.kept.views.shows ≡ by_rules j.kept.charter
   pub followed : HasFollowed j read.starting log
   pub so_far : j.so_far ≡ None
   pub begun : has_begun read ≡ true
@@ -69,11 +73,14 @@ abbrev pub HasRoom : Option JudgeView → List Entry → Type 0
 HasRoom None entries = Unit {0}
 HasRoom (Some j) entries = j.kept.entries + length entries ≤ 2 ^ 62
 
--- the judge that was made if the starting words stand for a state: it has followed no entry
+-- the judge that was made if the starting words stand for a state: it has followed no entry, and
+-- owes the comparison of these words
 abbrev pub IsMade : Header → List StartWord → Option JudgeView → Type 0
 IsMade h starting None = is_none (state_at_start (rules_of h) starting) ≡ true
 IsMade h starting (Some j) = (j.kept.charter ≡ built_in h) × HasFollowed j starting []
     × (j.so_far ≡ None)
+    × (j.kept.views.shows ≡ by_rules (built_in h))
+    × (judge_debt price_by (λ charter. 2) j [] ≡ start_cost (word_price h) starting)
 
 -- The judge before and after a piece, in which an entry or `end` was read or not: a new one if
 -- there was none.

@@ -1,2 +1,3 @@
 pub mod LogReadings
 pub mod Checking
+pub mod Costs

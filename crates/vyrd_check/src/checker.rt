@@ -1,14 +1,17 @@
 //! The checker of a log's bytes.
 
-ghost use Rattle.std.specs.Prelude.{◌≡◌, ◌++◌, ◌≤◌, ℕ, List, [], None, true, false, IfOk, OnOk};
+ghost use Rattle.std.specs.Prelude.{◌≡◌, ◌++◌, ◌≤◌, ◌<◌, ◌+◌, ℕ, List, [], None, true, false};
+ghost use Rattle.std.specs.Prelude.{IfOk, OnOk};
 ghost use Rattle.std.specs.Result.{is_err};
 ghost use Rattle.vyrd_base.specs.TextVerdicts.{text_verdict, text_verdict_so_far};
 ghost use Rattle.vyrd_check.specs.Checking.{HasChecked, most_lines};
+ghost use Rattle.vyrd_check.specs.Costs.{bytes_cost, finish_cost, checker_debt};
 
 use crate::text_judge::TextJudge;
 use std::alloc::{AllocError, Global};
-use std::marker::Model;
-use vyrd_base::Verdict;
+use std::marker::{Brand, Model};
+use std::sync::ledger::{Blank, Ledger};
+use vyrd_base::{Steps, Verdict};
 
 /// The most bytes that are read before their entries are judged.
 const LONGEST_PART: usize = 8_192;
@@ -59,6 +62,8 @@ impl Checker {
         ensures limit { result.kept.reader.max_lines ≡ max_lines }
         ensures so_far { result.so_far ≡ None }
         ensures has_failed { result.has_failed ≡ false }
+        ensures owed { checker_debt result [] ≡ 0 }
+        ensures unread { bytes_cost max_lines [] ≡ 0 }
     {
         Checker {
             text: TextJudge::new(alloc, max_lines),
@@ -80,6 +85,32 @@ impl Checker {
         ensures fails_again { self.old.has_failed ≡ true → is_err result ≡ true }
         ensures limit { self.new.kept.reader.max_lines ≡ self.old.kept.reader.max_lines }
     {
+        feed_alone::<Brand>(Blank::new(1), self, piece)
+    }
+
+    /// The same, with the judge's steps counted, as [`AnyJudge`](vyrd_judge::AnyJudge) counts them:
+    /// reading itself isn't counted. What is owed after a piece is paid by what comes later, so that
+    /// over a whole log the steps are at most what its bytes cost, however they are cut.
+    pub fn feed_counted<L: Ledger>(
+        &mut self,
+        piece: &[u8],
+        steps: &mut Steps<L>,
+    ) -> Result<Option<Verdict>, AllocError>
+        ensures answer { (bytes : List ℕ) → HasChecked self.old bytes
+            → IfOk result
+            (λ v. v ≡ text_verdict_so_far self.old.kept.reader.max_lines (bytes ++ piece.now)) }
+        ensures checked { (bytes : List ℕ) → HasChecked self.old bytes
+            → OnOk result (HasChecked self.new (bytes ++ piece.now)) }
+        ensures so_far { IfOk result (λ v. self.new.so_far ≡ v) }
+        ensures has_failed { self.new.has_failed ≡ is_err result }
+        ensures fails_again { self.old.has_failed ≡ true → is_err result ≡ true }
+        ensures limit { self.new.kept.reader.max_lines ≡ self.old.kept.reader.max_lines }
+        ensures steps { (bytes : List ℕ) → HasChecked self.old bytes
+            → OnOk result (steps.new + checker_debt self.new (bytes ++ piece.now)
+            + bytes_cost self.old.kept.reader.max_lines bytes
+            ≤ steps.old + checker_debt self.old bytes
+            + bytes_cost self.old.kept.reader.max_lines (bytes ++ piece.now)) }
+    {
         if self.has_failed {
             return Err(AllocError);
         }
@@ -89,7 +120,7 @@ impl Checker {
                 return Ok(Some(verdict));
             }
             let (part, after) = rest.split_at(rest.len().min(LONGEST_PART));
-            self.feed_part(part)?;
+            self.feed_part(part, steps)?;
             rest = after;
         }
         Ok(self.so_far)
@@ -101,25 +132,41 @@ impl Checker {
             IfOk result (λ v. v ≡ text_verdict self.now.kept.reader.max_lines bytes) }
         ensures has_failed { self.now.has_failed ≡ true → is_err result ≡ true }
     {
+        finish_alone::<Brand>(Blank::new(1), self)
+    }
+
+    /// The same, with the judge's steps counted: one for each caller at most.
+    pub fn finish_counted<L: Ledger>(&self, steps: &mut Steps<L>) -> Result<Verdict, AllocError>
+        ensures verdict { (bytes : List ℕ) → HasChecked self.now bytes →
+            IfOk result (λ v. v ≡ text_verdict self.now.kept.reader.max_lines bytes) }
+        ensures has_failed { self.now.has_failed ≡ true → is_err result ≡ true }
+        ensures steps { (bytes : List ℕ) → HasChecked self.now bytes
+            → steps.new ≤ steps.old + finish_cost self.now.kept.reader.max_lines bytes }
+    {
         if self.has_failed {
             return Err(AllocError);
         }
         match self.so_far {
             Some(verdict) => Ok(verdict),
-            None => self.text.end(),
+            None => self.text.end(steps),
         }
     }
 
     /// Follows a part of a piece, while no verdict stands.
-    fn feed_part(&mut self, part: &[u8]) -> Result<(), AllocError>
+    fn feed_part<L: Ledger>(&mut self, part: &[u8], steps: &mut Steps<L>) -> Result<(), AllocError>
         requires works { self.old.has_failed ≡ false }
         requires undecided { self.old.so_far ≡ None }
         ensures checked { (bytes : List ℕ) → HasChecked self.old bytes
             → OnOk result (HasChecked self.new (bytes ++ part.now)) }
         ensures has_failed { self.new.has_failed ≡ is_err result }
         ensures limit { self.new.kept.reader.max_lines ≡ self.old.kept.reader.max_lines }
+        ensures steps { (bytes : List ℕ) → HasChecked self.old bytes
+            → OnOk result (steps.new + checker_debt self.new (bytes ++ part.now)
+            + bytes_cost self.old.kept.reader.max_lines bytes
+            ≤ steps.old + checker_debt self.old bytes
+            + bytes_cost self.old.kept.reader.max_lines (bytes ++ part.now)) }
     {
-        match self.text.take_in(part) {
+        match self.text.take_in(part, steps) {
             Ok(verdict) => {
                 self.so_far = verdict;
                 Ok(())
@@ -145,4 +192,40 @@ pub fn verdict_of(alloc: Global, max_lines: u64, bytes: &[u8]) -> Result<Verdict
     let mut checker = Checker::new(alloc, max_lines);
     checker.feed(bytes)?;
     checker.finish()
+}
+
+/// Follows a piece with a count of its own.
+fn feed_alone<L: Ledger>(
+    blank: Blank,
+    checker: &mut Checker,
+    piece: &[u8],
+) -> Result<Option<Verdict>, AllocError>
+    requires name { blank.name ≡ L.name }
+    requires parts { blank.parts ≡ L.parts }
+    requires some { 0 < blank.parts }
+    ensures answer { (bytes : List ℕ) → HasChecked checker.old bytes
+        → IfOk result
+        (λ v. v ≡ text_verdict_so_far checker.old.kept.reader.max_lines (bytes ++ piece.now)) }
+    ensures checked { (bytes : List ℕ) → HasChecked checker.old bytes
+        → OnOk result (HasChecked checker.new (bytes ++ piece.now)) }
+    ensures so_far { IfOk result (λ v. checker.new.so_far ≡ v) }
+    ensures has_failed { checker.new.has_failed ≡ is_err result }
+    ensures fails_again { checker.old.has_failed ≡ true → is_err result ≡ true }
+    ensures limit { checker.new.kept.reader.max_lines ≡ checker.old.kept.reader.max_lines }
+{
+    let mut steps = Steps::<L>::new(blank);
+    checker.feed_counted(piece, &mut steps)
+}
+
+/// Ends with a count of its own.
+fn finish_alone<L: Ledger>(blank: Blank, checker: &Checker) -> Result<Verdict, AllocError>
+    requires name { blank.name ≡ L.name }
+    requires parts { blank.parts ≡ L.parts }
+    requires some { 0 < blank.parts }
+    ensures verdict { (bytes : List ℕ) → HasChecked checker.now bytes →
+        IfOk result (λ v. v ≡ text_verdict checker.now.kept.reader.max_lines bytes) }
+    ensures has_failed { checker.now.has_failed ≡ true → is_err result ≡ true }
+{
+    let mut steps = Steps::<L>::new(blank);
+    checker.finish_counted(&mut steps)
 }

@@ -16,14 +16,18 @@ ghost use Rattle.vyrd_base.specs.Verdicts.{verdict_so_far, end_verdict};
 ghost use Rattle.vyrd_base.specs.TextVerdicts.{text_verdict_so_far, text_verdict};
 ghost use Rattle.vyrd_text.specs.Readers.{HasRead};
 ghost use Rattle.vyrd_text.specs.Answered.{IsGrownBy};
+ghost use Rattle.vyrd_judge.specs.Costs.{callers_of};
 ghost use Rattle.vyrd_judge.specs.Following.{HasFollowed};
 ghost use Rattle.vyrd_check.specs.LogReadings.{read_so_far};
 ghost use Rattle.vyrd_check.specs.Checking.{IsLimit, IsReady, IsJudging, IsBegun, HasRoom};
 ghost use Rattle.vyrd_check.specs.Checking.{IsUndecided, IsSomewhere, wrong_in};
+ghost use Rattle.vyrd_check.specs.Costs.{bytes_cost, finish_cost, kept_debt, judge_owes};
+ghost use Rattle.vyrd_check.specs.Costs.{following_cost};
 
 use std::alloc::{AllocError, Global};
 use std::marker::Model;
-use vyrd_base::{Entry, Rule, Verdict};
+use std::sync::ledger::Ledger;
+use vyrd_base::{Entry, Rule, Steps, Verdict};
 use vyrd_judge::AnyJudge;
 use vyrd_text::{LogReader, TextFault};
 
@@ -55,6 +59,7 @@ impl TextJudge {
         requires limit { IsLimit max_lines }
         ensures undecided { IsUndecided result [] }
         ensures limit { result.reader.max_lines ≡ max_lines }
+        ensures judge { result.judge ≡ None }
     {
         TextJudge {
             alloc,
@@ -64,8 +69,13 @@ impl TextJudge {
         }
     }
 
-    /// Takes in the next piece. The answer is the verdict so far of all bytes.
-    pub(crate) fn take_in(&mut self, piece: &[u8]) -> Result<Option<Verdict>, AllocError>
+    /// Takes in the next piece. The answer is the verdict so far of all bytes. After `end` only the
+    /// text can be wrong, so that the judge isn't asked again.
+    pub(crate) fn take_in<L: Ledger>(
+        &mut self,
+        piece: &[u8],
+        steps: &mut Steps<L>,
+    ) -> Result<Option<Verdict>, AllocError>
         requires limit { IsLimit self.old.reader.max_lines }
         requires somewhere { IsSomewhere self.old }
         ensures limit { self.new.reader.max_lines ≡ self.old.reader.max_lines }
@@ -74,20 +84,32 @@ impl TextJudge {
             (λ v. v ≡ text_verdict_so_far self.old.reader.max_lines (bytes ++ piece.now)) }
         ensures undecided { (bytes : List ℕ) → IsUndecided self.old bytes →
             IfOk result (λ v. v ≡ None → IsUndecided self.new (bytes ++ piece.now)) }
+        ensures steps { (bytes : List ℕ) → IsUndecided self.old bytes
+            → OnOk result (steps.new + kept_debt self.new (bytes ++ piece.now)
+            + bytes_cost self.old.reader.max_lines bytes
+            ≤ steps.old + kept_debt self.old bytes
+            + bytes_cost self.old.reader.max_lines (bytes ++ piece.now)) }
     {
         self.entries.clear();
+        let was_ended = self.reader.ended();
         let fault = read(&mut self.reader, piece, &mut self.entries)?;
+        if was_ended {
+            return Ok(fault);
+        }
         begin(self.alloc, &self.reader, &self.entries, &mut self.judge)?;
-        let wrong = judge_entries(&mut self.judge, &self.entries, self.reader.ended())?;
+        let ended = self.reader.ended();
+        let wrong = judge_entries(&mut self.judge, &self.entries, ended, steps)?;
         Ok(wrong.or(fault))
     }
 
     /// The verdict, if the input ends here.
-    pub(crate) fn end(&self) -> Result<Verdict, AllocError>
+    pub(crate) fn end<L: Ledger>(&self, steps: &mut Steps<L>) -> Result<Verdict, AllocError>
         requires limit { IsLimit self.now.reader.max_lines }
         requires somewhere { IsSomewhere self.now }
-        ensures { (bytes : List ℕ) → IsUndecided self.now bytes
+        ensures verdict { (bytes : List ℕ) → IsUndecided self.now bytes
             → IfOk result (λ v. v ≡ text_verdict self.now.reader.max_lines bytes) }
+        ensures steps { (bytes : List ℕ) → IsUndecided self.now bytes
+            → steps.new ≤ steps.old + finish_cost self.now.reader.max_lines bytes }
     {
         match self.reader.finish() {
             Ok(()) => {}
@@ -98,7 +120,7 @@ impl TextJudge {
             Err(TextFault::Memory) => return Err(AllocError),
         }
         match &self.judge {
-            Some(judge) => judge.finish(),
+            Some(judge) => judge.finish_counted(steps),
             None => unreachable!(),
         }
     }
@@ -161,10 +183,11 @@ fn begin(
 
 /// Judges further entries, and whether a call is open if `end` was read. The answer is what is
 /// wrong with all of them.
-fn judge_entries(
+fn judge_entries<L: Ledger>(
     judge: &mut Option<AnyJudge>,
     entries: &[Entry],
     ended: bool,
+    steps: &mut Steps<L>,
 ) -> Result<Option<Verdict>, AllocError>
     requires { HasRoom judge.old entries.now }
     ensures answer { (read : Reading) (log : List Entry) →
@@ -172,9 +195,14 @@ fn judge_entries(
     ensures judging { (read : Reading) (log : List Entry) →
         IsReady judge.old read log entries.now ended →
         IfOk result (λ v. v ≡ None → IsJudging judge.new read) }
+    ensures steps { (read : Reading) (log : List Entry) →
+        IsReady judge.old read log entries.now ended →
+        OnOk result (steps.new + judge_owes judge.new read read.entries
+        ≤ steps.old + judge_owes judge.old read log
+        + following_cost judge.old entries.now ended) }
 {
     match judge {
-        Some(judge) => follow(judge, entries, ended),
+        Some(judge) => follow(judge, entries, ended, steps),
         None => Ok(wrong_start(entries, ended)),
     }
 }
@@ -195,10 +223,11 @@ fn wrong_start(entries: &[Entry], ended: bool) -> Option<Verdict>
 
 /// Follows further entries, and then the line `end` if it was read. The answer is what is wrong
 /// with all of them.
-fn follow(
+fn follow<L: Ledger>(
     judge: &mut AnyJudge,
     entries: &[Entry],
     ended: bool,
+    steps: &mut Steps<L>,
 ) -> Result<Option<Verdict>, AllocError>
     requires few { judge.old.kept.entries + length entries.now ≤ 2 ^ 62 }
     ensures answer { (read : Reading) (log : List Entry) →
@@ -206,20 +235,33 @@ fn follow(
     ensures judging { (read : Reading) (log : List Entry) →
         IsReady (Some judge.old) read log entries.now ended →
         IfOk result (λ v. v ≡ None → IsJudging (Some judge.new) read) }
+    ensures steps { (read : Reading) (log : List Entry) →
+        IsReady (Some judge.old) read log entries.now ended →
+        OnOk result (steps.new + judge_owes (Some judge.new) read read.entries
+        ≤ steps.old + judge_owes (Some judge.old) read log
+        + following_cost (Some judge.old) entries.now ended) }
 {
-    if let Some(verdict) = judge.follow(entries)? {
+    if let Some(verdict) = judge.follow_counted(entries, steps)? {
         return Ok(Some(verdict));
     }
-    if ended { open_call(judge) } else { Ok(None) }
+    if ended {
+        open_call(judge, steps)
+    } else {
+        Ok(None)
+    }
 }
 
 /// What is wrong if `end` stands after the entries, given that nothing is wrong with them.
-fn open_call(judge: &AnyJudge) -> Result<Option<Verdict>, AllocError>
-    ensures { (starting : List StartWord) (log : List Entry) → HasFollowed judge.now starting log →
+fn open_call<L: Ledger>(
+    judge: &AnyJudge,
+    steps: &mut Steps<L>,
+) -> Result<Option<Verdict>, AllocError>
+    ensures verdict { (starting : List StartWord) (log : List Entry) → HasFollowed judge.now starting log →
         verdict_so_far (rules_by judge.now.kept.charter) starting log ≡ None →
         IfOk result (λ v. v ≡ end_verdict (rules_by judge.now.kept.charter) starting log) }
+    ensures steps { steps.new ≤ steps.old + callers_of judge.now.kept }
 {
-    match judge.finish()? {
+    match judge.finish_counted(steps)? {
         Verdict::Accepted { .. } => Ok(None),
         Verdict::Violation { line, why } => Ok(Some(Verdict::Violation { line, why })),
         Verdict::Malformed { line, rule } => Ok(Some(Verdict::Malformed { line, rule })),

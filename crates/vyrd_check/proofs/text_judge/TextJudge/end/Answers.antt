@@ -1,18 +1,21 @@
-use Rattle.std.proofs.Common.{ap, subst, sym, ◌∙◌}
+use Rattle.std.proofs.Common.{◌+◌, ◌≤◌, ap, subst, sym, ◌∙◌}
 use Rattle.std.proofs.Math.Logic.{∥∥₁_elim}
 use Rattle.vyrd_base.specs.Rules.{rules_by}
 use Rattle.vyrd_base.specs.TextVerdicts.{text_verdict}
 use Rattle.vyrd_base.specs.Verdicts.{verdict}
 use Rattle.vyrd_base.specs.declared.verdict.Verdict.TheVariants.{Malformed}
 use Rattle.vyrd_check.specs.LogReadings.{read_so_far}
+use Rattle.vyrd_check.specs.Costs.{finish_cost}
+use Rattle.vyrd_check.proofs.CostLaws.{end_is}
+use Rattle.vyrd_check.proofs.WholeFacts.{whole_same}
 use Rattle.vyrd_check.specs.Checking.{Kept, IsJudging, IsUndecided}
 use Rattle.vyrd_check.proofs.ReadingFacts.{whole_faulty, whole_accepted, not_ended}
 use Rattle.vyrd_check.proofs.PieceLaws.{header_of_charter}
 use Rattle.vyrd_judge.proofs.EndFacts.{where_same}
 use Rattle.vyrd_check.proofs.text_judge.TextJudge.end.Goals as goal
 
-pub returns-in-Err-Malformed : goal.returns-in-Err-Malformed
-returns-in-Err-Malformed c = λ bytes u.
+pub returns-in-Err-Malformed-clause-verdict : goal.returns-in-Err-Malformed-clause-verdict
+returns-in-Err-Malformed-clause-verdict g c = λ bytes u.
     let max = c.self.inside.reader.max_lines in
     let before = subst (λ k. IsUndecided k bytes) (sym c.self.view_is) u in
     let fault = rw c.in-Err-Malformed.field-0-is at (c.in-Err-Malformed.ensures.answer bytes before.read) in
@@ -21,15 +24,15 @@ returns-in-Err-Malformed c = λ bytes u.
     ∙ ap (λ (k : Kept). text_verdict k.reader.max_lines bytes) c.self.view_is
 
 pub unreachable-requires : goal.unreachable-requires
-unreachable-requires c =
+unreachable-requires g c =
     ∥∥₁_elim c.requires.somewhere (λ x y. absurd x) (λ s.
     let max = c.self.inside.reader.max_lines in
     let before = subst (λ k. IsUndecided k s.0) (sym c.self.view_is) s.1 in
     let none = subst (λ judge. IsJudging judge (read_so_far max s.0)) c.in-None.is before.judging in
     not_ended max s.0 none.1 (c.in-Ok.ensures.ended s.0 before.read))
 
-pub returns : goal.returns
-returns c = λ bytes u.
+pub returns-clause-verdict : goal.returns-clause-verdict
+returns-clause-verdict g c = λ bytes u.
     let max = c.self.inside.reader.max_lines in
     let before = subst (λ k. IsUndecided k bytes) (sym c.self.view_is) u in
     let read = read_so_far max bytes in
@@ -39,5 +42,18 @@ returns c = λ bytes u.
     ∙ whole_accepted max bytes h.0 before.nothing
     (c.in-Ok.ensures.answer bytes before.read) (c.in-Ok.ensures.ended bytes before.read) h.1 in
     where_same (verdict (rules_by c.in-Some.judge.kept.charter) read.starting read.entries) (text_verdict c.args.self.now.reader.max_lines bytes)
-    (whole ∙ ap (λ (k : Kept). text_verdict k.reader.max_lines bytes) c.self.view_is) c.finish-in-Some.result
-    (c.finish-in-Some.ensures.verdict read.starting read.entries has.followed)
+    (whole ∙ ap (λ (k : Kept). text_verdict k.reader.max_lines bytes) c.self.view_is) c.finish_counted.result
+    (c.finish_counted.ensures.verdict read.starting read.entries has.followed)
+
+pub returns-clause-steps : goal.returns-clause-steps
+returns-clause-steps g c = λ bytes u.
+    let max = c.self.inside.reader.max_lines in
+    let before = subst (λ k. IsUndecided k bytes) (sym c.self.view_is) u in
+    let read = read_so_far max bytes in
+    let has = subst (λ judge. IsJudging judge read) c.in-Some.is before.judging in
+    let done = (whole_same max bytes).ended ∙ c.in-Ok.ensures.ended bytes before.read in
+    subst (λ (k : Kept). c.finish_counted.new.steps
+    ≤ c.args.steps.now + finish_cost k.reader.max_lines bytes) c.self.view_is
+    (subst (λ n. c.finish_counted.new.steps ≤ c.args.steps.now + n)
+    (end_is c.in-Some.judge read read.entries has done)
+    c.finish_counted.ensures.steps)

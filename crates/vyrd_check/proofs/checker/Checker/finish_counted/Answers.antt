@@ -1,10 +1,10 @@
 use Rattle.std.proofs.Common.{ap, subst, sym, ◌∙◌}
 use Rattle.vyrd_check.specs.Checking.{CheckerState, IsLimit}
 use Rattle.vyrd_check.proofs.CheckedLaws.{checked_whole}
-use Rattle.vyrd_check.proofs.checker.Checker.finish.Goals as goal
+use Rattle.vyrd_check.proofs.checker.Checker.finish_counted.Goals as goal
 
 pub returns-in-Some-clause-verdict : goal.returns-in-Some-clause-verdict
-returns-in-Some-clause-verdict c = λ bytes checked.
+returns-in-Some-clause-verdict g c = λ bytes checked.
     checked_whole c.args.self.now bytes c.in-Some.verdict
     (subst (λ (k : CheckerState). IsLimit k.kept.reader.max_lines) c.self.view_is c.self.invariant.limit)
     (ap (λ (k : CheckerState). k.so_far) (sym c.self.view_is) ∙ c.in-Some.is) checked

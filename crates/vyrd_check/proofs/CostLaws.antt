@@ -1,0 +1,341 @@
+-- What a piece costs is paid by what was owed before it, and by what its bytes cost.
+use Rattle.std.proofs.Common.{◌≡◌, ℕ, ◌+◌, ◌≤◌, Bool, true, false, cond, ◌||◌, List, [], ◌++◌, map}
+use Rattle.std.proofs.Common.{Option, Some, None, option_map, refl, ap, subst, ◌∙◌, sym, arith}
+use Rattle.std.proofs.Common.{length-append, append_assoc, append-nil}
+use Rattle.std.specs.List.{sum_by}
+use Rattle.std.proofs.lemmas.Bool.{or_right}
+use Rattle.std.proofs.lemmas.List.{map-append}
+use Rattle.std.proofs.lemmas.List.Sums.{sum_by-append}
+use Rattle.vyrd_base.specs.declared.header.Header.{Header}
+use Rattle.vyrd_base.specs.declared.log.Entry.{Entry}
+use Rattle.vyrd_base.specs.declared.log.StartWord.{StartWord}
+use Rattle.vyrd_base.specs.declared.verdict.Verdict.{Verdict}
+use Rattle.vyrd_base.specs.Rules.{built_in, rules_by}
+use Rattle.vyrd_base.specs.Reading.{Reading, TextFault, has_any, reading}
+use Rattle.vyrd_base.proofs.ReadingGrows.{TextGrown, reading_grows}
+use Rattle.vyrd_view.specs.Comparing.{word_price, price_by}
+use Rattle.vyrd_view.specs.Known.{by_rules}
+use Rattle.vyrd_words.specs.Costs.{entry_price}
+use Rattle.vyrd_judge.specs.Costs.{each_entry, callers_of, judge_debt, log_cost}
+use Rattle.vyrd_judge.specs.Following.{JudgeView}
+use Rattle.vyrd_check.specs.LogReadings.{read_so_far}
+use Rattle.vyrd_check.specs.Checking.{IsLimit, IsAt, IsJudging, IsReady, IsBegun, Kept, CheckerState}
+use Rattle.vyrd_check.specs.Checking.{IsUndecided, has_begun}
+use Rattle.vyrd_check.specs.Costs.{entry_cost, starting_cost, entries_cost, end_cost, reading_cost}
+use Rattle.vyrd_check.specs.Costs.{bytes_cost, judge_owes, following_cost, kept_debt, debt_after}
+use Rattle.vyrd_check.specs.Costs.{checker_debt}
+use Rattle.vyrd_check.proofs.ReadingFacts.{text_right}
+use Rattle.vyrd_check.proofs.PieceLaws.{header_of_charter}
+
+-- the costs of what was read under this header
+abbrev cost_of : Option Header → List StartWord → List Entry → Bool → ℕ
+cost_of o starting entries ended =
+    starting_cost o starting + entries_cost o entries + end_cost o ended
+
+no_end : (o : Option Header) → end_cost o false ≡ 0
+no_end None = refl
+no_end (Some h) = refl
+
+no_entries : (o : Option Header) → entries_cost o [] ≡ 0
+no_entries None = refl
+no_entries (Some h) = refl
+
+-- further starting words cost what they cost
+starting_more : (o : Option Header) (ss more : List StartWord)
+    → starting_cost o ss ≤ starting_cost o (ss ++ more)
+starting_more None ss more = omega arith
+starting_more (Some h) ss more = omega (
+  arith,
+  ap (sum_by (word_price h)) (map-append (λ (s : StartWord). s.word) ss more),
+  sum_by-append (word_price h) (map (λ (s : StartWord). s.word) ss)
+      (map (λ (s : StartWord). s.word) more),
+  length-append ss more,
+)
+
+-- and so do further entries
+entries_more : (o : Option Header) (es more : List Entry)
+    → entries_cost o (es ++ more) ≡ entries_cost o es + entries_cost o more
+entries_more None es more = refl
+entries_more (Some h) es more = sum_by-append (entry_cost h) es more
+
+end_more : (o : Option Header) (a b : Bool) → (a ≡ true → b ≡ true) → end_cost o a ≤ end_cost o b
+end_more None a b stays = omega arith
+end_more (Some h) false b stays = omega arith
+end_more (Some h) true b stays =
+    subst (λ d. h.callers ≤ end_cost (Some h) d) (sym (stays refl)) (omega arith)
+
+all_more : (a b c x y z : ℕ) → a ≤ x → b ≤ y → c ≤ z → a + b + c ≤ x + y + z
+all_more a b c x y z first second third = omega (arith, first, second, third)
+
+at_most_more : (a b c : ℕ) → c ≡ a + b → a ≤ c
+at_most_more a b c is = omega (arith, is)
+
+at_most_same : (a b : ℕ) → a ≡ b → a ≤ b
+at_most_same a b is = omega (arith, is)
+
+-- longer bytes cost no less
+pub cost_grows : (old new : Reading) → TextGrown old new → reading_cost old ≤ reading_cost new
+cost_grows old new g = by_fault old.fault refl
+  where
+    by_header : (o : Option Header) → old.header ≡ o → old.fault ≡ None
+        → reading_cost old ≤ reading_cost new
+    by_header None has none =
+        subst (λ o. cost_of o old.starting old.entries old.ended ≤ reading_cost new) (sym has)
+        (omega arith)
+    by_header (Some h) has none =
+        let ss = g.grown.starting none in
+        let es = g.grown.entries none in
+        subst (λ o. cost_of o old.starting old.entries old.ended ≤ reading_cost new) (sym has)
+        (subst (λ o. cost_of (Some h) old.starting old.entries old.ended
+        ≤ cost_of o new.starting new.entries new.ended) (sym (g.header h has))
+        (all_more _ _ _ _ _ _
+        (subst (λ xs. starting_cost (Some h) old.starting ≤ starting_cost (Some h) xs) (sym ss.1)
+        (starting_more (Some h) old.starting ss.0))
+        (subst (λ xs. entries_cost (Some h) old.entries ≤ entries_cost (Some h) xs) (sym es.1)
+        (at_most_more _ _ _ (entries_more (Some h) old.entries es.0)))
+        (end_more (Some h) old.ended new.ended (λ is. (g.grown.ended none is).1))))
+
+    by_fault : (o : Option TextFault) → old.fault ≡ o → reading_cost old ≤ reading_cost new
+    by_fault (Some f) is = at_most_same _ _ (ap reading_cost (sym (g.grown.fault f is)))
+    by_fault None is = by_header old.header refl is
+
+pub bytes_more : (max : ℕ) (bytes more : List ℕ) → 1 ≤ max
+    → bytes_cost max bytes ≤ bytes_cost max (bytes ++ more)
+bytes_more max bytes more low = cost_grows (read_so_far max bytes) (read_so_far max (bytes ++ more))
+    (reading_grows max false bytes more low)
+
+-- what it costs the judge to go on is what the header that was read says
+following_is : (j : JudgeView) (read : Reading) (log more : List Entry) (done : Bool)
+    → IsAt j read log
+    → following_cost (Some j) more done
+    ≡ entries_cost read.header more + end_cost read.header done
+following_is j read log more done at =
+    let h = header_of_charter read.header j.kept.charter at.charter in
+    let rules : j.kept.charter ≡ built_in h.0 = sym h.2 in
+    let shows : j.kept.views.shows ≡ by_rules (built_in h.0) = at.shows ∙ ap by_rules rules in
+    let by_rules_read : following_cost (Some j) more done
+    ≡ entries_cost (Some h.0) more + end_cost (Some h.0) done =
+    (λ i. sum_by (λ (e : Entry). each_entry (rules_by (rules i)).header.callers 2
+    + entry_price (price_by (shows i)) e.kind) more
+    + cond done (rules_by (rules i)).header.callers 0) in
+    by_rules_read ∙ ap (λ o. entries_cost o more + end_cost o done) (sym h.1)
+
+-- to look for an open call at `end` is what the header says
+pub end_is : (j : JudgeView) (read : Reading) (log : List Entry) → IsAt j read log
+    → read.ended ≡ true → callers_of j.kept ≡ end_cost read.header read.ended
+end_is j read log at done =
+    let h = header_of_charter read.header j.kept.charter at.charter in
+    ap (λ l. (rules_by l).header.callers) (sym h.2)
+    ∙ (λ i. end_cost (sym h.1 i) (sym done i))
+
+-- what a judge that was just made owes
+made_owes : (b : Bool) (o : Option Header) (starting : List StartWord) (j : JudgeView)
+    → IsBegun b o starting None (Some j)
+    → judge_debt price_by (λ charter. 2) j [] ≡ starting_cost o starting
+made_owes false o starting j begun = cc
+made_owes true None starting j begun = cc
+made_owes true (Some h) starting j begun = begun.4
+
+paid_on : (d f s e m n : ℕ) (before after : ℕ) → f ≡ m + n → before ≡ s + e + 0
+    → after ≡ s + (e + m) + n → d + f + before ≤ d + after
+paid_on d f s e m n before after costs was is = omega (arith, costs, was, is)
+
+-- what is owed once the judge is there, and what it costs to go on, is paid by what was owed before
+-- and what the bytes cost
+pub piece_paid : (before after : Option JudgeView) (old new : Reading) (more : List Entry)
+    (done : Bool)
+    → IsJudging before old → TextGrown old new → old.fault ≡ None → old.ended ≡ false
+    → IsReady after new old.entries more done
+    → IsBegun (has_any more || new.ended) new.header new.starting before after
+    → judge_owes after new old.entries + following_cost after more done + reading_cost old
+    ≤ judge_owes before old old.entries + reading_cost new
+piece_paid (Some j) after old new more done judging g none going ready begun =
+    let here = subst (λ o. IsReady o new old.entries more done) begun ready in
+    let h = header_of_charter old.header j.kept.charter judging.charter in
+    let header : old.header ≡ new.header = h.1 ∙ sym (g.header h.0 h.1) in
+    let starting : old.starting ≡ new.starting = sym (g.grown.begun none judging.begun) in
+    let was : reading_cost old
+    ≡ starting_cost new.header new.starting + entries_cost new.header old.entries + 0 =
+    (λ i. cost_of (header i) (starting i) old.entries (going i))
+    ∙ ap (λ n. starting_cost new.header new.starting + entries_cost new.header old.entries + n)
+    (no_end new.header) in
+    let is : reading_cost new ≡ starting_cost new.header new.starting
+    + (entries_cost new.header old.entries + entries_cost new.header more)
+    + end_cost new.header done =
+    (λ i. cost_of new.header new.starting (here.entries i) (here.ended i))
+    ∙ ap (λ n. starting_cost new.header new.starting + n + end_cost new.header done)
+    (entries_more new.header old.entries more) in
+    subst (λ o. judge_owes o new old.entries + following_cost o more done + reading_cost old
+    ≤ judge_owes (Some j) old old.entries + reading_cost new) (sym begun)
+    (paid_on (judge_debt price_by (λ charter. 2) j old.entries) _ _ _ _ _ _ _
+    (following_is j new old.entries more done here.before) was is)
+piece_paid None after old new more done judging g none going ready begun =
+    by_judge after ready begun
+  where
+    was : reading_cost old ≡ starting_cost old.header old.starting + 0 + 0
+    was = (λ i. cost_of old.header old.starting (judging.0 i) (going i))
+        ∙ (λ i. starting_cost old.header old.starting + no_entries old.header i
+        + no_end old.header i)
+
+    still : (s a b c n : ℕ) → n ≡ s + 0 + 0 → a + 0 + n ≤ s + (a + b + c)
+    still s a b c n e = omega (arith, e)
+
+    made : (d f s a m n was now : ℕ) → d ≡ a → f ≡ m + n → was ≡ s + 0 + 0 → now ≡ a + m + n
+        → d + f + was ≤ s + now
+    made d f s a m n was now owed costs e is = omega (arith, owed, costs, e, is)
+
+    by_judge : (o : Option JudgeView) → IsReady o new old.entries more done
+        → IsBegun (has_any more || new.ended) new.header new.starting None o
+        → judge_owes o new old.entries + following_cost o more done + reading_cost old
+        ≤ judge_owes None old old.entries + reading_cost new
+    by_judge None r b = still (starting_cost old.header old.starting) _ _ _ (reading_cost old) was
+    by_judge (Some j) r b = made _ _ _ _ _ _ (reading_cost old) (reading_cost new)
+        (ap (judge_debt price_by (λ charter. 2) j) judging.0
+        ∙ made_owes (has_any more || new.ended) new.header new.starting j b)
+        (following_is j new old.entries more done r.before) was
+        (λ i. cost_of new.header new.starting
+        ((r.entries ∙ ap (λ es. es ++ more) judging.0) i) (r.ended i))
+
+-- what is owed once a verdict stands, or none
+pub after_at_most : (o : Option Verdict) (k : Kept) (bytes : List ℕ)
+    → debt_after o k bytes ≤ kept_debt k bytes
+after_at_most None k bytes = omega arith
+after_at_most (Some v) k bytes = omega arith
+
+-- once a verdict stands nothing is owed
+pub stands_owes : (c : CheckerState) (v : Verdict) (bytes : List ℕ) → c.so_far ≡ Some v
+    → checker_debt c bytes ≡ 0
+stands_owes c v bytes is = ap (λ o. debt_after o c.kept bytes) is
+
+-- nothing was read of no bytes
+pub unread : (max : ℕ) → bytes_cost max [] ≡ 0
+unfolding reading
+unread max = refl
+
+pub nothing_owed : (k : Kept) → k.judge ≡ None → kept_debt k [] ≡ 0
+unfolding reading
+nothing_owed k none =
+    ap (λ judge. kept_debt (record { reader = k.reader; judge = judge }) []) none
+
+more_held : (a b c d : ℕ) → a ≤ b + c → a ≤ b + (c + d)
+more_held a b c d paid = omega (arith, paid)
+
+-- what following further entries has cost is paid
+pub followed_paid : (j k : JudgeView) (read : Reading) (log more : List Entry) (done : Bool)
+    (m n : ℕ) → IsReady (Some j) read log more done
+    → n + judge_debt price_by (λ charter. 2) k (log ++ more)
+    ≤ m + judge_debt price_by (λ charter. 2) j log + log_cost price_by (λ charter. 2) j.kept more
+    → n + judge_owes (Some k) read read.entries
+    ≤ m + judge_owes (Some j) read log + following_cost (Some j) more done
+followed_paid j k read log more done m n ready paid =
+    subst (λ es. n + judge_debt price_by (λ charter. 2) k es
+    ≤ m + judge_owes (Some j) read log + following_cost (Some j) more done) (sym ready.entries)
+    (more_held _ (m + judge_owes (Some j) read log) _ _ paid)
+
+asked : (last n a b c callers : ℕ) → last ≤ n + callers → n + a ≤ b + c
+    → last + a ≤ b + (c + callers)
+asked last n a b c callers one paid = omega (arith, one, paid)
+
+-- and so is what asking at `end` has cost
+pub open_paid : (j k : JudgeView) (read : Reading) (log more : List Entry) (done : Bool)
+    (m n last : ℕ) → IsReady (Some j) read log more done → done ≡ true
+    → k.kept.charter ≡ j.kept.charter → last ≤ n + callers_of k.kept
+    → n + judge_debt price_by (λ charter. 2) k (log ++ more)
+    ≤ m + judge_debt price_by (λ charter. 2) j log + log_cost price_by (λ charter. 2) j.kept more
+    → last + judge_owes (Some k) read read.entries
+    ≤ m + judge_owes (Some j) read log + following_cost (Some j) more done
+open_paid j k read log more done m n last ready is rules one paid =
+    subst (λ es. last + judge_debt price_by (λ charter. 2) k es
+    ≤ m + judge_owes (Some j) read log + following_cost (Some j) more done) (sym ready.entries)
+    (subst (λ d. last + judge_debt price_by (λ charter. 2) k (log ++ more)
+    ≤ m + judge_owes (Some j) read log + following_cost (Some j) more d) (sym is)
+    (asked last n _ (m + judge_owes (Some j) read log) _ (callers_of j.kept)
+    (subst (λ l. last ≤ n + (rules_by l).header.callers) rules one) paid))
+
+-- without a judge nothing costs a step
+pub still_none : (o : Option JudgeView) (read : Reading) (log more : List Entry) (done : Bool)
+    (n : ℕ) → o ≡ None
+    → n + judge_owes o read read.entries
+    ≤ n + judge_owes o read log + following_cost o more done
+still_none o read log more done n is =
+    subst (λ x. n + judge_owes x read read.entries
+    ≤ n + judge_owes x read log + following_cost x more done) (sym is) (omega arith)
+
+grown_more : (a b c d e f : ℕ) → a + b + c ≤ d + e + f → (g : ℕ) → g ≤ b → a + g + c ≤ d + e + f
+grown_more a b c d e f paid g less = omega (arith, paid, less)
+
+-- what a part of a piece has cost is paid, whether a verdict stands or not
+pub part_paid : (c : CheckerState) (k : Kept) (v : Option Verdict) (bytes part : List ℕ) (m n : ℕ)
+    → c.so_far ≡ None
+    → n + kept_debt k (bytes ++ part) + bytes_cost c.kept.reader.max_lines bytes
+    ≤ m + kept_debt c.kept bytes + bytes_cost c.kept.reader.max_lines (bytes ++ part)
+    → n + debt_after v k (bytes ++ part) + bytes_cost c.kept.reader.max_lines bytes
+    ≤ m + checker_debt c bytes + bytes_cost c.kept.reader.max_lines (bytes ++ part)
+part_paid c k v bytes part m n none paid =
+    subst (λ o. n + debt_after v k (bytes ++ part) + bytes_cost c.kept.reader.max_lines bytes
+    ≤ m + debt_after o c.kept bytes + bytes_cost c.kept.reader.max_lines (bytes ++ part))
+    (sym none)
+    (grown_more n _ _ m _ _ paid _ (after_at_most v k (bytes ++ part)))
+
+two_parts : (l m n a b c x y z : ℕ) → m + b + x ≤ l + a + y → n + c + y ≤ m + b + z
+    → n + c + x ≤ l + a + z
+two_parts l m n a b c x y z first second = omega (arith, first, second)
+
+-- one part after others
+pub parts_paid : (first before after : CheckerState) (bytes read part all : List ℕ) (l m n : ℕ)
+    → before.kept.reader.max_lines ≡ first.kept.reader.max_lines
+    → (bytes ++ read) ++ part ≡ bytes ++ all
+    → m + checker_debt before (bytes ++ read) + bytes_cost first.kept.reader.max_lines bytes
+    ≤ l + checker_debt first bytes + bytes_cost first.kept.reader.max_lines (bytes ++ read)
+    → n + checker_debt after ((bytes ++ read) ++ part)
+    + bytes_cost before.kept.reader.max_lines (bytes ++ read)
+    ≤ m + checker_debt before (bytes ++ read)
+    + bytes_cost before.kept.reader.max_lines ((bytes ++ read) ++ part)
+    → n + checker_debt after (bytes ++ all) + bytes_cost first.kept.reader.max_lines bytes
+    ≤ l + checker_debt first bytes + bytes_cost first.kept.reader.max_lines (bytes ++ all)
+parts_paid first before after bytes read part all l m n limit parted one two =
+    subst (λ xs. n + checker_debt after xs + bytes_cost first.kept.reader.max_lines bytes
+    ≤ l + checker_debt first bytes + bytes_cost first.kept.reader.max_lines xs) parted
+    (two_parts l m n _ _ _ _ _ _ one
+    (subst (λ max. n + checker_debt after ((bytes ++ read) ++ part) + bytes_cost max (bytes ++ read)
+    ≤ m + checker_debt before (bytes ++ read) + bytes_cost max ((bytes ++ read) ++ part)) limit two))
+
+settled : (l m a b c x y z : ℕ) → m + b + x ≤ l + a + y → y ≤ z → c ≡ 0 → m + c + x ≤ l + a + z
+settled l m a b c x y z paid more none = omega (arith, paid, more, none)
+
+-- once a verdict stands, nothing more is paid
+pub stands_paid : (first now : CheckerState) (v : Verdict) (bytes read rest piece : List ℕ)
+    (l m : ℕ) → 1 ≤ first.kept.reader.max_lines → now.so_far ≡ Some v → piece ≡ read ++ rest
+    → m + checker_debt now (bytes ++ read) + bytes_cost first.kept.reader.max_lines bytes
+    ≤ l + checker_debt first bytes + bytes_cost first.kept.reader.max_lines (bytes ++ read)
+    → m + checker_debt now (bytes ++ piece) + bytes_cost first.kept.reader.max_lines bytes
+    ≤ l + checker_debt first bytes + bytes_cost first.kept.reader.max_lines (bytes ++ piece)
+stands_paid first now v bytes read rest piece l m low stands parted paid =
+    settled l m _ (checker_debt now (bytes ++ read)) _ _ _ _ paid
+    (subst (λ xs. bytes_cost first.kept.reader.max_lines (bytes ++ read)
+    ≤ bytes_cost first.kept.reader.max_lines xs)
+    (append_assoc bytes read rest ∙ ap (λ xs. bytes ++ xs) (sym parted))
+    (bytes_more first.kept.reader.max_lines (bytes ++ read) rest low))
+    (stands_owes now v (bytes ++ piece) stands)
+
+no_more : (n a b x y : ℕ) → a ≡ b → x ≡ y → n + a + x ≤ n + b + y
+no_more n a b x y owed cost = omega (arith, owed, cost)
+
+-- before the first part
+pub first_part : (c : CheckerState) (bytes : List ℕ) (n : ℕ)
+    → n + checker_debt c (bytes ++ []) + bytes_cost c.kept.reader.max_lines bytes
+    ≤ n + checker_debt c bytes + bytes_cost c.kept.reader.max_lines (bytes ++ [])
+first_part c bytes n = no_more n _ _ _ _ (ap (checker_debt c) (append-nil bytes))
+    (ap (bytes_cost c.kept.reader.max_lines) (sym (append-nil bytes)))
+
+-- after the last one
+pub all_paid : (first now : CheckerState) (bytes read rest piece : List ℕ) (l m : ℕ)
+    → piece ≡ read ++ rest → rest ≡ []
+    → m + checker_debt now (bytes ++ read) + bytes_cost first.kept.reader.max_lines bytes
+    ≤ l + checker_debt first bytes + bytes_cost first.kept.reader.max_lines (bytes ++ read)
+    → m + checker_debt now (bytes ++ piece) + bytes_cost first.kept.reader.max_lines bytes
+    ≤ l + checker_debt first bytes + bytes_cost first.kept.reader.max_lines (bytes ++ piece)
+all_paid first now bytes read rest piece l m parted none paid =
+    let same : read ≡ piece = sym (parted ∙ ap (λ xs. read ++ xs) none ∙ append-nil read) in
+    subst (λ xs. m + checker_debt now (bytes ++ xs) + bytes_cost first.kept.reader.max_lines bytes
+    ≤ l + checker_debt first bytes + bytes_cost first.kept.reader.max_lines (bytes ++ xs)) same paid
