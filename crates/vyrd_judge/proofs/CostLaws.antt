@@ -1,15 +1,13 @@
 -- What each part of following an entry costs is paid by what was owed before, and a constant.
 use Rattle.std.proofs.Common.{◌≡◌, ℕ, ◌+◌, ◌*◌, ◌<◌, ◌≤◌, ◌^◌, List, [], ◌∷◌, ◌++◌, map, length}
 use Rattle.std.proofs.Common.{Option, Some, None, ap, refl, subst, ◌∙◌, sym, arith, append-nil}
+use Rattle.std.proofs.Common.{append_assoc}
 use Rattle.std.specs.Prelude.{Result, OnOk}
 use Rattle.std.specs.List.{sum_by, cons_option}
 use Rattle.std.proofs.lemmas.Result.{on_ok_weaker}
 use Rattle.std.proofs.lemmas.List.Sums.{sum_by-cons, sum_by-append}
 use Rattle.vyrd_base.specs.declared.header.Header.{Header}
 use Rattle.vyrd_base.specs.declared.log.Entry.{Entry}
-use Rattle.vyrd_base.specs.declared.log.Kind.TheVariants.{Call}
-use Rattle.vyrd_base.specs.declared.multiset.MultisetMethod.TheVariants.{Insert}
-use Rattle.vyrd_base.specs.declared.subject.Method.TheVariants.{Multiset}
 use Rattle.vyrd_base.specs.declared.log.StartWord.{StartWord}
 use Rattle.vyrd_base.specs.Entries.{place_of}
 use Rattle.vyrd_base.specs.Commits.{commit_count}
@@ -249,10 +247,6 @@ log_same price keys k n es charter shows =
     ∙ ap (λ s. sum_by (λ (e : Entry). each_entry (callers_of k) (keys k.charter)
     + entry_price (price s) e.kind) es) shows
 
--- what stands for the entry past the end
-abbrev pub no_entry : Entry
-no_entry = record { caller = 0; kind = Call (Multiset Insert) (record { a = 0; b = 0; c = 0 }) }
-
 -- the cost of one entry, as that of a list
 pub one_cost : (price : Shows → ℕ → ℕ) (keys : Charter → ℕ) (k : Kept) (e : Entry) (a b : ℕ)
     → a ≤ b + entry_cost price keys k e → a ≤ b + log_cost price keys k (e ∷ [])
@@ -280,6 +274,20 @@ more_paid price keys k n a b c before more upto charter shows is one paid = omeg
   ap (log_cost price keys k) is,
   sum_by-append (entry_cost price keys k) before more,
 )
+
+-- one more of some entries, by what the judge says of the log with it
+pub entry_paid : (price : Shows → ℕ → ℕ) (keys : Charter → ℕ) (k : Kept) (n m : JudgeView)
+    (after between start : ℕ) (log before upto : List Entry) (e : Entry)
+    → n.kept.charter ≡ k.charter → n.kept.views.shows ≡ k.views.shows → upto ≡ before ++ e ∷ []
+    → after + judge_debt price keys m ((log ++ before) ++ e ∷ [])
+    ≤ between + judge_debt price keys n (log ++ before) + entry_cost price keys n.kept e
+    → between + judge_debt price keys n (log ++ before) ≤ start + log_cost price keys k before
+    → after + judge_debt price keys m (log ++ upto) ≤ start + log_cost price keys k upto
+entry_paid price keys k n m after between start log before upto e charter shows is one paid =
+    more_paid price keys k n.kept _ _ _ before (e ∷ []) upto charter shows is
+    (one_cost price keys n.kept e _ _ (subst (λ xs. after + judge_debt price keys m xs
+    ≤ between + judge_debt price keys n (log ++ before) + entry_cost price keys n.kept e)
+    (append_assoc log before (e ∷ []) ∙ ap (λ xs. log ++ xs) (sym is)) one)) paid
 
 -- a verdict comes to stand with one of some entries
 pub verdict_paid : (price : Shows → ℕ → ℕ) (keys : Charter → ℕ) (k : Kept) (j : JudgeView)

@@ -1,14 +1,12 @@
 use Rattle.std.proofs.Common.{◌+◌, ◌≤◌, ◌++◌, take, drop, ap, sym, subst, ◌∙◌, arith}
 use Rattle.std.proofs.Common.{append_assoc, append-nil, refl, [], ◌∷◌}
-use Rattle.std.specs.Prelude.{get_or}
 use Rattle.std.proofs.lemmas.List.{take_more, take-append-drop}
 use Rattle.vyrd_base.specs.Rules.{rules_by}
 use Rattle.vyrd_base.specs.Verdicts.{verdict_so_far}
 use Rattle.vyrd_judge.specs.Following.{JudgeView, HasFollowed}
 use Rattle.vyrd_base.proofs.FrontLaws.{take_past}
 use Rattle.vyrd_judge.specs.Costs.{entry_cost, judge_debt, log_cost}
-use Rattle.vyrd_judge.proofs.CostLaws.{stands_paid, first_paid, one_cost, more_paid, verdict_paid}
-use Rattle.vyrd_judge.proofs.CostLaws.{no_entry}
+use Rattle.vyrd_judge.proofs.CostLaws.{stands_paid, first_paid, entry_paid, verdict_paid}
 use Rattle.vyrd_judge.proofs.OnlineLaws.{stands_on, followed_on, decided, none_stands, so_far_is_known}
 use Rattle.vyrd_judge.proofs.online.Judge.follow_counted.Goals as goal
 
@@ -45,24 +43,13 @@ loop-entry-preserved g c =
       works = c.in_ok-verdict.ensures.has_failed;
       undecided = c.in_ok-verdict.ensures.so_far ∙ c.in_default-2.is;
       shows = c.take.ensures.shows ∙ c.loop-entry.invariant.shows;
-      paid = λ starting log f. more_paid g.S.Compared.Compare.price g.S.Spec.most_touched
-          c.args.self.now.kept c.loop-entry.self.kept _ _ _
-          (take i es) (get_or es i no_entry ∷ []) (take (i
-          + 1) es) c.loop-entry.invariant.header c.loop-entry.invariant.shows
-          (take_more es i no_entry c.loop-entry-test.true)
-          (one_cost g.S.Compared.Compare.price g.S.Spec.most_touched c.loop-entry.self.kept (get_or
-          es i no_entry) _ _
-          (subst (λ xs. c.take.new.steps + judge_debt g.S.Compared.Compare.price
-          g.S.Spec.most_touched
-          c.take.new.self xs
-          ≤ c.loop-entry.steps + judge_debt g.S.Compared.Compare.price g.S.Spec.most_touched
-          c.loop-entry.self (log ++ take i es)
-          + entry_cost g.S.Compared.Compare.price g.S.Spec.most_touched c.loop-entry.self.kept
-          (get_or es i no_entry))
-          (append_assoc log (take i es) (get_or es i no_entry ∷ []) ∙ ap (λ xs. log ++ xs) (sym
-          (take_more es i no_entry c.loop-entry-test.true)))
+      paid = λ starting log f. entry_paid g.S.Compared.Compare.price g.S.Spec.most_touched
+          c.args.self.now.kept c.loop-entry.self c.take.new.self _ _ _ log
+          (take i es) (take (i + 1) es) _
+          c.loop-entry.invariant.header c.loop-entry.invariant.shows
+          (take_more es i _ c.loop-entry-test.true)
           (c.in_ok-verdict.ensures.steps starting (log ++ take i es)
-          (c.loop-entry.invariant.followed starting log f))))
+          (c.loop-entry.invariant.followed starting log f))
           (c.loop-entry.invariant.paid starting log f);
     }
 
@@ -109,23 +96,13 @@ returns-in-Some-2-clause-steps g c = λ starting log f.
     c.take.new.self _ _ _
     (take (i + 1) es) (drop (i + 1) es) es (log ++ es)
     (c.in_ok-verdict.ensures.so_far ∙ c.in-Some-2.is) (take-append-drop (i + 1) es)
-    (more_paid g.S.Compared.Compare.price g.S.Spec.most_touched
-    c.args.self.now.kept c.loop-entry.self.kept _ _ _
-    (take i es) (get_or es i no_entry ∷ []) (take (i
-    + 1) es) c.loop-entry.invariant.header c.loop-entry.invariant.shows
-    (take_more es i no_entry c.loop-entry-test.true)
-    (one_cost g.S.Compared.Compare.price g.S.Spec.most_touched c.loop-entry.self.kept (get_or es i
-    no_entry) _ _
-    (subst (λ xs. c.take.new.steps + judge_debt g.S.Compared.Compare.price g.S.Spec.most_touched
-    c.take.new.self xs
-    ≤ c.loop-entry.steps + judge_debt g.S.Compared.Compare.price g.S.Spec.most_touched
-    c.loop-entry.self (log ++ take i es)
-    + entry_cost g.S.Compared.Compare.price g.S.Spec.most_touched c.loop-entry.self.kept
-    (get_or es i no_entry))
-    (append_assoc log (take i es) (get_or es i no_entry ∷ []) ∙ ap (λ xs. log ++ xs) (sym
-    (take_more es i no_entry c.loop-entry-test.true)))
+    (entry_paid g.S.Compared.Compare.price g.S.Spec.most_touched
+    c.args.self.now.kept c.loop-entry.self c.take.new.self _ _ _ log
+    (take i es) (take (i + 1) es) _
+    c.loop-entry.invariant.header c.loop-entry.invariant.shows
+    (take_more es i _ c.loop-entry-test.true)
     (c.in_ok-verdict.ensures.steps starting (log ++ take i es)
-    (c.loop-entry.invariant.followed starting log f))))
+    (c.loop-entry.invariant.followed starting log f))
     (c.loop-entry.invariant.paid starting log f))
 
 pub returns-clause-steps : goal.returns-clause-steps
