@@ -1,9 +1,8 @@
 -- What a piece costs is paid by what was owed before it, and by what its bytes cost.
 use Rattle.std.proofs.Common.{◌≡◌, ℕ, ◌+◌, ◌≤◌, Bool, true, false, cond, ◌||◌, List, [], ◌++◌, map}
-use Rattle.std.proofs.Common.{Option, Some, None, option_map, refl, ap, subst, ◌∙◌, sym, arith}
+use Rattle.std.proofs.Common.{Option, Some, None, refl, ap, subst, ◌∙◌, sym, arith}
 use Rattle.std.proofs.Common.{length-append, append_assoc, append-nil}
 use Rattle.std.specs.List.{sum_by}
-use Rattle.std.proofs.lemmas.Bool.{or_right}
 use Rattle.std.proofs.lemmas.List.{map-append}
 use Rattle.std.proofs.lemmas.List.Sums.{sum_by-append}
 use Rattle.vyrd_base.specs.declared.header.Header.{Header}
@@ -19,12 +18,10 @@ use Rattle.vyrd_words.specs.Costs.{entry_price}
 use Rattle.vyrd_judge.specs.Costs.{each_entry, callers_of, judge_debt, log_cost}
 use Rattle.vyrd_judge.specs.Following.{JudgeView}
 use Rattle.vyrd_check.specs.LogReadings.{read_so_far}
-use Rattle.vyrd_check.specs.Checking.{IsLimit, IsAt, IsJudging, IsReady, IsBegun, Kept, CheckerState}
-use Rattle.vyrd_check.specs.Checking.{IsUndecided, has_begun}
+use Rattle.vyrd_check.specs.Checking.{IsAt, IsJudging, IsReady, IsBegun, Kept, CheckerState}
 use Rattle.vyrd_check.specs.Costs.{entry_cost, starting_cost, entries_cost, end_cost, reading_cost}
 use Rattle.vyrd_check.specs.Costs.{bytes_cost, judge_owes, following_cost, kept_debt, debt_after}
 use Rattle.vyrd_check.specs.Costs.{checker_debt}
-use Rattle.vyrd_check.proofs.ReadingFacts.{text_right}
 use Rattle.vyrd_check.proofs.PieceLaws.{header_of_charter}
 
 -- the costs of what was read under this header
@@ -298,7 +295,8 @@ parts_paid first before after bytes read part all l m n limit parted one two =
     ≤ l + checker_debt first bytes + bytes_cost first.kept.reader.max_lines xs) parted
     (two_parts l m n _ _ _ _ _ _ one
     (subst (λ max. n + checker_debt after ((bytes ++ read) ++ part) + bytes_cost max (bytes ++ read)
-    ≤ m + checker_debt before (bytes ++ read) + bytes_cost max ((bytes ++ read) ++ part)) limit two))
+    ≤ m + checker_debt before (bytes ++ read) + bytes_cost max ((bytes ++ read) ++ part))
+    limit two))
 
 settled : (l m a b c x y z : ℕ) → m + b + x ≤ l + a + y → y ≤ z → c ≡ 0 → m + c + x ≤ l + a + z
 settled l m a b c x y z paid more none = omega (arith, paid, more, none)

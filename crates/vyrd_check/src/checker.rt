@@ -88,8 +88,8 @@ impl Checker {
         feed_alone::<Brand>(Blank::new(1), self, piece)
     }
 
-    /// The same, with the judge's steps counted, as [`AnyJudge`](vyrd_judge::AnyJudge) counts them:
-    /// reading itself isn't counted. What is owed after a piece is paid by what comes later, so that
+    /// The same, with the judge's steps counted, as [`AnyJudge`](vyrd_judge::AnyJudge) counts them.
+    /// Reading isn't counted. What a piece leaves to be done later is owed from then on, so that
     /// over a whole log the steps are at most what its bytes cost, however they are cut.
     pub fn feed_counted<L: Ledger>(
         &mut self,

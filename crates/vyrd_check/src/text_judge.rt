@@ -256,7 +256,8 @@ fn open_call<L: Ledger>(
     judge: &AnyJudge,
     steps: &mut Steps<L>,
 ) -> Result<Option<Verdict>, AllocError>
-    ensures verdict { (starting : List StartWord) (log : List Entry) → HasFollowed judge.now starting log →
+    ensures verdict { (starting : List StartWord) (log : List Entry) →
+        HasFollowed judge.now starting log →
         verdict_so_far (rules_by judge.now.kept.charter) starting log ≡ None →
         IfOk result (λ v. v ≡ end_verdict (rules_by judge.now.kept.charter) starting log) }
     ensures steps { steps.new ≤ steps.old + callers_of judge.now.kept }

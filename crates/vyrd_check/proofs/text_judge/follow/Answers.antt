@@ -23,23 +23,28 @@ returns-then-ended-clause-answer g c = λ read log ready.
     ∙ sym (λ i. option_or (none i) (if (c.if-ended.true i) then end_verdict h read.starting log' else None))
     ∙ sym (wrong_by c.args.judge.now read log c.args.entries.now c.args.ended ready) in
     where_same (end_verdict h' read.starting log') (wrong_in read) whole c.open_call.result
-    (c.open_call.ensures.verdict read.starting log' (c.in_ok-verdict.ensures.followed read.starting log followed) none')
+    (c.open_call.ensures.verdict read.starting log'
+    (c.in_ok-verdict.ensures.followed read.starting log followed) none')
 
 pub returns-then-ended-clause-judging : goal.returns-then-ended-clause-judging
 returns-then-ended-clause-judging g c = λ read log ready.
     where_none c.open_call.result (IsJudging (Some c.follow_counted.new.self) read)
-    (judging_on c.args.judge.now c.follow_counted.new.self read log c.args.entries.now c.args.ended ready c.in_ok-verdict.ensures.charter c.in_ok-verdict.ensures.shows
+    (judging_on c.args.judge.now c.follow_counted.new.self read log
+    c.args.entries.now c.args.ended ready c.in_ok-verdict.ensures.charter
+    c.in_ok-verdict.ensures.shows
     (c.in_ok-verdict.ensures.followed read.starting log ready.before.followed) (c.in_ok-verdict.ensures.so_far ∙ c.in_default.is))
 
 pub returns-else-ended-clause-judging : goal.returns-else-ended-clause-judging
 returns-else-ended-clause-judging g c = λ read log ready none.
-    judging_on c.args.judge.now c.follow_counted.new.self read log c.args.entries.now c.args.ended ready c.in_ok-verdict.ensures.charter c.in_ok-verdict.ensures.shows
+    judging_on c.args.judge.now c.follow_counted.new.self read log
+    c.args.entries.now c.args.ended ready c.in_ok-verdict.ensures.charter
+    c.in_ok-verdict.ensures.shows
     (c.in_ok-verdict.ensures.followed read.starting log ready.before.followed) (c.in_ok-verdict.ensures.so_far ∙ c.in_default.is)
 
 pub returns-in-Some-clause-steps : goal.returns-in-Some-clause-steps
 returns-in-Some-clause-steps g c = λ read log ready.
-    followed_paid c.args.judge.now c.follow_counted.new.self read log c.args.entries.now c.args.ended
-    c.args.steps.now c.follow_counted.new.steps ready
+    followed_paid c.args.judge.now c.follow_counted.new.self read log c.args.entries.now
+    c.args.ended c.args.steps.now c.follow_counted.new.steps ready
     (c.in_ok-verdict.ensures.steps read.starting log ready.before.followed)
 
 pub returns-then-ended-clause-steps : goal.returns-then-ended-clause-steps
@@ -52,6 +57,6 @@ returns-then-ended-clause-steps g c = λ read log ready.
 
 pub returns-else-ended-clause-steps : goal.returns-else-ended-clause-steps
 returns-else-ended-clause-steps g c = λ read log ready.
-    followed_paid c.args.judge.now c.follow_counted.new.self read log c.args.entries.now c.args.ended
-    c.args.steps.now c.follow_counted.new.steps ready
+    followed_paid c.args.judge.now c.follow_counted.new.self read log c.args.entries.now
+    c.args.ended c.args.steps.now c.follow_counted.new.steps ready
     (c.in_ok-verdict.ensures.steps read.starting log ready.before.followed)

@@ -24,11 +24,13 @@ returns-in-None-clause-judging g c = λ read log ready none.
 pub returns-in-Some-clause-steps : goal.returns-in-Some-clause-steps
 returns-in-Some-clause-steps g c = λ read log.
     subst (λ o. IsReady o read log c.args.entries.now c.args.ended
-    → OnOk c.follow.result (c.follow.new.steps + judge_owes (Some c.follow.new.judge) read read.entries
+    → OnOk c.follow.result (c.follow.new.steps
+    + judge_owes (Some c.follow.new.judge) read read.entries
     ≤ c.args.steps.now + judge_owes o read log
     + following_cost o c.args.entries.now c.args.ended))
     (sym c.in-Some.is) (c.follow.ensures.steps read log)
 
 pub returns-in-None-clause-steps : goal.returns-in-None-clause-steps
 returns-in-None-clause-steps g c = λ read log ready.
-    still_none c.args.judge.now read log c.args.entries.now c.args.ended c.args.steps.now c.in-None.is
+    still_none c.args.judge.now read log c.args.entries.now c.args.ended c.args.steps.now
+    c.in-None.is

@@ -74,8 +74,10 @@ returns-clause-answer g c = λ bytes checked.
 pub returns-in-Some-clause-steps : goal.returns-in-Some-clause-steps
 returns-in-Some-clause-steps g c = λ bytes checked.
     let limit : IsLimit c.args.self.now.kept.reader.max_lines =
-    subst (λ (k : CheckerState). IsLimit k.kept.reader.max_lines) c.self.view_is c.self.invariant.limit in
-    let there = ap (λ (k : CheckerState). k.so_far) (sym c.self-in-loop-rest.view_is) ∙ c.in-Some.is in
+    subst (λ (k : CheckerState). IsLimit k.kept.reader.max_lines) c.self.view_is
+    c.self.invariant.limit in
+    let there = ap (λ (k : CheckerState). k.so_far) (sym c.self-in-loop-rest.view_is)
+    ∙ c.in-Some.is in
     stands_paid c.args.self.now c.loop-rest.self c.in-Some.verdict bytes c.loop-rest.invariant.read
     c.loop-rest.rest.now c.args.piece.now c.args.steps.now c.loop-rest.steps limit.low there
     c.loop-rest.invariant.parted (c.loop-rest.invariant.paid bytes checked)

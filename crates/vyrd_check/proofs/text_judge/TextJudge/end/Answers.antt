@@ -42,7 +42,8 @@ returns-clause-verdict g c = λ bytes u.
     ∙ whole_accepted max bytes h.0 before.nothing
     (c.in-Ok.ensures.answer bytes before.read) (c.in-Ok.ensures.ended bytes before.read) h.1 in
     where_same (verdict (rules_by c.in-Some.judge.kept.charter) read.starting read.entries) (text_verdict c.args.self.now.reader.max_lines bytes)
-    (whole ∙ ap (λ (k : Kept). text_verdict k.reader.max_lines bytes) c.self.view_is) c.finish_counted.result
+    (whole ∙ ap (λ (k : Kept). text_verdict k.reader.max_lines bytes) c.self.view_is)
+    c.finish_counted.result
     (c.finish_counted.ensures.verdict read.starting read.entries has.followed)
 
 pub returns-clause-steps : goal.returns-clause-steps
