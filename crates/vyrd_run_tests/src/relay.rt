@@ -215,36 +215,41 @@ fn pushed<R: Wait>(rt: &R, relay: &Relay, sender: &mut Sender, events: &[Stamped
     }
 }
 
-/// Events of caller 0, of the numbers 0 to 35.
-fn thirty_six() -> [Stamped; 36]
-    ensures { All (λ e. e.caller ≡ 0) result }
+/// Events of caller 0, from one number up to another.
+fn events_from(alloc: Global, first: u64, past: u64) -> Result<Vec<Stamped>, AllocError>
+    ensures { IfOk result (λ events. All (λ e. e.caller ≡ 0) events.items) }
 {
-    let mut events = [event(0); 36];
-    for number in 1..36 {
-        events[number] = event(number as u64);
+    let mut events = Vec::new(alloc);
+    for number in first..past {
+        events.push(event(number))?;
     }
-    events
+    Ok(events)
 }
 
-/// Whether 36 events go as 32 and then 4, fill a relay of two places, and come as they went.
+/// Whether 36 events go as the first 32 and then the rest, fill a relay of two places, and come as
+/// they went.
 fn go_as_two_parcels<R: Wait>(
     rt: &R,
     relay: &Relay,
     sender: &mut Sender,
     receiver: &mut Receiver,
+    all: &[Stamped],
+    first: &[Stamped],
+    rest: &[Stamped],
 ) -> bool
     requires sender { (sender.old.queue ≡ relay.now.queue) × (sender.old.caller ≡ 0)
         × (sender.old.sent ≡ []) }
     requires receiver { receiver.old.queue ≡ relay.now.queue }
+    requires all { All (λ e. e.caller ≡ 0) all.now }
+    requires rest { All (λ e. e.caller ≡ 0) rest.now }
     ensures sender { sender.new.queue ≡ sender.old.queue }
     ensures receiver { receiver.new.queue ≡ receiver.old.queue }
 {
-    let events = thirty_six();
-    pushed(rt, relay, sender, &events) == 32
-        && pushed(rt, relay, sender, &events[32..]) == 4
+    pushed(rt, relay, sender, all) == 32
+        && pushed(rt, relay, sender, rest) == 4
         && !is_pushed(rt, relay, sender, 0, 36)
-        && is_popped(rt, relay, receiver, &events[..32])
-        && is_popped(rt, relay, receiver, &events[32..])
+        && is_popped(rt, relay, receiver, first)
+        && is_popped(rt, relay, receiver, rest)
         && is_nothing_popped(rt, relay, receiver)
 }
 
@@ -252,7 +257,10 @@ fn go_as_two_parcels<R: Wait>(
 fn many_events_go_as_two_parcels(rt: HostRuntime) -> Result<(), Fail> {
     assert!(rt; Parcel::of(&[]).is_none());
     let (relay, mut sender, mut receiver) = one(rt.alloc(), 2)?;
-    assert!(rt; go_as_two_parcels(&rt, &relay, &mut sender, &mut receiver));
+    let all = events_from(rt.alloc(), 0, 36)?;
+    let first = events_from(rt.alloc(), 0, 32)?;
+    let rest = events_from(rt.alloc(), 32, 36)?;
+    assert!(rt; go_as_two_parcels(&rt, &relay, &mut sender, &mut receiver, &all, &first, &rest));
     assert!(rt; relay.settle(&rt, &mut receiver, sender) == 36);
     Ok(())
 }
