@@ -1,8 +1,9 @@
 -- Verdicts that threads gave, part by part, as one list.
-use Rattle.std.proofs.Common.{◌≡◌, ℕ, Vec, Global, Bor, List, [], ◌∷◌, ◌++◌, map, Result, Ok, Err, IfOk, refl, ap, ◌∙◌, sym, subst}
+use Rattle.std.proofs.Common.{◌≡◌, Vec, Global, Bor, ℕ, ◌≤◌, List, [], ◌∷◌, ◌++◌, length, take, drop, arith, map, Result, Ok, Err, IfOk, refl, ap, ◌∙◌, sym, subst}
 use Rattle.std.specs.Prelude.{Contains, MatchResult, flat_map}
 use Rattle.std.specs.List.{AllZip, AllByRecursion}
-use Rattle.std.proofs.lemmas.List.{map-append}
+use Rattle.std.proofs.lemmas.List.{map-append, length-append, length-map, take-append-drop}
+use Rattle.std.proofs.lemmas.Grind.{flat_map-append}
 use Rattle.vyrd_base.specs.declared.verdict.Verdict.{Verdict}
 use Rattle.vyrd_base.specs.LogVerdicts.{log_verdict}
 use Rattle.vyrd_batch.specs.declared.span.Span.{Span}
@@ -72,3 +73,18 @@ flat_verdicts bytes spans parts judged all right =
     ∙ map_parts (log_verdict most_lines) (λ (part : Bor (List Span)). map (bytes_of bytes) part.now) parts
     ∙ ap verdicts_of (map_parts (bytes_of bytes) (λ (part : Bor (List Span)). part.now) parts)
     ∙ ap (λ spans. verdicts_of (map (bytes_of bytes) spans)) all
+
+-- the first parts have no more than all of them
+pub flat_front : {X Y : Type 0} (f : X → List Y) (n : ℕ) (xs : List X) → length (flat_map f (take n xs)) ≤ length (flat_map f xs)
+flat_front f n xs =
+    let all : length (flat_map f (take n xs ++ drop n xs)) ≡ length (flat_map f xs) = ap (λ xs. length (flat_map f xs)) (take-append-drop n xs) in
+    let parted = ap length (flat_map-append f (take n xs) (drop n xs)) in
+    omega (arith, all, parted, length-append (flat_map f (take n xs)) (flat_map f (drop n xs)))
+
+-- there is a verdict about each log
+pub verdict_each : (bytes : List ℕ) (spans : List Span) → length (verdicts_of (map (bytes_of bytes) spans)) ≡ length spans
+verdict_each bytes spans = length-map (map (bytes_of bytes) spans) (log_verdict most_lines) ∙ length-map spans (bytes_of bytes)
+
+-- and one list of them about each part
+pub list_each : {X Y Z : Type 0} (show : Y → Z) (f : X → Z) (ys : List Y) (xs : List X) → map show ys ≡ map f xs → length ys ≡ length xs
+list_each show f ys xs e = sym (length-map ys show) ∙ ap length e ∙ length-map xs f

@@ -7,3 +7,4 @@ pub mod Opened
 pub mod TextLaws
 pub mod RoundLaws
 pub mod UnfinishedLaws
+pub mod CostLaws

@@ -58,7 +58,7 @@ moved_len front bytes place taken len within =
     let short : length (take taken bytes) ≡ taken = omega (arith, length-take taken bytes, within) in
     omega (arith, length-append front (take taken bytes), short, len)
 
-count_more : (spans : List Span) (span : Span) → length (spans ++ span ∷ []) ≡ length spans + 1
+pub count_more : (spans : List Span) (span : Span) → length (spans ++ span ∷ []) ≡ length spans + 1
 count_more spans span = length-append spans (span ∷ [])
 
 -- one more log

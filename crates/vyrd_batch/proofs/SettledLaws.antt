@@ -49,7 +49,7 @@ first_longer (b ∷ bytes) more = by_test (b == 10) (first_longer bytes more)
     by_test false is = next_byte b bytes more (first_line bytes) (first_line (bytes ++ more)) is
 
 -- how long bytes are that were cut
-cut_len : (bytes : List ℕ) (cut : Cut) → first_line bytes ≡ Some cut → length bytes ≡ length cut.line + 1 + length cut.rest
+pub cut_len : (bytes : List ℕ) (cut : Cut) → first_line bytes ≡ Some cut → length bytes ≡ length cut.line + 1 + length cut.rest
 cut_len [] cut e = cc
 cut_len (b ∷ bytes) cut e = by_test (b == 10) (first_line bytes) (cut_len bytes) e
   where

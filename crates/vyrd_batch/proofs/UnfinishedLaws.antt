@@ -17,7 +17,7 @@ use Rattle.vyrd_batch.proofs.LineFacts.{no_line, no_size, too_far, is_log}
 use Rattle.vyrd_batch.proofs.SettledLaws.{IsLonger, first_longer}
 
 -- of two beginnings of the same bytes one is a beginning of the other
-one_begins : (xs ys more rest : List ℕ) → xs ++ more ≡ ys ++ rest
+pub one_begins : (xs ys more rest : List ℕ) → xs ++ more ≡ ys ++ rest
     → ((m : List ℕ) × (ys ≡ xs ++ m)) ⊎ ((m : List ℕ) × (xs ≡ ys ++ m))
 one_begins [] ys more rest e = inl (ys, refl)
 one_begins (x ∷ xs) [] more rest e = inr (x ∷ xs, refl)
@@ -49,11 +49,11 @@ short_front most word bytes None small apart e = cc
 short_front most word bytes (Some rest) small front e = omega (arith, small, ap length front, length-append bytes rest.now)
 
 -- what a line that says a size is like
-record SaysFew (line : List ℕ) (size : ℕ) : Type 0 where
+pub record SaysFew (line : List ℕ) (size : ℕ) : Type 0 where
   pub few : size ≤ most_bytes
   pub short : length line ≤ longest_line
 
-says_few : (line : List ℕ) (size : ℕ) → Some size ≡ size_in line → SaysFew line size
+pub says_few : (line : List ℕ) (size : ℕ) → Some size ≡ size_in line → SaysFew line size
 says_few line size e = by_test (nat_le n most_bytes && bytes_eq (log_word n) line) refl (sym e)
   where
     n : ℕ
@@ -78,9 +78,9 @@ long_line line long = by_size (size_in line) refl
     by_size (Some size) e = absurd (omega (arith, long, (says_few line size (sym e)).short))
 
 -- no log comes of bytes that are longer than the line before a log, and have no line feed
-pub never_a_line : (place : ℕ) (bytes : List ℕ) → is_one_line bytes ≡ true → longest_line < length bytes
+pub never_ended : (place : ℕ) (bytes : List ℕ) → first_line bytes ≡ None → longest_line < length bytes
     → (more : List ℕ) → log_at place (bytes ++ more) ≡ None
-never_a_line place bytes e long more = by_cut (first_line (bytes ++ more)) (first_longer bytes more)
+never_ended place bytes none long more = by_cut (first_line (bytes ++ more)) (first_longer bytes more)
   where
     at_cut : Option Cut → Option Span
     at_cut o = elim o as (λ _. Option Span) [ None ↦ None | Some cut ↦ span_of (place + length cut.line + 1) cut.rest (size_in cut.line) ]
@@ -88,7 +88,19 @@ never_a_line place bytes e long more = by_cut (first_line (bytes ++ more)) (firs
     by_cut : (all : Option Cut) → IsLonger bytes more (first_line bytes) all → at_cut all ≡ None
     by_cut None is = refl
     by_cut (Some cut) is =
-        ap (span_of (place + length cut.line + 1) cut.rest) (long_line cut.line (omega (arith, long, is.other (no_line bytes e) cut refl)))
+        ap (span_of (place + length cut.line + 1) cut.rest) (long_line cut.line (omega (arith, long, is.other none cut refl)))
+
+pub never_a_line : (place : ℕ) (bytes : List ℕ) → is_one_line bytes ≡ true → longest_line < length bytes
+    → (more : List ℕ) → log_at place (bytes ++ more) ≡ None
+never_a_line place bytes e = never_ended place bytes (no_line bytes e)
+
+-- nor of bytes whose first line says no size
+pub never_sized : (place : ℕ) (bytes : List ℕ) (cut : Cut) → first_line bytes ≡ Some cut → size_in cut.line ≡ None
+    → (more : List ℕ) → log_at place (bytes ++ more) ≡ None
+never_sized place bytes cut is none more =
+    ap (λ o. elim o as (λ _. Option Span) [ None ↦ None | Some cut ↦ span_of (place + length cut.line + 1) cut.rest (size_in cut.line) ])
+    ((first_longer bytes more).same cut is)
+    ∙ ap (span_of (place + length cut.line + 1) (cut.rest ++ more)) none
 
 longer_is : (bytes line rest more : List ℕ) → bytes ≡ line ++ 10 ∷ rest → bytes ++ more ≡ line ++ 10 ∷ (rest ++ more)
 longer_is bytes line rest more is = ap (λ bytes. bytes ++ more) is ∙ append_assoc line (10 ∷ rest) more

@@ -1,6 +1,6 @@
 //! Judging the logs of a batch side by side.
 
-ghost use Rattle.std.specs.Prelude.{◌≡◌, length, map, flat_map, IfOk};
+ghost use Rattle.std.specs.Prelude.{◌≡◌, ◌≤◌, ◌<◌, ◌+◌, ◌*◌, length, map, flat_map, IfOk};
 ghost use Rattle.std.specs.List.{AllByRecursion};
 ghost use Rattle.vyrd_base.specs.LogVerdicts.{log_verdict};
 ghost use Rattle.vyrd_batch.specs.Batches.{LiesWithin, bytes_of};
@@ -12,8 +12,10 @@ use crate::span::Span;
 use rayon::current_num_threads;
 use rayon::prelude::*;
 use std::alloc::{AllocError, Global};
+use std::marker::Brand;
+use std::sync::ledger::{Blank, Ledger};
 use std::thread::Threads;
-use vyrd_base::Verdict;
+use vyrd_base::{Steps, Verdict};
 use vyrd_log_check::log_verdict_of;
 
 /// How many lines a log may have.
@@ -34,11 +36,47 @@ pub fn judge_batch<R: Threads + Sync>(
     ensures { IfOk result
         (λ verdicts. verdicts.items ≡ verdicts_of (map (bytes_of bytes.now) spans.now)) }
 {
+    judge_batch_alone::<R, Brand>(Blank::new(1), rt, alloc, bytes, spans)
+}
+
+/// The same, with the steps counted that aren't those of judging a log: two for each log as parts
+/// are made, and two as their verdicts are put together.
+pub fn judge_batch_counted<R: Threads + Sync, L: Ledger>(
+    rt: &R,
+    alloc: Global,
+    bytes: &[u8],
+    spans: &[Span],
+    steps: &mut Steps<L>,
+) -> Result<Vec<Verdict>, AllocError>
+    requires { AllByRecursion (LiesWithin (length bytes.now)) spans.now }
+    ensures verdicts { IfOk result
+        (λ verdicts. verdicts.items ≡ verdicts_of (map (bytes_of bytes.now) spans.now)) }
+    ensures steps { steps.new ≤ steps.old + 4 * length spans.now }
+{
     let processors = current_num_threads(rt);
     let weight = part_weight(bytes.len(), spans.len(), processors.saturating_mul(2));
-    let parts = parts_of(alloc, weight, spans)?;
+    let parts = parts_of(alloc, weight, spans, steps)?;
     let judged = judge_parts(rt, alloc, bytes, &parts)?;
-    joined(alloc, &judged)
+    joined(alloc, &judged, steps)
+}
+
+/// Judges with a count of its own.
+fn judge_batch_alone<R: Threads + Sync, L: Ledger>(
+    blank: Blank,
+    rt: &R,
+    alloc: Global,
+    bytes: &[u8],
+    spans: &[Span],
+) -> Result<Vec<Verdict>, AllocError>
+    requires name { blank.name ≡ L.name }
+    requires parts { blank.parts ≡ L.parts }
+    requires some { 0 < blank.parts }
+    requires inside { AllByRecursion (LiesWithin (length bytes.now)) spans.now }
+    ensures { IfOk result
+        (λ verdicts. verdicts.items ≡ verdicts_of (map (bytes_of bytes.now) spans.now)) }
+{
+    let mut steps = Steps::<L>::new(blank);
+    judge_batch_counted(rt, alloc, bytes, spans, &mut steps)
 }
 
 /// The verdicts about the spans of each part.
@@ -89,13 +127,22 @@ fn judge_span(alloc: Global, bytes: &[u8], span: Span) -> Result<Verdict, AllocE
     log_verdict_of(alloc, MOST_LINES, &bytes[span.first..span.past])
 }
 
-/// The verdicts of all parts, in their order.
-fn joined(alloc: Global, judged: &[Vec<Verdict>]) -> Result<Vec<Verdict>, AllocError>
-    ensures { IfOk result (λ verdicts. verdicts.items ≡ flat_map (λ part. part.items) judged.now) }
+/// The verdicts of all parts, in their order. A step is counted for each part and each verdict.
+fn joined<L: Ledger>(
+    alloc: Global,
+    judged: &[Vec<Verdict>],
+    steps: &mut Steps<L>,
+) -> Result<Vec<Verdict>, AllocError>
+    ensures all { IfOk result
+        (λ verdicts. verdicts.items ≡ flat_map (λ part. part.items) judged.now) }
+    ensures steps { steps.new ≤ steps.old + length judged.now
+        + length (flat_map (λ part. part.items) judged.now) }
 {
     let mut verdicts = Vec::new(alloc);
     for part in judged {
+        steps.tick();
         verdicts.extend_from_slice(part)?;
+        steps.add(part.len());
     }
     Ok(verdicts)
 }

@@ -1,41 +1,49 @@
 //! Spans in parts of about the same weight, so that threads that get a part each end at about the
 //! same time.
 
-ghost use Rattle.std.specs.Prelude.{◌≡◌, ◌<◌, ◌≤◌, length, flat_map, IfOk};
+ghost use Rattle.std.specs.Prelude.{◌≡◌, ◌<◌, ◌≤◌, ◌+◌, ◌*◌, length, flat_map, IfOk};
 
 use crate::span::Span;
 use std::alloc::{AllocError, Global};
+use std::sync::ledger::Ledger;
+use vyrd_base::Steps;
 
 /// What a log weighs besides its bytes: judging the shortest one takes some time too.
 const WEIGHT: usize = 64;
 
 /// The spans in their order, in parts that weigh `most` or slightly more, except the last. No part
-/// is empty.
-pub fn parts_of<'a>(
+/// is empty. A step is counted for each span and for each part.
+pub fn parts_of<'a, L: Ledger>(
     alloc: Global,
     most: usize,
     spans: &'a [Span],
+    steps: &mut Steps<L>,
 ) -> Result<Vec<&'a [Span]>, AllocError>
-    ensures { IfOk result (λ parts. flat_map (λ part. part.now) parts.items ≡ spans.now) }
+    ensures all { IfOk result (λ parts. flat_map (λ part. part.now) parts.items ≡ spans.now) }
+    ensures few { IfOk result (λ parts. length parts.items ≤ length spans.now) }
+    ensures steps { steps.new ≤ steps.old + 2 * length spans.now }
 {
     let mut parts = Vec::new(alloc);
     let mut rest = spans;
     while !rest.is_empty() {
-        let (part, next) = rest.split_at(next_part(most, rest));
+        let (part, next) = rest.split_at(next_part(most, rest, steps));
+        steps.tick();
         parts.push(part)?;
         rest = next;
     }
     Ok(parts)
 }
 
-/// How many spans are in the next part.
-fn next_part(most: usize, spans: &[Span]) -> usize
+/// How many spans are in the next part. A step is counted for each of them.
+fn next_part<L: Ledger>(most: usize, spans: &[Span], steps: &mut Steps<L>) -> usize
     requires { 0 < length spans.now }
     ensures some { 0 < result }
     ensures within { result ≤ length spans.now }
+    ensures steps { steps.new ≡ steps.old + result }
 {
     let mut weight: usize = 0;
     for (before, span) in spans.iter().enumerate() {
+        steps.tick();
         weight = weight.saturating_add(weight_of(*span));
         if weight >= most {
             return before + 1;

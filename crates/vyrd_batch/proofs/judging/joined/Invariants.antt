@@ -1,7 +1,10 @@
-use Rattle.std.proofs.Common.{◌≡◌, take}
+use Rattle.std.proofs.Common.{◌≡◌, ◌≤◌, ◌+◌, take, length}
 use Rattle.std.specs.Prelude.{flat_map}
 use Rattle.vyrd_batch.proofs.judging.joined.Given as goal
 
 -- the verdicts of the parts before this one
 abbrev pub invariant-loop-part : goal.invariant-loop-part
-invariant-loop-part l = l.verdicts.items ≡ flat_map (λ part. part.items) (take l.part-index l.judged)
+invariant-loop-part g l = record {
+  all : l.verdicts.items ≡ flat_map (λ part. part.items) (take l.part-index l.judged);
+  steps : l.steps ≤ l.initial.steps + l.part-index + length l.verdicts.items;
+}

@@ -1,5 +1,6 @@
-use Rattle.std.proofs.Common.{◌≡◌, ◌∙◌, drop, None, ap, subst, sym}
-use Rattle.vyrd_batch.specs.Rounds.{AreJudged, AreJudgedTo}
+use Rattle.std.proofs.Common.{◌≡◌, ◌∙◌, drop, None, refl, ap, subst, sym}
+use Rattle.vyrd_batch.specs.Rounds.{AreJudged, AreJudgedTo, BatchView}
+use Rattle.vyrd_batch.specs.Costs.{IsBegun}
 use Rattle.vyrd_batch.proofs.RoundLaws.{none_there, judged_begun}
 use Rattle.vyrd_batch.proofs.rounds.BatchJudge.begin.Goals as goal
 
@@ -12,3 +13,10 @@ returns-clause-judged c = λ input j.
     let before : AreJudgedTo s.place input verdicts bytes = subst (λ b. AreJudgedTo b.place input b.verdicts bytes) (sym c.self.view_is) j in
     subst (AreJudged input verdicts 6) (sym (ap (drop 6) c.in-Some.ensures))
     (judged_begun input bytes c.in-Some.field-0.now verdicts (subst (λ place. AreJudgedTo place input verdicts bytes) none before) c.in-Some.ensures)
+
+pub returns-clause-begun : goal.returns-clause-begun
+returns-clause-begun c = λ place e.
+    let s = c.self.inside in
+    let none : c.args.self.now.place ≡ None =
+    ap (λ (b : BatchView). b.place) (sym c.self.view_is) ∙ none_there s.place (sym c.is_some.ensures ∙ c.if-is_some.false) in
+    subst (λ before. IsBegun before place 6 c.args.bytes.now) (sym none) (refl, (c.in-Some.field-0.now, c.in-Some.ensures))

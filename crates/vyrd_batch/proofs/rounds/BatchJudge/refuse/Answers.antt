@@ -4,7 +4,7 @@ use Rattle.vyrd_batch.proofs.RoundLaws.{judged_never}
 use Rattle.vyrd_batch.proofs.rounds.BatchJudge.refuse.Goals as goal
 
 pub returns-clause-judged : goal.returns-clause-judged
-returns-clause-judged c = λ input j.
+returns-clause-judged g c = λ input j.
     let s = c.self.inside in
     let verdicts = s.verdicts.items in
     let bytes = c.args.bytes.now.items in
