@@ -1,5 +1,5 @@
 -- What was read of an input says the logs of the whole input, and what is judged of it while it is read.
-use Rattle.std.proofs.Common.{◌≡◌, ℕ, ◌+◌, ◌≤◌, List, ◌++◌, length, refl, ap, ◌∙◌, sym, subst, arith, length-append}
+use Rattle.std.proofs.Common.{◌≡◌, ℕ, ◌+◌, ◌*◌, ◌≤◌, List, [], ◌++◌, length, refl, ap, ◌∙◌, sym, subst, arith, length-append, append_assoc, append-nil}
 use Rattle.std.specs.Prelude.{IfSome, Result, Ok, Err, IfOk}
 use Rattle.vyrd_base.specs.Devices.{SourceKnown}
 use Rattle.vyrd_base.specs.declared.verdict.Verdict.{Verdict}
@@ -8,11 +8,13 @@ use Rattle.vyrd_batch.specs.BatchAnswers.{verdicts_of, batch_text, batch_status}
 use Rattle.vyrd_batch.specs.LongBatches.{longest_batch_input}
 use Rattle.vyrd_batch.proofs.SettledLaws.{logs_are_settled}
 use Rattle.vyrd_batch.proofs.TextLaws.{read_batch_is_text}
-use Rattle.vyrd_batch.specs.Rounds.{BatchView, IsJudged}
+use Rattle.vyrd_batch.specs.Rounds.{BatchView, IsJudged, IsSpent}
+use Rattle.vyrd_batch.specs.Costs.{round_cost}
 use Rattle.vyrd_batch.proofs.RoundLaws.{judged_longer}
 use Rattle.vyrd_command.specs.Inputs.{IsInputRead, IsMoreRead, IsFewTaken}
 use Rattle.vyrd_command.specs.declared.answer.Answer.{Answer}
 use Rattle.vyrd_command.specs.Batches.{IsBatchAnswer, IsReading}
+use Rattle.vyrd_command.specs.BatchCosts.{round_bytes, IsSinceRound, IsPaidRound, IsReadFor, IsTakenFor}
 use Rattle.vyrd_command.proofs.TakenLaws.{taken_more, whole_input, long_refused}
 
 pub logs_are_input : (before after : SourceKnown) (bytes : List ℕ) → IsInputRead longest_batch_input before after bytes
@@ -61,3 +63,66 @@ batch_refused bytes status text answer long = by_reading (batch_logs bytes) refl
     by_reading (Err log) e answer = answer.0
     by_reading (Ok logs) e answer =
         absurd (long_refused batch_logs bytes batch_of read_batch_is_text (λ more. logs_are_settled bytes more (omega (arith, long))) logs e)
+
+-- before the first round
+pub first_paid : (judge : BatchView) (bytes : List ℕ) (steps : ℕ) → bytes ≡ [] → IsSpent judge [] → IsPaidRound judge bytes round_bytes steps steps 0
+first_paid judge bytes steps none spent = (
+  0,
+  record { left = []; fresh = []; bytes_are = none; spent = spent; many = refl; late = omega arith },
+  omega arith,
+)
+
+-- one more read
+pub since_more : (between after : SourceKnown) (judge : BatchView) (old new : List ℕ) (next count n most : ℕ) → IsSinceRound judge old next count
+    → IsMoreRead most between after old new n → IsSinceRound judge new next (count + n)
+since_more between after judge old new next count n most s m = record {
+  left = s.left;
+  fresh = s.fresh ++ m.piece;
+  bytes_are = m.grown ∙ ap (λ bytes. bytes ++ m.piece) s.bytes_are ∙ append_assoc s.left s.fresh m.piece;
+  spent = s.spent;
+  many = omega (arith, length-append s.fresh m.piece, s.many, m.many);
+  late = s.late;
+}
+
+-- a round is paid for by the bytes that came before it
+pub round_paid : (judge : BatchView) (bytes : List ℕ) (next count old new : ℕ) (s : IsSinceRound judge bytes next count) → next ≤ length bytes
+    → new ≤ old + round_cost (length s.fresh) → new ≤ old + 4 * count
+round_paid judge bytes next count old new s long steps =
+    let all : length bytes ≡ length s.left + length s.fresh = ap length s.bytes_are ∙ length-append s.left s.fresh in
+    omega (arith, all, long, s.late, s.many, steps)
+
+-- and nothing came since then
+pub since_none : (judge : BatchView) (bytes : List ℕ) (next : ℕ) → IsSpent judge bytes → length bytes + round_bytes ≤ next
+    → IsSinceRound judge bytes next 0
+since_none judge bytes next spent late = record {
+  left = bytes;
+  fresh = [];
+  bytes_are = sym (append-nil bytes);
+  spent = spent;
+  many = refl;
+  late = late;
+}
+
+-- bytes that were read and paid for
+pub read_for : (before now : SourceKnown) (judge : BatchView) (rest : List ℕ) (next count old new : ℕ) → IsReading before now judge rest count
+    → count ≤ longest_batch_input → IsPaidRound judge rest next old new count → IsReadFor before now judge rest old new
+read_for before now judge rest next count old new r few p = record {
+  taken = r.taken;
+  told = r.told;
+  few = omega (arith, r.many, few);
+  left = p.1.left;
+  fresh = p.1.fresh;
+  rest_is = p.1.bytes_are;
+  spent = p.1.spent;
+  steps = omega (arith, p.2, p.1.many, r.many);
+}
+
+-- the steps of what was taken so far
+pub steps_for : (before now : SourceKnown) (judge : BatchView) (rest : List ℕ) (count old new : ℕ) → IsReading before now judge rest count
+    → count ≤ longest_batch_input → new ≤ old + 4 * count → IsTakenFor old new before now
+steps_for before now judge rest count old new r few steps = (r.taken, r.told, omega (arith, r.many, few), omega (arith, steps, r.many))
+
+-- and with those of the last round
+pub taken_for : (before now : SourceKnown) (judge : BatchView) (rest : List ℕ) (old between new : ℕ) (r : IsReadFor before now judge rest old between)
+    → new ≤ between + round_cost (length r.fresh) → IsTakenFor old new before now
+taken_for before now judge rest old between new r steps = (r.taken, r.told, r.few, omega (arith, r.steps, steps))

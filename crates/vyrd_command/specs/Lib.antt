@@ -10,12 +10,14 @@ pub mod Generated
 pub mod CorrectInputs
 pub mod Moved
 pub mod Batches
+pub mod BatchCosts
 pub mod Explains
 pub mod Counts
 pub mod Commands
 -- what the clauses of public calls cite of crates below
 pub use Rattle.vyrd_base.specs.Devices
 pub use Rattle.vyrd_log_check.specs.Checking
+pub use Rattle.vyrd_batch.specs.LongBatches
 pub use Rattle.vyrd_trace.specs.Hands
 pub use Rattle.vyrd_work.specs.Workloads
 pub use Rattle.vyrd_work.specs.WorkLimits

@@ -9,7 +9,8 @@
 //!
 //! [`check_limited`] is `check` under a limit of lines that the caller chooses.
 //! [`answer_explained`] answers `explain` and `follow` under such a limit, and [`play`] a live run
-//! under a limit of events; neither writes the [`Answer`]. `status` names the statuses without a
+//! under a limit of events; neither writes the [`Answer`]. [`batch_counted`] answers `batch`, with
+//! its steps counted. `status` names the statuses without a
 //! verdict, and `laws` says what follows from the clauses of `vyrd`.
 //!
 //! What is promised stands in `specs/`. `Commands` has a table each for what depends on the form of
@@ -39,6 +40,7 @@ mod step;
 mod telling;
 
 pub use answer::Answer;
+pub use batch::batch_counted;
 pub use explain::answer_explained;
 pub use limited::check_limited;
 pub use program::{Ended, vyrd};

@@ -2,6 +2,7 @@ use Rattle.std.proofs.Common.{◌≡◌, ◌-◌, ◌≤◌, false}
 use Rattle.vyrd_base.specs.Devices.{AfterReads}
 use Rattle.vyrd_batch.specs.LongBatches.{longest_batch_input}
 use Rattle.vyrd_command.specs.Batches.{IsReading}
+use Rattle.vyrd_command.specs.BatchCosts.{IsPaidRound}
 use Rattle.vyrd_command.proofs.batch.read_rounds.Given as goal
 
 -- what is read so far, and judged
@@ -11,6 +12,7 @@ invariant-loop-count g l = record {
   few : l.count ≤ longest_batch_input;
   unended : (g.S.Source.known l.source).ended ≡ false;
   source : AfterReads false (g.S.Source.known l.fn.source) (g.S.Source.known l.source);
+  paid : IsPaidRound l.judge l.bytes.items l.next l.initial.steps l.steps l.count;
 }
 
 abbrev pub decreases-loop-count : goal.decreases-loop-count
