@@ -22,6 +22,7 @@ use Rattle.vyrd_view.specs.Known.{Shows}
 use Rattle.vyrd_words.specs.HasWords.{HasWords, Keeps}
 use Rattle.vyrd_words.specs.Costs.{each_entry as words_entry, entry_price, price_kept}
 use Rattle.vyrd_words.specs.Costs.{owed as words_owed}
+use Rattle.vyrd_words.proofs.PriceLaws.{owed_none, price_none}
 use Rattle.vyrd_observers.specs.Watching.{answer_count}
 use Rattle.vyrd_judge.specs.declared.waiting.Waiting.{Waiting}
 use Rattle.vyrd_judge.specs.Waiting.{replied, waiting_at}
@@ -79,8 +80,6 @@ pub judged_paid : (price : Shows → ℕ → ℕ) (keys : Charter → ℕ) (k m 
     → k ≡ m → IsCatchingUp next n starting log → n.charter ≡ k.charter → n.shape ≡ k.shape →
     n.shadow ≡ k.shadow
     → n.views.shows ≡ k.views.shows
-    → words_owed (callers_of k) (newest_first log) n.views.since
-    ≤ words_owed (callers_of k) (newest_first log) k.views.since
     → judged + (answer_count n.watches + 2 * n.answers) + n.views.pending + 2 * n.owes
     ≤ before + (answer_count k.watches + 2 * k.answers) + k.views.pending + 2 * k.owes
     + judging_cost (callers_of k) (keys k.charter)
@@ -88,15 +87,14 @@ pub judged_paid : (price : Shows → ℕ → ℕ) (keys : Charter → ℕ) (k m 
     → after + debt price keys (with_first next n) log
     ≤ before + debt price keys (with_first (Some x) m) log
 judged_paid price keys k m n x next starting log before judged after same going charter shape shadow
-    shows words paid left waiting = subst (λ was. after + debt price keys (with_first next n) log
+    shows paid left waiting = subst (λ was. after + debt price keys (with_first next n) log
     ≤ before + debt price keys (with_first (Some x) was) log) same (omega (
       arith,
-      words,
       paid,
       left,
       ap shape_owed shape,
       ap shadow_owed shadow,
-      ap (λ g. words_owed (rules_by g).header.callers (newest_first log) n.views.since) charter,
+      ap (λ g. words_owed (rules_by g).header.callers (newest_first log)) charter,
       ap (λ g. price_kept (price n.views.shows) (rules_by g).header.callers
           (newest_first log)) charter,
       ap (λ s. price_kept (price s) (callers_of k) (newest_first log)) shows,
@@ -138,10 +136,10 @@ pub taken_paid : (price : Shows → ℕ → ℕ) (keys : Charter → ℕ) (k m n
     → HasWords k.shadow k.inner starting earlier → Keeps k.shadow.header earlier e
     → k.commits ≡ commit_count earlier
     → worded + shadow_owed n.shadow + n.views.pending
-    + words_owed k.shadow.header.callers (e ∷ earlier) n.views.since
+    + words_owed k.shadow.header.callers (e ∷ earlier)
     + price_kept (price k.views.shows) k.shadow.header.callers (e ∷ earlier)
     ≤ shaped + shadow_owed k.shadow + k.views.pending
-    + words_owed k.shadow.header.callers earlier k.views.since
+    + words_owed k.shadow.header.callers earlier
     + price_kept (price k.views.shows) k.shadow.header.callers earlier
     + (words_entry k.shadow.header.callers + entry_price (price k.views.shows) e.kind))
     → ((earlier : List Entry) → HasQueued queue_header k.waiting k.taken k.callers earlier
@@ -160,10 +158,10 @@ taken_paid price keys k m n first e queue_header before shaped worded queued_up 
     let up = queued (newest_first log) queue (keeps_at queue_is) (reversed t.entries) in
     let callers_is = ap (λ (h : Header). h.callers) shadow_is in
     let words_paid = subst (λ callers. worded + shadow_owed n.shadow + n.views.pending
-    + words_owed callers (e ∷ newest_first log) n.views.since
+    + words_owed callers (e ∷ newest_first log)
     + price_kept (price k.views.shows) callers (e ∷ newest_first log)
     ≤ shaped + shadow_owed k.shadow + k.views.pending
-    + words_owed callers (newest_first log) k.views.since
+    + words_owed callers (newest_first log)
     + price_kept (price k.views.shows) callers (newest_first log)
     + (words_entry callers + entry_price (price k.views.shows) e.kind)) callers_is
     (words starting (newest_first log) t.words (keeps_at shadow_is)
@@ -174,9 +172,8 @@ taken_paid price keys k m n first e queue_header before shaped worded queued_up 
       shape_paid (newest_first log) t.shape (short few t),
       words_paid,
       queue_paid,
-      ap (λ g. words_owed (rules_by g).header.callers (newest_first (log ++ e ∷ []))
-          n.views.since) charter,
-      ap (λ es. words_owed (callers_of k) es n.views.since) (newest_first-push log e),
+      ap (λ g. words_owed (rules_by g).header.callers (newest_first (log ++ e ∷ []))) charter,
+      ap (words_owed (callers_of k)) (newest_first-push log e),
       ap (λ g. price_kept (price n.views.shows) (rules_by g).header.callers
           (newest_first (log ++ e ∷ []))) charter,
       ap (λ s. price_kept (price s) (callers_of k) (newest_first (log ++ e ∷ []))) shows,
@@ -363,21 +360,17 @@ pub owed_first : (price : Shows → ℕ → ℕ) (keys : Charter → ℕ) {k : K
     {starting : List StartWord} (owes : ℕ) → HasTakenIn k starting []
     → shape_owed k.shape ≡ 0
     → k.views.pending ≡ start_cost (price k.views.shows) starting
-    → shadow_owed k.shadow ≡ 0 → words_owed k.shadow.header.callers [] k.views.since ≡ 0
-    → price_kept (price k.views.shows) k.shadow.header.callers [] ≡ 0
+    → shadow_owed k.shadow ≡ 0
     → answer_count k.watches + 2 * k.answers ≡ 0 → k.waiting ≡ [] → k.owes ≡ owes
     → debt price keys k [] ≡ start_cost (price k.views.shows) starting + 2 * owes
-owed_first price keys {k} owes t shape pending rebuilt words kept watches waiting same =
-    let callers_is = ap (λ (h : Header). h.callers) t.shadow_header in
+owed_first price keys {k} owes t shape pending rebuilt watches waiting same =
     omega (
       arith,
       shape,
       pending,
       rebuilt,
-      words,
-      kept,
-      ap (λ n. words_owed n [] k.views.since) callers_is,
-      ap (λ n. price_kept (price k.views.shows) n []) callers_is,
+      owed_none (callers_of k),
+      price_none (price k.views.shows) (callers_of k),
       watches,
       ap (waiting_cost (callers_of k) (keys k.charter)) waiting,
       same,

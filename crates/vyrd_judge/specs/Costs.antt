@@ -44,7 +44,7 @@ callers_of k = (rules_by k.charter).header.callers
 -- the ends of open blocks, and the prices of what these keep back.
 abbrev pub words_debt : (ℕ → ℕ) → Kept → List Entry → ℕ
 words_debt price k log = shadow_owed k.shadow + k.views.pending
-    + words_owed (callers_of k) (newest_first log) k.views.since
+    + words_owed (callers_of k) (newest_first log)
     + price_kept price (callers_of k) (newest_first log)
 
 -- What is owed for the entries so far: by the rules of shape, for the words, by what is known of

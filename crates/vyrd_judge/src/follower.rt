@@ -18,7 +18,6 @@ ghost use Rattle.vyrd_judge.specs.Following.{IsCatchingUp, MayCatchUp, AdvanceGi
 ghost use Rattle.vyrd_judge.specs.Queued.{CanLeave};
 ghost use Rattle.vyrd_shadow.specs.Costs.{owed as shadow_owed};
 ghost use Rattle.vyrd_view.specs.Known.{by_rules, view_by};
-ghost use Rattle.vyrd_words.specs.Costs.{owed as words_owed, price_kept};
 ghost use Rattle.vyrd_words.specs.HasWords.{HasWords};
 ghost use Rattle.vyrd_judge.specs.declared.outcome.Advance.TheVariants.{Goes};
 ghost use Rattle.vyrd_judge.specs.declared.waiting.Waiting.{Waiting};
@@ -401,9 +400,6 @@ fn first_words<S: Spec>(
     ensures pending { IfOk result (λ w. w.views.pending
         ≡ start_cost (S.Compared.price w.views.shows) start.now) }
     ensures rebuilt { IfOk result (λ w. shadow_owed w.shadow ≡ 0) }
-    ensures owed { IfOk result (λ w. words_owed w.shadow.header.callers [] w.views.since ≡ 0) }
-    ensures kept { IfOk result (λ w.
-        price_kept (S.Compared.price w.views.shows) w.shadow.header.callers [] ≡ 0) }
 {
     let changed = words_of(alloc, start)?;
     let state = spec.view(alloc)?;

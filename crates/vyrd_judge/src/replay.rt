@@ -16,7 +16,6 @@ ghost use Rattle.vyrd_observers.specs.Costs.{owed};
 ghost use Rattle.vyrd_observers.specs.Watching.{AreCurrent};
 ghost use Rattle.vyrd_observers.specs.Watching.{Seen, unwatched, has_answer};
 ghost use Rattle.vyrd_view.specs.Known.{view_by};
-ghost use Rattle.vyrd_words.specs.Costs.{owed as words_owed};
 
 use crate::outcome::Outcome;
 use crate::waiting::{Event, Waiting};
@@ -151,10 +150,6 @@ impl<S: Spec> Replay<S> {
             + 2 * S.owes self.old.spec
             + judging_cost (rules_by (S.charter self.old.spec)).header.callers
             (S.most_touched (S.charter self.old.spec))) }
-        ensures owed { (callers : ℕ) (earlier : List Entry) (part : List (ℕ × ℕ))
-            (rest : List (List (ℕ × ℕ))) → words.old.views.since ≡ part ∷ rest
-            → OnOk result (words_owed callers earlier words.new.views.since
-            ≤ words_owed callers earlier words.old.views.since) }
     {
         steps.tick();
         if !self.spec.step(method, args, reply)? {
@@ -213,13 +208,6 @@ impl<S: Spec> Replay<S> {
             + 2 * S.owes self.old.spec
             + judging_cost (rules_by (S.charter self.old.spec)).header.callers
             (S.most_touched (S.charter self.old.spec))) }
-        ensures owed { (callers : ℕ) (earlier : List Entry) (starting : List StartWord)
-            (log : List Entry) (xs : List Waiting)
-            → Judged (rules_by (S.charter self.old.spec)) starting log (S.state self.old.spec)
-            (S.made self.old.spec)
-            self.old.watches.by_caller (x ∷ xs) words.old.views.first words.old.views.since
-            → OnOk result (words_owed callers earlier words.new.views.since
-            ≤ words_owed callers earlier words.old.views.since) }
     {
         match x.event() {
             Event::Begins(method, args) => {

@@ -12,60 +12,54 @@ use Rattle.vyrd_base.specs.Commits.{is_commit, commit_count}
 use Rattle.vyrd_base.specs.Places.{first_answer, numbers_from, numbers_below}
 use Rattle.vyrd_base.proofs.Lasting.{commit_count-cons}
 use Rattle.vyrd_base.proofs.TestLaws.{same_of, apart_of, same_number}
-use Rattle.vyrd_words.specs.Cuts.{with_part}
-use Rattle.vyrd_words.specs.Effects.{cut_if, inner_number, number_at, parts_since, parts_behind}
+use Rattle.vyrd_words.specs.Effects.{inner_number, number_at, parts_since, parts_behind}
 use Rattle.std.specs.Prelude.{Result, Ok, Err, OnOk}
 use Rattle.vyrd_shadow.specs.Following.{words_of}
 use Rattle.vyrd_words.specs.HasWords.{WordsView}
 use Rattle.vyrd_view.specs.Known.{Shows}
-use Rattle.vyrd_words.specs.Costs.{effect_count, effect_words, late_cost, held_if, held, work_held, most_held}
+use Rattle.vyrd_words.specs.Costs.{effect_count, effect_words, held, work_held}
 use Rattle.vyrd_words.proofs.WordsLaws.{number_low}
 
--- an entry's effects and its commit, seen from an open block
-pub grown : (cuts : Bool) (commits n k : ℕ) (new : List (ℕ × ℕ)) (since : List (List (ℕ × ℕ))) → n ≤ commits
-    → late_cost (parts_since (cond cuts 1 0 + commits) n) (cut_if cuts (with_part k new since)) ≤ late_cost (parts_since commits n) since + 2
-grown cuts commits zero k new since low = omega arith
-grown true commits (suc m) k new since low =
+-- two steps for each commit since, if a block is open
+abbrev held_if : Bool → ℕ → ℕ → ℕ
+held_if is_open number commits = cond is_open (2 * parts_since commits number) 0
+
+-- one more commit, seen from a block that may be closed
+seen_by_other : (is_open cuts : Bool) (commits n : ℕ) → n ≤ commits
+    → held_if is_open n (cond cuts 1 0 + commits) ≤ held_if is_open n commits + 2
+seen_by_other false cuts commits n low = omega arith
+seen_by_other true cuts commits zero low = omega arith
+seen_by_other true true commits (suc m) low =
     let one : 1 + commits - m ≡ suc (commits - m) = omega (arith, low) in omega (arith, one)
-grown false commits (suc m) k new since low =
+seen_by_other true false commits (suc m) low =
     let none : 0 + commits - m ≡ commits - m = omega arith in omega (arith, none)
 
--- the same, of a block that may be closed
-seen_by_other : (is_open cuts : Bool) (commits n k : ℕ) (new : List (ℕ × ℕ)) (since : List (List (ℕ × ℕ))) → n ≤ commits
-    → held_if is_open n (cond cuts 1 0 + commits) (cut_if cuts (with_part k new since)) ≤ held_if is_open n commits since + 2
-seen_by_other true cuts commits n k new since low = grown cuts commits n k new since low
-seen_by_other false cuts commits n k new since low = omega arith
-
 -- a lone commit holds a commit alone
-new_commit : (is_open : Bool) (commits : ℕ) (since : List (List (ℕ × ℕ)))
-    → held_if is_open (suc commits) (1 + commits) (since ++ [] ∷ []) ≤ 2
-new_commit false commits since = omega arith
-new_commit true commits since = let one : 1 + commits - commits ≡ 1 = omega arith in omega (arith, one)
+new_commit : (is_open : Bool) (commits : ℕ) → held_if is_open (suc commits) (1 + commits) ≤ 2
+new_commit false commits = omega arith
+new_commit true commits = let one : 1 + commits - commits ≡ 1 = omega arith in omega (arith, one)
 
 -- a caller's part of what is held, after an entry of this caller or another
-by_same : (same : Bool) (kind : Kind) (commits n : ℕ) (answer : Option Bool) (k : ℕ) (new : List (ℕ × ℕ)) (since : List (List (ℕ × ℕ))) → n ≤ commits
+by_same : (same : Bool) (kind : Kind) (commits n : ℕ) (answer : Option Bool) → n ≤ commits
     → held_if (unwrap_or (option_or (cond same (open_or_close kind) None) answer) false) (cond same (number_at kind commits n) n)
-    (cond (is_commit kind) 1 0 + commits) (cut_if (is_commit kind) (with_part k new since))
-    ≤ held_if (unwrap_or answer false) n commits since + 2
-by_same false kind commits n answer k new since low = seen_by_other (unwrap_or answer false) (is_commit kind) commits n k new since low
-by_same true (Call method args) commits n answer k new since low = seen_by_other (unwrap_or answer false) false commits n k new since low
-by_same true (Return reply) commits n answer k new since low = seen_by_other (unwrap_or answer false) false commits n k new since low
-by_same true (Write word value) commits n answer k new since low = seen_by_other (unwrap_or answer false) false commits n k new since low
-by_same true Commit commits n answer k new since low =
-    let one = new_commit (unwrap_or answer false) commits (with_part k new since) in omega (arith, one)
-by_same true BlockOpen commits n answer k new since low = omega arith
-by_same true BlockClose commits n answer k new since low = omega arith
-by_same true BlockCommit commits n answer k new since low = omega arith
+    (cond (is_commit kind) 1 0 + commits)
+    ≤ held_if (unwrap_or answer false) n commits + 2
+by_same false kind commits n answer low = seen_by_other (unwrap_or answer false) (is_commit kind) commits n low
+by_same true (Call method args) commits n answer low = seen_by_other (unwrap_or answer false) false commits n low
+by_same true (Return reply) commits n answer low = seen_by_other (unwrap_or answer false) false commits n low
+by_same true (Write word value) commits n answer low = seen_by_other (unwrap_or answer false) false commits n low
+by_same true Commit commits n answer low =
+    let one = new_commit (unwrap_or answer false) commits in omega (arith, one)
+by_same true BlockOpen commits n answer low = omega arith
+by_same true BlockClose commits n answer low = omega arith
+by_same true BlockCommit commits n answer low = omega arith
 
-pub held_more : (c : ℕ) (e : Entry) (earlier : List Entry) (k : ℕ) (writes : List (ℕ × ℕ)) (old new : List (List (ℕ × ℕ)))
-    → new ≡ cut_if (is_commit e.kind) (with_part k writes old)
-    → held (e ∷ earlier) new c ≤ held earlier old c + 2
-held_more c e earlier k writes old new is =
+pub held_more : (c : ℕ) (e : Entry) (earlier : List Entry) → held (e ∷ earlier) c ≤ held earlier c + 2
+held_more c e earlier =
     let more = by_same (e.caller == c) e.kind (commit_count earlier) (inner_number c earlier) (first_answer (by_caller c open_or_close) earlier)
-    k writes old (number_low c earlier) in
-    let same : held (e ∷ earlier) new c ≡ held_if (has_block c (e ∷ earlier)) (inner_number c (e ∷ earlier)) (cond (is_commit e.kind) 1 0 + commit_count earlier)
-    (cut_if (is_commit e.kind) (with_part k writes old)) =
-    (λ j. held_if (has_block c (e ∷ earlier)) (inner_number c (e ∷ earlier)) (commit_count-cons e earlier j) (is j)) in
+    (number_low c earlier) in
+    let same : held (e ∷ earlier) c ≡ held_if (has_block c (e ∷ earlier)) (inner_number c (e ∷ earlier)) (cond (is_commit e.kind) 1 0 + commit_count earlier) =
+    (λ j. held_if (has_block c (e ∷ earlier)) (inner_number c (e ∷ earlier)) (commit_count-cons e earlier j)) in
     omega (arith, same, more)
 
 -- sums over callers, each of which may have something more
@@ -107,31 +101,29 @@ is_among_from k (suc n) c low high =
     by_test true is rest = refl
     by_test false is rest = rest (apart_of k c is)
 
--- What an end of a block costs is what was held, and what is held grows by a commit alone.
-pub late_paid : (callers : ℕ) (e : Entry) (earlier : List Entry) (writes : List (ℕ × ℕ)) (old new : List (List (ℕ × ℕ)))
-    → e.caller < callers → (e.kind ≡ BlockClose → has_block e.caller earlier ≡ true)
-    → new ≡ cut_if (is_commit e.kind) (with_part (parts_behind earlier e.caller e.kind) writes old)
-    → late_cost (parts_behind earlier e.caller e.kind) old + work_held callers (e ∷ earlier) new
-    ≤ work_held callers earlier old + most_held callers (length writes)
-late_paid callers e earlier writes old new low opened is = by_kind e.kind refl
-  where
-    k : ℕ
-    k = 2
+-- the same for each caller
+two_each : (k n : ℕ) → sum_by (λ c. 2) (numbers_from k n) ≡ 2 * n
+two_each k zero = refl
+two_each k (suc n) =
+    let rest = two_each (k + 1) n in omega (arith, sum_by-cons (λ c. 2) k (numbers_from (k + 1) n), rest)
 
-    more : (x : ℕ) → held (e ∷ earlier) new x ≤ held earlier old x + k
-    more x = held_more x e earlier (parts_behind earlier e.caller e.kind) writes old new is
+-- What an end of a block costs is what was held, and what is held grows by a commit alone.
+pub late_paid : (callers : ℕ) (e : Entry) (earlier : List Entry)
+    → e.caller < callers → (e.kind ≡ BlockClose → has_block e.caller earlier ≡ true)
+    → 2 * parts_behind earlier e.caller e.kind + work_held callers (e ∷ earlier) ≤ work_held callers earlier + 2 * callers
+late_paid callers e earlier low opened = by_kind e.kind refl
+  where
+    more : (x : ℕ) → held (e ∷ earlier) x ≤ held earlier x + 2
+    more x = held_more x e earlier
 
     quiet : parts_behind earlier e.caller e.kind ≡ 0
-        → late_cost (parts_behind earlier e.caller e.kind) old + work_held callers (e ∷ earlier) new
-        ≤ work_held callers earlier old + most_held callers (length writes)
+        → 2 * parts_behind earlier e.caller e.kind + work_held callers (e ∷ earlier) ≤ work_held callers earlier + 2 * callers
     quiet none =
-        let all = sum_more (held (e ∷ earlier) new) (held earlier old) k (numbers_below callers) more in
-        let free = ap (λ b. late_cost b old) none in
-        omega (arith, all, free)
+        let all = sum_more (held (e ∷ earlier)) (held earlier) 2 (numbers_below callers) more in
+        omega (arith, all, two_each 0 callers, none)
 
     by_kind : (kind : Kind) → e.kind ≡ kind
-        → late_cost (parts_behind earlier e.caller e.kind) old + work_held callers (e ∷ earlier) new
-        ≤ work_held callers earlier old + most_held callers (length writes)
+        → 2 * parts_behind earlier e.caller e.kind + work_held callers (e ∷ earlier) ≤ work_held callers earlier + 2 * callers
     by_kind (Call method args) at = quiet (ap (parts_behind earlier e.caller) at)
     by_kind (Return reply) at = quiet (ap (parts_behind earlier e.caller) at)
     by_kind (Write word value) at = quiet (ap (parts_behind earlier e.caller) at)
@@ -141,59 +133,50 @@ late_paid callers e earlier writes old new low opened is = by_kind e.kind refl
     by_kind BlockClose at =
         let closed : has_block e.caller (e ∷ earlier) ≡ false =
         (λ j. unwrap_or (option_or (cond (same_number e.caller j) (open_or_close (at j)) None) (first_answer (by_caller e.caller open_or_close) earlier)) false) in
-        let none : held (e ∷ earlier) new e.caller ≡ 0 =
-        ap (λ b. held_if b (inner_number e.caller (e ∷ earlier)) (commit_count (e ∷ earlier)) new) closed in
+        let none : held (e ∷ earlier) e.caller ≡ 0 =
+        ap (λ b. held_if b (inner_number e.caller (e ∷ earlier)) (commit_count (e ∷ earlier))) closed in
         let there = is_among_from 0 callers e.caller (omega arith) (omega (arith, low)) in
-        let all = sum_closed (held (e ∷ earlier) new) (held earlier old) k e.caller (numbers_below callers) there none more in
-        let own : held earlier old e.caller ≡ late_cost (parts_since (commit_count earlier) (inner_number e.caller earlier)) old =
-        ap (λ b. held_if b (inner_number e.caller earlier) (commit_count earlier) old) (opened at) in
-        let here = ap (λ kind. late_cost (parts_behind earlier e.caller kind) old) at in
-        omega (arith, all, own, here)
+        let all = sum_closed (held (e ∷ earlier)) (held earlier) 2 e.caller (numbers_below callers) there none more in
+        let own : held earlier e.caller ≡ 2 * parts_since (commit_count earlier) (inner_number e.caller earlier) =
+        ap (λ b. held_if b (inner_number e.caller earlier) (commit_count earlier)) (opened at) in
+        let here = ap (λ kind. parts_behind earlier e.caller kind) at in
+        omega (arith, all, two_each 0 callers, own, here)
 
 -- the same, of what is kept before an entry
-pub paid_now : {v w : WordsView} (e : Entry) {kind : Kind} (earlier : List Entry) (writes : List (ℕ × ℕ)) (new : List (List (ℕ × ℕ))) (s0 s1 : ℕ)
+pub paid_now : {v w : WordsView} (e : Entry) {kind : Kind} (earlier : List Entry) (writes : List (ℕ × ℕ)) (s0 s1 : ℕ)
     → w ≡ v → e.kind ≡ kind → e.caller < w.shadow.header.callers → (kind ≡ BlockClose → has_block e.caller earlier ≡ true)
     → length writes ≡ effect_count w.shadow e.caller kind
-    → s1 ≤ s0 + 4 * length writes + late_cost (parts_behind earlier e.caller kind) w.views.since
-    → new ≡ cut_if (is_commit kind) (with_part (parts_behind earlier e.caller kind) writes w.views.since)
-    → s1 + work_held v.shadow.header.callers (e ∷ earlier) new
-    ≤ s0 + work_held v.shadow.header.callers earlier v.views.since + 4 * effect_count v.shadow e.caller e.kind
-    + most_held v.shadow.header.callers (effect_count v.shadow e.caller e.kind)
-paid_now {v} {w} e {kind} earlier writes new s0 s1 is at low opened count cost since =
-    subst (λ (x : WordsView). s1 + work_held x.shadow.header.callers (e ∷ earlier) new
-    ≤ s0 + work_held x.shadow.header.callers earlier x.views.since + 4 * effect_count x.shadow e.caller e.kind
-    + most_held x.shadow.header.callers (effect_count x.shadow e.caller e.kind)) is
+    → s1 ≤ s0 + 4 * length writes + 2 * parts_behind earlier e.caller kind
+    → s1 + work_held v.shadow.header.callers (e ∷ earlier)
+    ≤ s0 + work_held v.shadow.header.callers earlier + 4 * effect_count v.shadow e.caller e.kind + 2 * v.shadow.header.callers
+paid_now {v} {w} e {kind} earlier writes s0 s1 is at low opened count cost =
+    subst (λ (x : WordsView). s1 + work_held x.shadow.header.callers (e ∷ earlier)
+    ≤ s0 + work_held x.shadow.header.callers earlier + 4 * effect_count x.shadow e.caller e.kind + 2 * x.shadow.header.callers) is
     (let n = w.shadow.header.callers in
     let effects : length writes ≡ effect_count w.shadow e.caller e.kind = count ∙ ap (effect_count w.shadow e.caller) (sym at) in
-    let paid = late_paid n e earlier writes w.views.since new low (λ closes. opened (sym at ∙ closes))
-    (since ∙ ap (λ x. cut_if (is_commit x) (with_part (parts_behind earlier e.caller x) writes w.views.since)) (sym at)) in
-    let here = ap (λ x. late_cost (parts_behind earlier e.caller x) w.views.since) at in
-    let most = ap (most_held n) effects in
-    omega (arith, paid, here, most, effects, cost))
+    let paid = late_paid n e earlier low (λ closes. opened (sym at ∙ closes)) in
+    let here = ap (λ x. parts_behind earlier e.caller x) at in
+    omega (arith, paid, here, effects, cost))
 
 -- and whatever is kept after it
 pub paid_at_most : {v w : WordsView} (e : Entry) {kind : Kind} (earlier : List Entry) (writes : List (ℕ × ℕ)) (s0 s1 : ℕ)
     → w ≡ v → e.kind ≡ kind → e.caller < w.shadow.header.callers → (kind ≡ BlockClose → has_block e.caller earlier ≡ true)
     → length writes ≡ effect_count w.shadow e.caller kind
-    → s1 ≤ s0 + 4 * length writes + late_cost (parts_behind earlier e.caller kind) w.views.since
-    → s1 ≤ s0 + work_held v.shadow.header.callers earlier v.views.since + 4 * effect_count v.shadow e.caller e.kind
-    + most_held v.shadow.header.callers (effect_count v.shadow e.caller e.kind)
+    → s1 ≤ s0 + 4 * length writes + 2 * parts_behind earlier e.caller kind
+    → s1 ≤ s0 + work_held v.shadow.header.callers earlier + 4 * effect_count v.shadow e.caller e.kind + 2 * v.shadow.header.callers
 paid_at_most {v} {w} e {kind} earlier writes s0 s1 is at low opened count cost =
-    let paid = paid_now {v = v} {w = w} e {kind = kind} earlier writes
-    (cut_if (is_commit kind) (with_part (parts_behind earlier e.caller kind) writes w.views.since)) s0 s1 is at low opened count cost refl in
+    let paid = paid_now {v = v} {w = w} e {kind = kind} earlier writes s0 s1 is at low opened count cost in
     omega (arith, paid)
 
-pub paid_closed : {T E : Type 0} {v w : WordsView} (r : Result T E) (e : Entry) {kind : Kind} (earlier : List Entry) (writes : List (ℕ × ℕ)) (new : List (List (ℕ × ℕ))) (s0 s1 : ℕ)
+pub paid_closed : {T E : Type 0} {v w : WordsView} (r : Result T E) (e : Entry) {kind : Kind} (earlier : List Entry) (writes : List (ℕ × ℕ)) (s0 s1 : ℕ)
     → w ≡ v → e.kind ≡ kind → e.caller < w.shadow.header.callers → (kind ≡ BlockClose → has_block e.caller earlier ≡ true)
     → length writes ≡ effect_count w.shadow e.caller kind
-    → OnOk r (s1 ≤ s0 + 4 * length writes + late_cost (parts_behind earlier e.caller kind) w.views.since)
-    → OnOk r (new ≡ cut_if (is_commit kind) (with_part (parts_behind earlier e.caller kind) writes w.views.since))
-    → OnOk r (s1 + work_held v.shadow.header.callers (e ∷ earlier) new
-    ≤ s0 + work_held v.shadow.header.callers earlier v.views.since + 4 * effect_count v.shadow e.caller e.kind
-    + most_held v.shadow.header.callers (effect_count v.shadow e.caller e.kind))
-paid_closed {v = v} {w = w} (Ok x) e {kind} earlier writes new s0 s1 is at low opened count cost since =
-    paid_now {v = v} {w = w} e {kind = kind} earlier writes new s0 s1 is at low opened count cost since
-paid_closed (Err x) e earlier writes new s0 s1 is at low opened count cost since = tt
+    → OnOk r (s1 ≤ s0 + 4 * length writes + 2 * parts_behind earlier e.caller kind)
+    → OnOk r (s1 + work_held v.shadow.header.callers (e ∷ earlier)
+    ≤ s0 + work_held v.shadow.header.callers earlier + 4 * effect_count v.shadow e.caller e.kind + 2 * v.shadow.header.callers)
+paid_closed {v = v} {w = w} (Ok x) e {kind} earlier writes s0 s1 is at low opened count cost =
+    paid_now {v = v} {w = w} e {kind = kind} earlier writes s0 s1 is at low opened count cost
+paid_closed (Err x) e earlier writes s0 s1 is at low opened count cost = tt
 
 -- how many words a write has changed
 pub one_changed : (b : Bool) (changed old : List ℕ) (w : ℕ) → changed ≡ cond b old (old ++ w ∷ []) → old ≡ [] → length changed ≡ cond b 0 1

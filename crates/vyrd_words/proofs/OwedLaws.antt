@@ -1,5 +1,5 @@
 -- An entry's steps are paid by what is owed before it and a constant.
-use Rattle.std.proofs.Common.{◌≡◌, ◌≢◌, ℕ, zero, suc, ◌+◌, ◌*◌, ◌<◌, ◌≤◌, List, [], ◌∷◌, ◌++◌, length, subst, refl, ap, sym, arith, Bool, true, false, cond, length-append, Option, None}
+use Rattle.std.proofs.Common.{◌≡◌, ◌≢◌, ℕ, zero, suc, ◌+◌, ◌*◌, ◌<◌, ◌≤◌, List, [], ◌∷◌, ◌++◌, length, refl, ap, sym, arith, Bool, true, false, cond, length-append, Option, None}
 use Rattle.std.specs.Prelude.{◌==◌, unwrap_or, Result, Ok, Err, OnOk}
 use Rattle.std.specs.Option.{option_or}
 use Rattle.std.specs.List.{sum_by, list_any}
@@ -9,15 +9,13 @@ use Rattle.vyrd_base.specs.declared.log.Kind.TheVariants.{Call, Return, Write, C
 use Rattle.vyrd_base.specs.declared.log.Entry.{Entry}
 use Rattle.vyrd_base.specs.declared.log.StartWord.{StartWord}
 use Rattle.vyrd_base.specs.Callers.{has_block, by_caller, open_or_close}
-use Rattle.vyrd_base.specs.Places.{first_answer, numbers_from, numbers_below}
+use Rattle.vyrd_base.specs.Places.{first_answer, numbers_from}
 use Rattle.vyrd_base.specs.Words.{block_writes, with_write}
 use Rattle.vyrd_base.proofs.TestLaws.{apart_of, same_of, same_number, isnt_same}
 use Rattle.vyrd_shadow.specs.Blocks.{first_written}
 use Rattle.vyrd_shadow.specs.Following.{Kept, words_of, kept_writes}
-use Rattle.vyrd_base.specs.Commits.{commit_count}
-use Rattle.vyrd_words.specs.Effects.{inner_number}
 use Rattle.vyrd_words.specs.HasWords.{HasWords, Keeps}
-use Rattle.vyrd_words.specs.Costs.{held_if, held, work_held, most_held, effect_count, kept_back, all_kept_back, each_entry, owed}
+use Rattle.vyrd_words.specs.Costs.{work_held, effect_count, kept_back, all_kept_back, each_entry, owed}
 use Rattle.vyrd_words.proofs.WordsLaws.{low_caller, closes_block, commits_block}
 
 -- the effects of an entry, by whether the caller's block is open and what it has written
@@ -134,62 +132,27 @@ effects_few kept starting inner earlier e has keeps = by_kind e.kind refl
     by_kind BlockClose at = block_few kept starting inner earlier e.caller has (low_caller keeps) (closes_block at keeps)
     by_kind BlockCommit at = block_few kept starting inner earlier e.caller has (low_caller keeps) (commits_block at keeps)
 
--- the same for each caller
-two_each : (k n : ℕ) → sum_by (λ c. 2) (numbers_from k n) ≡ 2 * n
-two_each k zero = refl
-two_each k (suc n) =
-    let rest = two_each (k + 1) n in omega (arith, sum_by-cons (λ c. 2) k (numbers_from (k + 1) n), rest)
-
 -- what an entry costs, with what is owed after it
 pub owed_paid : {T E : Type 0} (r : Result T E) (kept : Kept) (starting : List StartWord) (inner : List ℕ) (earlier : List Entry) (e : Entry)
-    (old new : List (List (ℕ × ℕ))) (s0 s1 : ℕ) → HasWords kept inner starting earlier → Keeps kept.header earlier e
-    → OnOk r (s1 + work_held kept.header.callers (e ∷ earlier) new
-    ≤ s0 + 5 + work_held kept.header.callers earlier old + 4 * effect_count kept e.caller e.kind + most_held kept.header.callers (effect_count kept e.caller e.kind))
-    → OnOk r (s1 + owed kept.header.callers (e ∷ earlier) new ≤ s0 + owed kept.header.callers earlier old + each_entry kept.header.callers)
-owed_paid (Err x) kept starting inner earlier e old new s0 s1 has keeps paid = tt
-owed_paid (Ok x) kept starting inner earlier e old new s0 s1 has keeps paid =
+    (s0 s1 : ℕ) → HasWords kept inner starting earlier → Keeps kept.header earlier e
+    → OnOk r (s1 + work_held kept.header.callers (e ∷ earlier)
+    ≤ s0 + 5 + work_held kept.header.callers earlier + 4 * effect_count kept e.caller e.kind + 2 * kept.header.callers)
+    → OnOk r (s1 + owed kept.header.callers (e ∷ earlier) ≤ s0 + owed kept.header.callers earlier + each_entry kept.header.callers)
+owed_paid (Err x) kept starting inner earlier e s0 s1 has keeps paid = tt
+owed_paid (Ok x) kept starting inner earlier e s0 s1 has keeps paid =
     let n = kept.header.callers in
     let w = effect_count kept e.caller e.kind in
     let all = all_kept n e earlier w (low_caller keeps) (effects_few kept starting inner earlier e has keeps) in
-    let two = two_each 0 n in
-    omega (arith, paid, all, two)
+    omega (arith, paid, all)
 
 -- and whatever is owed after it
 pub owed_at_most : (kept : Kept) (starting : List StartWord) (inner : List ℕ) (earlier : List Entry) (e : Entry)
-    (old : List (List (ℕ × ℕ))) (s0 s1 : ℕ) → HasWords kept inner starting earlier → Keeps kept.header earlier e
-    → s1 ≤ s0 + 5 + work_held kept.header.callers earlier old + 4 * effect_count kept e.caller e.kind
-    + most_held kept.header.callers (effect_count kept e.caller e.kind)
-    → s1 ≤ s0 + owed kept.header.callers earlier old + each_entry kept.header.callers
-owed_at_most kept starting inner earlier e old s0 s1 has keeps paid =
+    (s0 s1 : ℕ) → HasWords kept inner starting earlier → Keeps kept.header earlier e
+    → s1 ≤ s0 + 5 + work_held kept.header.callers earlier + 4 * effect_count kept e.caller e.kind
+    + 2 * kept.header.callers
+    → s1 ≤ s0 + owed kept.header.callers earlier + each_entry kept.header.callers
+owed_at_most kept starting inner earlier e s0 s1 has keeps paid =
     let n = kept.header.callers in
     let w = effect_count kept e.caller e.kind in
     let all = all_kept n e earlier w (low_caller keeps) (effects_few kept starting inner earlier e has keeps) in
-    let two = two_each 0 n in
-    omega (arith, paid, all, two)
-
--- A commit that is judged owes nothing more: what is owed doesn't grow.
-held_less : (is_open : Bool) (number commits : ℕ) (part : List (ℕ × ℕ)) (rest : List (List (ℕ × ℕ)))
-    → held_if is_open number commits rest ≤ held_if is_open number commits (part ∷ rest)
-held_less true number commits part rest = omega arith
-held_less false number commits part rest = omega arith
-
-sum_less : (f g : ℕ → ℕ) (xs : List ℕ) → ((x : ℕ) → f x ≤ g x) → sum_by f xs ≤ sum_by g xs
-sum_less f g [] less = omega arith
-sum_less f g (x ∷ xs) less =
-    let rest = sum_less f g xs less in
-    let here = less x in
-    omega (arith, sum_by-cons f x xs, sum_by-cons g x xs, rest, here)
-
-owed_less : (callers : ℕ) (earlier : List Entry) (part : List (ℕ × ℕ)) (rest : List (List (ℕ × ℕ)))
-    → owed callers earlier rest ≤ owed callers earlier (part ∷ rest)
-owed_less callers earlier part rest =
-    let less = sum_less (held earlier rest) (held earlier (part ∷ rest)) (numbers_below callers)
-    (λ c. held_less (has_block c earlier) (inner_number c earlier) (commit_count earlier) part rest) in
-    omega (arith, less)
-
-pub owed_judged : {T E : Type 0} (r : Result T E) (callers : ℕ) (earlier : List Entry) (old new : List (List (ℕ × ℕ))) (part : List (ℕ × ℕ)) (rest : List (List (ℕ × ℕ)))
-    → old ≡ part ∷ rest → OnOk r (new ≡ rest) → OnOk r (owed callers earlier new ≤ owed callers earlier old)
-owed_judged (Err x) callers earlier old new part rest is judged = tt
-owed_judged (Ok x) callers earlier old new part rest is judged =
-    subst (λ s. owed callers earlier new ≤ owed callers earlier s) (sym is)
-    (subst (λ s. owed callers earlier s ≤ owed callers earlier (part ∷ rest)) (sym judged) (owed_less callers earlier part rest))
+    omega (arith, paid, all)

@@ -15,7 +15,7 @@ use Rattle.vyrd_base.proofs.TestLaws.{same_number, isnt_same}
 use Rattle.vyrd_shadow.specs.Blocks.{first_written}
 use Rattle.vyrd_shadow.specs.Following.{Kept, words_of, kept_writes}
 use Rattle.vyrd_words.specs.HasWords.{HasWords, Keeps}
-use Rattle.vyrd_words.specs.Costs.{held, kept_back, work_held, most_held, effect_count, effect_words, each_entry, owed, entry_price, price_back, price_kept}
+use Rattle.vyrd_words.specs.Costs.{held, kept_back, work_held, effect_count, effect_words, each_entry, owed, entry_price, price_back, price_kept}
 use Rattle.vyrd_words.proofs.WordsLaws.{low_caller, closes_block, commits_block}
 use Rattle.vyrd_words.proofs.OwedLaws.{sum_at, owed_paid, owed_at_most}
 
@@ -118,32 +118,32 @@ prices_paid p kept starting inner earlier e has keeps =
 
 -- what an entry costs, with what is owed after it, by the price of what it writes
 pub owed_priced : {T E : Type 0} (r : Result T E) (p : ℕ → ℕ) (kept : Kept) (starting : List StartWord) (inner : List ℕ) (earlier : List Entry) (e : Entry)
-    (old new : List (List (ℕ × ℕ))) (s0 s1 : ℕ) → HasWords kept inner starting earlier → Keeps kept.header earlier e
-    → OnOk r (s1 + work_held kept.header.callers (e ∷ earlier) new
-    ≤ s0 + sum_by p (effect_words kept e.caller e.kind) + 5 + work_held kept.header.callers earlier old + 4 * effect_count kept e.caller e.kind
-    + most_held kept.header.callers (effect_count kept e.caller e.kind))
-    → OnOk r (s1 + owed kept.header.callers (e ∷ earlier) new + price_kept p kept.header.callers (e ∷ earlier)
-    ≤ s0 + owed kept.header.callers earlier old + price_kept p kept.header.callers earlier
+    (s0 s1 : ℕ) → HasWords kept inner starting earlier → Keeps kept.header earlier e
+    → OnOk r (s1 + work_held kept.header.callers (e ∷ earlier)
+    ≤ s0 + sum_by p (effect_words kept e.caller e.kind) + 5 + work_held kept.header.callers earlier + 4 * effect_count kept e.caller e.kind
+    + 2 * kept.header.callers)
+    → OnOk r (s1 + owed kept.header.callers (e ∷ earlier) + price_kept p kept.header.callers (e ∷ earlier)
+    ≤ s0 + owed kept.header.callers earlier + price_kept p kept.header.callers earlier
     + (each_entry kept.header.callers + entry_price p e.kind))
-owed_priced (Err x) p kept starting inner earlier e old new s0 s1 has keeps paid = tt
-owed_priced {T = T} {E = E} (Ok x) p kept starting inner earlier e old new s0 s1 has keeps paid =
+owed_priced (Err x) p kept starting inner earlier e s0 s1 has keeps paid = tt
+owed_priced {T = T} {E = E} (Ok x) p kept starting inner earlier e s0 s1 has keeps paid =
     let n = kept.header.callers in
     let prices = sum_by p (effect_words kept e.caller e.kind) in
-    let all = owed_paid {T = T} {E = E} (Ok x) kept starting inner earlier e old new (s0 + prices) s1 has keeps paid in
+    let all = owed_paid {T = T} {E = E} (Ok x) kept starting inner earlier e (s0 + prices) s1 has keeps paid in
     let each = prices_paid p kept starting inner earlier e has keeps in
     omega (arith, all, each)
 
 -- and whatever is owed after it
 pub priced_at_most : (p : ℕ → ℕ) (kept : Kept) (starting : List StartWord) (inner : List ℕ) (earlier : List Entry) (e : Entry)
-    (old : List (List (ℕ × ℕ))) (s0 s1 : ℕ) → HasWords kept inner starting earlier → Keeps kept.header earlier e
-    → s1 ≤ s0 + sum_by p (effect_words kept e.caller e.kind) + 5 + work_held kept.header.callers earlier old + 4 * effect_count kept e.caller e.kind
-    + most_held kept.header.callers (effect_count kept e.caller e.kind)
-    → s1 ≤ s0 + owed kept.header.callers earlier old + price_kept p kept.header.callers earlier
+    (s0 s1 : ℕ) → HasWords kept inner starting earlier → Keeps kept.header earlier e
+    → s1 ≤ s0 + sum_by p (effect_words kept e.caller e.kind) + 5 + work_held kept.header.callers earlier + 4 * effect_count kept e.caller e.kind
+    + 2 * kept.header.callers
+    → s1 ≤ s0 + owed kept.header.callers earlier + price_kept p kept.header.callers earlier
     + (each_entry kept.header.callers + entry_price p e.kind)
-priced_at_most p kept starting inner earlier e old s0 s1 has keeps paid =
+priced_at_most p kept starting inner earlier e s0 s1 has keeps paid =
     let n = kept.header.callers in
     let prices = sum_by p (effect_words kept e.caller e.kind) in
-    let all = owed_at_most kept starting inner earlier e old (s0 + prices) s1 has keeps paid in
+    let all = owed_at_most kept starting inner earlier e (s0 + prices) s1 has keeps paid in
     let each = prices_paid p kept starting inner earlier e has keeps in
     omega (arith, all, each)
 
@@ -155,9 +155,9 @@ sum_none f (x ∷ xs) none =
     let here = none x in
     omega (arith, sum_by-cons f x xs, here, rest)
 
-pub owed_none : (callers : ℕ) → owed callers [] [] ≡ 0
+pub owed_none : (callers : ℕ) → owed callers [] ≡ 0
 owed_none callers =
-    let work = sum_none (held [] []) (numbers_below callers) (λ c. refl) in
+    let work = sum_none (held []) (numbers_below callers) (λ c. refl) in
     let back = sum_none (kept_back []) (numbers_below callers) (λ c. refl) in
     omega (arith, work, back)
 

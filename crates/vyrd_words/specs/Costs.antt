@@ -1,5 +1,5 @@
 -- What the work on the words costs, in steps.
-use Rattle.std.specs.Prelude.{ℕ, Bool, true, false, ◌+◌, ◌*◌, List, [], ◌∷◌, length}
+use Rattle.std.specs.Prelude.{ℕ, ◌+◌, ◌*◌, List, [], ◌∷◌, length}
 use Rattle.std.specs.Prelude.{if◌then◌else◌}
 use Rattle.std.specs.List.{sum_by}
 use Rattle.vyrd_base.specs.declared.log.Kind.{Kind}
@@ -19,29 +19,17 @@ abbrev pub pending_for : (ℕ → ℕ) → List ℕ → List (ℕ × ℕ) → �
 pending_for price changed writes = sum_by price changed + length changed
     + sum_by (λ write. price write.0) writes + 2 * length writes
 
--- what it costs to hand late writes to the commit after which that many lists stand, besides one step
--- for each of them: two for each commit since, whatever stands in the lists
-abbrev pub late_cost : ℕ → List (List (ℕ × ℕ)) → ℕ
-late_cost behind since = 2 * behind
-
--- the same, if a block is open
-abbrev pub held_if : Bool → ℕ → ℕ → List (List (ℕ × ℕ)) → ℕ
-held_if true number commits since = late_cost (parts_since commits number) since
-held_if false number commits since = 0
-
--- what the end of the caller's open block would cost here
-abbrev pub held : List Entry → List (List (ℕ × ℕ)) → ℕ → ℕ
-held earlier since c =
-    held_if (has_block c earlier) (inner_number c earlier) (commit_count earlier) since
+-- What the end of the caller's open block would cost here, besides its writes: two steps for each
+-- commit since the lone commit in the block, if there is one.
+abbrev pub held : List Entry → ℕ → ℕ
+held earlier c =
+    if has_block c earlier
+    then 2 * parts_since (commit_count earlier) (inner_number c earlier)
+    else 0
 
 -- what the ends of all open blocks would cost
-abbrev pub work_held : ℕ → List Entry → List (List (ℕ × ℕ)) → ℕ
-work_held callers earlier since = sum_by (held earlier since) (numbers_below callers)
-
--- how much the work that is held grows at most with an entry, however many effects it has: for each
--- caller two steps for a commit
-abbrev pub most_held : ℕ → ℕ → ℕ
-most_held callers effects = sum_by (λ c. 2) (numbers_below callers)
+abbrev pub work_held : ℕ → List Entry → ℕ
+work_held callers earlier = sum_by (held earlier) (numbers_below callers)
 
 -- the words that an entry's effects change
 abbrev pub effect_words : Kept → ℕ → Kind → List ℕ
@@ -65,10 +53,10 @@ kept_back earlier c = if has_block c earlier then length (block_writes c earlier
 abbrev pub all_kept_back : ℕ → List Entry → ℕ
 all_kept_back callers earlier = sum_by (kept_back earlier) (numbers_below callers)
 
--- What is owed for the entries so far: what the ends of open blocks would cost, and four steps for each
--- write that is kept back.
-abbrev pub owed : ℕ → List Entry → List (List (ℕ × ℕ)) → ℕ
-owed callers earlier since = work_held callers earlier since + 4 * all_kept_back callers earlier
+-- What is owed for the entries so far: what the ends of open blocks would cost, and four steps for
+-- each write that is kept back.
+abbrev pub owed : ℕ → List Entry → ℕ
+owed callers earlier = work_held callers earlier + 4 * all_kept_back callers earlier
 
 -- the price of the word that an entry writes
 abbrev pub entry_price : (ℕ → ℕ) → Kind → ℕ

@@ -14,7 +14,7 @@ ghost use Rattle.vyrd_shadow.specs.Costs.{owed as shadow_owed};
 ghost use Rattle.vyrd_spec.specs.Touching.{with_touched};
 ghost use Rattle.vyrd_view.specs.Comparing.{AgreeElsewhere};
 ghost use Rattle.vyrd_view.specs.Known.{IsNew, view_by};
-ghost use Rattle.vyrd_words.specs.Costs.{pending_for, work_held, most_held};
+ghost use Rattle.vyrd_words.specs.Costs.{pending_for, work_held};
 ghost use Rattle.vyrd_words.specs.Costs.{effect_words, effect_count, each_entry, owed};
 ghost use Rattle.vyrd_words.specs.Costs.{entry_price, price_kept};
 ghost use Rattle.vyrd_words.specs.Cuts.{first_with, with_part, written};
@@ -86,9 +86,6 @@ impl<C: Compare> Words<C> {
         ensures pending { IfOk result (λ w. w.views.pending
             ≡ pending_for (C.price (C.known compared).shows) changed.items []) }
         ensures rebuilt { IfOk result (λ w. shadow_owed w.shadow ≡ 0) }
-        ensures owed { IfOk result (λ w. owed w.shadow.header.callers [] w.views.since ≡ 0) }
-        ensures kept { IfOk result (λ w.
-            price_kept (C.price w.views.shows) w.shadow.header.callers [] ≡ 0) }
     {
         let mut views = Views::new(alloc, header, words, changed, compared)?;
         views.specify_start(state)?;
@@ -152,11 +149,11 @@ impl<C: Compare> Words<C> {
             → HasWords self.old.shadow self.old.inner starting earlier
             → Keeps self.old.shadow.header earlier entry → commits ≡ commit_count earlier
             → OnOk result (steps.new + shadow_owed self.new.shadow + self.new.views.pending
-            + owed self.old.shadow.header.callers (entry ∷ earlier) self.new.views.since
+            + owed self.old.shadow.header.callers (entry ∷ earlier)
             + price_kept (C.price self.old.views.shows) self.old.shadow.header.callers
             (entry ∷ earlier)
             ≤ steps.old + shadow_owed self.old.shadow + self.old.views.pending
-            + owed self.old.shadow.header.callers earlier self.old.views.since
+            + owed self.old.shadow.header.callers earlier
             + price_kept (C.price self.old.views.shows) self.old.shadow.header.callers earlier
             + (each_entry self.old.shadow.header.callers
             + entry_price (C.price self.old.views.shows) entry.kind)) }
@@ -164,7 +161,7 @@ impl<C: Compare> Words<C> {
             → HasWords self.old.shadow self.old.inner starting earlier
             → Keeps self.old.shadow.header earlier entry → commits ≡ commit_count earlier
             → steps.new ≤ steps.old + shadow_owed self.old.shadow + self.old.views.pending
-            + owed self.old.shadow.header.callers earlier self.old.views.since
+            + owed self.old.shadow.header.callers earlier
             + price_kept (C.price self.old.views.shows) self.old.shadow.header.callers earlier
             + (each_entry self.old.shadow.header.callers
             + entry_price (C.price self.old.views.shows) entry.kind) }
@@ -198,15 +195,14 @@ impl<C: Compare> Words<C> {
             → Keeps self.old.shadow.header earlier entry → commits ≡ commit_count earlier
             → OnOk result
             (steps.new + shadow_owed self.new.shadow + self.new.views.pending
-            + work_held self.old.shadow.header.callers (entry ∷ earlier) self.new.views.since
+            + work_held self.old.shadow.header.callers (entry ∷ earlier)
             ≤ steps.old + shadow_owed self.old.shadow + self.old.views.pending
             + sum_by (C.price self.old.views.shows)
             (effect_words self.old.shadow entry.caller entry.kind)
             + 5
-            + work_held self.old.shadow.header.callers earlier self.old.views.since
+            + work_held self.old.shadow.header.callers earlier
             + 4 * effect_count self.old.shadow entry.caller entry.kind
-            + most_held self.old.shadow.header.callers
-            (effect_count self.old.shadow entry.caller entry.kind)) }
+            + 2 * self.old.shadow.header.callers) }
         ensures most { (starting : List StartWord) (earlier : List Entry)
             → HasWords self.old.shadow self.old.inner starting earlier
             → Keeps self.old.shadow.header earlier entry → commits ≡ commit_count earlier
@@ -214,10 +210,9 @@ impl<C: Compare> Words<C> {
             + sum_by (C.price self.old.views.shows)
             (effect_words self.old.shadow entry.caller entry.kind)
             + 5
-            + work_held self.old.shadow.header.callers earlier self.old.views.since
+            + work_held self.old.shadow.header.callers earlier
             + 4 * effect_count self.old.shadow entry.caller entry.kind
-            + most_held self.old.shadow.header.callers
-            (effect_count self.old.shadow entry.caller entry.kind) }
+            + 2 * self.old.shadow.header.callers }
     {
         let caller = entry.caller;
         match entry.kind {
@@ -275,10 +270,6 @@ impl<C: Compare> Words<C> {
         ensures since { (part : List (ℕ × ℕ)) (rest : List (List (ℕ × ℕ)))
             → self.old.views.since ≡ part ∷ rest
             → OnOk result (self.new.views.since ≡ rest) }
-        ensures owed { (callers : ℕ) (earlier : List Entry) (part : List (ℕ × ℕ))
-            (rest : List (List (ℕ × ℕ))) → self.old.views.since ≡ part ∷ rest
-            → OnOk result (owed callers earlier self.new.views.since
-            ≤ owed callers earlier self.old.views.since) }
         ensures specified { OnOk result (self.new.views.specified
             ≡ with_touched (S.touched spec.now)
             ((rules_by (S.charter spec.now)).shown (S.state spec.now)) self.old.views.specified) }
@@ -314,10 +305,6 @@ impl<C: Compare> Words<C> {
         ensures since { (part : List (ℕ × ℕ)) (rest : List (List (ℕ × ℕ)))
             → self.old.views.since ≡ part ∷ rest
             → OnOk result (self.new.views.since ≡ rest) }
-        ensures owed { (callers : ℕ) (earlier : List Entry) (part : List (ℕ × ℕ))
-            (rest : List (List (ℕ × ℕ))) → self.old.views.since ≡ part ∷ rest
-            → OnOk result (owed callers earlier self.new.views.since
-            ≤ owed callers earlier self.old.views.since) }
         ensures specified { OnOk result (self.new.views.specified
             ≡ with_touched (S.touched spec.now)
             ((rules_by (S.charter spec.now)).shown (S.state spec.now)) self.old.views.specified) }
@@ -389,10 +376,6 @@ fn difference_alone<C: Compare, S: Spec, L: Ledger>(
     ensures since { (part : List (ℕ × ℕ)) (rest : List (List (ℕ × ℕ)))
         → words.old.views.since ≡ part ∷ rest
         → OnOk result (words.new.views.since ≡ rest) }
-    ensures owed { (callers : ℕ) (earlier : List Entry) (part : List (ℕ × ℕ))
-        (rest : List (List (ℕ × ℕ))) → words.old.views.since ≡ part ∷ rest
-        → OnOk result (owed callers earlier words.new.views.since
-        ≤ owed callers earlier words.old.views.since) }
     ensures specified { OnOk result (words.new.views.specified
         ≡ with_touched (S.touched spec.now)
         ((rules_by (S.charter spec.now)).shown (S.state spec.now)) words.old.views.specified) }

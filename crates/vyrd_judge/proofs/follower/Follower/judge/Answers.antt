@@ -57,13 +57,8 @@ returns-in-Faults-clause-gives g c = λ starting log going.
 
 pub returns-in-Goes-clause-steps : goal.returns-in-Goes-clause-steps
 returns-in-Goes-clause-steps g c = λ starting log going.
-    let i = c.self.inside in
-    let was = subst (λ k. IsCatchingUp (Some c.args.x) k starting log) (sym c.self.view_is) going in
     judged_paid g.S.Compared.Compare.price g.S.Spec.most_touched _ _ _ c.args.x c.leave.result
     starting log c.args.steps.now c.judge.new.steps c.leave.new.steps c.self.view_is
     (returns-in-Goes-clause-gives g c starting log going) c.judge.ensures.charter refl
     c.judge.ensures.shadow c.judge.ensures.shows
-    (c.in_ok-judge.ensures.owed (rules_by (g.S.Spec.charter i.replay.spec)).header.callers
-    (newest_first log) starting log
-    i.queue.waiting.items was.taken_in.judged)
     c.in_ok-judge.ensures.steps c.leave.ensures.steps c.leave.ensures.waiting

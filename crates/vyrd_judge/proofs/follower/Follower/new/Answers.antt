@@ -42,6 +42,6 @@ pub returns-clause-owed : goal.returns-clause-owed
 returns-clause-owed g c =
     owed_first g.S.Compared.Compare.price g.S.Spec.most_touched (g.S.Spec.owes c.args.spec)
     (returns-clause-taken_in g c) c.in_ok-shape.ensures.owed
-    c.in_ok-words.ensures.pending c.in_ok-words.ensures.rebuilt c.in_ok-words.ensures.owed
-    c.in_ok-words.ensures.kept c.in_ok-replay.ensures.owed c.in_ok-queue.ensures.waiting
+    c.in_ok-words.ensures.pending c.in_ok-words.ensures.rebuilt
+    c.in_ok-replay.ensures.owed c.in_ok-queue.ensures.waiting
     (ap g.S.Spec.owes c.in_ok-replay.ensures.spec)

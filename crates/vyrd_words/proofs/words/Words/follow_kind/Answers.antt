@@ -1,4 +1,4 @@
-use Rattle.std.proofs.Common.{[], ◌∷◌, ◌++◌, ◌≡◌, ◌<◌, ◌+◌, suc, length, Some, refl, ap, sym, ◌∙◌, arith}
+use Rattle.std.proofs.Common.{[], ◌≡◌, ◌<◌, ◌+◌, suc, length, Some, refl, ap, sym, ◌∙◌, arith}
 use Rattle.std.proofs.lemmas.Option.{slice_get-get_or}
 use Rattle.vyrd_base.specs.declared.log.Kind.TheVariants.{Call, Return}
 use Rattle.vyrd_base.specs.Commits.{commit_count}
@@ -7,9 +7,9 @@ use Rattle.std.specs.List.{sum_by}
 use Rattle.vyrd_shadow.specs.Costs.{owed}
 use Rattle.vyrd_shadow.specs.Following.{is_open, kept_writes}
 use Rattle.vyrd_words.specs.HasWords.{WordsView}
-use Rattle.vyrd_words.specs.Cuts.{with_part, written}
-use Rattle.vyrd_words.specs.Costs.{late_cost, effect_words}
-use Rattle.vyrd_words.proofs.CutLaws.{always, with_part_nothing, length-written}
+use Rattle.vyrd_words.specs.Cuts.{written}
+use Rattle.vyrd_words.specs.Costs.{effect_words}
+use Rattle.vyrd_words.proofs.CutLaws.{always, length-written}
 use Rattle.vyrd_words.proofs.CostLaws.{paid_now, paid_at_most, paid_closed, one_changed, block_changed, one_word, block_words, priced}
 use Rattle.vyrd_words.proofs.WordsLaws.{may_opened, has_opened, keeps_opened, taken_closed, may_caller, may_word, may_value, may_open, may_close, may_block_commit, may_number, keeps_as, quiet_taken, open_taken, write_taken, close_taken, commit_taken, block_commit_taken, parts_since_none, parts_since_some, ok_two, ok_three, taken_as, low_caller, closes_block, commits_block}
 use Rattle.vyrd_words.proofs.words.Words.follow_kind.Goals as goal
@@ -158,19 +158,18 @@ returns-in-BlockOpen-clause-steps g c = λ starting earlier seen kept counted.
     let before = c.self.inside in
     let was = ap (λ (v : WordsView). owed v.shadow + v.views.pending) c.self.view_is in
     let keeps = keeps_opened c.self.view_is kept in
-    paid_now c.args.entry earlier [] before.views.since (c.args.steps.now + owed c.args.self.now.shadow + c.args.self.now.views.pending
+    paid_now c.args.entry earlier [] (c.args.steps.now + owed c.args.self.now.shadow + c.args.self.now.views.pending
     + sum_by (g.C.Compare.price c.args.self.now.views.shows) (effect_words c.args.self.now.shadow c.args.entry.caller c.args.entry.kind) + 5) (c.open_block_counted.new.steps + owed c.open_block_counted.new.self + before.views.pending) c.self.view_is c.in-BlockOpen.is (low_caller keeps) (λ no. cc) refl
-    (omega (arith, was, c.open_block_counted.ensures.paid)) (sym (with_part_nothing 0 before.views.since))
+    (omega (arith, was, c.open_block_counted.ensures.paid))
 
 pub returns-in-Commit-clause-steps : goal.returns-in-Commit-clause-steps
 returns-in-Commit-clause-steps g c = λ starting earlier seen kept counted.
     let before = c.self.inside in
     let was = ap (λ (v : WordsView). owed v.shadow + v.views.pending) c.self.view_is in
     let keeps = keeps_opened c.self.view_is kept in
-    paid_closed c.cut.result c.args.entry earlier [] c.cut.new.self.since (c.args.steps.now + owed c.args.self.now.shadow + c.args.self.now.views.pending
+    paid_closed c.cut.result c.args.entry earlier [] (c.args.steps.now + owed c.args.self.now.shadow + c.args.self.now.views.pending
     + sum_by (g.C.Compare.price c.args.self.now.views.shows) (effect_words c.args.self.now.shadow c.args.entry.caller c.args.entry.kind) + 5) (c.args.steps.now + owed before.shadow + c.cut.new.self.pending) c.self.view_is c.in-Commit.is (low_caller keeps) (λ no. cc) refl
-    (always c.cut.result (omega (arith, was, c.cut.ensures.pending))) (ok_two c.cut.result c.cut.ensures.since c.cut.ensures.since
-    (λ since twice. since ∙ ap (λ parts. parts ++ [] ∷ []) (sym (with_part_nothing 0 before.views.since))))
+    (always c.cut.result (omega (arith, was, c.cut.ensures.pending)))
 
 pub returns-in_ok-write_counted-in-Write-clause-steps : goal.returns-in_ok-write_counted-in-Write-clause-steps
 returns-in_ok-write_counted-in-Write-clause-steps g c = λ starting earlier seen kept counted.
@@ -182,12 +181,12 @@ returns-in_ok-write_counted-in-Write-clause-steps g c = λ starting earlier seen
     let long = length-written mid.words mid.changed in
     let price = priced g.C.Compare.price c.args.entry mid.changed c.self.view_is c.in-Write.is
     (one_word (is_open before.shadow c.args.entry.caller) mid.changed before.shadow.changed c.in-Write.word c.in_ok-write_counted-in-Write.ensures.changed has.unchanged) in
-    paid_closed c.pass_on.result c.args.entry earlier (written mid.words mid.changed) c.pass_on.new.views.since (c.args.steps.now + owed c.args.self.now.shadow + c.args.self.now.views.pending
+    paid_closed c.pass_on.result c.args.entry earlier (written mid.words mid.changed) (c.args.steps.now + owed c.args.self.now.shadow + c.args.self.now.views.pending
     + sum_by (g.C.Compare.price c.args.self.now.views.shows) (effect_words c.args.self.now.shadow c.args.entry.caller c.args.entry.kind) + 5) (c.pass_on.new.steps + owed c.pass_on.new.shadow + c.pass_on.new.views.pending)
     c.self.view_is c.in-Write.is (low_caller keeps) (λ no. cc)
     (long ∙ one_changed (is_open before.shadow c.args.entry.caller) mid.changed before.shadow.changed c.in-Write.word c.in_ok-write_counted-in-Write.ensures.changed has.unchanged)
     (ok_two c.pass_on.result c.pass_on.ensures.steps c.pass_on.ensures.steps
-    (λ paid twice. omega (arith, was, price, long, c.write_counted.ensures.paid, paid))) c.pass_on.ensures.since
+    (λ paid twice. omega (arith, was, price, long, c.write_counted.ensures.paid, paid)))
 
 pub returns-then-number-eq0-clause-steps : goal.returns-then-number-eq0-clause-steps
 returns-then-number-eq0-clause-steps g c = λ starting earlier seen kept counted.
@@ -204,14 +203,12 @@ returns-then-number-eq0-clause-steps g c = λ starting earlier seen kept counted
     c.if-number-eq0.true in
     let price = priced g.C.Compare.price c.args.entry mid.changed c.self.view_is c.in-BlockClose.is
     (block_words mid.changed before.shadow.changed (kept_writes before.shadow c.args.entry.caller) c.close_block_counted.ensures.changed has.unchanged) in
-    paid_closed on.result c.args.entry earlier (written mid.words mid.changed) on.new.views.since (c.args.steps.now + owed c.args.self.now.shadow + c.args.self.now.views.pending
+    paid_closed on.result c.args.entry earlier (written mid.words mid.changed) (c.args.steps.now + owed c.args.self.now.shadow + c.args.self.now.views.pending
     + sum_by (g.C.Compare.price c.args.self.now.views.shows) (effect_words c.args.self.now.shadow c.args.entry.caller c.args.entry.kind) + 5) (on.new.steps + owed on.new.shadow + on.new.views.pending)
     c.self.view_is c.in-BlockClose.is (low_caller keeps) (λ closes. closes_block c.in-BlockClose.is keeps)
     (long ∙ block_changed mid.changed before.shadow.changed (kept_writes before.shadow c.args.entry.caller) c.close_block_counted.ensures.changed has.unchanged)
     (ok_two on.result on.ensures.steps on.ensures.steps
     (λ paid twice. omega (arith, was, price, long, c.close_block_counted.ensures.paid, paid)))
-    (ok_two on.result on.ensures.since on.ensures.since
-    (λ since twice. since ∙ ap (λ b. with_part b (written mid.words mid.changed) before.views.since) none))
 
 pub returns-else-number-eq0-clause-steps : goal.returns-else-number-eq0-clause-steps
 returns-else-number-eq0-clause-steps g c = λ starting earlier seen kept counted.
@@ -225,17 +222,14 @@ returns-else-number-eq0-clause-steps g c = λ starting earlier seen kept counted
     let long = length-written mid.words mid.changed in
     let some = parts_since_some before.inner.items c.args.entry.caller c.index-number.result.now c.args.commits earlier here
     (has.numbers c.args.entry.caller (low_caller keeps)) c.if-number-eq0.false counted in
-    let cost = ap (λ b. late_cost b before.views.since) some in
     let price = priced g.C.Compare.price c.args.entry mid.changed c.self.view_is c.in-BlockClose.is
     (block_words mid.changed before.shadow.changed (kept_writes before.shadow c.args.entry.caller) c.close_block_counted.ensures.changed has.unchanged) in
-    paid_closed c.pass_back.result c.args.entry earlier (written mid.words mid.changed) c.pass_back.new.views.since (c.args.steps.now + owed c.args.self.now.shadow + c.args.self.now.views.pending
+    paid_closed c.pass_back.result c.args.entry earlier (written mid.words mid.changed) (c.args.steps.now + owed c.args.self.now.shadow + c.args.self.now.views.pending
     + sum_by (g.C.Compare.price c.args.self.now.views.shows) (effect_words c.args.self.now.shadow c.args.entry.caller c.args.entry.kind) + 5) (c.pass_back.new.steps + owed c.pass_back.new.shadow + c.pass_back.new.views.pending)
     c.self.view_is c.in-BlockClose.is (low_caller keeps) (λ closes. closes_block c.in-BlockClose.is keeps)
     (long ∙ block_changed mid.changed before.shadow.changed (kept_writes before.shadow c.args.entry.caller) c.close_block_counted.ensures.changed has.unchanged)
     (ok_two c.pass_back.result c.pass_back.ensures.steps c.pass_back.ensures.steps
-    (λ paid twice. omega (arith, was, price, long, c.close_block_counted.ensures.paid, paid, cost)))
-    (ok_two c.pass_back.result c.pass_back.ensures.since c.pass_back.ensures.since
-    (λ since twice. since ∙ ap (λ b. with_part b (written mid.words mid.changed) before.views.since) some))
+    (λ paid twice. omega (arith, was, price, long, c.close_block_counted.ensures.paid, paid, some)))
 
 pub returns-in_ok-pass_on-in-BlockCommit-clause-steps : goal.returns-in_ok-pass_on-in-BlockCommit-clause-steps
 returns-in_ok-pass_on-in-BlockCommit-clause-steps g c = λ starting earlier seen kept counted.
@@ -250,26 +244,25 @@ returns-in_ok-pass_on-in-BlockCommit-clause-steps g c = λ starting earlier seen
     let long = length-written mid.words mid.changed in
     let price = priced g.C.Compare.price c.args.entry mid.changed c.self.view_is c.in-BlockCommit.is
     (block_words mid.changed before.shadow.changed (kept_writes before.shadow c.args.entry.caller) c.close_block_counted-in-BlockCommit.ensures.changed has.unchanged) in
-    paid_closed cut.result c.args.entry earlier (written mid.words mid.changed) cut.new.self.since (c.args.steps.now + owed c.args.self.now.shadow + c.args.self.now.views.pending
+    paid_closed cut.result c.args.entry earlier (written mid.words mid.changed) (c.args.steps.now + owed c.args.self.now.shadow + c.args.self.now.views.pending
     + sum_by (g.C.Compare.price c.args.self.now.views.shows) (effect_words c.args.self.now.shadow c.args.entry.caller c.args.entry.kind) + 5) (on.new.steps + owed on.new.shadow + cut.new.self.pending)
     c.self.view_is c.in-BlockCommit.is (low_caller keeps) (λ no. cc)
     (long ∙ block_changed mid.changed before.shadow.changed (kept_writes before.shadow c.args.entry.caller) c.close_block_counted-in-BlockCommit.ensures.changed has.unchanged)
     (always cut.result (omega (arith, was, price, long, c.close_block_counted-in-BlockCommit.ensures.paid, ok.ensures.steps, cut.ensures.pending)))
-    (ok_two cut.result cut.ensures.since cut.ensures.since (λ since twice. since ∙ ap (λ parts. parts ++ [] ∷ []) ok.ensures.since))
 
 pub returns-in-Call-clause-steps : goal.returns-in-Call-clause-steps
 returns-in-Call-clause-steps g c = λ starting earlier has keeps counted.
     let before = c.args.self.now in
-    paid_now {v = before} {w = before} c.args.entry earlier [] before.views.since (c.args.steps.now + owed c.args.self.now.shadow + c.args.self.now.views.pending
+    paid_now {v = before} {w = before} c.args.entry earlier [] (c.args.steps.now + owed c.args.self.now.shadow + c.args.self.now.views.pending
     + sum_by (g.C.Compare.price c.args.self.now.views.shows) (effect_words c.args.self.now.shadow c.args.entry.caller c.args.entry.kind) + 5) (c.args.steps.now + owed before.shadow + before.views.pending)
-    refl c.in-Call.is (low_caller keeps) (λ no. cc) refl (omega arith) (sym (with_part_nothing 0 before.views.since))
+    refl c.in-Call.is (low_caller keeps) (λ no. cc) refl (omega arith)
 
 pub returns-in-Return-clause-steps : goal.returns-in-Return-clause-steps
 returns-in-Return-clause-steps g c = λ starting earlier has keeps counted.
     let before = c.args.self.now in
-    paid_now {v = before} {w = before} c.args.entry earlier [] before.views.since (c.args.steps.now + owed c.args.self.now.shadow + c.args.self.now.views.pending
+    paid_now {v = before} {w = before} c.args.entry earlier [] (c.args.steps.now + owed c.args.self.now.shadow + c.args.self.now.views.pending
     + sum_by (g.C.Compare.price c.args.self.now.views.shows) (effect_words c.args.self.now.shadow c.args.entry.caller c.args.entry.kind) + 5) (c.args.steps.now + owed before.shadow + before.views.pending)
-    refl c.in-Return.is (low_caller keeps) (λ no. cc) refl (omega arith) (sym (with_part_nothing 0 before.views.since))
+    refl c.in-Return.is (low_caller keeps) (λ no. cc) refl (omega arith)
 
 pub returns-in-Call-clause-most : goal.returns-in-Call-clause-most
 returns-in-Call-clause-most g c = λ starting earlier has keeps counted.
@@ -340,14 +333,13 @@ returns-else-number-eq0-clause-most g c = λ starting earlier seen kept counted.
     let long = length-written mid.words mid.changed in
     let some = parts_since_some before.inner.items c.args.entry.caller c.index-number.result.now c.args.commits earlier here
     (has.numbers c.args.entry.caller (low_caller keeps)) c.if-number-eq0.false counted in
-    let cost = ap (λ b. late_cost b before.views.since) some in
     let price = priced g.C.Compare.price c.args.entry mid.changed c.self.view_is c.in-BlockClose.is
     (block_words mid.changed before.shadow.changed (kept_writes before.shadow c.args.entry.caller) c.close_block_counted.ensures.changed has.unchanged) in
     paid_at_most c.args.entry earlier (written mid.words mid.changed) (c.args.steps.now + owed c.args.self.now.shadow + c.args.self.now.views.pending
     + sum_by (g.C.Compare.price c.args.self.now.views.shows) (effect_words c.args.self.now.shadow c.args.entry.caller c.args.entry.kind) + 5) c.pass_back.new.steps
     c.self.view_is c.in-BlockClose.is (low_caller keeps) (λ closes. closes_block c.in-BlockClose.is keeps)
     (long ∙ block_changed mid.changed before.shadow.changed (kept_writes before.shadow c.args.entry.caller) c.close_block_counted.ensures.changed has.unchanged)
-    (omega (arith, was, price, long, c.close_block_counted.ensures.paid, c.pass_back.ensures.most, cost))
+    (omega (arith, was, price, long, c.close_block_counted.ensures.paid, c.pass_back.ensures.most, some))
 
 pub returns-in_ok-pass_on-in-BlockCommit-clause-most : goal.returns-in_ok-pass_on-in-BlockCommit-clause-most
 returns-in_ok-pass_on-in-BlockCommit-clause-most g c = λ starting earlier seen kept counted.

@@ -1,7 +1,5 @@
-use Rattle.std.proofs.Common.{[], ap, sym, ◌∙◌, subst, arith}
+use Rattle.std.proofs.Common.{[], ap, sym, subst, arith}
 use Rattle.vyrd_base.specs.declared.header.Header.{Header}
-use Rattle.vyrd_words.specs.Costs.{owed}
-use Rattle.vyrd_words.proofs.PriceLaws.{owed_none, price_none}
 use Rattle.vyrd_words.proofs.WordsLaws.{HasNumbers, numbers_first}
 use Rattle.vyrd_words.proofs.words.Words.new.Goals as goal
 
@@ -14,13 +12,3 @@ returns-clause-words g c = λ starting is. record {
       (numbers_first c.in_ok-start_from.field-0.header.callers c.callers.result
       (omega (arith, c.callers.ensures, ap (λ (h : Header). h.callers) c.in_ok-start_from.ensures.header)));
 }
-
-pub returns-clause-owed : goal.returns-clause-owed
-returns-clause-owed g c =
-    ap (owed c.in_ok-start_from.field-0.header.callers [])
-    (c.specify_start.ensures.since ∙ c.in_ok-views.ensures.since)
-    ∙ owed_none c.in_ok-start_from.field-0.header.callers
-
-pub returns-clause-kept : goal.returns-clause-kept
-returns-clause-kept g c =
-    price_none (g.C.Compare.price c.specify_start.new.self.shows) c.in_ok-start_from.field-0.header.callers
