@@ -51,7 +51,7 @@ pub length-since_of : (ks : List (ℕ × List (ℕ × ℕ))) (ws : List (ℕ × 
 length-since_of [] ws = refl
 length-since_of (k ∷ ks) ws = length-split_at ks (drop k.0 ws)
 
-never_same : (n m : ℕ) → n < m → (m == n) ≡ false
+pub never_same : (n m : ℕ) → n < m → (m == n) ≡ false
 never_same n m less = flipped n m (lower_isnt n m less)
 
 -- one more commit
@@ -74,7 +74,7 @@ first_push words [] t ws counted =
     ap (λ n. with_writes words (take n ws ++ [])) same ∙ ap (λ xs. with_writes words (xs ++ [])) (take-length ws) ∙ ap (with_writes words) (append-nil ws)
 first_push words (k ∷ ks) t ws counted = refl
 
-cons_first : {A : Type 0} {x y : A} {xs ys : List A} → x ∷ xs ≡ y ∷ ys → x ≡ y
+pub cons_first : {A : Type 0} {x y : A} {xs ys : List A} → x ∷ xs ≡ y ∷ ys → x ≡ y
 cons_first e = cc
 
 cons_rest : {A : Type 0} {x y : A} {xs ys : List A} → x ∷ xs ≡ y ∷ ys → xs ≡ ys

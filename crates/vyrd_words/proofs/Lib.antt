@@ -1,6 +1,7 @@
 pub mod StartedLaws
 pub mod WordsLaws
 pub mod CutLaws
+pub mod FewLaws
 pub mod ShadowFacts
 pub mod ActLaws
 pub mod StartingLaws

@@ -1,8 +1,8 @@
 -- An entry's steps are paid by what is owed before it and a constant.
-use Rattle.std.proofs.Common.{◌≡◌, ◌≢◌, ℕ, zero, suc, ◌+◌, ◌*◌, ◌<◌, ◌≤◌, List, [], ◌∷◌, ◌++◌, length, refl, ap, sym, arith, Bool, true, false, cond, length-append, Option, None}
+use Rattle.std.proofs.Common.{◌≡◌, ◌≢◌, ℕ, zero, suc, ◌+◌, ◌*◌, ◌<◌, ◌≤◌, List, ◌∷◌, length, refl, ap, sym, arith, Bool, true, false, cond, Option, None}
 use Rattle.std.specs.Prelude.{◌==◌, unwrap_or, Result, Ok, Err, OnOk}
 use Rattle.std.specs.Option.{option_or}
-use Rattle.std.specs.List.{sum_by, list_any}
+use Rattle.std.specs.List.{sum_by}
 use Rattle.std.proofs.lemmas.List.Sums.{sum_by-cons}
 use Rattle.vyrd_base.specs.declared.log.Kind.{Kind}
 use Rattle.vyrd_base.specs.declared.log.Kind.TheVariants.{Call, Return, Write, Commit, BlockOpen, BlockClose, BlockCommit}
@@ -12,10 +12,10 @@ use Rattle.vyrd_base.specs.Callers.{has_block, by_caller, open_or_close}
 use Rattle.vyrd_base.specs.Places.{first_answer, numbers_from}
 use Rattle.vyrd_base.specs.Words.{block_writes, with_write}
 use Rattle.vyrd_base.proofs.TestLaws.{apart_of, same_of, same_number, isnt_same}
-use Rattle.vyrd_shadow.specs.Blocks.{first_written}
-use Rattle.vyrd_shadow.specs.Following.{Kept, words_of, kept_writes}
+use Rattle.vyrd_shadow.specs.Following.{Kept, kept_writes}
 use Rattle.vyrd_words.specs.HasWords.{HasWords, Keeps}
 use Rattle.vyrd_words.specs.Costs.{work_held, effect_count, kept_back, all_kept_back, each_entry, owed}
+use Rattle.vyrd_words.proofs.FewLaws.{first_few, length-words_of}
 use Rattle.vyrd_words.proofs.WordsLaws.{low_caller, closes_block, commits_block}
 
 -- the effects of an entry, by whether the caller's block is open and what it has written
@@ -94,20 +94,7 @@ all_kept callers e earlier effects low few =
     sum_at (kept_back (e ∷ earlier)) (kept_back earlier) 1 e.caller effects 0 callers (omega arith) (omega (arith, low))
     (λ x apart. kept_by_other x e earlier apart) (kept_by_caller e earlier effects few)
 
--- no more words than writes
-first_few : (writes : List (ℕ × ℕ)) → length (first_written writes) ≤ length writes
-first_few [] = omega arith
-first_few ((word, value) ∷ writes) = by_test (list_any (λ other. word == other) (first_written writes)) (first_few writes)
-  where
-    by_test : (b : Bool) → length (first_written writes) ≤ length writes
-        → length (cond b (first_written writes) (first_written writes ++ word ∷ [])) ≤ suc (length writes)
-    by_test true rest = omega (arith, rest)
-    by_test false rest = omega (arith, rest, length-append (first_written writes) (word ∷ []))
-
-length-words_of : (ws : List (ℕ × ℕ)) → length (words_of ws) ≡ length ws
-length-words_of [] = refl
-length-words_of (x ∷ ws) = ap suc (length-words_of ws)
-
+-- an open block keeps no more than it has written
 block_few : (kept : Kept) (starting : List StartWord) (inner : List ℕ) (earlier : List Entry) (c : ℕ) → HasWords kept inner starting earlier → c < kept.header.callers
     → has_block c earlier ≡ true → length (kept_writes kept c) ≤ cond (has_block c earlier) (length (block_writes c earlier)) 0
 block_few kept starting inner earlier c has low inside =

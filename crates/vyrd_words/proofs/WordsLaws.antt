@@ -23,11 +23,12 @@ use Rattle.vyrd_base.proofs.BlockLaws.{entry, by_same}
 use Rattle.vyrd_base.proofs.ShadowLaws.{caller_kept, open_kept, close_kept, block_commit_kept}
 use Rattle.vyrd_base.proofs.TestLaws.{below_of, is_below, at_most_of, is_at_most, neither_true, same_number, same_of, apart_of}
 use Rattle.vyrd_shadow.specs.Following.{Kept, HasFollowed, is_open, kept_writes, words_of}
-use Rattle.vyrd_words.specs.Cuts.{Cuts, first_with, with_part, written}
+use Rattle.vyrd_words.specs.Cuts.{Cuts, first_with, with_part, begun_with, written}
 use Rattle.vyrd_words.specs.Effects.{ActAlike, cut_if, number_at, inner_number, parts_behind, parts_since}
 use Rattle.vyrd_words.specs.HasWords.{WordsView, HasWords, HasTaken, Keeps, MayFollow}
 use Rattle.vyrd_words.proofs.ActLaws.{written_alike, word_is}
-use Rattle.vyrd_words.proofs.CutLaws.{with_part_nothing, first_with_nothing}
+use Rattle.vyrd_words.proofs.CutLaws.{with_part_nothing, first_with_nothing, length-written}
+use Rattle.vyrd_words.proofs.FewLaws.{begun_grows, first_few}
 use Rattle.vyrd_base.proofs.KeptLaws.{write_kept}
 use Rattle.vyrd_words.proofs.ShadowFacts.{words_old}
 use Rattle.vyrd_base.proofs.ListLaws.{slice_get-set_same, slice_get-set_other}
@@ -174,16 +175,26 @@ block_beside k l starting earlier c f unchanged low inside changed x none =
     sym (f.values c x low inside)
     ∙ no_given x (kept_writes k c) (ap (list_any (λ y. y == x)) (sym (changed ∙ ap (λ ws. ws ++ words_of (kept_writes k c)) unchanged)) ∙ none)
 
+-- a block's end changes no more words than the block has written
+block_few : (k l : Kept) (starting : List StartWord) (earlier : List Entry) (c : ℕ) → HasFollowed k starting earlier → k.changed ≡ [] → c < k.header.callers
+    → has_block c earlier ≡ true → l.changed ≡ k.changed ++ words_of (kept_writes k c) → length l.changed ≤ length (block_writes c earlier)
+block_few k l starting earlier c f unchanged low inside changed =
+    let same = ap length (changed ∙ ap (λ ws. ws ++ words_of (kept_writes k c)) unchanged ∙ f.order c low inside) in
+    let few = first_few (block_writes c earlier) in
+    omega (arith, same, few)
+
 -- an entry at which nothing takes effect
 nothing_taken : (k : Kept) (inner : List ℕ) (v w : Cuts) (starting : List StartWord) (earlier : List Entry) (c : ℕ) (kind : Kind)
     → old_effects_at earlier c kind ≡ [] → HasWords k inner starting (entry c kind ∷ earlier)
-    → w.first ≡ v.first → w.since ≡ cut_if (is_commit kind) v.since → HasTaken k inner v w starting (entry c kind) earlier
-nothing_taken k inner v w starting earlier c kind nothing has first since = record {
+    → w.first ≡ v.first → w.since ≡ cut_if (is_commit kind) v.since → w.begun ≡ v.begun → HasTaken k inner v w starting (entry c kind) earlier
+nothing_taken k inner v w starting earlier c kind nothing has first since begun = record {
   words = has;
   writes = [];
   alike = λ x. ap (first_answer (given_to x)) (sym nothing);
   first = first ∙ sym (first_with_nothing (parts_behind earlier c kind) v.first v.since);
   since = since ∙ ap (cut_if (is_commit kind)) (sym (with_part_nothing (parts_behind earlier c kind) v.since));
+  few = omega arith;
+  begun = let grows = begun_grows (parts_behind earlier c kind) [] v.begun v.since in omega (arith, begun, grows);
 }
 
 -- a call or a return
@@ -193,7 +204,7 @@ pub quiet_taken : (k : Kept) (inner : List ℕ) (v : Cuts) (starting : List Star
 quiet_taken k inner v starting earlier c kind isnt nothing same has f =
     nothing_taken k inner v v starting earlier c kind nothing
     (record { followed = f; unchanged = has.unchanged; numbers = numbers_same k.header.callers inner c kind earlier same has.numbers }) refl
-    (ap (λ b. cut_if b v.since) (sym isnt))
+    (ap (λ b. cut_if b v.since) (sym isnt)) refl
 
 -- a block is opened
 pub open_taken : (k l : Kept) (inner : List ℕ) (v : Cuts) (starting : List StartWord) (earlier : List Entry) (c : ℕ) → HasWords k inner starting earlier
@@ -206,19 +217,19 @@ open_taken k l inner v starting earlier c has f header changed low =
       unchanged = changed ∙ has.unchanged;
       numbers = subst (λ h. HasNumbers h.callers (set inner c 0) (entry c BlockOpen ∷ earlier)) (sym header)
           (numbers_set k.header.callers inner c BlockOpen earlier 0 low refl has.numbers);
-    }) refl refl
+    }) refl refl refl
 
 -- a lone commit
 pub commit_taken : (k : Kept) (inner : List ℕ) (v w : Cuts) (starting : List StartWord) (earlier : List Entry) (c number : ℕ) → HasWords k inner starting earlier
     → HasFollowed k starting (entry c Commit ∷ earlier) → c < length inner → number ≡ suc (commit_count earlier)
-    → w.first ≡ v.first → w.since ≡ v.since ++ [] ∷ [] → HasTaken k (set inner c number) v w starting (entry c Commit) earlier
-commit_taken k inner v w starting earlier c number has f low is first since =
+    → w.first ≡ v.first → w.since ≡ v.since ++ [] ∷ [] → w.begun ≡ v.begun → HasTaken k (set inner c number) v w starting (entry c Commit) earlier
+commit_taken k inner v w starting earlier c number has f low is first since begun =
     nothing_taken k (set inner c number) v w starting earlier c Commit refl
     (record {
       followed = f;
       unchanged = has.unchanged;
       numbers = numbers_set k.header.callers inner c Commit earlier number low is has.numbers;
-    }) first since
+    }) first since begun
 
 -- an entry whose effects the views were told
 acts_taken : (l m : Kept) (inner : List ℕ) (v w : Cuts) (starting : List StartWord) (earlier : List Entry) (c : ℕ) (kind : Kind)
@@ -226,14 +237,18 @@ acts_taken : (l m : Kept) (inner : List ℕ) (v w : Cuts) (starting : List Start
     → ActAlike (written l.words l.changed) (old_effects_at earlier c kind)
     → w.first ≡ first_with (parts_behind earlier c kind) (written l.words l.changed) v.first v.since
     → w.since ≡ cut_if (is_commit kind) (with_part (parts_behind earlier c kind) (written l.words l.changed) v.since)
+    → length l.changed ≤ length (old_effects_at earlier c kind)
+    → w.begun ≤ begun_with (parts_behind earlier c kind) (written l.words l.changed) v.begun v.since
     → HasTaken m inner v w starting (entry c kind) earlier
-acts_taken l m inner v w starting earlier c kind f is numbers alike first since =
+acts_taken l m inner v w starting earlier c kind f is numbers alike first since few begun =
     subst (λ n. HasTaken n inner v w starting (entry c kind) earlier) (sym is) (record {
       words = record { followed = unchanged_follows l starting (entry c kind ∷ earlier) f; unchanged = refl; numbers = numbers };
       writes = written l.words l.changed;
       alike = alike;
       first = first;
       since = since;
+      few = omega (arith, few, length-written l.words l.changed);
+      begun = begun;
     })
 
 -- an entry that leaves all numbers as they are
@@ -249,14 +264,19 @@ pub write_taken : (k l m : Kept) (inner : List ℕ) (v w : Cuts) (starting : Lis
     → All (λ x. x < plain_words l.header) l.changed
     → l.changed ≡ cond (is_open k c) k.changed (k.changed ++ word ∷ []) → m ≡ record l { changed = [] }
     → w.first ≡ first_with 0 (written l.words l.changed) v.first v.since → w.since ≡ with_part 0 (written l.words l.changed) v.since
+    → w.begun ≤ begun_with 0 (written l.words l.changed) v.begun v.since
     → HasTaken m inner v w starting (entry c (Write word value)) earlier
-write_taken k l m inner v w starting earlier c word value has low f header within changed is first since =
+write_taken k l m inner v w starting earlier c word value has low f header within changed is first since begun =
     acts_taken l m inner v w starting earlier c (Write word value) f is
     (numbers_kept k l inner starting earlier c (Write word value) (λ commits number. refl) header has)
-    (by_block (has_block c earlier) refl) first since
+    (by_block (has_block c earlier) refl) first since (few (has_block c earlier) here) begun
   where
     here : l.changed ≡ cond (has_block c earlier) [] (word ∷ [])
     here = changed ∙ (λ i. cond (has.followed.blocks c low i) (has.unchanged i) (has.unchanged i ++ word ∷ []))
+
+    few : (b : Bool) → l.changed ≡ cond b [] (word ∷ []) → length l.changed ≤ length {A = ℕ × ℕ} (cond b [] ((word, value) ∷ []))
+    few true none = omega (arith, ap length none)
+    few false one = omega (arith, ap length one)
 
     by_block : (b : Bool) → has_block c earlier ≡ b → ActAlike (written l.words l.changed) (old_effects_at earlier c (Write word value))
     by_block true inside =
@@ -281,28 +301,33 @@ pub close_taken : (k l m : Kept) (inner : List ℕ) (v w : Cuts) (starting : Lis
     → l.changed ≡ k.changed ++ words_of (kept_writes k c) → m ≡ record l { changed = [] }
     → behind ≡ parts_since (commit_count earlier) (inner_number c earlier)
     → w.first ≡ first_with behind (written l.words l.changed) v.first v.since → w.since ≡ with_part behind (written l.words l.changed) v.since
+    → w.begun ≤ begun_with behind (written l.words l.changed) v.begun v.since
     → HasTaken m inner v w starting (entry c BlockClose) earlier
-close_taken k l m inner v w starting earlier c behind has low inside f header within changed is parts first since =
+close_taken k l m inner v w starting earlier c behind has low inside f header within changed is parts first since begun =
     acts_taken l m inner v w starting earlier c BlockClose f is
     (numbers_kept k l inner starting earlier c BlockClose (λ commits number. refl) header has)
     (changed_alike l starting earlier c BlockClose f within (block_there k l starting earlier c has.followed has.unchanged low inside changed)
     (block_beside k l starting earlier c has.followed has.unchanged low inside changed))
     (first ∙ ap (λ n. first_with n (written l.words l.changed) v.first v.since) parts)
     (since ∙ ap (λ n. with_part n (written l.words l.changed) v.since) parts)
+    (block_few k l starting earlier c has.followed has.unchanged low inside changed)
+    (subst (λ n. w.begun ≤ begun_with n (written l.words l.changed) v.begun v.since) parts begun)
 
 pub block_commit_taken : (k l m : Kept) (inner : List ℕ) (v w u : Cuts) (starting : List StartWord) (earlier : List Entry) (c : ℕ)
     → HasWords k inner starting earlier → c < k.header.callers → has_block c earlier ≡ true → HasFollowed l starting (entry c BlockCommit ∷ earlier)
     → l.header ≡ k.header → All (λ x. x < plain_words l.header) l.changed
     → l.changed ≡ k.changed ++ words_of (kept_writes k c) → m ≡ record l { changed = [] }
     → w.first ≡ first_with 0 (written l.words l.changed) v.first v.since → w.since ≡ with_part 0 (written l.words l.changed) v.since
-    → u.first ≡ w.first → u.since ≡ w.since ++ [] ∷ []
+    → w.begun ≤ begun_with 0 (written l.words l.changed) v.begun v.since
+    → u.first ≡ w.first → u.since ≡ w.since ++ [] ∷ [] → u.begun ≡ w.begun
     → HasTaken m inner v u starting (entry c BlockCommit) earlier
-block_commit_taken k l m inner v w u starting earlier c has low inside f header within changed is first since same cut =
+block_commit_taken k l m inner v w u starting earlier c has low inside f header within changed is first since begun same cut begun_same =
     acts_taken l m inner v u starting earlier c BlockCommit f is
     (numbers_kept k l inner starting earlier c BlockCommit (λ commits number. refl) header has)
     (changed_alike l starting earlier c BlockCommit f within (block_there k l starting earlier c has.followed has.unchanged low inside changed)
     (block_beside k l starting earlier c has.followed has.unchanged low inside changed))
     (same ∙ first) (cut ∙ ap (λ ws. ws ++ [] ∷ []) since)
+    (block_few k l starting earlier c has.followed has.unchanged low inside changed) (omega (arith, begun, begun_same))
 
 -- how many lists of writes stand after those of the commit with this number
 pub parts_since_none : (inner : List ℕ) (c number : ℕ) (earlier : List Entry) → slice_get inner c ≡ Some number → slice_get inner c ≡ Some (inner_number c earlier)
@@ -349,6 +374,10 @@ ok_two (Err x) p q f = tt
 pub ok_three : {T E P Q R S : Type 0} (r : Result T E) → OnOk r P → OnOk r Q → OnOk r R → (P → Q → R → S) → OnOk r S
 ok_three (Ok x) p q u f = f p q u
 ok_three (Err x) p q u f = tt
+
+pub ok_four : {T E P Q R S U : Type 0} (r : Result T E) → OnOk r P → OnOk r Q → OnOk r R → OnOk r S → (P → Q → R → S → U) → OnOk r U
+ok_four (Ok x) p q u v f = f p q u v
+ok_four (Err x) p q u v f = tt
 
 -- what was taken in, for the entry by its kind
 pub taken_as : {k : Kept} {inner : List ℕ} {v w : Cuts} {starting : List StartWord} {earlier : List Entry} (e : Entry) {kind : Kind} → e.kind ≡ kind

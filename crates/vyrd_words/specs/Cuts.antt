@@ -13,14 +13,16 @@ use Rattle.vyrd_view.specs.Known.{Known, Shows}
 
 -- The header; the words at the last commit that doesn't wait, or later ones; the words at the first
 -- commit that waits, and those now if none waits; for each commit that waits the writes that took
--- effect after it, up to the next one and in their order; what the words show, by its name; the
--- words and the specification's amounts that were compared last; whether memory was refused; and
--- how many steps the changed words and the writes that wait will cost.
+-- effect after it, up to the next one and in their order; how many writes are kept for the first
+-- commit that waits, or for the next one if none waits; what the words show, by its name; the words
+-- and the specification's amounts that were compared last; whether memory was refused; and how many
+-- steps the changed words and the writes that wait will cost.
 pub record Cuts : Type 0 where
   pub header : Header
   pub base : List ℕ
   pub first : List ℕ
   pub since : List (List (ℕ × ℕ))
+  pub begun : ℕ
   pub shows : Shows
   pub compared : List ℕ
   pub specified : Amounts
@@ -32,6 +34,11 @@ pub record Cuts : Type 0 where
 abbrev pub first_of : List ℕ → List (ℕ × List (ℕ × ℕ)) → List (ℕ × ℕ) → List ℕ
 first_of words [] writes = with_writes words writes
 first_of words (k ∷ ks) writes = with_writes words (take k.0 writes ++ k.1)
+
+-- how many writes are kept for the first commit, or for the next one if there is none
+abbrev pub begun_of : List (ℕ × List (ℕ × ℕ)) → List (ℕ × ℕ) → ℕ
+begun_of [] writes = length writes
+begun_of (k ∷ ks) writes = length (take k.0 writes ++ k.1)
 
 -- the writes between the commits, and those after the last of them
 abbrev pub split_at : List (ℕ × List (ℕ × ℕ)) → List (ℕ × ℕ) → List (List (ℕ × ℕ))
@@ -55,6 +62,12 @@ with_part behind writes (part ∷ parts) =
 abbrev pub first_with : ℕ → List (ℕ × ℕ) → List ℕ → List (List (ℕ × ℕ)) → List ℕ
 first_with behind writes first since =
     if length since == behind then with_writes first writes else first
+
+-- how many writes are kept for the first commit, if that many lists of writes stand after the
+-- further ones
+abbrev pub begun_with : ℕ → List (ℕ × ℕ) → ℕ → List (List (ℕ × ℕ)) → ℕ
+begun_with behind writes begun since =
+    if length since == behind then begun + length writes else begun
 
 -- the changed words, each with its value
 abbrev pub written : List ℕ → List ℕ → List (ℕ × ℕ)

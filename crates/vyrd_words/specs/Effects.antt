@@ -1,7 +1,7 @@
 -- The effects from a place of a front on, in parts between the commits, and the writes that act as
 -- they do.
-use Rattle.std.specs.Prelude.{◌≡◌, ℕ, zero, suc, Bool, true, false, ◌-◌, ◌&&◌, ◌==◌, List, [], ◌∷◌}
-use Rattle.std.specs.Prelude.{◌++◌, length, Option, None, if◌then◌else◌}
+use Rattle.std.specs.Prelude.{◌≡◌, ◌≤◌, ℕ, zero, suc, Bool, true, false, ◌-◌, ◌&&◌, ◌==◌, List, []}
+use Rattle.std.specs.Prelude.{◌∷◌, ◌++◌, length, Option, None, if◌then◌else◌}
 use Rattle.std.specs.Option.{option_or}
 use Rattle.std.specs.List.{list_any}
 use Rattle.vyrd_base.specs.declared.header.Header.{Header}
@@ -57,6 +57,24 @@ abbrev pub HasParts : Header → List StartWord → List ℕ → List (List (ℕ
 HasParts h starting first since [] = ⊥
 HasParts h starting first since (part ∷ parts) =
     (first ≡ words_with h starting part) × AllActAlike since parts
+
+-- each list has no more writes than its part has effects
+abbrev pub AllFew : List (List (ℕ × ℕ)) → List (List (ℕ × ℕ)) → Type 0
+AllFew [] [] = Unit {0}
+AllFew (writes ∷ since) (effects ∷ parts) = (length writes ≤ length effects) × AllFew since parts
+AllFew [] (effects ∷ parts) = ⊥
+AllFew (writes ∷ since) [] = ⊥
+
+-- No more writes are kept than the last parts have effects. Those of the parts before are no longer
+-- kept. For the first commit that waits no more are kept than one part has, and since then, list by
+-- list, no more than each further part has.
+pub record AreFew (begun : ℕ) (since parts : List (List (ℕ × ℕ))) : Type 0 where
+  pub judged : List (List (ℕ × ℕ))
+  pub part : List (ℕ × ℕ)
+  pub further : List (List (ℕ × ℕ))
+  pub whole : parts ≡ judged ++ part ∷ further
+  pub first_few : begun ≤ length part
+  pub since_few : AllFew since further
 
 -- The number of the lone commit since the caller's last open, or if there is no open, of its last
 -- one. The first commit of a log has the number 1, and 0 says that there is none.

@@ -1,5 +1,5 @@
 -- What is kept of the words stands for these entries.
-use Rattle.std.specs.Prelude.{◌≡◌, ◌<◌, ℕ, List, [], ◌∷◌, None, Some, slice_get}
+use Rattle.std.specs.Prelude.{◌≡◌, ◌<◌, ◌≤◌, ℕ, List, [], ◌∷◌, None, Some, slice_get, length}
 use Rattle.vyrd_base.specs.declared.header.Header.{Header}
 use Rattle.vyrd_base.specs.declared.log.Entry.{Entry}
 use Rattle.vyrd_base.specs.declared.log.StartWord.{StartWord}
@@ -7,7 +7,7 @@ use Rattle.vyrd_base.specs.Shape.{broken_rule}
 use Rattle.vyrd_base.specs.FirstVersion.{old_effects_at}
 use Rattle.vyrd_base.specs.Commits.{is_commit, commit_count}
 use Rattle.vyrd_shadow.specs.Following.{Kept, HasFollowed}
-use Rattle.vyrd_words.specs.Cuts.{Cuts, first_with, with_part}
+use Rattle.vyrd_words.specs.Cuts.{Cuts, first_with, with_part, begun_with}
 use Rattle.vyrd_words.specs.Effects.{ActAlike, cut_if, inner_number, parts_behind}
 
 -- What is kept of the words: the words now with the blocks that are open, those at the commits that
@@ -40,7 +40,7 @@ MayFollow shadow inner e commits =
 -- The entry was taken in: what is kept stands for the entries with it. Its effects are among the
 -- writes since the commits that wait: at the end of those between two commits, if a lone commit
 -- stands in the block that it ends, and otherwise at the end of all. After a commit no write has
--- taken effect.
+-- taken effect. There are no more writes than effects.
 pub record HasTaken (shadow : Kept) (inner : List ℕ) (old new : Cuts) (starting : List StartWord)
     (e : Entry) (earlier : List Entry) : Type 0 where
   pub words : HasWords shadow inner starting (e ∷ earlier)
@@ -50,3 +50,6 @@ pub record HasTaken (shadow : Kept) (inner : List ℕ) (old new : Cuts) (startin
       ≡ first_with (parts_behind earlier e.caller e.kind) writes old.first old.since
   pub since : new.since ≡ cut_if (is_commit e.kind)
       (with_part (parts_behind earlier e.caller e.kind) writes old.since)
+  pub few : length writes ≤ length (old_effects_at earlier e.caller e.kind)
+  pub begun : new.begun
+      ≤ begun_with (parts_behind earlier e.caller e.kind) writes old.begun old.since

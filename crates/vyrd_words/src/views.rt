@@ -9,7 +9,7 @@ ghost use Rattle.std.specs.Result.{is_err, is_ok};
 ghost use Rattle.vyrd_base.specs.Layout.{plain_words};
 ghost use Rattle.vyrd_shadow.specs.Blocks.{with_writes, AreInRange};
 ghost use Rattle.vyrd_words.specs.Costs.{pending_for};
-ghost use Rattle.vyrd_words.specs.Cuts.{first_with, with_part, written};
+ghost use Rattle.vyrd_words.specs.Cuts.{first_with, with_part, begun_with, written};
 ghost use Rattle.vyrd_spec.specs.Touching.{with_touched};
 ghost use Rattle.vyrd_view.specs.Comparing.{AgreeElsewhere};
 ghost use Rattle.vyrd_view.specs.Known.{IsNew, view_by};
@@ -53,7 +53,8 @@ impl<C: Compare> Model for Views<C> {
     ghost use Rattle.std.specs.Prelude.{◌++◌};
     ghost use Rattle.vyrd_words.specs.Costs.{pending_for};
     ghost use Rattle.vyrd_words.specs.Counts.{late_writes};
-    ghost use Rattle.vyrd_words.specs.Cuts.{Cuts, first_of, since_of, AreCuts, AreKnown};
+    ghost use Rattle.vyrd_words.specs.Cuts.{Cuts, first_of, since_of, begun_of};
+    ghost use Rattle.vyrd_words.specs.Cuts.{AreCuts, AreKnown};
 
     ghost Value = { Cuts };
 
@@ -62,6 +63,7 @@ impl<C: Compare> Model for Views<C> {
       base = v.words.items;
       first = first_of v.words.items v.counts v.writes.items;
       since = since_of v.counts v.writes.items;
+      begun = begun_of v.counts v.writes.items;
       shows = (C.known v.compared).shows;
       compared = (C.known v.compared).words;
       specified = (C.known v.compared).specified;
@@ -94,6 +96,7 @@ impl<C: Compare> Views<C> {
         ensures shows { IfOk result (λ v. v.shows ≡ (C.known compared).shows) }
         ensures first { IfOk result (λ v. v.first ≡ words.now) }
         ensures since { IfOk result (λ v. v.since ≡ []) }
+        ensures begun { IfOk result (λ v. v.begun ≡ 0) }
         ensures specified { IfOk result (λ v. v.specified ≡ []) }
         ensures sound { IfOk result (λ v. v.refused ≡ false) }
         ensures pending { IfOk result (λ v. v.pending
@@ -118,6 +121,7 @@ impl<C: Compare> Views<C> {
         ensures sound { OnOk result (self.new.refused ≡ false) }
         ensures first { self.new.first ≡ self.old.first }
         ensures since { self.new.since ≡ self.old.since }
+        ensures begun { self.new.begun ≡ self.old.begun }
         ensures header { self.new.header ≡ self.old.header }
         ensures shows { self.new.shows ≡ self.old.shows }
         ensures pending { self.new.pending ≡ self.old.pending }
@@ -140,6 +144,8 @@ impl<C: Compare> Views<C> {
             (self.new.first ≡ first_with 0 ((word, value) ∷ []) self.old.first self.old.since) }
         ensures since { OnOk result
             (self.new.since ≡ with_part 0 ((word, value) ∷ []) self.old.since) }
+        ensures begun { OnOk result (self.new.begun
+            ≤ begun_with 0 ((word, value) ∷ []) self.old.begun self.old.since) }
         ensures specified { OnOk result (self.new.specified ≡ self.old.specified) }
         ensures sound { OnOk result (self.new.refused ≡ false) }
         ensures header { self.new.header ≡ self.old.header }
@@ -172,6 +178,7 @@ impl<C: Compare> Views<C> {
         requires none_waits { self.old.since ≡ [] }
         ensures first { OnOk result (self.new.first ≡ slice_set self.old.first word value) }
         ensures since { OnOk result (self.new.since ≡ []) }
+        ensures begun { OnOk result (self.new.begun ≡ 0) }
         ensures specified { OnOk result (self.new.specified ≡ self.old.specified) }
         ensures sound { OnOk result (self.new.refused ≡ false) }
         ensures header { self.new.header ≡ self.old.header }
@@ -216,6 +223,8 @@ impl<C: Compare> Views<C> {
             ≡ first_with behind (written words.now changed.now) self.old.first self.old.since) }
         ensures since { OnOk result
             (self.new.since ≡ with_part behind (written words.now changed.now) self.old.since) }
+        ensures begun { OnOk result (self.new.begun
+            ≡ begun_with behind (written words.now changed.now) self.old.begun self.old.since) }
         ensures specified { self.new.specified ≡ self.old.specified }
         ensures sound { self.new.refused ≡ self.old.refused }
         ensures header { self.new.header ≡ self.old.header }
@@ -238,6 +247,7 @@ impl<C: Compare> Views<C> {
     pub fn cut(&mut self) -> Result<(), AllocError>
         ensures first { OnOk result (self.new.first ≡ self.old.first) }
         ensures since { OnOk result (self.new.since ≡ self.old.since ++ [] ∷ []) }
+        ensures begun { OnOk result (self.new.begun ≡ self.old.begun) }
         ensures specified { self.new.specified ≡ self.old.specified }
         ensures sound { self.new.refused ≡ self.old.refused }
         ensures header { self.new.header ≡ self.old.header }
@@ -261,6 +271,9 @@ impl<C: Compare> Views<C> {
         ensures since { (part : List (ℕ × ℕ)) (rest : List (List (ℕ × ℕ)))
             → self.old.since ≡ part ∷ rest
             → OnOk result (self.new.since ≡ rest) }
+        ensures begun { (part : List (ℕ × ℕ)) (rest : List (List (ℕ × ℕ)))
+            → self.old.since ≡ part ∷ rest
+            → OnOk result (self.new.begun ≡ length part) }
         ensures specified { self.new.specified ≡ self.old.specified }
         ensures sound { self.new.refused ≡ self.old.refused }
         ensures header { self.new.header ≡ self.old.header }
@@ -290,6 +303,7 @@ impl<C: Compare> Views<C> {
         requires sound { self.old.refused ≡ false }
         ensures first { self.new.first ≡ self.old.first }
         ensures since { self.new.since ≡ self.old.since }
+        ensures begun { self.new.begun ≡ self.old.begun }
         ensures compared { OnOk result (self.new.compared ≡ self.old.base) }
         ensures specified { OnOk result (self.new.specified ≡ self.old.specified) }
         ensures sound { OnOk result (self.new.refused ≡ false) }
@@ -329,6 +343,9 @@ impl<C: Compare> Views<C> {
         ensures since { (part : List (ℕ × ℕ)) (rest : List (List (ℕ × ℕ)))
             → self.old.since ≡ part ∷ rest
             → OnOk result (self.new.since ≡ rest) }
+        ensures begun { (part : List (ℕ × ℕ)) (rest : List (List (ℕ × ℕ)))
+            → self.old.since ≡ part ∷ rest
+            → OnOk result (self.new.begun ≡ length part) }
         ensures specified { OnOk result
             (self.new.specified
             ≡ with_touched (S.touched spec.now)
@@ -363,6 +380,7 @@ impl<C: Compare> Views<C> {
         ensures sound { OnOk result (self.new.refused ≡ false) }
         ensures first { self.new.first ≡ self.old.first }
         ensures since { self.new.since ≡ self.old.since }
+        ensures begun { self.new.begun ≡ self.old.begun }
         ensures compared { OnOk result (self.new.compared ≡ self.old.compared) }
         ensures header { self.new.header ≡ self.old.header }
         ensures shows { self.new.shows ≡ self.old.shows }

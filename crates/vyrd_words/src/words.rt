@@ -17,7 +17,7 @@ ghost use Rattle.vyrd_view.specs.Known.{IsNew, view_by};
 ghost use Rattle.vyrd_words.specs.Costs.{pending_for, work_held};
 ghost use Rattle.vyrd_words.specs.Costs.{effect_words, effect_count, each_entry, owed};
 ghost use Rattle.vyrd_words.specs.Costs.{entry_price, price_kept};
-ghost use Rattle.vyrd_words.specs.Cuts.{first_with, with_part, written};
+ghost use Rattle.vyrd_words.specs.Cuts.{first_with, with_part, begun_with, written};
 ghost use Rattle.vyrd_words.specs.HasWords.{HasWords, HasTaken, Keeps, MayFollow};
 
 use crate::views::Views;
@@ -81,6 +81,7 @@ impl<C: Compare> Words<C> {
         ensures shows { IfOk result (λ w. w.views.shows ≡ (C.known compared).shows) }
         ensures first { IfOk result (λ w. w.views.first ≡ words.now) }
         ensures since { IfOk result (λ w. w.views.since ≡ []) }
+        ensures begun { IfOk result (λ w. w.views.begun ≡ 0) }
         ensures specified { IfOk result (λ w. w.views.specified ≡ state.now) }
         ensures sound { IfOk result (λ w. w.views.refused ≡ false) }
         ensures pending { IfOk result (λ w. w.views.pending
@@ -270,6 +271,9 @@ impl<C: Compare> Words<C> {
         ensures since { (part : List (ℕ × ℕ)) (rest : List (List (ℕ × ℕ)))
             → self.old.views.since ≡ part ∷ rest
             → OnOk result (self.new.views.since ≡ rest) }
+        ensures begun { (part : List (ℕ × ℕ)) (rest : List (List (ℕ × ℕ)))
+            → self.old.views.since ≡ part ∷ rest
+            → OnOk result (self.new.views.begun ≡ length part) }
         ensures specified { OnOk result (self.new.views.specified
             ≡ with_touched (S.touched spec.now)
             ((rules_by (S.charter spec.now)).shown (S.state spec.now)) self.old.views.specified) }
@@ -305,6 +309,9 @@ impl<C: Compare> Words<C> {
         ensures since { (part : List (ℕ × ℕ)) (rest : List (List (ℕ × ℕ)))
             → self.old.views.since ≡ part ∷ rest
             → OnOk result (self.new.views.since ≡ rest) }
+        ensures begun { (part : List (ℕ × ℕ)) (rest : List (List (ℕ × ℕ)))
+            → self.old.views.since ≡ part ∷ rest
+            → OnOk result (self.new.views.begun ≡ length part) }
         ensures specified { OnOk result (self.new.views.specified
             ≡ with_touched (S.touched spec.now)
             ((rules_by (S.charter spec.now)).shown (S.state spec.now)) self.old.views.specified) }
@@ -376,6 +383,9 @@ fn difference_alone<C: Compare, S: Spec, L: Ledger>(
     ensures since { (part : List (ℕ × ℕ)) (rest : List (List (ℕ × ℕ)))
         → words.old.views.since ≡ part ∷ rest
         → OnOk result (words.new.views.since ≡ rest) }
+    ensures begun { (part : List (ℕ × ℕ)) (rest : List (List (ℕ × ℕ)))
+        → words.old.views.since ≡ part ∷ rest
+        → OnOk result (words.new.views.begun ≡ length part) }
     ensures specified { OnOk result (words.new.views.specified
         ≡ with_touched (S.touched spec.now)
         ((rules_by (S.charter spec.now)).shown (S.state spec.now)) words.old.views.specified) }
@@ -404,6 +414,9 @@ fn pass_on<C: Compare, L: Ledger>(
         views.old.since) }
     ensures since { OnOk result (views.new.since
         ≡ with_part 0 (written shadow.old.words shadow.old.changed) views.old.since) }
+    ensures begun { OnOk result (views.new.begun
+        ≤ begun_with 0 (written shadow.old.words shadow.old.changed) views.old.begun
+        views.old.since) }
     ensures specified { OnOk result (views.new.specified ≡ views.old.specified) }
     ensures sound { OnOk result (views.new.refused ≡ false) }
     ensures shadow { OnOk result (shadow.new ≡ record shadow.old { changed = [] }) }
@@ -442,6 +455,9 @@ fn pass_back<C: Compare, L: Ledger>(
         views.old.since) }
     ensures since { OnOk result (views.new.since
         ≡ with_part behind (written shadow.old.words shadow.old.changed) views.old.since) }
+    ensures begun { OnOk result (views.new.begun
+        ≡ begun_with behind (written shadow.old.words shadow.old.changed) views.old.begun
+        views.old.since) }
     ensures specified { OnOk result (views.new.specified ≡ views.old.specified) }
     ensures sound { OnOk result (views.new.refused ≡ false) }
     ensures shadow { OnOk result (shadow.new ≡ record shadow.old { changed = [] }) }
@@ -480,6 +496,8 @@ fn give<C: Compare, L: Ledger>(
         ≡ first_with 0 (written words.now changed.now) views.old.first views.old.since) }
     ensures since { OnOk result
         (views.new.since ≡ with_part 0 (written words.now changed.now) views.old.since) }
+    ensures begun { OnOk result (views.new.begun
+        ≤ begun_with 0 (written words.now changed.now) views.old.begun views.old.since) }
     ensures specified { OnOk result (views.new.specified ≡ views.old.specified) }
     ensures sound { OnOk result (views.new.refused ≡ false) }
     ensures header { views.new.header ≡ views.old.header }

@@ -1,15 +1,17 @@
-use Rattle.std.proofs.Common.{◌≡◌, ℕ, List, ◌+◌, ◌∷◌, ◌++◌, [], take, get_or, arith, refl, ap, sym, ◌∙◌}
+use Rattle.std.proofs.Common.{◌≡◌, ℕ, List, ◌+◌, ◌∷◌, ◌++◌, [], ◌≤◌, length, take, get_or, arith, refl, ap, subst, sym, ◌∙◌}
 use Rattle.std.proofs.lemmas.List.{take_more, take_all}
 use Rattle.std.specs.List.{sum_by}
 use Rattle.std.proofs.lemmas.List.Sums.{sum_by_push, sum_by-take-le}
-use Rattle.vyrd_words.specs.Cuts.{first_with, with_part, written}
-use Rattle.vyrd_words.proofs.CutLaws.{first_with_nothing, with_part_nothing, first_with_twice, with_part_twice, written_more}
+use Rattle.vyrd_words.specs.Cuts.{first_with, with_part, begun_with, written}
+use Rattle.vyrd_words.proofs.CutLaws.{first_with_nothing, with_part_nothing, first_with_twice, with_part_twice, length-with_part, written_more}
+use Rattle.vyrd_words.proofs.FewLaws.{begun_grows, begun_twice}
 use Rattle.vyrd_words.proofs.words.give.Goals as goal
 
 pub loop-word-init : goal.loop-word-init
 loop-word-init g c = record {
   first = sym (first_with_nothing 0 c.args.views.now.first c.args.views.now.since);
   since = sym (with_part_nothing 0 c.args.views.now.since);
+  begun = begun_grows 0 [] c.args.views.now.begun c.args.views.now.since;
   specified = refl;
   sound = c.requires.sound;
   header = refl;
@@ -37,6 +39,10 @@ loop-word-preserved g c =
           ∙ ap (with_part 0 one) c.loop-word.invariant.since
           ∙ sym (with_part_twice 0 sofar one before.since)
           ∙ ap (λ ws. with_part 0 ws before.since) more;
+      begun = subst (λ ws. c.effect.new.self.begun ≤ begun_with 0 ws before.begun before.since) more
+          (begun_twice 0 sofar one before.begun c.loop-word.views.begun c.effect.new.self.begun before.since c.loop-word.views.since
+          c.loop-word.invariant.begun (ap length c.loop-word.invariant.since ∙ length-with_part 0 sofar before.since)
+          c.in_ok-effect.ensures.begun);
       specified = c.in_ok-effect.ensures.specified ∙ c.loop-word.invariant.specified;
       sound = c.in_ok-effect.ensures.sound;
       header = c.effect.ensures.header ∙ c.loop-word.invariant.header;
@@ -63,6 +69,11 @@ returns-clause-since g c =
     c.loop-word.invariant.since
     ∙ ap (λ xs. with_part 0 (written c.args.words.now xs) c.args.views.now.since)
     (take_all c.loop-word.word-index c.args.changed.now c.loop-word-test.false)
+
+pub returns-clause-begun : goal.returns-clause-begun
+returns-clause-begun g c =
+    subst (λ xs. c.loop-word.views.begun ≤ begun_with 0 (written c.args.words.now xs) c.args.views.now.begun c.args.views.now.since)
+    (take_all c.loop-word.word-index c.args.changed.now c.loop-word-test.false) c.loop-word.invariant.begun
 
 pub returns-clause-steps : goal.returns-clause-steps
 returns-clause-steps g c =

@@ -6,8 +6,9 @@ use Rattle.vyrd_shadow.proofs.WriteLaws.{with_writes-append}
 use Rattle.vyrd_words.specs.Costs.{pending_for}
 use Rattle.vyrd_words.specs.Counts.{total, late_writes}
 use Rattle.vyrd_words.proofs.PendingLaws.{first_pending}
-use Rattle.vyrd_words.specs.Cuts.{Cuts, first_of, since_of, AreCuts, AreKnown}
+use Rattle.vyrd_words.specs.Cuts.{Cuts, first_of, since_of, begun_of, AreCuts, AreKnown}
 use Rattle.vyrd_words.proofs.CutLaws.{sum-cons, advanced_both, late_both, first_in_range, first_taken, first_next, since_next}
+use Rattle.vyrd_words.proofs.FewLaws.{begun_next}
 use Rattle.vyrd_words.proofs.views.Views.advance.Goals as goal
 
 pub catch_up-requires-clause-count : goal.catch_up-requires-clause-count
@@ -129,3 +130,13 @@ returns-in_err-take_late-clause-most g c =
     let parts = ap (λ ks. pending_for p i.changed.items (i.writes.items ++ late_writes ks)) is in
     let paid = first_pending p i.changed.items n late c.pop-late.new.self i.writes.items few in
     omega (arith, was, parts, c.catch_up.ensures.steps, c.take_late.ensures.steps, paid)
+
+pub returns-clause-begun : goal.returns-clause-begun
+returns-clause-begun g c = λ part rest waits.
+    let i = c.self.inside in
+    let is : i.counts ≡ (c.in-Some.count, c.deref.result.now) ∷ c.pop-late.new.self =
+    first_taken i.counts c.pop-late.new.self c.in-Some.count c.deref.result.now (sym c.in-Some.ensures) c.pop-late.ensures.rest
+    (c.deref.ensures.value ∙ c.pop-late.ensures.late) in
+    ap (begun_of c.pop-late.new.self) c.catch_up.ensures.writes
+    ∙ begun_next c.pop-late.new.self (drop c.in-Some.count i.writes.items) part rest
+    (ap (λ ks. since_of ks i.writes.items) (sym is) ∙ ap (λ (v : Cuts). v.since) c.self.view_is ∙ waits)

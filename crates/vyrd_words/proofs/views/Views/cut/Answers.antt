@@ -2,8 +2,9 @@ use Rattle.std.proofs.Common.{ℕ, ◌++◌, ◌∷◌, [], ap, sym, subst, ◌�
 use Rattle.vyrd_words.specs.Costs.{pending_for}
 use Rattle.vyrd_words.specs.Counts.{late_writes}
 use Rattle.vyrd_words.proofs.PendingLaws.{push_pending}
-use Rattle.vyrd_words.specs.Cuts.{Cuts, AreCuts, first_of, since_of}
+use Rattle.vyrd_words.specs.Cuts.{Cuts, AreCuts, first_of, since_of, begun_of}
 use Rattle.vyrd_words.proofs.CutLaws.{first_push, since_push, pushed_cuts}
+use Rattle.vyrd_words.proofs.FewLaws.{begun_push}
 use Rattle.vyrd_words.proofs.views.Views.cut.Goals as goal
 
 pub returns-clause-first : goal.returns-clause-first
@@ -35,3 +36,10 @@ returns-clause-pending g c =
     ap (λ ks. pending_for p i.changed.items (i.writes.items ++ late_writes ks)) c.in_ok-push.ensures
     ∙ ap (λ xs. pending_for p i.changed.items (i.writes.items ++ xs)) (push_pending i.counts i.tail)
     ∙ ap (λ (v : Cuts). v.pending) c.self.view_is
+
+pub returns-clause-begun : goal.returns-clause-begun
+returns-clause-begun g c =
+    let i = c.self.inside in
+    ap (λ ks. begun_of ks i.writes.items) c.in_ok-push.ensures
+    ∙ begun_push i.counts i.tail i.writes.items c.self.invariant.0.counted
+    ∙ ap (λ (v : Cuts). v.begun) c.self.view_is

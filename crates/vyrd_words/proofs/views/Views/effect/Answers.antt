@@ -1,7 +1,8 @@
-use Rattle.std.proofs.Common.{length, refl, ◌≡◌, ◌<◌, ◌∷◌, ◌++◌, [], ap, sym, ◌∙◌, subst, arith}
+use Rattle.std.proofs.Common.{ℕ, List, length, refl, ◌≡◌, ◌<◌, ◌∷◌, ◌++◌, [], ap, sym, ◌∙◌, subst, arith}
 use Rattle.vyrd_base.specs.Layout.{plain_words}
-use Rattle.vyrd_words.specs.Cuts.{Cuts, first_of, since_of, first_with, with_part}
+use Rattle.vyrd_words.specs.Cuts.{Cuts, first_of, since_of, begun_of, first_with, with_part, begun_with}
 use Rattle.vyrd_words.proofs.CutLaws.{one_waits, first_more, since_more, none_since, some_wait, first_at_once, since_at_once}
+use Rattle.vyrd_words.proofs.FewLaws.{begun_none, begun_more, begun_grows}
 use Rattle.vyrd_words.proofs.views.Views.effect.Goals as goal
 
 pub take_effect-requires-clause-none_waits : goal.take_effect-requires-clause-none_waits
@@ -48,3 +49,21 @@ returns-in_ok-push_back-clause-since g c =
     ∙ since_more i.counts i.writes.items ((c.args.word, c.args.value) ∷ []) (omega (arith, c.self.invariant.0.counted))
     (some_wait i.counts (length i.counts) refl (sym c.is_empty.ensures ∙ c.if-is_empty.false))
     ∙ ap (λ (v : Cuts). with_part 0 ((c.args.word, c.args.value) ∷ []) v.since) c.self.view_is
+
+pub returns-then-is_empty-clause-begun : goal.returns-then-is_empty-clause-begun
+returns-then-is_empty-clause-begun g c =
+    begun_none c.take_effect.result c.take_effect.new.self.begun
+    (begun_with 0 ((c.args.word, c.args.value) ∷ []) c.args.self.now.begun c.args.self.now.since)
+    c.take_effect.ensures.begun
+
+pub returns-in_ok-push_back-clause-begun : goal.returns-in_ok-push_back-clause-begun
+returns-in_ok-push_back-clause-begun g c =
+    let i = c.self.inside in
+    let one : List (ℕ × ℕ) = (c.args.word, c.args.value) ∷ [] in
+    let same = ap (begun_of i.counts)
+    (c.in_ok-push_back.ensures.items ∙ ap (λ write. i.writes.items ++ write ∷ []) c.new.ensures)
+    ∙ begun_more i.counts i.writes.items one (omega (arith, c.self.invariant.0.counted))
+    (some_wait i.counts (length i.counts) refl (sym c.is_empty.ensures ∙ c.if-is_empty.false))
+    ∙ ap (λ (v : Cuts). v.begun) c.self.view_is in
+    let grows = begun_grows 0 one c.args.self.now.begun c.args.self.now.since in
+    omega (arith, same, grows)

@@ -5,9 +5,10 @@ use Rattle.vyrd_base.specs.Layout.{plain_words}
 use Rattle.vyrd_shadow.specs.Blocks.{AreInRange}
 use Rattle.vyrd_words.specs.Costs.{pending_for}
 use Rattle.vyrd_words.specs.Counts.{late_writes}
-use Rattle.vyrd_words.specs.Cuts.{Cuts, AreCuts, first_of, since_of, first_with, with_part, written}
+use Rattle.vyrd_words.specs.Cuts.{Cuts, AreCuts, first_of, since_of, begun_of, first_with, with_part, begun_with, written}
 use Rattle.vyrd_words.proofs.PendingLaws.{late_pending}
 use Rattle.vyrd_words.proofs.CutLaws.{late_at, first_late, since_late, late_cuts, written_in_range, length-since_of, first_far, since_far}
+use Rattle.vyrd_words.proofs.FewLaws.{begun_far, begun_late}
 use Rattle.vyrd_words.proofs.views.Views.late.Goals as goal
 
 pub returns-then-behind-len-clause-first : goal.returns-then-behind-len-clause-first
@@ -80,3 +81,24 @@ returns-clause-pending g c =
     let grown = ap (λ cs. pending_for p i.changed.items (i.writes.items ++ late_writes cs)) counts
     ∙ late_pending p i.changed.items i.counts index c.args.words.now c.args.changed.now i.writes.items low in
     omega (arith, was, price, grown)
+
+pub returns-then-behind-len-clause-begun : goal.returns-then-behind-len-clause-begun
+returns-then-behind-len-clause-begun g c =
+    let i = c.self.inside in
+    let far : length (since_of i.counts i.writes.items) < c.args.behind =
+    omega (arith, length-since_of i.counts i.writes.items, c.len.ensures, c.if-behind-len.true) in
+    begun_far c.args.behind (written c.args.words.now c.args.changed.now) c.args.self.now.begun c.args.self.now.since
+    (subst (λ (v : Cuts). length v.since < c.args.behind) c.self.view_is far)
+
+pub returns-clause-begun : goal.returns-clause-begun
+returns-clause-begun g c =
+    let i = c.self.inside in
+    let index : ℕ = c.len-2.result - c.args.behind in
+    let new = written c.args.words.now c.args.changed.now in
+    let low : index < length i.counts = omega (arith, c.len.ensures, c.len-2.ensures, c.if-behind-len.false, c.requires.some) in
+    let counts : c.add_late.new.self ≡ late_at i.counts index new = c.in_ok-add_late.ensures.counts in
+    let behind : length i.counts - index ≡ c.args.behind = omega (arith, c.len.ensures, c.len-2.ensures, c.if-behind-len.false) in
+    ap (λ cs. begun_of cs i.writes.items) counts
+    ∙ begun_late i.counts index new i.writes.items low
+    ∙ ap (λ n. begun_with n new (begun_of i.counts i.writes.items) (since_of i.counts i.writes.items)) behind
+    ∙ ap (λ (v : Cuts). begun_with c.args.behind new v.begun v.since) c.self.view_is

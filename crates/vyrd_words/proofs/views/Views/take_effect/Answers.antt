@@ -1,10 +1,10 @@
-use Rattle.std.proofs.Common.{◌≡◌, ◌<◌, ◌≤◌, ℕ, [], ◌∷◌, ◌++◌, length, take, drop, arith, set, ap, sym, ◌∙◌, subst}
+use Rattle.std.proofs.Common.{◌≡◌, ◌<◌, ◌≤◌, ℕ, [], ◌∷◌, ◌++◌, length, take, drop, length-drop, arith, set, ap, sym, ◌∙◌, subst}
 use Rattle.std.specs.Prelude.{map}
 use Rattle.vyrd_base.specs.Layout.{plain_words}
 use Rattle.vyrd_words.specs.Costs.{pending_for}
 use Rattle.vyrd_words.proofs.PendingLaws.{caught_pending, one_pending, none_late}
 use Rattle.vyrd_words.proofs.WordsLaws.{ok_two}
-use Rattle.vyrd_words.specs.Cuts.{Cuts, AreCuts, AreKnown, first_of, since_of}
+use Rattle.vyrd_words.specs.Cuts.{Cuts, AreCuts, AreKnown, first_of, since_of, begun_of}
 use Rattle.vyrd_words.proofs.CutLaws.{at_once_both, now_at_once, none_waits, all_tail, always}
 use Rattle.vyrd_words.proofs.views.Views.take_effect.Goals as goal
 
@@ -139,3 +139,20 @@ returns-then-len-ge-MOST_CHANGED-clause-most g c =
     let one = one_pending p (i.changed.items ++ words) c.args.word (drop i.tail i.writes.items) in
     let caught = caught_pending p i.changed.items i.tail i.writes.items few in
     omega (arith, was, price, before, after, same, one, caught, c.catch_up.ensures.steps, c.compare_words.ensures.most)
+
+pub returns-clause-begun : goal.returns-clause-begun
+returns-clause-begun g c =
+    let i = c.self.inside in
+    let none : i.counts ≡ [] = none_waits i.counts i.writes.items (ap (λ (v : Cuts). v.since) c.self.view_is ∙ c.requires.none_waits) in
+    let all = all_tail i.counts i.tail _ none c.self.invariant.0.counted in
+    let left = ap length c.catch_up.ensures.writes in
+    ap (λ ks. begun_of ks c.catch_up.new.writes.items) none ∙ omega (arith, all, left, length-drop i.tail i.writes.items)
+
+pub returns-then-len-ge-MOST_CHANGED-clause-begun : goal.returns-then-len-ge-MOST_CHANGED-clause-begun
+returns-then-len-ge-MOST_CHANGED-clause-begun g c =
+    let i = c.self.inside in
+    let none : i.counts ≡ [] = none_waits i.counts i.writes.items (ap (λ (v : Cuts). v.since) c.self.view_is ∙ c.requires.none_waits) in
+    let all = all_tail i.counts i.tail _ none c.self.invariant.0.counted in
+    let left = ap length c.catch_up.ensures.writes in
+    always c.compare_words.result (c.compare_words.ensures.begun
+    ∙ ap (λ ks. begun_of ks c.catch_up.new.writes.items) none ∙ omega (arith, all, left, length-drop i.tail i.writes.items))

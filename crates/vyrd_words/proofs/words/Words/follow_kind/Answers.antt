@@ -11,7 +11,7 @@ use Rattle.vyrd_words.specs.Cuts.{written}
 use Rattle.vyrd_words.specs.Costs.{effect_words}
 use Rattle.vyrd_words.proofs.CutLaws.{always, length-written}
 use Rattle.vyrd_words.proofs.CostLaws.{paid_now, paid_at_most, paid_closed, one_changed, block_changed, one_word, block_words, priced}
-use Rattle.vyrd_words.proofs.WordsLaws.{may_opened, has_opened, keeps_opened, taken_closed, may_caller, may_word, may_value, may_open, may_close, may_block_commit, may_number, keeps_as, quiet_taken, open_taken, write_taken, close_taken, commit_taken, block_commit_taken, parts_since_none, parts_since_some, ok_two, ok_three, taken_as, low_caller, closes_block, commits_block}
+use Rattle.vyrd_words.proofs.WordsLaws.{may_opened, has_opened, keeps_opened, taken_closed, may_caller, may_word, may_value, may_open, may_close, may_block_commit, may_number, keeps_as, quiet_taken, open_taken, write_taken, close_taken, commit_taken, block_commit_taken, parts_since_none, parts_since_some, ok_two, ok_three, ok_four, taken_as, low_caller, closes_block, commits_block}
 use Rattle.vyrd_words.proofs.words.Words.follow_kind.Goals as goal
 
 pub write_counted-requires-clause-caller : goal.write_counted-requires-clause-caller
@@ -84,12 +84,12 @@ returns-in_ok-write_counted-in-Write-clause-taken g c = λ starting earlier seen
     let before = c.self.inside in
     let has = has_opened c.self.view_is seen in
     let keeps = keeps_opened c.self.view_is kept in
-    ok_three c.pass_on.result c.pass_on.ensures.first c.pass_on.ensures.since c.pass_on.ensures.shadow (λ first since shadow.
+    ok_four c.pass_on.result c.pass_on.ensures.first c.pass_on.ensures.since c.pass_on.ensures.shadow c.pass_on.ensures.begun (λ first since shadow begun.
     taken_closed c.self.view_is (taken_as c.args.entry c.in-Write.is
     (write_taken before.shadow c.write_counted.new.self c.pass_on.new.shadow before.inner.items before.views c.pass_on.new.views starting earlier
     c.args.entry.caller c.in-Write.word c.in-Write.value has (low_caller keeps)
     (c.in_ok-write_counted-in-Write.ensures.followed starting earlier has.followed (keeps_as c.in-Write.is keeps).rules)
-    c.write_counted.ensures.header c.pass_on.ensures.within c.in_ok-write_counted-in-Write.ensures.changed shadow first since)))
+    c.write_counted.ensures.header c.pass_on.ensures.within c.in_ok-write_counted-in-Write.ensures.changed shadow first since begun)))
 
 pub returns-then-number-eq0-clause-taken : goal.returns-then-number-eq0-clause-taken
 returns-then-number-eq0-clause-taken g c = λ starting earlier seen kept counted.
@@ -99,7 +99,7 @@ returns-then-number-eq0-clause-taken g c = λ starting earlier seen kept counted
     let low : c.args.entry.caller < length before.inner.items = omega (arith, low_caller keeps, c.self.invariant.1, before.inner.ok.0) in
     let here = slice_get-get_or before.inner.items c.args.entry.caller c.index-number.result.now low ∙ ap Some (sym c.index-number.ensures) in
     let on = c.pass_on-then-number-eq0 in
-    ok_three on.result on.ensures.first on.ensures.since on.ensures.shadow (λ first since shadow.
+    ok_four on.result on.ensures.first on.ensures.since on.ensures.shadow on.ensures.begun (λ first since shadow begun.
     taken_closed c.self.view_is (taken_as c.args.entry c.in-BlockClose.is
     (close_taken before.shadow c.close_block_counted.new.self on.new.shadow before.inner.items before.views on.new.views starting earlier
     c.args.entry.caller 0 has (low_caller keeps) (closes_block c.in-BlockClose.is keeps)
@@ -107,7 +107,7 @@ returns-then-number-eq0-clause-taken g c = λ starting earlier seen kept counted
     c.close_block_counted.ensures.header on.ensures.within c.close_block_counted.ensures.changed shadow
     (parts_since_none before.inner.items c.args.entry.caller c.index-number.result.now earlier here (has.numbers c.args.entry.caller (low_caller keeps))
     c.if-number-eq0.true)
-    first since)))
+    first since begun)))
 
 pub returns-else-number-eq0-clause-taken : goal.returns-else-number-eq0-clause-taken
 returns-else-number-eq0-clause-taken g c = λ starting earlier seen kept counted.
@@ -116,7 +116,7 @@ returns-else-number-eq0-clause-taken g c = λ starting earlier seen kept counted
     let keeps = keeps_opened c.self.view_is kept in
     let low : c.args.entry.caller < length before.inner.items = omega (arith, low_caller keeps, c.self.invariant.1, before.inner.ok.0) in
     let here = slice_get-get_or before.inner.items c.args.entry.caller c.index-number.result.now low ∙ ap Some (sym c.index-number.ensures) in
-    ok_three c.pass_back.result c.pass_back.ensures.first c.pass_back.ensures.since c.pass_back.ensures.shadow (λ first since shadow.
+    ok_four c.pass_back.result c.pass_back.ensures.first c.pass_back.ensures.since c.pass_back.ensures.shadow c.pass_back.ensures.begun (λ first since shadow begun.
     taken_closed c.self.view_is (taken_as c.args.entry c.in-BlockClose.is
     (close_taken before.shadow c.close_block_counted.new.self c.pass_back.new.shadow before.inner.items before.views c.pass_back.new.views starting earlier
     c.args.entry.caller _ has (low_caller keeps) (closes_block c.in-BlockClose.is keeps)
@@ -124,7 +124,7 @@ returns-else-number-eq0-clause-taken g c = λ starting earlier seen kept counted
     c.close_block_counted.ensures.header c.pass_back.ensures.within c.close_block_counted.ensures.changed shadow
     (parts_since_some before.inner.items c.args.entry.caller c.index-number.result.now c.args.commits earlier here
     (has.numbers c.args.entry.caller (low_caller keeps)) c.if-number-eq0.false counted)
-    first since)))
+    first since (omega (arith, begun)))))
 
 pub returns-in-Commit-clause-taken : goal.returns-in-Commit-clause-taken
 returns-in-Commit-clause-taken g c = λ starting earlier seen kept counted.
@@ -133,10 +133,10 @@ returns-in-Commit-clause-taken g c = λ starting earlier seen kept counted.
     let keeps = keeps_opened c.self.view_is kept in
     let low : c.args.entry.caller < length before.inner.items = omega (arith, low_caller keeps, c.self.invariant.1, before.inner.ok.0) in
     let one : c.args.commits + 1 ≡ suc (commit_count earlier) = omega (arith, counted) in
-    ok_two c.cut.result c.cut.ensures.first c.cut.ensures.since (λ first since.
+    ok_three c.cut.result c.cut.ensures.first c.cut.ensures.since c.cut.ensures.begun (λ first since begun.
     taken_closed c.self.view_is (taken_as c.args.entry c.in-Commit.is
     (commit_taken before.shadow before.inner.items before.views c.cut.new.self starting earlier c.args.entry.caller (c.args.commits + 1) has
-    (commit_followed before.shadow starting earlier c.args.entry.caller (keeps_as c.in-Commit.is keeps).rules has.followed) low one first since)))
+    (commit_followed before.shadow starting earlier c.args.entry.caller (keeps_as c.in-Commit.is keeps).rules has.followed) low one first since begun)))
 
 pub returns-in_ok-pass_on-in-BlockCommit-clause-taken : goal.returns-in_ok-pass_on-in-BlockCommit-clause-taken
 returns-in_ok-pass_on-in-BlockCommit-clause-taken g c = λ starting earlier seen kept counted.
@@ -145,13 +145,13 @@ returns-in_ok-pass_on-in-BlockCommit-clause-taken g c = λ starting earlier seen
     let keeps = keeps_opened c.self.view_is kept in
     let on = c.pass_on-in-BlockCommit in
     let ok = c.in_ok-pass_on-in-BlockCommit in
-    ok_two c.cut-in-BlockCommit.result c.cut-in-BlockCommit.ensures.first c.cut-in-BlockCommit.ensures.since (λ first since.
+    ok_three c.cut-in-BlockCommit.result c.cut-in-BlockCommit.ensures.first c.cut-in-BlockCommit.ensures.since c.cut-in-BlockCommit.ensures.begun (λ first since begun.
     taken_closed c.self.view_is (taken_as c.args.entry c.in-BlockCommit.is
     (block_commit_taken before.shadow c.close_block_counted-in-BlockCommit.new.self on.new.shadow before.inner.items before.views on.new.views
     c.cut-in-BlockCommit.new.self starting earlier c.args.entry.caller has (low_caller keeps) (commits_block c.in-BlockCommit.is keeps)
     (c.close_block_counted-in-BlockCommit.ensures.committed starting earlier has.followed (keeps_as c.in-BlockCommit.is keeps).rules)
     c.close_block_counted-in-BlockCommit.ensures.header on.ensures.within c.close_block_counted-in-BlockCommit.ensures.changed ok.ensures.shadow
-    ok.ensures.first ok.ensures.since first since)))
+    ok.ensures.first ok.ensures.since ok.ensures.begun first since begun)))
 
 pub returns-in-BlockOpen-clause-steps : goal.returns-in-BlockOpen-clause-steps
 returns-in-BlockOpen-clause-steps g c = λ starting earlier seen kept counted.
