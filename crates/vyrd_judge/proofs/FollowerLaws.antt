@@ -1,5 +1,5 @@
 -- How all that is kept goes on with one more entry, and with one more that is judged.
-use Rattle.std.proofs.Common.{◌≡◌, ℕ, suc, ◌+◌, ◌<◌, ◌≤◌, ◌^◌, Bool, true, false, cond, ◌&&◌, List, [], ◌∷◌, ◌++◌, map, length, Option, Some, None, refl, ap, subst, ◌∙◌, sym, arith}
+use Rattle.std.proofs.Common.{◌≡◌, ℕ, suc, ◌+◌, ◌*◌, ◌<◌, ◌≤◌, ◌^◌, Bool, true, false, cond, ◌&&◌, List, [], ◌∷◌, ◌++◌, map, length, Option, Some, None, refl, ap, subst, ◌∙◌, sym, arith}
 use Rattle.std.specs.Prelude.{count_by, not, option_map, Result, Ok, Err}
 use Rattle.std.specs.Result.{MatchResult, is_err}
 use Rattle.std.specs.List.{cons_option}
@@ -32,10 +32,13 @@ use Rattle.vyrd_shape.specs.Following.{Kept as ShapeKept, HasFollowed as ShapeFo
 use Rattle.vyrd_judge.specs.declared.waiting.Waiting.{Waiting}
 use Rattle.vyrd_words.specs.HasWords.{HasWords, HasTaken, Keeps, MayFollow}
 use Rattle.vyrd_base.specs.Entries.{place_of}
-use Rattle.vyrd_observers.specs.Watching.{Seen}
+use Rattle.vyrd_observers.specs.Watching.{Seen, answer_count}
 use Rattle.vyrd_judge.specs.declared.waiting.Event.{Event}
 use Rattle.vyrd_words.specs.Cuts.{first_with}
-use Rattle.vyrd_words.specs.Effects.{parts_behind}
+use Rattle.vyrd_words.specs.Effects.{parts_behind, effect_parts, with_effects, cut_if, AllFew, AreFew}
+use Rattle.vyrd_words.proofs.FewLaws.{few_more}
+use Rattle.vyrd_base.specs.FirstVersion.{old_effects_at}
+use Rattle.vyrd_judge.proofs.PartLaws.{parts_more}
 use Rattle.vyrd_judge.specs.Waiting.{replied, event_of, waiting_of, waiting_at}
 use Rattle.vyrd_observers.specs.Watching.{AreCurrent}
 use Rattle.vyrd_judge.specs.Queued.{HasQueued, HasTakenUp, MayQueue, AwaitsReturn}
@@ -128,8 +131,9 @@ pub taken_on : (k n : Kept) (starting : List StartWord) (log : List Entry) (xs :
     → Judged (rules_by k.charter) starting log n.state n.made n.watches xs n.views.first n.views.since → HasQueued (rules_by k.charter).header xs n.taken n.callers (newest_first log) → n.waiting ≡ xs
     → n.charter ≡ k.charter → n.started ≡ k.started → n.shape ≡ k.shape → n.shadow ≡ k.shadow → n.inner ≡ k.inner → n.views.header ≡ k.views.header
     → (n.views.specified ≡ (rules_by k.charter).shown n.state) × (n.views.refused ≡ false)
-    → n.entries ≡ k.entries → n.commits ≡ k.commits → n.observers ≡ k.observers → HasTakenIn n starting log
-taken_on k n starting log xs t judged queued waiting header started shape shadow inner views_header known entries commits_same observers = record {
+    → n.entries ≡ k.entries → n.commits ≡ k.commits → n.observers ≡ k.observers
+    → n.answers ≤ 2 * answer_count n.watches → AreFew n.views.begun n.views.since (effect_parts [] [] log) → HasTakenIn n starting log
+taken_on k n starting log xs t judged queued waiting header started shape shadow inner views_header known entries commits_same observers answers writes = record {
   started = started ∙ t.started;
   begun = ap (λ g. start_verdict (rules_by g) starting) header ∙ t.begun;
   shape = subst (λ s. ShapeFollows s (newest_first log)) (sym shape) t.shape;
@@ -148,6 +152,8 @@ taken_on k n starting log xs t judged queued waiting header started shape shadow
   entries = entries ∙ t.entries;
   commits = commits_same ∙ t.commits;
   observers = observers ∙ t.observers;
+  few_answers = answers;
+  few_writes = writes;
 }
 
 -- how many there are with one more
@@ -180,9 +186,9 @@ pub taken_more : (k n : Kept) (starting : List StartWord) (log : List Entry) (e 
     → n.charter ≡ k.charter → n.started ≡ k.started → n.state ≡ k.state → n.made ≡ k.made → n.watches ≡ k.watches
     → n.entries ≡ k.entries + 1 → n.commits ≡ k.commits + cond (is_commit e.kind) 1 0
     → n.observers ≡ k.observers + cond (is_return e.kind && not (has_committed e.caller (newest_first log))) 1 0
-    → (n.views.specified ≡ k.views.specified) × (n.views.refused ≡ false)
+    → (n.views.specified ≡ k.views.specified) × (n.views.refused ≡ false) → n.answers ≡ k.answers
     → HasTakenIn n starting (log ++ e ∷ [])
-taken_more k n starting log e t keeps shape shape_header words shadow_header views_header queued header started state made watches entries commits_more observers known = record {
+taken_more k n starting log e t keeps shape shape_header words shadow_header views_header queued header started state made watches entries commits_more observers known answers = record {
   started = started ∙ t.started;
   begun = ap (λ g. start_verdict (rules_by g) starting) header ∙ t.begun;
   shape = subst (ShapeFollows n.shape) (sym (newest_first-push log e)) shape;
@@ -209,10 +215,27 @@ taken_more k n starting log e t keeps shape shape_header words shadow_header vie
   commits = commits_more ∙ ap (λ m. m + cond (is_commit e.kind) 1 0) t.commits ∙ sym (count_more (λ x. is_commit x.kind) log e);
   observers = observers ∙ ap (λ m. m + cond (is_return e.kind && not (has_committed e.caller (newest_first log))) 1 0) t.observers
       ∙ sym (observers_more [] log e);
+  few_answers = omega (arith, t.few_answers, answers, ap answer_count watches);
+  few_writes = subst (AreFew n.views.begun n.views.since) (sym parts)
+      (subst (λ s. AreFew n.views.begun s (cut_if (is_commit e.kind) (with_effects behind now (effect_parts [] [] log)))) (sym words.since)
+      (few_more behind words.writes now (is_commit e.kind) k.views.begun n.views.begun k.views.since (effect_parts [] [] log) words.few words.begun t.few_writes));
 }
   where
     queue : List Waiting
     queue = map (replied e) k.waiting ++ cons_option (waiting_at (place_of e (newest_first log) [])) []
+
+    behind : ℕ
+    behind = parts_behind (newest_first log) e.caller e.kind
+
+    now : List (ℕ × ℕ)
+    now = old_effects_at (newest_first log) e.caller e.kind
+
+    apart : false ≡ true → ⊥
+    apart p = cc
+
+    parts : effect_parts [] [] (log ++ e ∷ []) ≡ cut_if (is_commit e.kind) (with_effects behind now (effect_parts [] [] log))
+    parts = parts_more (rules_by k.charter).header [] [] log e (well_formed-first_break (rules_by k.charter).header log t.kept) keeps.rules
+        (λ c inner. absurd (apart inner))
 
 -- an entry that breaks a rule
 pub broken_so_far : {k : Kept} {starting : List StartWord} {log : List Entry} (e : Entry) (rule : Rule) → IsFaultless k starting log
@@ -298,8 +321,9 @@ pub first_taken_in : (k : Kept) (r : Rules) (starting : List StartWord) → rule
     → k.shadow.header ≡ r.header → k.views.header ≡ r.header → HasQueued r.header k.waiting k.taken k.callers [] → k.made ≡ 0
     → AreCurrent (r.answer k.state) k.watches → k.waiting ≡ [] → k.views.first ≡ words_at_start r.header starting → k.views.since ≡ []
     → k.entries ≡ 0 → k.commits ≡ 0 → k.observers ≡ 0
-    → (k.views.specified ≡ (rules_by k.charter).shown k.state) × (k.views.refused ≡ false) → HasTakenIn k starting []
-first_taken_in k r starting header started begins shape shape_header words shadow_header views_header queued made current waiting first since entries commits_none observers known = record {
+    → (k.views.specified ≡ (rules_by k.charter).shown k.state) × (k.views.refused ≡ false)
+    → k.answers ≤ 2 * answer_count k.watches → k.views.begun ≡ 0 → HasTakenIn k starting []
+first_taken_in k r starting header started begins shape shape_header words shadow_header views_header queued made current waiting first since entries commits_none observers known answers none = record {
   started = started;
   begun = ap (λ g. start_verdict g starting) header ∙ sound_start r starting k.state begins;
   shape = shape;
@@ -319,6 +343,15 @@ first_taken_in k r starting header started begins shape shape_header words shado
   entries = entries;
   commits = commits_none;
   observers = observers;
+  few_answers = answers;
+  few_writes = record {
+    judged = [];
+    part = [];
+    further = [];
+    whole = refl;
+    first_few = omega (arith, none);
+    since_few = subst (λ s. AllFew s []) (sym since) tt;
+  };
 }
 
 -- what may be judged once one more is
@@ -337,21 +370,21 @@ pub taken_all : (k n : Kept) (first : Option Waiting) (e : Entry) (queue_header 
     → ((earlier : List Entry) → HasQueued queue_header k.waiting k.taken k.callers earlier → Keeps queue_header earlier e → k.entries ≡ length earlier
     → HasTakenUp queue_header k.waiting (cons_option first n.waiting) n.taken n.callers e earlier)
     → (AwaitsReturn k.waiting → first ≡ None → AwaitsReturn n.waiting)
-    → n.charter ≡ k.charter → n.started ≡ k.started → n.state ≡ k.state → n.made ≡ k.made → n.watches ≡ k.watches
+    → n.charter ≡ k.charter → n.started ≡ k.started → n.state ≡ k.state → n.made ≡ k.made → n.watches ≡ k.watches → n.answers ≡ k.answers
     → commits_here ≡ is_commit e.kind → n.commits ≡ k.commits + cond commits_here 1 0
     → ((earlier : List Entry) → HasQueued queue_header k.waiting k.taken k.callers earlier → Keeps queue_header earlier e
     → observes ≡ (is_return e.kind && not (has_committed e.caller earlier)))
     → n.observers ≡ k.observers + cond observes 1 0 → n.entries ≡ k.entries + 1
     → (n.views.specified ≡ k.views.specified) × (n.views.refused ≡ false)
     → (starting : List StartWord) (log : List Entry) → IsFaultless k starting log → IsCatchingUp first n starting (log ++ e ∷ [])
-taken_all k n first e queue_header commits_here observes shape_is shadow_is queue_is shape shape_header words shadow_header views_header queued awaits header started state made watches commits_is commits_more observes_is observers entries known starting log f = record {
+taken_all k n first e queue_header commits_here observes shape_is shadow_is queue_is shape shape_header words shadow_header views_header queued awaits header started state made watches answers commits_is commits_more observes_is observers entries known starting log f = record {
   taken_in = taken_more k (with_first first n) starting log e t keeps (shape (newest_first log) t.shape).1 shape_header
       (words starting (newest_first log) t.words (keeps_at shadow_is) (t.commits ∙ sym (commits_same log))) shadow_header
       (views_header ∙ t.views_header ∙ sym t.shadow_header ∙ sym shadow_header)
       (subst (λ h. HasTakenUp h k.waiting (cons_option first n.waiting) n.taken n.callers e (newest_first log)) queue_is
       (queued (newest_first log) queue (keeps_at queue_is) (reversed log t.entries)))
       header started state made watches entries (commits_more ∙ ap (λ b. k.commits + cond b 1 0) commits_is)
-      (observers ∙ ap (λ b. k.observers + cond b 1 0) (observes_is (newest_first log) queue (keeps_at queue_is))) known;
+      (observers ∙ ap (λ b. k.observers + cond b 1 0) (observes_is (newest_first log) queue (keeps_at queue_is))) known answers;
   awaits = awaits f.awaits;
 }
   where

@@ -176,7 +176,7 @@ quiet_on r starting log e earlier later state watches keeps quiet val = by_kind 
     by_kind BlockCommit keeps' none r' = at_commit (open_call c earlier) _ (block_commit_runs r.header c earlier keeps') (unwaiting (place BlockCommit) _ none)
 
 -- an entry that isn't judged isn't a commit
-uncommitted : (h : Header) (e : Entry) (earlier later : List Entry) → broken_rule h earlier e ≡ None → waiting_at (place_of e earlier later) ≡ None
+pub uncommitted : (h : Header) (e : Entry) (earlier later : List Entry) → broken_rule h earlier e ≡ None → waiting_at (place_of e earlier later) ≡ None
     → is_commit e.kind ≡ false
 uncommitted h e earlier later keeps quiet = by_kind e.kind keeps quiet
   where

@@ -1,7 +1,7 @@
 -- What waits to be judged stands behind the commit of an execution that hasn't returned.
 use Rattle.std.proofs.Common.{◌≡◌, ℕ, suc, ◌≤◌, Bool, true, false, List, [], ◌∷◌, ◌++◌, length}
 use Rattle.std.proofs.Common.{Option, Some, None, refl, ap, ◌∙◌, sym, subst, arith}
-use Rattle.std.specs.Prelude.{◌&&◌, is_none, filter_map, if◌then◌else◌}
+use Rattle.std.specs.Prelude.{◌&&◌, is_none, if◌then◌else◌}
 use Rattle.std.specs.List.{cons_option}
 use Rattle.std.proofs.lemmas.List.{append-nil}
 use Rattle.vyrd_base.specs.declared.subject.Method.{Method}
@@ -9,13 +9,11 @@ use Rattle.vyrd_base.specs.declared.subject.Args.{Args}
 use Rattle.vyrd_base.specs.declared.log.Kind.{Kind}
 use Rattle.vyrd_base.specs.declared.log.Entry.{Entry}
 use Rattle.vyrd_base.specs.declared.log.StartWord.{StartWord}
-use Rattle.vyrd_base.specs.declared.verdict.Verdict.{Verdict}
 use Rattle.vyrd_base.specs.Entries.{place_of}
 use Rattle.vyrd_base.specs.Commits.{is_commit, next_reply}
-use Rattle.vyrd_base.specs.Places.{Place, places_after, newest_first_onto, newest_first}
+use Rattle.vyrd_base.specs.Places.{newest_first_onto, newest_first}
 use Rattle.vyrd_base.specs.Rules.{rules_by}
 use Rattle.vyrd_base.proofs.CommitLaws.{Commits as Committing, alone, with_block}
-use Rattle.vyrd_judge.specs.declared.waiting.Event.{Event}
 use Rattle.vyrd_judge.specs.declared.waiting.Event.TheVariants.{Commits}
 use Rattle.vyrd_judge.specs.declared.waiting.Waiting.{Waiting}
 use Rattle.vyrd_judge.specs.Following.{JudgeView, HasFollowed, FollowsBy, IsFaultless}
@@ -23,7 +21,7 @@ use Rattle.vyrd_judge.specs.Judged.{Judged}
 use Rattle.vyrd_judge.specs.Keeping.{is_left_open, from_open_commit}
 use Rattle.vyrd_judge.specs.Queued.{AwaitsReturn}
 use Rattle.vyrd_judge.specs.Waiting.{waiting_at, waiting_after}
-use Rattle.vyrd_judge.proofs.WaitingLaws.{Waits, begins, commits, returns, IsCommit, waits}
+use Rattle.vyrd_judge.proofs.WaitingLaws.{Waits, begins, commits, returns, waits}
 
 -- no more entries than there are
 most_open : (later : List Entry) → from_open_commit later ≤ length later
@@ -58,7 +56,7 @@ turned base earlier [] = refl
 turned base earlier (x ∷ xs) = turned base (x ∷ earlier) xs
 
 -- a log is what stands before a place and after it
-log_parts : (earlier later log : List Entry)
+pub log_parts : (earlier later log : List Entry)
     → newest_first_onto earlier later ≡ newest_first log
     → log ≡ newest_first_onto later earlier
 log_parts earlier later log whole = sym (append-nil log) ∙ sym (turned [] [] log)
@@ -77,7 +75,7 @@ few_wait earlier (e ∷ later) = one_more (waiting_at (place_of e earlier later)
     one_more (Some x) n ws few = omega (arith, few)
 
 -- a commit that waits for its return is left open
-left_open : (e : Entry) (earlier later : List Entry) (x : Waiting) (method : Method) (args : Args)
+pub left_open : (e : Entry) (earlier later : List Entry) (x : Waiting) (method : Method) (args : Args)
     → waiting_at (place_of e earlier later) ≡ Some x → x.event ≡ Commits method args None
     → is_left_open e later ≡ true
 left_open e earlier later x method args is event = by_waits (waits e earlier later x is)

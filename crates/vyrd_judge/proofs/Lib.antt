@@ -1,3 +1,4 @@
+pub mod LeftLaws
 pub mod KeepingLaws
 pub mod EndingLaws
 pub mod EndFacts

@@ -1,5 +1,6 @@
 -- What the online judge keeps stands for a log.
-use Rattle.std.specs.Prelude.{◌≡◌, ◌≤◌, ◌^◌, ℕ, Bool, false, List, length, Option, Some, None}
+use Rattle.std.specs.Prelude.{◌≡◌, ◌≤◌, ◌*◌, ◌^◌, ℕ, Bool, false, List, [], length}
+use Rattle.std.specs.Prelude.{Option, Some, None}
 use Rattle.std.specs.List.{cons_option}
 use Rattle.vyrd_base.specs.declared.log.Entry.{Entry}
 use Rattle.vyrd_base.specs.declared.log.StartWord.{StartWord}
@@ -16,8 +17,9 @@ use Rattle.vyrd_judge.specs.declared.outcome.Advance.{Advance}
 use Rattle.vyrd_judge.specs.declared.outcome.Advance.TheVariants.{Goes, Stops}
 use Rattle.vyrd_judge.specs.declared.waiting.Waiting.{Waiting}
 use Rattle.vyrd_words.specs.Cuts.{Cuts}
+use Rattle.vyrd_words.specs.Effects.{effect_parts, AreFew}
 use Rattle.vyrd_words.specs.HasWords.{HasWords}
-use Rattle.vyrd_observers.specs.Watching.{Seen}
+use Rattle.vyrd_observers.specs.Watching.{Seen, answer_count}
 use Rattle.vyrd_judge.specs.Queued.{HasQueued, AwaitsReturn}
 use Rattle.vyrd_judge.specs.Judged.{Judged}
 use Rattle.vyrd_base.specs.Rules.{Rules, Charter, rules_by}
@@ -45,7 +47,9 @@ pub record Kept : Type 0 where
   pub observers : ℕ
 
 -- The starting words stand for a state, the log keeps all rules, and what is kept stands for both.
--- Its entries may still have to be judged.
+-- Its entries may still have to be judged. Little is kept: at most twice the answers that the open
+-- observers have, and for the commits that wait no more writes than the log has effects behind the
+-- commits that are judged.
 pub record HasTakenIn (k : Kept) (starting : List StartWord) (log : List Entry) : Type 0 where
   pub started : k.started ≡ length starting
   pub begun : start_verdict (rules_by k.charter) starting ≡ None
@@ -64,6 +68,8 @@ pub record HasTakenIn (k : Kept) (starting : List StartWord) (log : List Entry) 
   pub entries : k.entries ≡ length log
   pub commits : k.commits ≡ commit_count log
   pub observers : k.observers ≡ observer_count log
+  pub few_answers : k.answers ≤ 2 * answer_count k.watches
+  pub few_writes : AreFew k.views.begun k.views.since (effect_parts [] [] log)
 
 -- the same, nothing is wrong with the log so far, and all that can be judged is
 pub record IsFaultless (k : Kept) (starting : List StartWord) (log : List Entry) : Type 0 where

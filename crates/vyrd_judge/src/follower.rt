@@ -394,6 +394,7 @@ fn first_words<S: Spec>(
     ensures named { IfOk result (λ w. w.views.shows ≡ by_rules (S.charter spec.now)) }
     ensures first { IfOk result (λ w. w.views.first ≡ words.now) }
     ensures since { IfOk result (λ w. w.views.since ≡ []) }
+    ensures begun { IfOk result (λ w. w.views.begun ≡ 0) }
     ensures specified { IfOk result
         (λ w. w.views.specified ≡ (rules_by (S.charter spec.now)).shown (S.state spec.now)) }
     ensures sound { IfOk result (λ w. w.views.refused ≡ false) }

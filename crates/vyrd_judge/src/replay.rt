@@ -13,9 +13,10 @@ ghost use Rattle.vyrd_judge.specs.Costs.{judging_cost};
 ghost use Rattle.vyrd_judge.specs.Judged.{Judged, HeadGives, MayJudge, CommitLeads, KnowsState};
 ghost use Rattle.vyrd_judge.specs.Queued.{CanLeave};
 ghost use Rattle.vyrd_observers.specs.Costs.{owed};
-ghost use Rattle.vyrd_observers.specs.Watching.{AreCurrent};
+ghost use Rattle.vyrd_observers.specs.Watching.{AreCurrent, KeepsFew};
 ghost use Rattle.vyrd_observers.specs.Watching.{Seen, unwatched, has_answer};
 ghost use Rattle.vyrd_view.specs.Known.{view_by};
+ghost use Rattle.vyrd_words.specs.Effects.{AreFew};
 
 use crate::outcome::Outcome;
 use crate::waiting::{Event, Waiting};
@@ -34,6 +35,7 @@ pub(crate) struct Replay<S: Spec> {
     pub watches: Watches,
     ghost watching: { watches.header ≡ (rules_by (S.charter spec)).header },
     ghost callers: { length watches.by_caller ≡ (rules_by (S.charter spec)).header.callers },
+    ghost few: { KeepsFew watches },
 }
 
 impl<S: Spec> Replay<S> {
@@ -139,6 +141,10 @@ impl<S: Spec> Replay<S> {
             → IfOk result
             (KnowsState (rules_by (S.charter self.old.spec)) words.new.views
             (S.state self.new.spec)) }
+        ensures few { (part : List (ℕ × ℕ)) (rest parts : List (List (ℕ × ℕ)))
+            → words.old.views.since ≡ part ∷ rest
+            → AreFew words.old.views.begun words.old.views.since parts
+            → OnOk result (AreFew words.new.views.begun words.new.views.since parts) }
         ensures charter { S.charter self.new.spec ≡ S.charter self.old.spec }
         ensures views_header { words.new.views.header ≡ words.old.views.header }
         ensures shows { words.new.views.shows ≡ words.old.views.shows }
@@ -197,6 +203,13 @@ impl<S: Spec> Replay<S> {
             → IfOk result
             (KnowsState (rules_by (S.charter self.old.spec)) words.new.views
             (S.state self.new.spec)) }
+        ensures few { (starting : List StartWord) (log : List Entry) (xs : List Waiting)
+            (parts : List (List (ℕ × ℕ)))
+            → Judged (rules_by (S.charter self.old.spec)) starting log (S.state self.old.spec)
+            (S.made self.old.spec)
+            self.old.watches.by_caller (x ∷ xs) words.old.views.first words.old.views.since
+            → AreFew words.old.views.begun words.old.views.since parts
+            → OnOk result (AreFew words.new.views.begun words.new.views.since parts) }
         ensures charter { S.charter self.new.spec ≡ S.charter self.old.spec }
         ensures views_header { words.new.views.header ≡ words.old.views.header }
         ensures shows { words.new.views.shows ≡ words.old.views.shows }

@@ -138,7 +138,8 @@ effects_behind behind effects (part ∷ judged) left =
         let same = same_of (length (judged ++ left)) behind here in
         let past : length left ≤ behind = omega (arith, same, length-append judged left) in (
           (effects ++ part) ∷ judged,
-          ap (λ xs. (effects ++ part) ∷ (judged ++ xs)) (sym (effects_none behind effects left past)),
+          ap (λ xs. (effects ++ part) ∷ (judged ++ xs))
+              (sym (effects_none behind effects left past)),
         )
     by_test false apart rest = (part ∷ rest.0, ap (λ xs. part ∷ xs) rest.1)
 

@@ -1,10 +1,11 @@
-use Rattle.std.proofs.Common.{◌+◌, ◌∷◌, Some, refl, ap, subst, sym, ◌∙◌, arith}
+use Rattle.std.proofs.Common.{◌+◌, ◌∷◌, [], Some, refl, ap, subst, sym, ◌∙◌, arith}
 use Rattle.vyrd_base.specs.Rules.{rules_by}
 use Rattle.vyrd_base.specs.declared.verdict.Verdict.TheVariants.{Violation}
 use Rattle.vyrd_base.specs.Places.{newest_first}
 use Rattle.vyrd_base.specs.Verdicts.{first_fault}
 use Rattle.vyrd_judge.specs.Judged.{HeadGives, KnowsState}
 use Rattle.vyrd_judge.specs.Queued.{HasQueued}
+use Rattle.vyrd_words.specs.Effects.{effect_parts}
 use Rattle.vyrd_judge.specs.Following.{Kept, IsCatchingUp, MayCatchUp}
 use Rattle.vyrd_judge.proofs.FollowerLaws.{may_judge, few_taken, few_position, taken_on, sound_up}
 use Rattle.vyrd_judge.proofs.CostLaws.{judged_paid}
@@ -40,7 +41,9 @@ returns-in-Goes-clause-gives g c = λ starting log going.
       taken_in = taken_on _ _ starting log i.queue.waiting.items was.taken_in judged
           (subst (λ h. HasQueued h i.queue.waiting.items c.leave.new.self.taken c.leave.new.self.callers.items (newest_first log)) c.self.invariant.2 queued)
           c.leave.ensures.waiting c.judge.ensures.charter refl refl c.judge.ensures.shadow c.judge.ensures.inner c.judge.ensures.views_header
-          (subst (KnowsState (rules_by (g.S.Spec.charter i.replay.spec)) c.judge.new.words.views (g.S.Spec.state c.judge.new.self.spec)) c.in-Goes.is (c.in_ok-judge.ensures.known was.taken_in.specified)) refl refl refl;
+          (subst (KnowsState (rules_by (g.S.Spec.charter i.replay.spec)) c.judge.new.words.views (g.S.Spec.state c.judge.new.self.spec)) c.in-Goes.is (c.in_ok-judge.ensures.known was.taken_in.specified)) refl refl refl
+          c.judge.new.self.few.kept
+          (c.in_ok-judge.ensures.few starting log i.queue.waiting.items (effect_parts [] [] log) was.taken_in.judged was.taken_in.few_writes);
       awaits = c.leave.ensures.awaits;
     }
 

@@ -22,6 +22,7 @@ returns-clause-taken_in g c =
     (subst (λ s. AreCurrent (r.answer (g.S.Spec.state s)) c.in_ok-replay.replay.watches.by_caller) (sym c.in_ok-replay.ensures.spec) c.in_ok-replay.ensures.current)
     c.in_ok-queue.ensures.waiting (c.in_ok-words.ensures.first ∙ c.requires.words ∙ ap (λ h. words_at_start h c.args.start.now) named) c.in_ok-words.ensures.since refl refl refl
     (c.in_ok-words.ensures.specified, c.in_ok-words.ensures.sound)
+    c.in_ok-replay.replay.few.kept c.in_ok-words.ensures.begun
 
 pub returns-clause-charter : goal.returns-clause-charter
 returns-clause-charter g c = ap g.S.Spec.charter c.in_ok-replay.ensures.spec

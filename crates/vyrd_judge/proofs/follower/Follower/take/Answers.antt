@@ -57,7 +57,7 @@ catch_up-requires-clause-may g c =
     c.self.invariant.0 c.self.invariant.1 c.self.invariant.2 c.in_default.ensures.ok
     c.step_counted.ensures.header c.in_ok-follow_counted.ensures.taken
     c.follow_counted.ensures.header c.follow_counted.ensures.views_header
-    c.in_ok-first.ensures.taken_up c.in_ok-first.ensures.awaits refl refl refl refl refl
+    c.in_ok-first.ensures.taken_up c.in_ok-first.ensures.awaits refl refl refl refl refl refl
     c.is_commit.ensures c.counted-self-inside.ensures c.observer_returns-observes.ensures
     c.counted-self-inside-2.ensures refl (
       c.in_ok-follow_counted.ensures.specified,
@@ -74,7 +74,7 @@ returns-clause-answer g c = λ starting log f.
     c.self.invariant.0 c.self.invariant.1 c.self.invariant.2 c.in_default.ensures.ok
     c.step_counted.ensures.header c.in_ok-follow_counted.ensures.taken
     c.follow_counted.ensures.header c.follow_counted.ensures.views_header
-    c.in_ok-first.ensures.taken_up c.in_ok-first.ensures.awaits refl refl refl refl refl
+    c.in_ok-first.ensures.taken_up c.in_ok-first.ensures.awaits refl refl refl refl refl refl
     c.is_commit.ensures c.counted-self-inside.ensures c.observer_returns-observes.ensures
     c.counted-self-inside-2.ensures refl (
       c.in_ok-follow_counted.ensures.specified,
@@ -91,7 +91,7 @@ returns-clause-follows g c = λ starting log f is.
     c.self.invariant.0 c.self.invariant.1 c.self.invariant.2 c.in_default.ensures.ok
     c.step_counted.ensures.header c.in_ok-follow_counted.ensures.taken
     c.follow_counted.ensures.header c.follow_counted.ensures.views_header
-    c.in_ok-first.ensures.taken_up c.in_ok-first.ensures.awaits refl refl refl refl refl
+    c.in_ok-first.ensures.taken_up c.in_ok-first.ensures.awaits refl refl refl refl refl refl
     c.is_commit.ensures c.counted-self-inside.ensures c.observer_returns-observes.ensures
     c.counted-self-inside-2.ensures refl (
       c.in_ok-follow_counted.ensures.specified,
@@ -115,7 +115,7 @@ returns-clause-steps g c = λ starting log f.
     c.self.invariant.0 c.self.invariant.1 c.self.invariant.2 c.in_default.ensures.ok
     c.step_counted.ensures.header c.in_ok-follow_counted.ensures.taken
     c.follow_counted.ensures.header c.follow_counted.ensures.views_header
-    c.in_ok-first.ensures.taken_up c.in_ok-first.ensures.awaits refl refl refl refl refl
+    c.in_ok-first.ensures.taken_up c.in_ok-first.ensures.awaits refl refl refl refl refl refl
     c.is_commit.ensures c.counted-self-inside.ensures c.observer_returns-observes.ensures
     c.counted-self-inside-2.ensures refl (
       c.in_ok-follow_counted.ensures.specified,

@@ -1,11 +1,11 @@
 use Rattle.std.proofs.Common.{◌+◌, ◌≤◌, ◌++◌, take, drop, ap, sym, subst, ◌∙◌, arith}
-use Rattle.std.proofs.Common.{append_assoc, append-nil, refl, [], ◌∷◌}
+use Rattle.std.proofs.Common.{append_assoc, append-nil, refl}
 use Rattle.std.proofs.lemmas.List.{take_more, take-append-drop}
 use Rattle.vyrd_base.specs.Rules.{rules_by}
 use Rattle.vyrd_base.specs.Verdicts.{verdict_so_far}
 use Rattle.vyrd_judge.specs.Following.{JudgeView, HasFollowed}
 use Rattle.vyrd_base.proofs.FrontLaws.{take_past}
-use Rattle.vyrd_judge.specs.Costs.{entry_cost, judge_debt, log_cost}
+use Rattle.vyrd_judge.specs.Costs.{judge_debt, log_cost}
 use Rattle.vyrd_judge.proofs.CostLaws.{stands_paid, first_paid, entry_paid, verdict_paid}
 use Rattle.vyrd_judge.proofs.OnlineLaws.{stands_on, followed_on, decided, none_stands, so_far_is_known}
 use Rattle.vyrd_judge.proofs.online.Judge.follow_counted.Goals as goal

@@ -12,6 +12,7 @@ use Rattle.vyrd_view.specs.Known.{view_by}
 use Rattle.vyrd_observers.specs.Watching.{AllSee, AreCurrent, unwatched}
 use Rattle.vyrd_observers.proofs.SeeingLaws.{still_current}
 use Rattle.vyrd_base.proofs.KeptLaws.{method_subject, method_args}
+use Rattle.vyrd_words.proofs.FewLaws.{few_answered}
 use Rattle.vyrd_judge.proofs.replay.Replay.commit.Goals as goal
 
 -- What the comparison knows goes on to the next state. Rules that are the same have two names: those
@@ -89,6 +90,21 @@ returns-clause-leads g c = λ part rest is known.
       words = c.in_ok-key.ensures.first part rest is;
       since = c.in_ok-key.ensures.since part rest is;
     }
+
+pub returns-then-not-branch-clause-few : goal.returns-then-not-branch-clause-few
+returns-then-not-branch-clause-few g c = λ part rest parts waits are. are
+
+pub returns-in-Some-clause-few : goal.returns-in-Some-clause-few
+returns-in-Some-clause-few g c = λ part rest parts waits are.
+    few_answered {T = Unit {0}} {E = Unit {0}} (Ok tt) c.args.words.now.views.begun c.difference_counted.new.self.views.begun part rest
+    c.args.words.now.views.since c.difference_counted.new.self.views.since parts waits
+    (c.in_ok-key.ensures.since part rest waits) (c.in_ok-key.ensures.begun part rest waits) are
+
+pub returns-clause-few : goal.returns-clause-few
+returns-clause-few g c = λ part rest parts waits are.
+    few_answered {T = Unit {0}} {E = Unit {0}} (Ok tt) c.args.words.now.views.begun c.difference_counted.new.self.views.begun part rest
+    c.args.words.now.views.since c.difference_counted.new.self.views.since parts waits
+    (c.in_ok-key.ensures.since part rest waits) (c.in_ok-key.ensures.begun part rest waits) are
 
 pub returns-clause-known : goal.returns-clause-known
 returns-clause-known g c = λ known. (

@@ -6,6 +6,7 @@ use Rattle.vyrd_judge.proofs.JudgingLaws.{begins_caller, begins_may, begins_free
 use Rattle.vyrd_judge.proofs.JudgingLaws.{commits_may, commits_mutates, returns_caller, steps_few}
 use Rattle.vyrd_judge.proofs.JudgingLaws.{judged_current, judged_begins, watch_there}
 use Rattle.vyrd_judge.proofs.JudgingLaws.{judged_answered, judged_unanswered, judged_commits}
+use Rattle.vyrd_judge.proofs.JudgingLaws.{commit_splits}
 use Rattle.vyrd_judge.proofs.replay.Replay.judge.Goals as goal
 
 pub begin-requires-clause-caller : goal.begin-requires-clause-caller
@@ -69,3 +70,9 @@ returns-else-end-clause-gives g c = λ starting log xs j known.
     let old = c.args.self.now in
     let seen = watch_there (sym c.event.ensures ∙ c.in-Returns.is) old.callers j in
     judged_unanswered seen.0 (sym c.event.ensures ∙ c.in-Returns.is) seen.1 (sym (c.end.ensures.answered seen.0 (rw c.caller-in-Returns.ensures.is seen.1)) ∙ c.if-end.false) j
+
+pub returns-in-Some-clause-few : goal.returns-in-Some-clause-few
+returns-in-Some-clause-few g c = λ starting log xs parts j are.
+    let split = commit_splits (sym c.event.ensures ∙ c.in-Commits.is ∙ ap
+    (Commits c.in-Commits.method c.in-Commits.args) c.in-Some.is) j in
+    c.commit.ensures.few split.0 split.1 parts split.2 are
