@@ -106,6 +106,9 @@ impl Shadow {
     /// otherwise it takes effect, and the word has changed. Either takes constant time on average,
     /// and the room that the end of the block will need among the changed words is made here. A
     /// write that is refused for lack of memory leaves the shadow as it is.
+    ///
+    /// In a block, a write to a word that the open block of another caller keeps is dropped. The
+    /// rules of shape refuse such a write first, so none comes from a log that keeps them.
     #[inline(always)]
     pub fn write(&mut self, caller: u32, word: u32, value: u64) -> Result<(), AllocError>
         requires caller { caller < self.old.header.callers }
