@@ -32,7 +32,7 @@ checked_whole c bytes v limit there checked =
     let here : own_text_verdict_so_far max bytes ≡ Some v = subst (FollowsBy c.kept bytes) there checked.follows in
     sym (ap (own_text_verdict max) (sym (append-nil bytes)) ∙ own_verdict_stands max bytes [] v limit here)
 
-empty_of : (xs : List ℕ) → true ≡ (length xs == 0) → xs ≡ []
+pub empty_of : (xs : List ℕ) → true ≡ (length xs == 0) → xs ≡ []
 empty_of xs e = let none : length xs ≡ 0 = grind (arith, nat_tests) in by_length xs none
   where
     by_length : (ys : List ℕ) → length ys ≡ 0 → ys ≡ []

@@ -21,8 +21,11 @@ use Rattle.vyrd_own_log.proofs.GrownLaws.{reading_grown, reading_formed}
 use Rattle.vyrd_judge.specs.Following.{JudgeView}
 use Rattle.vyrd_own_check.specs.LogReadings.{read_so_far}
 use Rattle.vyrd_own_check.specs.Checking.{IsLimit, IsJudging, IsReady, IsBegun, HasRoom, Kept, limit_of, IsUndecided, IsSomewhere, untold_in}
+use Rattle.vyrd_own_check.specs.Costs.{bytes_cost}
+use Rattle.vyrd_own_check.specs.Owed.{judge_owes, following_cost, kept_debt}
 use Rattle.vyrd_own_check.proofs.ReadingFacts.{known_so_far}
 use Rattle.vyrd_own_check.proofs.PieceLaws.{judge_before, has_room}
+use Rattle.vyrd_own_check.proofs.CostLaws.{piece_paid}
 
 -- a piece was read, and the judge is there if it may be
 pub record Fed (old : Kept) (reader : ReaderState) (begun : Option JudgeView) (piece : List ℕ) (entries : List Entry) (numbers : List ℕ)
@@ -104,6 +107,12 @@ read_to reader bytes max limit read =
     subst (IsReadTo reader bytes) limit
     (record { header = read.header; lines = read.lines; start = read.start; ended = read.ended })
 
+paid_then : (owes begun moves before was now n m later : ℕ) → later ≡ owes
+    → begun + moves + was ≤ before + now → n + owes ≤ m + begun + moves
+    → n + later + was ≤ m + before + now
+paid_then owes begun moves before was now n m later same paid taken =
+    omega (arith, same, paid, taken)
+
 module _ (old : Kept) (reader : ReaderState) (begun : Option JudgeView) (piece : List ℕ) (entries : List Entry) (numbers : List ℕ)
     (fault : Option Verdict) (fed : Fed old reader begun piece entries numbers fault) where
   -- the judge is ready for the entries of the piece
@@ -171,3 +180,32 @@ module _ (old : Kept) (reader : ReaderState) (begun : Option JudgeView) (piece :
     numbers = fed_numbers bytes u ∙ ap (λ m. (read_so_far m (bytes ++ piece)).numbers) (sym fed.limit);
     nothing = ap (λ m. own_text_verdict_so_far m (bytes ++ piece)) fed.limit ∙ nothing;
   }
+
+  -- what a piece that was read and judged has cost is paid
+  pub fed_paid : IsLimit (limit_of old) → has_ended old.reader.kept.lines.stage ≡ false
+      → (after : Option JudgeView) (bytes : List ℕ) → IsUndecided old bytes → (m n : ℕ)
+      → n + judge_owes after (read_so_far (limit_of old) (bytes ++ piece)).entries
+      ≤ m + judge_owes begun (read_so_far (limit_of old) bytes).entries
+      + following_cost begun entries (has_ended reader.kept.lines.stage)
+      → n + kept_debt (record { reader = reader; judge = after; numbers = numbers })
+      (bytes ++ piece)
+      + bytes_cost (limit_of old) bytes
+      ≤ m + kept_debt old bytes + bytes_cost (limit_of old) (bytes ++ piece)
+  fed_paid limit going after bytes u m n taken =
+      let max = limit_of old in
+      let was = read_so_far max bytes in
+      let is = read_so_far max (bytes ++ piece) in
+      let read = read_to reader (bytes ++ piece) max fed.limit (fed.read bytes u.read) in
+      let judge : IsBegun (has_any entries || is.ended) is.header is.lines is.starting old.judge
+      begun =
+      rw (← read.ended, ← read.header, ← read.lines, ← read.start) fed.judge in
+      let more = reading_grown max false bytes piece limit.low limit.high in
+      let ready = fed_ready limit bytes u in
+      paid_then (judge_owes after is.entries) (judge_owes begun was.entries)
+      (following_cost begun entries (has_ended reader.kept.lines.stage)) (kept_debt old bytes)
+      (bytes_cost max bytes) (bytes_cost max (bytes ++ piece)) n m
+      (kept_debt (record { reader = reader; judge = after; numbers = numbers }) (bytes ++ piece))
+      (ap (λ l. judge_owes after (read_so_far l (bytes ++ piece)).entries) fed.limit)
+      (piece_paid old.judge begun was is entries (has_ended reader.kept.lines.stage) u.judging more
+      (sym u.read.ended ∙ going) ready judge)
+      taken

@@ -37,7 +37,7 @@ any_more [] more e = cc
 any_more (x ∷ xs) more e = refl
 
 -- what has begun goes on
-begun_on : (old new : OwnReading) → IsGrown old new → has_begun old ≡ true → has_begun new ≡ true
+pub begun_on : (old new : OwnReading) → IsGrown old new → has_begun old ≡ true → has_begun new ≡ true
 begun_on old new g begun = by_end old.ended refl begun
   where
     by_end : (b : Bool) → old.ended ≡ b → (has_any old.entries || b) ≡ true → has_begun new ≡ true

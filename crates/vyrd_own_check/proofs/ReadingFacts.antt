@@ -2,7 +2,6 @@
 use Rattle.std.proofs.Common.{◌≡◌, ℕ, true, false, cond, List, Option, Some, None, refl, ap, ◌∙◌, sym}
 use Rattle.std.specs.Prelude.{unwrap_or, option_map, option_and_then}
 use Rattle.std.specs.Option.{option_or}
-use Rattle.vyrd_base.specs.Reading.{TextFault}
 use Rattle.vyrd_base.specs.Rules.{Charter, rules_by}
 use Rattle.vyrd_base.specs.declared.verdict.Rule.{Rule}
 use Rattle.vyrd_base.specs.declared.verdict.Verdict.{Verdict}
@@ -44,7 +43,7 @@ module _ (max : ℕ) (bytes : List ℕ) (nothing : own_text_verdict_so_far max b
   unfolding own_text_verdict_so_far
   entries_right = first_none _ _ nothing
 
-  untold_right : untold_in read ≡ None
+  pub untold_right : untold_in read ≡ None
   untold_right = none_told (told_in_text read.numbers) (untold_in read) (sym (told_is read) ∙ entries_right)
 
   -- if `end` was read and nothing is wrong, the log is accepted

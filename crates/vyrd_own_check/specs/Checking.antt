@@ -14,7 +14,10 @@ use Rattle.vyrd_base.specs.Own.Log.{OwnReading}
 use Rattle.vyrd_base.specs.Own.LogVerdicts.{own_text_verdict_so_far}
 use Rattle.vyrd_own_log.specs.Grown.{has_begun}
 use Rattle.vyrd_own_log.specs.Readers.{ReaderState, HasRead}
+use Rattle.vyrd_judge.specs.Costs.{judge_debt}
 use Rattle.vyrd_judge.specs.Following.{JudgeView, HasFollowed}
+use Rattle.vyrd_own_spec.specs.Effects.{most_touched}
+use Rattle.vyrd_own_check.specs.Costs.{word_price, starting_cost}
 use Rattle.vyrd_own_check.specs.LogReadings.{read_so_far}
 
 -- how many lines a log may have
@@ -78,11 +81,13 @@ abbrev pub HasRoom : Option JudgeView → List Entry → Type 0
 HasRoom None entries = Unit {0}
 HasRoom (Some j) entries = j.kept.entries + length entries ≤ 2 ^ 62
 
--- the judge that was made if the starting words stand for a state: it has followed no entry
+-- the judge that was made if the starting words stand for a state: it has followed no entry, and
+-- owes what it costs to start
 abbrev pub IsMade : Header → List (List ℕ) → List StartWord → Option JudgeView → Type 0
 IsMade h lines starting None = is_none (state_at_start (rules_by (own h lines)) starting) ≡ true
 IsMade h lines starting (Some j) = (j.kept.charter ≡ own h lines) × HasFollowed j starting []
     × (j.so_far ≡ None)
+    × (judge_debt (λ shows. word_price) most_touched j [] ≡ starting_cost h lines starting)
 
 -- The judge before and after a piece, in which an entry or `end` was read or not: a new one if
 -- there was none.

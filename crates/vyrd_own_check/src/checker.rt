@@ -1,14 +1,19 @@
 //! The checker of the bytes of a log of version 3.
 
-ghost use Rattle.std.specs.Prelude.{◌≡◌, ◌++◌, ◌≤◌, ℕ, List, [], None, true, false, IfOk, OnOk};
+ghost use Rattle.std.specs.Prelude.{◌≡◌, ◌++◌, ◌≤◌, ◌<◌, ◌+◌, ℕ, List, [], None, true, false};
+ghost use Rattle.std.specs.Prelude.{IfOk, OnOk};
 ghost use Rattle.std.specs.Result.{is_err};
 ghost use Rattle.vyrd_base.specs.Own.LogVerdicts.{own_text_verdict, own_text_verdict_so_far};
 ghost use Rattle.vyrd_own_check.specs.Checking.{HasChecked, limit_of, most_lines, IsSound};
+ghost use Rattle.vyrd_own_check.specs.Costs.{bytes_cost, finish_cost};
 ghost use Rattle.vyrd_own_check.specs.KeptView.{kept_in};
+ghost use Rattle.vyrd_own_check.specs.Owed.{checker_debt};
 
 use crate::text_judge::OwnTextJudge;
 use std::alloc::{AllocError, Global};
-use vyrd_base::Verdict;
+use std::marker::Brand;
+use std::sync::ledger::{Blank, Ledger};
+use vyrd_base::{Steps, Verdict};
 
 /// The most bytes that are read before their entries are judged.
 const LONGEST_PART: usize = 8_192;
@@ -56,6 +61,8 @@ impl OwnChecker {
         ensures limit { limit_of (checker_in result).kept ≡ max_lines }
         ensures so_far { (checker_in result).so_far ≡ None }
         ensures has_failed { (checker_in result).has_failed ≡ false }
+        ensures owed { checker_debt (checker_in result) [] ≡ 0 }
+        ensures unread { bytes_cost max_lines [] ≡ 0 }
     {
         OwnChecker {
             text: OwnTextJudge::new(alloc, max_lines),
@@ -77,6 +84,34 @@ impl OwnChecker {
         ensures fails_again { (checker_in self.old).has_failed ≡ true → is_err result ≡ true }
         ensures limit { limit_of (checker_in self.new).kept ≡ limit_of (checker_in self.old).kept }
     {
+        self.feed_alone::<Brand>(Blank::new(1), piece)
+    }
+
+    /// The same, with the judge's steps counted, as [`Judge`](vyrd_judge::Judge) counts them.
+    /// Reading isn't counted, nor is telling a verdict by the lines of the text: it looks at each
+    /// run of lines once, when the verdict is found. What a piece leaves to be done later is owed
+    /// from then on, so that over a whole log the steps are at most what its bytes cost, however
+    /// they are cut.
+    pub fn feed_counted<L: Ledger>(
+        &mut self,
+        piece: &[u8],
+        steps: &mut Steps<L>,
+    ) -> Result<Option<Verdict>, AllocError>
+        ensures answer { (bytes : List ℕ) → HasChecked (checker_in self.old) bytes
+            → IfOk result (λ v. v ≡ own_text_verdict_so_far
+            (limit_of (checker_in self.old).kept) (bytes ++ piece.now)) }
+        ensures checked { (bytes : List ℕ) → HasChecked (checker_in self.old) bytes
+            → OnOk result (HasChecked (checker_in self.new) (bytes ++ piece.now)) }
+        ensures so_far { IfOk result (λ v. (checker_in self.new).so_far ≡ v) }
+        ensures has_failed { (checker_in self.new).has_failed ≡ is_err result }
+        ensures fails_again { (checker_in self.old).has_failed ≡ true → is_err result ≡ true }
+        ensures limit { limit_of (checker_in self.new).kept ≡ limit_of (checker_in self.old).kept }
+        ensures steps { (bytes : List ℕ) → HasChecked (checker_in self.old) bytes
+            → OnOk result (steps.new + checker_debt (checker_in self.new) (bytes ++ piece.now)
+            + bytes_cost (limit_of (checker_in self.old).kept) bytes
+            ≤ steps.old + checker_debt (checker_in self.old) bytes
+            + bytes_cost (limit_of (checker_in self.old).kept) (bytes ++ piece.now)) }
+    {
         if self.has_failed {
             return Err(AllocError);
         }
@@ -86,7 +121,7 @@ impl OwnChecker {
                 return Ok(Some(verdict));
             }
             let (part, after) = rest.split_at(rest.len().min(LONGEST_PART));
-            self.feed_part(part)?;
+            self.feed_part(part, steps)?;
             rest = after;
         }
         Ok(self.so_far)
@@ -98,25 +133,41 @@ impl OwnChecker {
             IfOk result (λ v. v ≡ own_text_verdict (limit_of (checker_in self.now).kept) bytes) }
         ensures has_failed { (checker_in self.now).has_failed ≡ true → is_err result ≡ true }
     {
+        self.finish_alone::<Brand>(Blank::new(1))
+    }
+
+    /// The same, with the judge's steps counted: one for each caller at most.
+    pub fn finish_counted<L: Ledger>(&self, steps: &mut Steps<L>) -> Result<Verdict, AllocError>
+        ensures verdict { (bytes : List ℕ) → HasChecked (checker_in self.now) bytes →
+            IfOk result (λ v. v ≡ own_text_verdict (limit_of (checker_in self.now).kept) bytes) }
+        ensures has_failed { (checker_in self.now).has_failed ≡ true → is_err result ≡ true }
+        ensures steps { (bytes : List ℕ) → HasChecked (checker_in self.now) bytes
+            → steps.new ≤ steps.old + finish_cost (limit_of (checker_in self.now).kept) bytes }
+    {
         if self.has_failed {
             return Err(AllocError);
         }
         match self.so_far {
             Some(verdict) => Ok(verdict),
-            None => self.text.end(),
+            None => self.text.end(steps),
         }
     }
 
     /// Follows a part of a piece, while no verdict stands.
-    fn feed_part(&mut self, part: &[u8]) -> Result<(), AllocError>
+    fn feed_part<L: Ledger>(&mut self, part: &[u8], steps: &mut Steps<L>) -> Result<(), AllocError>
         requires works { (checker_in self.old).has_failed ≡ false }
         requires undecided { (checker_in self.old).so_far ≡ None }
         ensures checked { (bytes : List ℕ) → HasChecked (checker_in self.old) bytes
             → OnOk result (HasChecked (checker_in self.new) (bytes ++ part.now)) }
         ensures has_failed { (checker_in self.new).has_failed ≡ is_err result }
         ensures limit { limit_of (checker_in self.new).kept ≡ limit_of (checker_in self.old).kept }
+        ensures steps { (bytes : List ℕ) → HasChecked (checker_in self.old) bytes
+            → OnOk result (steps.new + checker_debt (checker_in self.new) (bytes ++ part.now)
+            + bytes_cost (limit_of (checker_in self.old).kept) bytes
+            ≤ steps.old + checker_debt (checker_in self.old) bytes
+            + bytes_cost (limit_of (checker_in self.old).kept) (bytes ++ part.now)) }
     {
-        match self.text.take_in(part) {
+        match self.text.take_in(part, steps) {
             Ok(verdict) => {
                 self.so_far = verdict;
                 Ok(())
@@ -126,6 +177,42 @@ impl OwnChecker {
                 Err(error)
             }
         }
+    }
+
+    /// Follows a piece with a count of its own.
+    fn feed_alone<L: Ledger>(
+        &mut self,
+        blank: Blank,
+        piece: &[u8],
+    ) -> Result<Option<Verdict>, AllocError>
+        requires name { blank.name ≡ L.name }
+        requires parts { blank.parts ≡ L.parts }
+        requires some { 0 < blank.parts }
+        ensures answer { (bytes : List ℕ) → HasChecked (checker_in self.old) bytes
+            → IfOk result (λ v. v ≡ own_text_verdict_so_far
+            (limit_of (checker_in self.old).kept) (bytes ++ piece.now)) }
+        ensures checked { (bytes : List ℕ) → HasChecked (checker_in self.old) bytes
+            → OnOk result (HasChecked (checker_in self.new) (bytes ++ piece.now)) }
+        ensures so_far { IfOk result (λ v. (checker_in self.new).so_far ≡ v) }
+        ensures has_failed { (checker_in self.new).has_failed ≡ is_err result }
+        ensures fails_again { (checker_in self.old).has_failed ≡ true → is_err result ≡ true }
+        ensures limit { limit_of (checker_in self.new).kept ≡ limit_of (checker_in self.old).kept }
+    {
+        let mut steps = Steps::<L>::new(blank);
+        self.feed_counted(piece, &mut steps)
+    }
+
+    /// Ends with a count of its own.
+    fn finish_alone<L: Ledger>(&self, blank: Blank) -> Result<Verdict, AllocError>
+        requires name { blank.name ≡ L.name }
+        requires parts { blank.parts ≡ L.parts }
+        requires some { 0 < blank.parts }
+        ensures verdict { (bytes : List ℕ) → HasChecked (checker_in self.now) bytes →
+            IfOk result (λ v. v ≡ own_text_verdict (limit_of (checker_in self.now).kept) bytes) }
+        ensures has_failed { (checker_in self.now).has_failed ≡ true → is_err result ≡ true }
+    {
+        let mut steps = Steps::<L>::new(blank);
+        self.finish_counted(&mut steps)
     }
 }
 

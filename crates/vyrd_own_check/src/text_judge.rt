@@ -18,9 +18,12 @@ ghost use Rattle.vyrd_base.specs.Own.LogVerdicts.{own_text_verdict_so_far, own_t
 ghost use Rattle.vyrd_own_log.specs.States.{header_at, has_ended};
 ghost use Rattle.vyrd_own_log.specs.Readers.{HasRead, IsGrownBy};
 ghost use Rattle.vyrd_own_log.specs.ReaderView.{state_in};
+ghost use Rattle.vyrd_judge.specs.Costs.{callers_of};
 ghost use Rattle.vyrd_judge.specs.Following.{HasFollowed};
 ghost use Rattle.vyrd_own_check.specs.LogReadings.{read_so_far};
 ghost use Rattle.vyrd_own_check.specs.KeptView.{kept_in};
+ghost use Rattle.vyrd_own_check.specs.Costs.{bytes_cost, finish_cost};
+ghost use Rattle.vyrd_own_check.specs.Owed.{kept_debt, judge_owes, following_cost};
 ghost use Rattle.vyrd_own_check.specs.Checking.{IsLimit, IsReady, IsJudging, IsBegun, HasRoom};
 ghost use Rattle.vyrd_own_check.specs.Checking.{IsUndecided, IsSomewhere, limit_of, untold_in};
 
@@ -28,7 +31,8 @@ use crate::lines::told;
 use crate::numbers::LineNumbers;
 use crate::starting::start_judge;
 use std::alloc::{AllocError, Global};
-use vyrd_base::{Entry, Rule, Verdict};
+use std::sync::ledger::Ledger;
+use vyrd_base::{Entry, Rule, Steps, Verdict};
 use vyrd_judge::Judge;
 use vyrd_own_log::OwnLogReader;
 use vyrd_own_spec::OwnSpec;
@@ -57,6 +61,7 @@ impl OwnTextJudge {
         requires limit { IsLimit max_lines }
         ensures undecided { IsUndecided (kept_in result) [] }
         ensures limit { limit_of (kept_in result) ≡ max_lines }
+        ensures judge { (kept_in result).judge ≡ None }
     {
         OwnTextJudge {
             alloc,
@@ -68,8 +73,13 @@ impl OwnTextJudge {
         }
     }
 
-    /// Takes in the next piece. The answer is the verdict so far of all bytes.
-    pub(crate) fn take_in(&mut self, piece: &[u8]) -> Result<Option<Verdict>, AllocError>
+    /// Takes in the next piece. The answer is the verdict so far of all bytes. After `end` only the
+    /// text can be wrong, so that the judge isn't asked again.
+    pub(crate) fn take_in<L: Ledger>(
+        &mut self,
+        piece: &[u8],
+        steps: &mut Steps<L>,
+    ) -> Result<Option<Verdict>, AllocError>
         requires limit { IsLimit (limit_of (kept_in self.old)) }
         requires somewhere { IsSomewhere (kept_in self.old) }
         ensures limit { limit_of (kept_in self.new)
@@ -79,9 +89,15 @@ impl OwnTextJudge {
             ≡ own_text_verdict_so_far (limit_of (kept_in self.old)) (bytes ++ piece.now)) }
         ensures undecided { (bytes : List ℕ) → IsUndecided (kept_in self.old) bytes →
             IfOk result (λ v. v ≡ None → IsUndecided (kept_in self.new) (bytes ++ piece.now)) }
+        ensures steps { (bytes : List ℕ) → IsUndecided (kept_in self.old) bytes
+            → OnOk result (steps.new + kept_debt (kept_in self.new) (bytes ++ piece.now)
+            + bytes_cost (limit_of (kept_in self.old)) bytes
+            ≤ steps.old + kept_debt (kept_in self.old) bytes
+            + bytes_cost (limit_of (kept_in self.old)) (bytes ++ piece.now)) }
     {
         self.entries.clear();
         self.brought.clear();
+        let was_ended = self.reader.ended();
         let fault = read(
             &mut self.reader,
             piece,
@@ -89,17 +105,23 @@ impl OwnTextJudge {
             &mut self.brought,
         )?;
         self.numbers.extend(&self.brought)?;
+        if was_ended {
+            return Ok(fault);
+        }
         begin(self.alloc, &self.reader, &self.entries, &mut self.judge)?;
-        let wrong = judge_entries(&mut self.judge, &self.entries, self.reader.ended())?;
+        let ended = self.reader.ended();
+        let wrong = judge_entries(&mut self.judge, &self.entries, ended, steps)?;
         Ok(told(&self.numbers, wrong).or(fault))
     }
 
     /// The verdict, if the input ends here.
-    pub(crate) fn end(&self) -> Result<Verdict, AllocError>
+    pub(crate) fn end<L: Ledger>(&self, steps: &mut Steps<L>) -> Result<Verdict, AllocError>
         requires limit { IsLimit (limit_of (kept_in self.now)) }
         requires somewhere { IsSomewhere (kept_in self.now) }
-        ensures { (bytes : List ℕ) → IsUndecided (kept_in self.now) bytes → IfOk result
+        ensures verdict { (bytes : List ℕ) → IsUndecided (kept_in self.now) bytes → IfOk result
             (λ v. v ≡ own_text_verdict (limit_of (kept_in self.now)) bytes) }
+        ensures steps { (bytes : List ℕ) → IsUndecided (kept_in self.now) bytes
+            → steps.new ≤ steps.old + finish_cost (limit_of (kept_in self.now)) bytes }
     {
         match self.reader.finish() {
             Ok(()) => {}
@@ -110,7 +132,7 @@ impl OwnTextJudge {
             Err(TextFault::Memory) => return Err(AllocError),
         }
         match &self.judge {
-            Some(judge) => judge.finish(),
+            Some(judge) => judge.finish_counted(steps),
             None => unreachable!(),
         }
     }
@@ -183,10 +205,11 @@ fn begin(
 
 /// Judges further entries, and whether a call is open if `end` was read. The answer is what is
 /// wrong with all of them, by the lines that they would have right behind the header.
-fn judge_entries(
+fn judge_entries<L: Ledger>(
     judge: &mut Option<Judge<OwnSpec>>,
     entries: &[Entry],
     ended: bool,
+    steps: &mut Steps<L>,
 ) -> Result<Option<Verdict>, AllocError>
     requires { HasRoom judge.old entries.now }
     ensures answer { (read : OwnReading) (log : List Entry) →
@@ -194,9 +217,14 @@ fn judge_entries(
     ensures judging { (read : OwnReading) (log : List Entry) →
         IsReady judge.old read log entries.now ended →
         IfOk result (λ v. v ≡ None → IsJudging judge.new read) }
+    ensures steps { (read : OwnReading) (log : List Entry) →
+        IsReady judge.old read log entries.now ended →
+        OnOk result (steps.new + judge_owes judge.new read.entries
+        ≤ steps.old + judge_owes judge.old log
+        + following_cost judge.old entries.now ended) }
 {
     match judge {
-        Some(judge) => follow(judge, entries, ended),
+        Some(judge) => follow(judge, entries, ended, steps),
         None => Ok(wrong_start(entries, ended)),
     }
 }
@@ -217,10 +245,11 @@ fn wrong_start(entries: &[Entry], ended: bool) -> Option<Verdict>
 
 /// Follows further entries, and then the line `end` if it was read. The answer is what is wrong
 /// with all of them.
-fn follow(
+fn follow<L: Ledger>(
     judge: &mut Judge<OwnSpec>,
     entries: &[Entry],
     ended: bool,
+    steps: &mut Steps<L>,
 ) -> Result<Option<Verdict>, AllocError>
     requires few { judge.old.kept.entries + length entries.now ≤ 2 ^ 62 }
     ensures answer { (read : OwnReading) (log : List Entry) →
@@ -229,20 +258,34 @@ fn follow(
     ensures judging { (read : OwnReading) (log : List Entry) →
         IsReady (Some judge.old) read log entries.now ended →
         IfOk result (λ v. v ≡ None → IsJudging (Some judge.new) read) }
+    ensures steps { (read : OwnReading) (log : List Entry) →
+        IsReady (Some judge.old) read log entries.now ended →
+        OnOk result (steps.new + judge_owes (Some judge.new) read.entries
+        ≤ steps.old + judge_owes (Some judge.old) log
+        + following_cost (Some judge.old) entries.now ended) }
 {
-    if let Some(verdict) = judge.follow(entries)? {
+    if let Some(verdict) = judge.follow_counted(entries, steps)? {
         return Ok(Some(verdict));
     }
-    if ended { open_call(judge) } else { Ok(None) }
+    if ended {
+        open_call(judge, steps)
+    } else {
+        Ok(None)
+    }
 }
 
 /// What is wrong if `end` stands after the entries, given that nothing is wrong with them.
-fn open_call(judge: &Judge<OwnSpec>) -> Result<Option<Verdict>, AllocError>
-    ensures { (starting : List StartWord) (log : List Entry) → HasFollowed judge.now starting log →
+fn open_call<L: Ledger>(
+    judge: &Judge<OwnSpec>,
+    steps: &mut Steps<L>,
+) -> Result<Option<Verdict>, AllocError>
+    ensures verdict { (starting : List StartWord) (log : List Entry) →
+        HasFollowed judge.now starting log →
         verdict_so_far (rules_by judge.now.kept.charter) starting log ≡ None →
         IfOk result (λ v. v ≡ end_verdict (rules_by judge.now.kept.charter) starting log) }
+    ensures steps { steps.new ≤ steps.old + callers_of judge.now.kept }
 {
-    match judge.finish()? {
+    match judge.finish_counted(steps)? {
         Verdict::Accepted { .. } => Ok(None),
         Verdict::Violation { line, why } => Ok(Some(Verdict::Violation { line, why })),
         Verdict::Malformed { line, rule } => Ok(Some(Verdict::Malformed { line, rule })),

@@ -1,12 +1,15 @@
-use Rattle.std.proofs.Common.{◌≡◌, ℕ, List, length, not, Some, ap, sym, ◌∙◌}
+use Rattle.std.proofs.Common.{◌≡◌, ℕ, ◌+◌, ◌*◌, List, length, not, Some, ap, sym, ◌∙◌}
 use Rattle.std.specs.Prelude.{is_none}
 use Rattle.vyrd_base.specs.Rules.{own, rules_by}
 use Rattle.vyrd_base.specs.Starts.{state_at_start}
-use Rattle.vyrd_base.specs.Own.OwnRules.{own_start, may_stand}
+use Rattle.vyrd_base.specs.States.{State}
+use Rattle.vyrd_base.specs.Own.OwnRules.{own_start, own_view, may_stand}
 use Rattle.vyrd_base.specs.Own.Reader.{written_in}
 use Rattle.vyrd_own.specs.Layout.{texts}
 use Rattle.vyrd_words.proofs.StartWords.{length-words_at_start}
 use Rattle.vyrd_own_spec.proofs.StandingLaws.{own_plain, stands_for_none, stands_for}
+use Rattle.vyrd_judge.specs.Costs.{start_cost}
+use Rattle.vyrd_own_check.specs.Costs.{word_price, shown_count}
 use Rattle.vyrd_own_check.proofs.starting.start_judge.Goals as goal
 
 pub start-requires-clause-count : goal.start-requires-clause-count
@@ -31,3 +34,20 @@ begin-requires-clause-state c =
     (known.none ∙ ap (λ (lines : List (List ℕ)). not (may_stand (written_in lines) c.deref.result.now)) spelled)
     ∙ sym (ap Some (known.state
     ∙ ap (λ (lines : List (List ℕ)). own_start (written_in lines) c.deref.result.now) spelled))
+
+pub returns : goal.returns
+returns c =
+    let spec = c.in-Some.spec in
+    let known = rw c.in-Some.is at c.in_ok-spec.ensures in
+    let spelled = c.in_ok-shared.ensures.ok ∙ c.in_ok-specification.ensures in
+    let shown : length spec.state.shown
+    ≡ shown_count c.args.header (texts c.args.lines.now) c.args.start.now =
+    ap (λ (s : State). length s.shown) known.state
+    ∙ (λ i. length (own_view (written_in (spelled i))
+    ((c.deref.ensures.value ∙ c.in_ok-words.ensures) i))) in
+    let begun = c.in_ok-begin.ensures in (
+      begun.charter ∙ (λ i. own (known.header i) ((known.lines ∙ spelled) i)),
+      begun.followed,
+      begun.so_far,
+      begun.owed ∙ ap (λ n. start_cost word_price c.args.start.now + 2 * n) shown,
+    )

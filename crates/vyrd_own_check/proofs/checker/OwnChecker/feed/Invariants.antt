@@ -1,17 +1,4 @@
-use Rattle.std.proofs.Common.{◌≡◌, ◌++◌, List, ℕ, false, length}
-use Rattle.vyrd_own_check.specs.Checking.{limit_of, HasChecked}
-use Rattle.vyrd_own_check.specs.KeptView.{kept_in}
-use Rattle.vyrd_own_check.specs.CheckerView.{checker_in}
 use Rattle.vyrd_own_check.proofs.checker.OwnChecker.feed.Given as goal
 
-abbrev pub invariant-loop-rest : goal.invariant-loop-rest
-invariant-loop-rest l = record {
-  read : List ℕ;
-  parted : l.piece ≡ read ++ l.rest;
-  checked : (bytes : List ℕ) → HasChecked (checker_in l.initial.self) bytes → HasChecked (checker_in l.self) (bytes ++ read);
-  works : l.self.has_failed ≡ false;
-  limit : limit_of (kept_in l.self.text) ≡ limit_of (kept_in l.initial.self.text);
-}
-
-abbrev pub decreases-loop-rest : goal.decreases-loop-rest
-decreases-loop-rest l = length l.rest
+abbrev pub ghosts-feed_alone : goal.ghosts-feed_alone
+ghosts-feed_alone a = record { name = a.blank.name; parts = a.blank.parts }

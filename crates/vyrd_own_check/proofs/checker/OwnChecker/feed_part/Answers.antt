@@ -1,10 +1,13 @@
 use Rattle.std.proofs.Common.{◌++◌, subst, sym}
 use Rattle.std.proofs.Math.Logic.{∥∥₁_map}
-use Rattle.vyrd_own_check.specs.Checking.{IsLimit}
+use Rattle.vyrd_own_check.specs.Checking.{IsLimit, FollowsBy}
+use Rattle.vyrd_own_check.specs.CheckerView.{checker_in}
+use Rattle.vyrd_own_check.specs.KeptView.{kept_in}
+use Rattle.vyrd_own_check.proofs.CostLaws.{part_paid}
 use Rattle.vyrd_own_check.proofs.checker.OwnChecker.feed_part.Goals as goal
 
 pub invariant_of-self : goal.invariant_of-self
-invariant_of-self c = record {
+invariant_of-self g c = record {
   sound = record {
     limit = subst IsLimit (sym c.in-Ok.ensures.limit) c.args.self.now.sound.limit;
     somewhere = λ works none.
@@ -12,3 +15,11 @@ invariant_of-self c = record {
         (λ s. (s.0 ++ c.args.part.now, c.in-Ok.ensures.undecided s.0 s.1 none));
   };
 }
+
+pub returns-in-Ok-clause-steps : goal.returns-in-Ok-clause-steps
+returns-in-Ok-clause-steps g c = λ bytes checked.
+    let old = checker_in c.args.self.now in
+    let undecided = subst (FollowsBy old.kept bytes) c.requires.undecided checked.follows in
+    part_paid old (kept_in c.take_in.new.self) c.in-Ok.verdict bytes c.args.part.now
+    c.args.steps.now c.take_in.new.steps c.requires.undecided
+    (c.in-Ok.ensures.steps bytes undecided)

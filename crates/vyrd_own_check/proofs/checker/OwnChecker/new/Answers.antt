@@ -1,5 +1,7 @@
 use Rattle.std.proofs.Common.{[], subst, sym}
 use Rattle.vyrd_own_check.specs.Checking.{IsLimit}
+use Rattle.vyrd_own_check.specs.KeptView.{kept_in}
+use Rattle.vyrd_own_check.proofs.CostLaws.{unread, nothing_owed}
 use Rattle.vyrd_own_check.proofs.checker.OwnChecker.new.Goals as goal
 
 pub invariant_of-result : goal.invariant_of-result
@@ -9,3 +11,9 @@ invariant_of-result c = record {
     somewhere = λ works none. ∣ ([], c.new.ensures.undecided) ∣₁;
   };
 }
+
+pub returns-clause-owed : goal.returns-clause-owed
+returns-clause-owed c = nothing_owed (kept_in c.new.result) [] c.new.ensures.judge
+
+pub returns-clause-unread : goal.returns-clause-unread
+returns-clause-unread c = unread c.args.max_lines

@@ -1,0 +1,350 @@
+-- What a piece costs is paid by what was owed before it, and by what its bytes cost.
+use Rattle.std.proofs.Common.{◌≡◌, ℕ, ◌+◌, ◌≤◌, Bool, true, false, cond, ◌||◌, List, [], ◌∷◌, ◌++◌}
+use Rattle.std.proofs.Common.{Option, Some, None, refl, ap, subst, ◌∙◌, sym, arith}
+use Rattle.std.proofs.Common.{append_assoc, append-nil, option_map}
+use Rattle.std.specs.List.{sum_by}
+use Rattle.std.specs.Option.{option_map_or}
+use Rattle.std.proofs.lemmas.List.Sums.{sum_by-append}
+use Rattle.vyrd_base.specs.declared.header.Header.{Header}
+use Rattle.vyrd_base.specs.declared.log.Entry.{Entry}
+use Rattle.vyrd_base.specs.declared.log.StartWord.{StartWord}
+use Rattle.vyrd_base.specs.declared.verdict.Verdict.{Verdict}
+use Rattle.vyrd_base.specs.Reading.{has_any}
+use Rattle.vyrd_base.specs.Rules.{Charter, own, rules_by}
+use Rattle.vyrd_base.specs.Own.Log.{OwnReading, own_reading}
+use Rattle.vyrd_own_log.specs.Grown.{has_begun, IsGrown}
+use Rattle.vyrd_own_log.proofs.GrownLaws.{reading_grown}
+use Rattle.vyrd_words.specs.Costs.{entry_price}
+use Rattle.vyrd_judge.specs.Costs.{each_entry, callers_of, judge_debt, log_cost}
+use Rattle.vyrd_judge.specs.Following.{JudgeView}
+use Rattle.vyrd_own_spec.specs.Effects.{most_touched}
+use Rattle.vyrd_own_check.specs.LogReadings.{read_so_far}
+use Rattle.vyrd_own_check.specs.Costs.{word_price, entry_cost, starting_cost, headed_cost}
+use Rattle.vyrd_own_check.specs.Costs.{reading_cost, bytes_cost, end_cost}
+use Rattle.vyrd_own_check.specs.Checking.{IsLimit, IsAt, IsJudging, IsReady, IsBegun, Kept}
+use Rattle.vyrd_own_check.specs.Checking.{CheckerState, limit_of}
+use Rattle.vyrd_own_check.specs.Owed.{price_by, judge_owes, following_cost, kept_debt, debt_after}
+use Rattle.vyrd_own_check.specs.Owed.{checker_debt}
+use Rattle.vyrd_own_check.proofs.PieceLaws.{begun_on}
+
+-- the costs of what was read, by its parts
+abbrev cost_of : Header → List (List ℕ) → List StartWord → Bool → List Entry → Bool → ℕ
+cost_of h lines starting begun entries ended = cond begun (starting_cost h lines starting) 0
+    + sum_by (entry_cost h lines) entries + cond ended h.callers 0
+
+never : {A : Type 0} → false ≡ true → A
+never e = cc
+
+-- before an entry or `end` was read nothing costs a step
+cost_unbegun : (h : Header) (read : OwnReading) → has_begun read ≡ false → headed_cost h read ≡ 0
+cost_unbegun h read none = by_parts read.entries read.ended none
+  where
+    by_parts : (es : List Entry) (ended : Bool) → (has_any es || ended) ≡ false
+        → cost_of h read.lines read.starting (has_any es || ended) es ended ≡ 0
+    by_parts [] false e = refl
+    by_parts [] true e = never (sym e)
+    by_parts (x ∷ es) ended e = never (sym e)
+
+pub unbegun_free : (read : OwnReading) → has_begun read ≡ false → reading_cost read ≡ 0
+unbegun_free read none = by_header read.header
+  where
+    by_header : (o : Option Header) → option_map_or (λ h. headed_cost h read) o 0 ≡ 0
+    by_header None = refl
+    by_header (Some h) = cost_unbegun h read none
+
+-- what was read after it had begun, with more entries
+cost_begun : (h : Header) (old new : OwnReading) (more : List Entry) → has_begun old ≡ true
+    → has_begun new ≡ true → new.lines ≡ old.lines → new.starting ≡ old.starting
+    → new.entries ≡ old.entries ++ more
+    → headed_cost h new ≡ starting_cost h new.lines new.starting
+    + (sum_by (entry_cost h new.lines) old.entries + sum_by (entry_cost h new.lines) more)
+    + cond new.ended h.callers 0
+cost_begun h old new more was is lines starting entries =
+    (λ i. cost_of h new.lines new.starting (is i) (entries i) new.ended)
+    ∙ ap (λ n. starting_cost h new.lines new.starting + n + cond new.ended h.callers 0)
+    (sum_by-append (entry_cost h new.lines) old.entries more)
+
+at_end : (h : Header) (a b : Bool) → (a ≡ true → b ≡ true)
+    → cond a h.callers 0 ≤ cond b h.callers 0
+at_end h false b stays = omega arith
+at_end h true b stays =
+    subst (λ d. h.callers ≤ cond d h.callers 0) (sym (stays refl)) (omega arith)
+
+more_of : (s a m x y was is : ℕ) → was ≡ s + a + x → is ≡ s + (a + m) + y → x ≤ y → was ≤ is
+more_of s a m x y was is before after ends = omega (arith, before, after, ends)
+
+none_of : (was is : ℕ) → was ≡ 0 → was ≤ is
+none_of was is e = omega (arith, e)
+
+-- longer bytes cost no less
+pub cost_grows : (old new : OwnReading) → IsGrown old new → reading_cost old ≤ reading_cost new
+cost_grows old new g = by_begun (has_begun old) refl
+  where
+    by_header : (o : Option Header) → old.header ≡ o → has_begun old ≡ true
+        → reading_cost old ≤ reading_cost new
+    by_header None has begun = none_of (reading_cost old) (reading_cost new)
+        (ap (λ o. option_map_or (λ h. headed_cost h old) o 0) has)
+    by_header (Some h) has begun =
+        let same = g.begun begun in
+        let was : reading_cost old ≡ starting_cost h new.lines new.starting
+        + sum_by (entry_cost h new.lines) old.entries + cond old.ended h.callers 0 =
+        ap (λ o. option_map_or (λ k. headed_cost k old) o 0) has
+        ∙ (λ i. cost_of h (sym same.0 i) (sym same.1 i) (begun i) old.entries old.ended) in
+        let is : reading_cost new ≡ starting_cost h new.lines new.starting
+        + (sum_by (entry_cost h new.lines) old.entries
+        + sum_by (entry_cost h new.lines) g.entries.0) + cond new.ended h.callers 0 =
+        ap (λ o. option_map_or (λ k. headed_cost k new) o 0) (g.header h has)
+        ∙ cost_begun h old new g.entries.0 begun (begun_on old new g begun) same.0 same.1
+        g.entries.1 in
+        more_of _ _ _ _ _ (reading_cost old) (reading_cost new) was is
+        (at_end h old.ended new.ended (λ e. (g.ended e).0))
+
+    by_begun : (b : Bool) → has_begun old ≡ b → reading_cost old ≤ reading_cost new
+    by_begun false e = none_of (reading_cost old) (reading_cost new) (unbegun_free old e)
+    by_begun true e = by_header old.header refl e
+
+pub bytes_more : (max : ℕ) (bytes more : List ℕ) → IsLimit max
+    → bytes_cost max bytes ≤ bytes_cost max (bytes ++ more)
+bytes_more max bytes more limit = cost_grows (read_so_far max bytes) (read_so_far max (bytes ++ more))
+    (reading_grown max false bytes more limit.low limit.high)
+
+-- the header by which a charter goes
+pub header_of_charter : (o : Option Header) (lines : List (List ℕ)) (l : Charter)
+    → option_map (λ h. own h lines) o ≡ Some l → (h : Header) × (o ≡ Some h) × (own h lines ≡ l)
+header_of_charter None lines l e = cc
+header_of_charter (Some h) lines l e = (h, refl, cc)
+
+-- what it costs the judge to go on is what the header and the specification that were read say
+following_is : (j : JudgeView) (h : Header) (lines : List (List ℕ)) (more : List Entry)
+    (done : Bool) → own h lines ≡ j.kept.charter
+    → following_cost (Some j) more done
+    ≡ sum_by (entry_cost h lines) more + cond done h.callers 0
+following_is j h lines more done rules =
+    λ i. sum_by (λ (e : Entry). each_entry (rules_by (sym rules i)).header.callers
+    (most_touched (sym rules i)) + entry_price word_price e.kind) more
+    + cond done (rules_by (sym rules i)).header.callers 0
+
+-- to look for an open call at `end` is what the header says
+pub end_is : (j : JudgeView) (read : OwnReading) (log : List Entry) → IsAt j read log
+    → read.ended ≡ true → callers_of j.kept ≡ end_cost read
+end_is j read log at done =
+    let h = header_of_charter read.header read.lines j.kept.charter at.charter in
+    ap (λ l. (rules_by l).header.callers) (sym h.2)
+    ∙ sym ((λ i. option_map_or (λ (k : Header). cond (done i) k.callers 0) (h.1 i) 0))
+
+paid_on : (d f s e m n was is : ℕ) → f ≡ m + n → was ≡ s + e + 0 → is ≡ s + (e + m) + n
+    → d + f + was ≤ d + is
+paid_on d f s e m n was is costs before after = omega (arith, costs, before, after)
+
+paid_made : (d f s m n was is : ℕ) → d ≡ s → f ≡ m + n → was ≡ 0 → is ≡ s + m + n
+    → d + f + was ≤ 0 + is
+paid_made d f s m n was is owed costs before after = omega (arith, owed, costs, before, after)
+
+still : (was is : ℕ) → was ≡ 0 → 0 + 0 + was ≤ 0 + is
+still was is e = omega (arith, e)
+
+-- what is owed once the judge is there, and what it costs to go on, is paid by what was owed before
+-- and what the bytes cost
+pub piece_paid : (before after : Option JudgeView) (old new : OwnReading) (more : List Entry)
+    (done : Bool)
+    → IsJudging before old → IsGrown old new → old.ended ≡ false
+    → IsReady after new old.entries more done
+    → IsBegun (has_any more || new.ended) new.header new.lines new.starting before after
+    → judge_owes after old.entries + following_cost after more done + reading_cost old
+    ≤ judge_owes before old.entries + reading_cost new
+piece_paid (Some j) after old new more done judging g going ready begun =
+    let here = subst (λ o. IsReady o new old.entries more done) begun ready in
+    let h = header_of_charter old.header old.lines j.kept.charter judging.charter in
+    let same = g.begun judging.begun in
+    let was : reading_cost old ≡ starting_cost h.0 new.lines new.starting
+    + sum_by (entry_cost h.0 new.lines) old.entries + 0 =
+    ap (λ o. option_map_or (λ k. headed_cost k old) o 0) h.1
+    ∙ (λ i. cost_of h.0 (sym same.0 i) (sym same.1 i) (judging.begun i) old.entries (going i)) in
+    let is : reading_cost new ≡ starting_cost h.0 new.lines new.starting
+    + (sum_by (entry_cost h.0 new.lines) old.entries + sum_by (entry_cost h.0 new.lines) more)
+    + cond done h.0.callers 0 =
+    ap (λ o. option_map_or (λ k. headed_cost k new) o 0) (g.header h.0 h.1)
+    ∙ cost_begun h.0 old new more judging.begun (begun_on old new g judging.begun) same.0 same.1
+    here.entries
+    ∙ ap (λ b. starting_cost h.0 new.lines new.starting
+    + (sum_by (entry_cost h.0 new.lines) old.entries + sum_by (entry_cost h.0 new.lines) more)
+    + cond b h.0.callers 0) here.ended in
+    subst (λ o. judge_owes o old.entries + following_cost o more done + reading_cost old
+    ≤ judge_owes (Some j) old.entries + reading_cost new) (sym begun)
+    (paid_on (judge_debt price_by most_touched j old.entries) _ _ _ _ _ (reading_cost old)
+    (reading_cost new)
+    (following_is j h.0 new.lines more done (ap (own h.0) same.0 ∙ h.2)) was is)
+piece_paid None after old new more done judging g going ready begun =
+    by_judge after ready begun
+  where
+    was : reading_cost old ≡ 0
+    was = unbegun_free old (λ i. has_any (judging.0 i) || judging.1 i)
+
+    owed : (b : Bool) (o : Option Header) (j : JudgeView) (h : Header) → o ≡ Some h
+        → IsBegun b o new.lines new.starting None (Some j)
+        → judge_debt price_by most_touched j [] ≡ starting_cost h new.lines new.starting
+    owed false o j h has b = cc
+    owed true None j h has b = cc
+    owed true (Some k) j h has b =
+        let same : k ≡ h = cc in
+        b.3 ∙ ap (λ x. starting_cost x new.lines new.starting) same
+
+    by_judge : (o : Option JudgeView) → IsReady o new old.entries more done
+        → IsBegun (has_any more || new.ended) new.header new.lines new.starting None o
+        → judge_owes o old.entries + following_cost o more done + reading_cost old
+        ≤ judge_owes None old.entries + reading_cost new
+    by_judge None r b = still (reading_cost old) (reading_cost new) was
+    by_judge (Some j) r b =
+        let h = header_of_charter new.header new.lines j.kept.charter r.before.charter in
+        let is : reading_cost new ≡ starting_cost h.0 new.lines new.starting
+        + sum_by (entry_cost h.0 new.lines) more + cond done h.0.callers 0 =
+        ap (λ o. option_map_or (λ k. headed_cost k new) o 0) h.1
+        ∙ (λ i. cost_of h.0 new.lines new.starting (r.before.begun i)
+        ((r.entries ∙ ap (λ es. es ++ more) judging.0) i) (r.ended i)) in
+        paid_made (judge_debt price_by most_touched j old.entries) _ _ _ _ (reading_cost old)
+        (reading_cost new)
+        (ap (judge_debt price_by most_touched j) judging.0
+        ∙ owed (has_any more || new.ended) new.header j h.0 h.1 b)
+        (following_is j h.0 new.lines more done h.2) was is
+
+-- what is owed once a verdict stands, or none
+pub after_at_most : (o : Option Verdict) (k : Kept) (bytes : List ℕ)
+    → debt_after o k bytes ≤ kept_debt k bytes
+after_at_most None k bytes = omega arith
+after_at_most (Some v) k bytes = omega arith
+
+-- once a verdict stands nothing is owed
+pub stands_owes : (c : CheckerState) (v : Verdict) (bytes : List ℕ) → c.so_far ≡ Some v
+    → checker_debt c bytes ≡ 0
+stands_owes c v bytes is = ap (λ o. debt_after o c.kept bytes) is
+
+-- nothing was read of no bytes
+pub unread : (max : ℕ) → bytes_cost max [] ≡ 0
+unfolding own_reading
+unread max = refl
+
+pub nothing_owed : (k : Kept) (bytes : List ℕ) → k.judge ≡ None → kept_debt k bytes ≡ 0
+nothing_owed k bytes none = ap (λ o. judge_owes o (read_so_far (limit_of k) bytes).entries) none
+
+more_held : (a b c d : ℕ) → a ≤ b + c → a ≤ b + (c + d)
+more_held a b c d paid = omega (arith, paid)
+
+-- what following further entries has cost is paid
+pub followed_paid : (j k : JudgeView) (read : OwnReading) (log more : List Entry) (done : Bool)
+    (m n : ℕ) → IsReady (Some j) read log more done
+    → n + judge_debt price_by most_touched k (log ++ more)
+    ≤ m + judge_debt price_by most_touched j log + log_cost price_by most_touched j.kept more
+    → n + judge_owes (Some k) read.entries
+    ≤ m + judge_owes (Some j) log + following_cost (Some j) more done
+followed_paid j k read log more done m n ready paid =
+    subst (λ es. n + judge_debt price_by most_touched k es
+    ≤ m + judge_owes (Some j) log + following_cost (Some j) more done) (sym ready.entries)
+    (more_held _ (m + judge_owes (Some j) log) _ _ paid)
+
+asked : (last n a b c callers : ℕ) → last ≤ n + callers → n + a ≤ b + c
+    → last + a ≤ b + (c + callers)
+asked last n a b c callers one paid = omega (arith, one, paid)
+
+-- and so is what asking at `end` has cost
+pub open_paid : (j k : JudgeView) (read : OwnReading) (log more : List Entry) (done : Bool)
+    (m n last : ℕ) → IsReady (Some j) read log more done → done ≡ true
+    → k.kept.charter ≡ j.kept.charter → last ≤ n + callers_of k.kept
+    → n + judge_debt price_by most_touched k (log ++ more)
+    ≤ m + judge_debt price_by most_touched j log + log_cost price_by most_touched j.kept more
+    → last + judge_owes (Some k) read.entries
+    ≤ m + judge_owes (Some j) log + following_cost (Some j) more done
+open_paid j k read log more done m n last ready is rules one paid =
+    subst (λ es. last + judge_debt price_by most_touched k es
+    ≤ m + judge_owes (Some j) log + following_cost (Some j) more done) (sym ready.entries)
+    (subst (λ d. last + judge_debt price_by most_touched k (log ++ more)
+    ≤ m + judge_owes (Some j) log + following_cost (Some j) more d) (sym is)
+    (asked last n _ (m + judge_owes (Some j) log) _ (callers_of j.kept)
+    (subst (λ l. last ≤ n + (rules_by l).header.callers) rules one) paid))
+
+-- without a judge nothing costs a step
+pub still_none : (o : Option JudgeView) (read : OwnReading) (log more : List Entry) (done : Bool)
+    (n : ℕ) → o ≡ None
+    → n + judge_owes o read.entries ≤ n + judge_owes o log + following_cost o more done
+still_none o read log more done n is =
+    subst (λ x. n + judge_owes x read.entries ≤ n + judge_owes x log + following_cost x more done)
+    (sym is) (omega arith)
+
+grown_more : (a b c d e f : ℕ) → a + b + c ≤ d + e + f → (g : ℕ) → g ≤ b → a + g + c ≤ d + e + f
+grown_more a b c d e f paid g less = omega (arith, paid, less)
+
+-- what a part of a piece has cost is paid, whether a verdict stands or not
+pub part_paid : (c : CheckerState) (k : Kept) (v : Option Verdict) (bytes part : List ℕ) (m n : ℕ)
+    → c.so_far ≡ None
+    → n + kept_debt k (bytes ++ part) + bytes_cost (limit_of c.kept) bytes
+    ≤ m + kept_debt c.kept bytes + bytes_cost (limit_of c.kept) (bytes ++ part)
+    → n + debt_after v k (bytes ++ part) + bytes_cost (limit_of c.kept) bytes
+    ≤ m + checker_debt c bytes + bytes_cost (limit_of c.kept) (bytes ++ part)
+part_paid c k v bytes part m n none paid =
+    subst (λ o. n + debt_after v k (bytes ++ part) + bytes_cost (limit_of c.kept) bytes
+    ≤ m + debt_after o c.kept bytes + bytes_cost (limit_of c.kept) (bytes ++ part))
+    (sym none)
+    (grown_more n _ _ m _ _ paid _ (after_at_most v k (bytes ++ part)))
+
+two_parts : (l m n a b c x y z : ℕ) → m + b + x ≤ l + a + y → n + c + y ≤ m + b + z
+    → n + c + x ≤ l + a + z
+two_parts l m n a b c x y z first second = omega (arith, first, second)
+
+-- one part after others
+pub parts_paid : (first before after : CheckerState) (bytes read part all : List ℕ) (l m n : ℕ)
+    → limit_of before.kept ≡ limit_of first.kept
+    → (bytes ++ read) ++ part ≡ bytes ++ all
+    → m + checker_debt before (bytes ++ read) + bytes_cost (limit_of first.kept) bytes
+    ≤ l + checker_debt first bytes + bytes_cost (limit_of first.kept) (bytes ++ read)
+    → n + checker_debt after ((bytes ++ read) ++ part)
+    + bytes_cost (limit_of before.kept) (bytes ++ read)
+    ≤ m + checker_debt before (bytes ++ read)
+    + bytes_cost (limit_of before.kept) ((bytes ++ read) ++ part)
+    → n + checker_debt after (bytes ++ all) + bytes_cost (limit_of first.kept) bytes
+    ≤ l + checker_debt first bytes + bytes_cost (limit_of first.kept) (bytes ++ all)
+parts_paid first before after bytes read part all l m n limit parted one two =
+    subst (λ xs. n + checker_debt after xs + bytes_cost (limit_of first.kept) bytes
+    ≤ l + checker_debt first bytes + bytes_cost (limit_of first.kept) xs) parted
+    (two_parts l m n _ _ _ _ _ _ one
+    (subst (λ max. n + checker_debt after ((bytes ++ read) ++ part) + bytes_cost max (bytes ++ read)
+    ≤ m + checker_debt before (bytes ++ read) + bytes_cost max ((bytes ++ read) ++ part))
+    limit two))
+
+settled : (l m a b c x y z : ℕ) → m + b + x ≤ l + a + y → y ≤ z → c ≡ 0 → m + c + x ≤ l + a + z
+settled l m a b c x y z paid more none = omega (arith, paid, more, none)
+
+-- once a verdict stands, nothing more is paid
+pub stands_paid : (first now : CheckerState) (v : Verdict) (bytes read rest piece : List ℕ)
+    (l m : ℕ) → IsLimit (limit_of first.kept) → now.so_far ≡ Some v → piece ≡ read ++ rest
+    → m + checker_debt now (bytes ++ read) + bytes_cost (limit_of first.kept) bytes
+    ≤ l + checker_debt first bytes + bytes_cost (limit_of first.kept) (bytes ++ read)
+    → m + checker_debt now (bytes ++ piece) + bytes_cost (limit_of first.kept) bytes
+    ≤ l + checker_debt first bytes + bytes_cost (limit_of first.kept) (bytes ++ piece)
+stands_paid first now v bytes read rest piece l m limit stands parted paid =
+    settled l m _ (checker_debt now (bytes ++ read)) _ _ _ _ paid
+    (subst (λ xs. bytes_cost (limit_of first.kept) (bytes ++ read)
+    ≤ bytes_cost (limit_of first.kept) xs)
+    (append_assoc bytes read rest ∙ ap (λ xs. bytes ++ xs) (sym parted))
+    (bytes_more (limit_of first.kept) (bytes ++ read) rest limit))
+    (stands_owes now v (bytes ++ piece) stands)
+
+no_more : (n a b x y : ℕ) → a ≡ b → x ≡ y → n + a + x ≤ n + b + y
+no_more n a b x y owed cost = omega (arith, owed, cost)
+
+-- before the first part
+pub first_part : (c : CheckerState) (bytes : List ℕ) (n : ℕ)
+    → n + checker_debt c (bytes ++ []) + bytes_cost (limit_of c.kept) bytes
+    ≤ n + checker_debt c bytes + bytes_cost (limit_of c.kept) (bytes ++ [])
+first_part c bytes n = no_more n _ _ _ _ (ap (checker_debt c) (append-nil bytes))
+    (ap (bytes_cost (limit_of c.kept)) (sym (append-nil bytes)))
+
+-- after the last one
+pub all_paid : (first now : CheckerState) (bytes read rest piece : List ℕ) (l m : ℕ)
+    → piece ≡ read ++ rest → rest ≡ []
+    → m + checker_debt now (bytes ++ read) + bytes_cost (limit_of first.kept) bytes
+    ≤ l + checker_debt first bytes + bytes_cost (limit_of first.kept) (bytes ++ read)
+    → m + checker_debt now (bytes ++ piece) + bytes_cost (limit_of first.kept) bytes
+    ≤ l + checker_debt first bytes + bytes_cost (limit_of first.kept) (bytes ++ piece)
+all_paid first now bytes read rest piece l m parted none paid =
+    let same : read ≡ piece = sym (parted ∙ ap (λ xs. read ++ xs) none ∙ append-nil read) in
+    subst (λ xs. m + checker_debt now (bytes ++ xs) + bytes_cost (limit_of first.kept) bytes
+    ≤ l + checker_debt first bytes + bytes_cost (limit_of first.kept) (bytes ++ xs)) same paid

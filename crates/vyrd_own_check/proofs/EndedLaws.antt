@@ -1,0 +1,128 @@
+-- After `end` nothing more is read, so that only the text can be wrong.
+use Rattle.std.proofs.Common.{◌≡◌, ℕ, ◌+◌, ◌≤◌, true, false, cond, ◌||◌, List, ◌++◌, Option, Some}
+use Rattle.std.proofs.Common.{None, refl, ap, subst, ◌∙◌, sym, arith}
+use Rattle.std.specs.Prelude.{option_map, option_and_then}
+use Rattle.std.specs.Option.{option_or}
+use Rattle.std.proofs.lemmas.Bool.{or_right}
+use Rattle.vyrd_base.specs.declared.header.Header.{Header}
+use Rattle.vyrd_base.specs.declared.verdict.Verdict.{Verdict}
+use Rattle.vyrd_base.specs.declared.verdict.Verdict.TheVariants.{Malformed}
+use Rattle.vyrd_base.specs.Reading.{has_any}
+use Rattle.vyrd_base.specs.Rules.{own, rules_by}
+use Rattle.vyrd_base.specs.Verdicts.{verdict_so_far, end_verdict}
+use Rattle.vyrd_base.specs.Own.Log.{OwnReading}
+use Rattle.vyrd_base.specs.Own.LogVerdicts.{own_text_verdict_so_far}
+use Rattle.vyrd_own_log.specs.Grown.{has_begun, IsGrown}
+use Rattle.vyrd_own_log.specs.Readers.{ReaderState, HasRead, IsGrownBy}
+use Rattle.vyrd_own_log.specs.States.{has_ended}
+use Rattle.vyrd_own_log.proofs.GrownLaws.{reading_grown, reading_formed}
+use Rattle.vyrd_judge.specs.Following.{JudgeView, HasFollowed}
+use Rattle.vyrd_own_check.specs.LogReadings.{read_so_far}
+use Rattle.vyrd_own_check.specs.Costs.{bytes_cost}
+use Rattle.vyrd_own_check.specs.Owed.{judge_owes, kept_debt}
+use Rattle.vyrd_own_check.specs.Checking.{IsLimit, limit_of, IsJudging, Kept, IsUndecided, untold_in}
+use Rattle.vyrd_own_check.proofs.ReadingFacts.{known_so_far, untold_right}
+use Rattle.vyrd_own_check.proofs.CostLaws.{bytes_more}
+
+-- what was read is the same, except for a fault of text
+record IsSameLog (old new : OwnReading) : Type 0 where
+  header : new.header ≡ old.header
+  lines : new.lines ≡ old.lines
+  starting : new.starting ≡ old.starting
+  entries : new.entries ≡ old.entries
+  ended : new.ended ≡ old.ended
+
+-- so its entries are as right as before
+same_untold : (old new : OwnReading) → IsSameLog old new → untold_in new ≡ untold_in old
+same_untold old new s = λ i. option_and_then (λ l.
+    option_or (verdict_so_far (rules_by l) (s.starting i) (s.entries i))
+    (cond (s.ended i) (end_verdict (rules_by l) (s.starting i) (s.entries i)) None))
+    (option_map (λ h. own h (s.lines i)) (s.header i))
+
+-- and the judge has followed them
+same_judging : (judge : Option JudgeView) (old new : OwnReading) → IsSameLog old new
+    → IsJudging judge old → IsJudging judge new
+same_judging None old new s judging = (s.entries ∙ judging.0, s.ended ∙ judging.1)
+same_judging (Some j) old new s judging = record {
+  charter = (λ i. option_map (λ h. own h (s.lines i)) (s.header i)) ∙ judging.charter;
+  followed = subst (HasFollowed j new.starting) (sym s.entries)
+      (subst (λ ss. HasFollowed j ss old.entries) (sym s.starting) judging.followed);
+  so_far = judging.so_far;
+  begun = (λ i. has_any (s.entries i) || s.ended i) ∙ judging.begun;
+}
+
+never : {A : Type 0} → false ≡ true → A
+never e = cc
+
+still_paid : (n later owed was now : ℕ) → later ≡ owed → was ≤ now
+    → n + later + was ≤ n + owed + now
+still_paid n later owed was now same more = omega (arith, same, more)
+
+module _ (old : Kept) (bytes piece : List ℕ) (limit : IsLimit (limit_of old))
+    (u : IsUndecided old bytes) (ended : has_ended old.reader.kept.lines.stage ≡ true) where
+  abbrev was : OwnReading
+  was = read_so_far (limit_of old) bytes
+
+  abbrev is : OwnReading
+  is = read_so_far (limit_of old) (bytes ++ piece)
+
+  -- after `end` nothing more is read
+  after_end : IsSameLog was is
+  after_end = record {
+    header = by_header was.header refl;
+    lines = (g.begun begun).0;
+    starting = (g.begun begun).1;
+    entries = (g.ended done).1;
+    ended = (g.ended done).0 ∙ sym done;
+  }
+    where
+      g : IsGrown was is
+      g = reading_grown (limit_of old) false bytes piece limit.low limit.high
+
+      done : was.ended ≡ true
+      done = sym u.read.ended ∙ ended
+
+      begun : has_begun was ≡ true
+      begun = or_right (has_any was.entries) was.ended done
+
+      by_header : (o : Option Header) → was.header ≡ o → is.header ≡ was.header
+      by_header None has = never
+          (sym ((reading_formed (limit_of old) bytes limit.low limit.high).headless has) ∙ begun)
+      by_header (Some h) has = g.header h has ∙ sym has
+
+  -- the answer is the fault of text
+  pub ended_answer : (fault : Option Verdict)
+      → fault ≡ option_map (λ fault. Malformed fault.line fault.rule) is.fault
+      → fault ≡ own_text_verdict_so_far (limit_of old) (bytes ++ piece)
+  ended_answer fault said =
+      known_so_far (limit_of old) (bytes ++ piece) is.numbers None fault refl
+      (sym (same_untold was is after_end ∙ untold_right (limit_of old) bytes u.nothing)) said
+
+  module _ (reader : ReaderState) (numbers : List ℕ)
+      (same : reader.kept.lines.max_lines ≡ limit_of old) where
+    -- without a fault what is kept goes on
+    pub ended_undecided : HasRead reader (bytes ++ piece)
+        → IsGrownBy old.numbers was.numbers numbers is.numbers
+        → own_text_verdict_so_far (limit_of old) (bytes ++ piece) ≡ None
+        → IsUndecided (record { reader = reader; judge = old.judge; numbers = numbers })
+        (bytes ++ piece)
+    ended_undecided read counted nothing = record {
+      read = read;
+      judging = subst (λ m. IsJudging old.judge (read_so_far m (bytes ++ piece))) (sym same)
+          (same_judging old.judge was is after_end u.judging);
+      numbers = counted.one ∙ ap (λ ns. ns ++ counted.more) u.numbers ∙ sym counted.other
+          ∙ ap (λ m. (read_so_far m (bytes ++ piece)).numbers) (sym same);
+      nothing = ap (λ m. own_text_verdict_so_far m (bytes ++ piece)) same ∙ nothing;
+    }
+
+    -- and nothing was paid
+    pub ended_paid : (n : ℕ)
+        → n + kept_debt (record { reader = reader; judge = old.judge; numbers = numbers })
+        (bytes ++ piece)
+        + bytes_cost (limit_of old) bytes
+        ≤ n + kept_debt old bytes + bytes_cost (limit_of old) (bytes ++ piece)
+    ended_paid n = still_paid n _ (kept_debt old bytes) (bytes_cost (limit_of old) bytes)
+        (bytes_cost (limit_of old) (bytes ++ piece))
+        (ap (λ l. judge_owes old.judge (read_so_far l (bytes ++ piece)).entries) same
+        ∙ ap (judge_owes old.judge) after_end.entries)
+        (bytes_more (limit_of old) bytes piece limit)
