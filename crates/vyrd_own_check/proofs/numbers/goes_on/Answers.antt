@@ -1,9 +1,7 @@
-use Rattle.std.proofs.Common.{◌≡◌, ℕ, ◌+◌, ◌-◌, ◌≤◌, length, get_or, ◌∙◌, arith}
-use Rattle.std.specs.Prelude.{◌==◌}
+use Rattle.std.proofs.Common.{◌≡◌, ◌+◌, ◌-◌, length, ◌∙◌, arith}
 use Rattle.std.proofs.lemmas.Bool.Decides.{nat_tests}
 use Rattle.vyrd_base.proofs.TestLaws.{same_of}
 use Rattle.vyrd_own_check.specs.declared.run.Run.{Run}
-use Rattle.vyrd_own_check.specs.Numbers.{number_in}
 use Rattle.vyrd_own_check.proofs.NumberLaws.{number_last}
 use Rattle.vyrd_own_check.proofs.numbers.goes_on.Goals as goal
 
