@@ -20,8 +20,8 @@ use Rattle.vyrd_judge.specs.Following.{JudgeView}
 use Rattle.vyrd_check.specs.LogReadings.{read_so_far}
 use Rattle.vyrd_check.specs.Checking.{IsAt, IsJudging, IsReady, IsBegun, Kept, CheckerState}
 use Rattle.vyrd_check.specs.Costs.{entry_cost, starting_cost, entries_cost, end_cost, reading_cost}
-use Rattle.vyrd_check.specs.Costs.{bytes_cost, judge_owes, following_cost, kept_debt, debt_after}
-use Rattle.vyrd_check.specs.Costs.{checker_debt}
+use Rattle.vyrd_check.specs.Costs.{bytes_cost}
+use Rattle.vyrd_check.specs.Owed.{judge_owes, following_cost, kept_debt, debt_after, checker_debt}
 use Rattle.vyrd_check.proofs.PieceLaws.{header_of_charter}
 
 -- the costs of what was read under this header

@@ -27,7 +27,8 @@ use Rattle.vyrd_judge.specs.Following.{JudgeView, HasFollowed}
 use Rattle.vyrd_check.specs.LogReadings.{read_so_far}
 use Rattle.vyrd_check.specs.Checking.{IsLimit, IsJudging, IsReady, IsBegun, HasRoom, Kept, IsUndecided, IsSomewhere, wrong_in}
 use Rattle.vyrd_check.specs.Checking.{has_begun}
-use Rattle.vyrd_check.specs.Costs.{starting_cost, bytes_cost, judge_owes, following_cost, kept_debt}
+use Rattle.vyrd_check.specs.Costs.{starting_cost, bytes_cost}
+use Rattle.vyrd_check.specs.Owed.{judge_owes, following_cost, kept_debt}
 use Rattle.vyrd_check.proofs.ReadingFacts.{entries_few, headless_empty, text_right, known_so_far}
 use Rattle.vyrd_check.proofs.ReadingFacts.{entries_right}
 use Rattle.vyrd_check.proofs.PieceLaws.{judge_before, has_room}

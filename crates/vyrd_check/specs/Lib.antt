@@ -1,3 +1,4 @@
 pub mod LogReadings
 pub mod Checking
 pub mod Costs
+pub mod Owed

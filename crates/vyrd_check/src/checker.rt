@@ -5,7 +5,8 @@ ghost use Rattle.std.specs.Prelude.{IfOk, OnOk};
 ghost use Rattle.std.specs.Result.{is_err};
 ghost use Rattle.vyrd_base.specs.TextVerdicts.{text_verdict, text_verdict_so_far};
 ghost use Rattle.vyrd_check.specs.Checking.{HasChecked, most_lines};
-ghost use Rattle.vyrd_check.specs.Costs.{bytes_cost, finish_cost, checker_debt};
+ghost use Rattle.vyrd_check.specs.Costs.{bytes_cost, finish_cost};
+ghost use Rattle.vyrd_check.specs.Owed.{checker_debt};
 
 use crate::text_judge::TextJudge;
 use std::alloc::{AllocError, Global};

@@ -21,8 +21,8 @@ ghost use Rattle.vyrd_judge.specs.Following.{HasFollowed};
 ghost use Rattle.vyrd_check.specs.LogReadings.{read_so_far};
 ghost use Rattle.vyrd_check.specs.Checking.{IsLimit, IsReady, IsJudging, IsBegun, HasRoom};
 ghost use Rattle.vyrd_check.specs.Checking.{IsUndecided, IsSomewhere, wrong_in};
-ghost use Rattle.vyrd_check.specs.Costs.{bytes_cost, finish_cost, kept_debt, judge_owes};
-ghost use Rattle.vyrd_check.specs.Costs.{following_cost};
+ghost use Rattle.vyrd_check.specs.Costs.{bytes_cost, finish_cost};
+ghost use Rattle.vyrd_check.specs.Owed.{kept_debt, judge_owes, following_cost};
 
 use std::alloc::{AllocError, Global};
 use std::marker::Model;

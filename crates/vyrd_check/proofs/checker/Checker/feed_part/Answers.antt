@@ -1,7 +1,8 @@
 use Rattle.std.proofs.Common.{◌+◌, ◌≤◌, ◌++◌, ap, subst, sym, ◌∙◌}
 use Rattle.std.proofs.Math.Logic.{∥∥₁_map}
 use Rattle.vyrd_check.specs.Checking.{CheckerState, IsLimit, FollowsBy, HasChecked}
-use Rattle.vyrd_check.specs.Costs.{bytes_cost, debt_after, checker_debt}
+use Rattle.vyrd_check.specs.Costs.{bytes_cost}
+use Rattle.vyrd_check.specs.Owed.{debt_after, checker_debt}
 use Rattle.vyrd_check.proofs.CostLaws.{part_paid}
 use Rattle.vyrd_check.proofs.checker.Checker.feed_part.Goals as goal
 

@@ -2,7 +2,8 @@ use Rattle.std.proofs.Common.{◌+◌, ◌≤◌, ◌++◌, ap, subst, sym, ◌�
 use Rattle.vyrd_base.specs.TextVerdicts.{text_verdict_so_far}
 use Rattle.vyrd_check.specs.LogReadings.{read_so_far}
 use Rattle.vyrd_check.specs.Checking.{Kept, IsLimit, IsUndecided, IsSomewhere}
-use Rattle.vyrd_check.specs.Costs.{bytes_cost, kept_debt, judge_owes, following_cost}
+use Rattle.vyrd_check.specs.Costs.{bytes_cost}
+use Rattle.vyrd_check.specs.Owed.{kept_debt, judge_owes, following_cost}
 use Rattle.vyrd_check.proofs.ReadingFacts.{first_none}
 use Rattle.vyrd_check.proofs.FedLaws.{Fed, fed_start, fed_built_in, fed_ready, fed_room, fed_answer}
 use Rattle.vyrd_check.proofs.FedLaws.{fed_undecided, fed_paid}
