@@ -27,7 +27,7 @@ by_first c bytes is h = subst (FollowsBy c.matched c.first bytes) is h.follows
 
 -- a log with a specification in front
 module _ (c : LogCheckerState) (o : OwnChecker) (bytes : List ℕ) (sound : IsSound c) (is : c.own ≡ Some o) (h : HasChecked c bytes) where
-  limit : own_checking.limit_of (checker_in o).kept ≡ c.max_lines
+  pub limit : own_checking.limit_of (checker_in o).kept ≡ c.max_lines
   limit = subst (λ (x : Option OwnChecker). IfSome x (λ y. own_checking.limit_of (checker_in y).kept ≡ c.max_lines)) is sound.own
 
   pub own_ends : {E : Type 0} (r : Result Verdict E)
@@ -101,7 +101,7 @@ module _ (c : LogCheckerState) (bytes : List ℕ) (sound : IsSound c) (is : c.ow
 
   -- the beginning has come as a whole, and the rest of the piece behind it
   module _ (n : ℕ) (piece rest : List ℕ) (place : c.matched ≡ Some n) (found : matched_with n piece ≡ Some 11) (left : rest ≡ drop (11 - n) piece) where
-    begins_all : own_beginning ++ rest ≡ bytes ++ piece
+    pub begins_all : own_beginning ++ rest ≡ bytes ++ piece
     begins_all =
         let m = matched_is n place in
         ap (λ xs. own_beginning ++ xs) left ∙ sym (whole_comes n bytes piece m.0 m.1 found)

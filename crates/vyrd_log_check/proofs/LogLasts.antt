@@ -61,7 +61,7 @@ unfinished max bytes low one few =
     ∙ ap (λ b. known_verdict (stopped 1 (first_broken ((b breaks TooManyLines)
     ∷ (false breaks BadHeader) ∷ (b breaks NoLineFeed) ∷ (false breaks NoEnd) ∷ [])))) (and-false (has_any bytes))
 
-lacks_take : (b n : ℕ) (xs : List ℕ) → lacks b xs ≡ true → lacks b (take n xs) ≡ true
+pub lacks_take : (b n : ℕ) (xs : List ℕ) → lacks b xs ≡ true → lacks b (take n xs) ≡ true
 lacks_take b zero xs e = refl
 lacks_take b (suc n) [] e = refl
 lacks_take b (suc n) (x ∷ xs) e = both_true (not (x == b)) _ (first_true (not (x == b)) _ e)

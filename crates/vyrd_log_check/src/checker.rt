@@ -1,6 +1,6 @@
 //! The checker of the bytes of a log of any version.
 
-ghost use Rattle.std.specs.Prelude.{◌≡◌, ◌++◌, ◌≤◌, ◌<◌, ℕ, List, [], Some, None, true, false};
+ghost use Rattle.std.specs.Prelude.{◌≡◌, ◌++◌, ◌≤◌, ◌<◌, ◌+◌, ℕ, List, [], Some, None, true, false};
 ghost use Rattle.std.specs.Prelude.{IfOk, OnOk};
 ghost use Rattle.std.specs.Result.{is_err};
 ghost use Rattle.vyrd_base.specs.LogVerdicts.{own_beginning, log_verdict, log_verdict_so_far};
@@ -8,12 +8,17 @@ ghost use Rattle.vyrd_base.specs.Own.LogVerdicts.{own_text_verdict_so_far};
 ghost use Rattle.vyrd_own_check.specs.Checking.{limit_of};
 ghost use Rattle.vyrd_own_check.specs.Checking as own_checking;
 ghost use Rattle.vyrd_own_check.specs.CheckerView.{checker_in};
+ghost use Rattle.vyrd_own_check.specs.Costs as own_costs;
+ghost use Rattle.vyrd_own_check.specs.Owed as own_owed;
 ghost use Rattle.vyrd_log_check.specs.Checking.{HasChecked, most_lines};
+ghost use Rattle.vyrd_log_check.specs.Costs.{bytes_cost, finish_cost, log_cost};
+ghost use Rattle.vyrd_log_check.specs.Owed.{checker_debt};
 
 use crate::beginning::{OWN_BEGINNING, match_on};
 use std::alloc::{AllocError, Global};
-use std::marker::Model;
-use vyrd_base::Verdict;
+use std::marker::{Brand, Model};
+use std::sync::ledger::{Blank, Ledger};
+use vyrd_base::{Steps, Verdict};
 use vyrd_check::Checker;
 use vyrd_own_check::OwnChecker;
 
@@ -80,6 +85,8 @@ impl LogChecker {
         ensures limit { result.max_lines ≡ max_lines }
         ensures so_far { result.so_far ≡ None }
         ensures has_failed { result.has_failed ≡ false }
+        ensures owed { checker_debt result [] ≡ 0 }
+        ensures unread { bytes_cost max_lines [] ≡ 0 }
     {
         LogChecker {
             alloc,
@@ -103,10 +110,35 @@ impl LogChecker {
         ensures fails_again { self.old.has_failed ≡ true → is_err result ≡ true }
         ensures limit { self.new.max_lines ≡ self.old.max_lines }
     {
+        feed_alone::<Brand>(Blank::new(1), self, piece)
+    }
+
+    /// The same, with the judge's steps counted, as [`Checker`] and [`OwnChecker`] count them. What
+    /// a piece leaves to be done later is owed from then on, so that over a whole log the steps are
+    /// at most what its bytes cost, however they are cut.
+    pub fn feed_counted<L: Ledger>(
+        &mut self,
+        piece: &[u8],
+        steps: &mut Steps<L>,
+    ) -> Result<Option<Verdict>, AllocError>
+        ensures answer { (bytes : List ℕ) → HasChecked self.old bytes
+            → IfOk result (λ v. v ≡ log_verdict_so_far self.old.max_lines (bytes ++ piece.now)) }
+        ensures checked { (bytes : List ℕ) → HasChecked self.old bytes
+            → OnOk result (HasChecked self.new (bytes ++ piece.now)) }
+        ensures so_far { IfOk result (λ v. self.new.so_far ≡ v) }
+        ensures has_failed { self.new.has_failed ≡ is_err result }
+        ensures fails_again { self.old.has_failed ≡ true → is_err result ≡ true }
+        ensures limit { self.new.max_lines ≡ self.old.max_lines }
+        ensures steps { (bytes : List ℕ) → HasChecked self.old bytes
+            → OnOk result (steps.new + checker_debt self.new (bytes ++ piece.now)
+            + bytes_cost self.old.max_lines bytes
+            ≤ steps.old + checker_debt self.old bytes
+            + bytes_cost self.old.max_lines (bytes ++ piece.now)) }
+    {
         if self.has_failed {
             return Err(AllocError);
         }
-        match self.follow(piece) {
+        match self.follow(piece, steps) {
             Ok(verdict) => Ok(verdict),
             Err(error) => {
                 self.has_failed = true;
@@ -121,17 +153,32 @@ impl LogChecker {
             → IfOk result (λ v. v ≡ log_verdict self.now.max_lines bytes) }
         ensures has_failed { self.now.has_failed ≡ true → is_err result ≡ true }
     {
+        finish_alone::<Brand>(Blank::new(1), self)
+    }
+
+    /// The same, with the judge's steps counted: one for each caller at most.
+    pub fn finish_counted<L: Ledger>(&self, steps: &mut Steps<L>) -> Result<Verdict, AllocError>
+        ensures verdict { (bytes : List ℕ) → HasChecked self.now bytes
+            → IfOk result (λ v. v ≡ log_verdict self.now.max_lines bytes) }
+        ensures has_failed { self.now.has_failed ≡ true → is_err result ≡ true }
+        ensures steps { (bytes : List ℕ) → HasChecked self.now bytes
+            → steps.new ≤ steps.old + finish_cost self.now.max_lines bytes }
+    {
         if self.has_failed {
             return Err(AllocError);
         }
         match &self.own {
-            Some(own) => own.finish(),
-            None => self.first.finish(),
+            Some(own) => own.finish_counted(steps),
+            None => self.first.finish_counted(steps),
         }
     }
 
     /// Follows the next piece by the checker of the log's kind.
-    fn follow(&mut self, piece: &[u8]) -> Result<Option<Verdict>, AllocError>
+    fn follow<L: Ledger>(
+        &mut self,
+        piece: &[u8],
+        steps: &mut Steps<L>,
+    ) -> Result<Option<Verdict>, AllocError>
         ensures answer { (bytes : List ℕ) → HasChecked self.old bytes
             → IfOk result (λ v. v ≡ log_verdict_so_far self.old.max_lines (bytes ++ piece.now)) }
         ensures checked { (bytes : List ℕ) → HasChecked self.old bytes
@@ -139,18 +186,28 @@ impl LogChecker {
         ensures so_far { IfOk result (λ v. self.new.so_far ≡ v) }
         ensures has_failed { self.new.has_failed ≡ self.old.has_failed }
         ensures limit { self.new.max_lines ≡ self.old.max_lines }
+        ensures steps { (bytes : List ℕ) → HasChecked self.old bytes
+            → OnOk result (steps.new + checker_debt self.new (bytes ++ piece.now)
+            + bytes_cost self.old.max_lines bytes
+            ≤ steps.old + checker_debt self.old bytes
+            + bytes_cost self.old.max_lines (bytes ++ piece.now)) }
     {
         if let Some(own) = &mut self.own {
-            return own.feed(piece);
+            return own.feed_counted(piece, steps);
         }
         match self.matched {
-            Some(matched) => self.match_on(matched, piece),
-            None => self.first.feed(piece),
+            Some(matched) => self.match_on(matched, piece, steps),
+            None => self.first.feed_counted(piece, steps),
         }
     }
 
     /// Follows the next piece where the bytes so far are the first `matched` of the beginning.
-    fn match_on(&mut self, matched: usize, piece: &[u8]) -> Result<Option<Verdict>, AllocError>
+    fn match_on<L: Ledger>(
+        &mut self,
+        matched: usize,
+        piece: &[u8],
+        steps: &mut Steps<L>,
+    ) -> Result<Option<Verdict>, AllocError>
         requires no_own { self.old.own ≡ None }
         requires matched { self.old.matched ≡ Some matched }
         requires few { matched < 11 }
@@ -161,25 +218,31 @@ impl LogChecker {
         ensures so_far { IfOk result (λ v. self.new.so_far ≡ v) }
         ensures has_failed { self.new.has_failed ≡ self.old.has_failed }
         ensures limit { self.new.max_lines ≡ self.old.max_lines }
+        ensures steps { (bytes : List ℕ) → HasChecked self.old bytes
+            → OnOk result (steps.new + checker_debt self.new (bytes ++ piece.now)
+            + bytes_cost self.old.max_lines bytes
+            ≤ steps.old + checker_debt self.old bytes
+            + bytes_cost self.old.max_lines (bytes ++ piece.now)) }
     {
         let now = match_on(matched, piece);
         if now == Some(OWN_BEGINNING.len()) {
             let (_, rest) = piece.split_at(OWN_BEGINNING.len() - matched);
-            let (own, verdict) = start_own(self.alloc, self.max_lines, rest)?;
+            let (own, verdict) = start_own(self.alloc, self.max_lines, rest, steps)?;
             self.own = Some(own);
             return Ok(verdict);
         }
         self.matched = now;
-        self.first.feed(piece)
+        self.first.feed_counted(piece, steps)
     }
 }
 
 /// A checker that has followed the beginning and the rest of a piece behind it, and the verdict so
 /// far.
-fn start_own(
+fn start_own<L: Ledger>(
     alloc: Global,
     max_lines: u64,
     rest: &[u8],
+    steps: &mut Steps<L>,
 ) -> Result<(OwnChecker, Option<Verdict>), AllocError>
     requires low { 1 ≤ max_lines }
     requires high { max_lines ≤ most_lines }
@@ -189,10 +252,13 @@ fn start_own(
         (λ p. p.1 ≡ own_text_verdict_so_far max_lines (own_beginning ++ rest.now)) }
     ensures so_far { IfOk result (λ p. (checker_in p.0).so_far ≡ p.1) }
     ensures limit { IfOk result (λ p. limit_of (checker_in p.0).kept ≡ max_lines) }
+    ensures steps { IfOk result
+        (λ p. steps.new + own_owed.checker_debt (checker_in p.0) (own_beginning ++ rest.now)
+        ≤ steps.old + own_costs.bytes_cost max_lines (own_beginning ++ rest.now)) }
 {
     let mut own = OwnChecker::new(alloc, max_lines);
-    own.feed(&OWN_BEGINNING)?;
-    let verdict = own.feed(rest)?;
+    own.feed_counted(&OWN_BEGINNING, steps)?;
+    let verdict = own.feed_counted(rest, steps)?;
     Ok((own, verdict))
 }
 
@@ -206,7 +272,75 @@ pub fn log_verdict_of(alloc: Global, max_lines: u64, bytes: &[u8]) -> Result<Ver
     requires high { max_lines ≤ most_lines }
     ensures { IfOk result (λ v. v ≡ log_verdict max_lines bytes.now) }
 {
+    log_verdict_alone::<Brand>(Blank::new(1), alloc, max_lines, bytes)
+}
+
+/// The same, with the judge's steps counted as a [`LogChecker`] counts them.
+pub fn log_verdict_of_counted<L: Ledger>(
+    alloc: Global,
+    max_lines: u64,
+    bytes: &[u8],
+    steps: &mut Steps<L>,
+) -> Result<Verdict, AllocError>
+    requires low { 1 ≤ max_lines }
+    requires high { max_lines ≤ most_lines }
+    ensures verdict { IfOk result (λ v. v ≡ log_verdict max_lines bytes.now) }
+    ensures steps { OnOk result (steps.new ≤ steps.old + log_cost max_lines bytes.now) }
+{
     let mut checker = LogChecker::new(alloc, max_lines);
-    checker.feed(bytes)?;
-    checker.finish()
+    checker.feed_counted(bytes, steps)?;
+    checker.finish_counted(steps)
+}
+
+/// The verdict about a whole input, with a count of its own.
+fn log_verdict_alone<L: Ledger>(
+    blank: Blank,
+    alloc: Global,
+    max_lines: u64,
+    bytes: &[u8],
+) -> Result<Verdict, AllocError>
+    requires name { blank.name ≡ L.name }
+    requires parts { blank.parts ≡ L.parts }
+    requires some { 0 < blank.parts }
+    requires low { 1 ≤ max_lines }
+    requires high { max_lines ≤ most_lines }
+    ensures { IfOk result (λ v. v ≡ log_verdict max_lines bytes.now) }
+{
+    let mut steps = Steps::<L>::new(blank);
+    log_verdict_of_counted(alloc, max_lines, bytes, &mut steps)
+}
+
+/// Follows a piece with a count of its own.
+fn feed_alone<L: Ledger>(
+    blank: Blank,
+    checker: &mut LogChecker,
+    piece: &[u8],
+) -> Result<Option<Verdict>, AllocError>
+    requires name { blank.name ≡ L.name }
+    requires parts { blank.parts ≡ L.parts }
+    requires some { 0 < blank.parts }
+    ensures answer { (bytes : List ℕ) → HasChecked checker.old bytes
+        → IfOk result (λ v. v ≡ log_verdict_so_far checker.old.max_lines (bytes ++ piece.now)) }
+    ensures checked { (bytes : List ℕ) → HasChecked checker.old bytes
+        → OnOk result (HasChecked checker.new (bytes ++ piece.now)) }
+    ensures so_far { IfOk result (λ v. checker.new.so_far ≡ v) }
+    ensures has_failed { checker.new.has_failed ≡ is_err result }
+    ensures fails_again { checker.old.has_failed ≡ true → is_err result ≡ true }
+    ensures limit { checker.new.max_lines ≡ checker.old.max_lines }
+{
+    let mut steps = Steps::<L>::new(blank);
+    checker.feed_counted(piece, &mut steps)
+}
+
+/// Ends with a count of its own.
+fn finish_alone<L: Ledger>(blank: Blank, checker: &LogChecker) -> Result<Verdict, AllocError>
+    requires name { blank.name ≡ L.name }
+    requires parts { blank.parts ≡ L.parts }
+    requires some { 0 < blank.parts }
+    ensures verdict { (bytes : List ℕ) → HasChecked checker.now bytes
+        → IfOk result (λ v. v ≡ log_verdict checker.now.max_lines bytes) }
+    ensures has_failed { checker.now.has_failed ≡ true → is_err result ≡ true }
+{
+    let mut steps = Steps::<L>::new(blank);
+    checker.finish_counted(&mut steps)
 }
