@@ -1,5 +1,6 @@
 pub mod TakenLaws
 pub mod PieceLaws
+pub mod CountedLaws
 pub mod CheckLaws
 pub mod BehindLaws
 pub mod WriteLaws

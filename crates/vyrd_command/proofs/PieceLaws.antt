@@ -35,7 +35,7 @@ judged_later max taken piece first more within nothing =
     taken piece first more (ap is_some nothing)
 
 -- before the first read
-pub checking_starts : (max : ℕ) (before : SourceKnown) (checker : LogCheckerState)
+abbrev pub checking_starts : (max : ℕ) (before : SourceKnown) (checker : LogCheckerState)
     → checker.max_lines ≡ max → HasChecked checker [] → before.ended ≡ false
     → IsChecking max before before checker 0
 checking_starts max before checker limit checked unended = record {
@@ -68,7 +68,7 @@ same_no_further max before now after checker rounds within r kept = record {
       omega (arith, later);
 }
 
-length_piece : (n : ℕ) (buffer : List ℕ) → n ≤ length buffer → length (take n buffer) ≡ n
+pub length_piece : (n : ℕ) (buffer : List ℕ) → n ≤ length buffer → length (take n buffer) ≡ n
 length_piece n buffer few = length-take n buffer ∙ omega arith
 
 -- one read after bytes without a verdict is no further than it may be
@@ -91,7 +91,7 @@ read_no_further max before now after checker buffer n rounds within r gives shor
     }
 
 -- without a verdict the checking goes on
-pub checking_goes_on : (max : ℕ) (before now after : SourceKnown) (old new : LogCheckerState)
+abbrev pub checking_goes_on : (max : ℕ) (before now after : SourceKnown) (old new : LogCheckerState)
     (buffer : List ℕ) (n rounds : ℕ) → (r : IsChecking max before now old rounds)
     → Gives now n buffer after → 0 < n → new.max_lines ≡ old.max_lines
     → HasChecked new (r.taken ++ take n buffer)

@@ -5,6 +5,7 @@ use Rattle.vyrd_base.specs.declared.verdict.Verdict.{Verdict}
 use Rattle.vyrd_base.specs.Devices.{SourceKnown, IsAtEnd}
 use Rattle.vyrd_base.specs.VerdictText.{verdict_text}
 use Rattle.vyrd_base.specs.LogVerdicts.{log_verdict, log_verdict_so_far}
+use Rattle.vyrd_log_check.specs.Costs.{log_cost}
 use Rattle.vyrd_command.specs.Inputs.{IsTaken, IsVerdictOf, longest_read}
 use Rattle.vyrd_command.specs.Outputs.{status_of, Appends, AppendsFront}
 
@@ -40,6 +41,13 @@ pub record IsReadNoFurther (max : ℕ) (before after : SourceKnown) : Type 0 whe
   pub told : IsTaken before.rest taken after.rest
   pub no_more : (first more : List ℕ) → taken ≡ first ++ more → has_verdict max first ≡ true
       → length taken ≤ length first + longest_read
+
+-- The judge's steps, from `first` on to `last`, are at most what the bytes cost that were taken of a
+-- source, with what it costs to end.
+pub record IsCounted (max : ℕ) (before after : SourceKnown) (first last : ℕ) : Type 0 where
+  pub taken : List ℕ
+  pub told : IsTaken before.rest taken after.rest
+  pub few : last ≤ first + log_cost max taken
 
 -- the sink has taken the line of the whole input's verdict, whose status this is
 pub record IsAnswered (max : ℕ) (input : Option (List ℕ)) (status : ℕ)

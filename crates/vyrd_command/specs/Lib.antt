@@ -18,6 +18,7 @@ pub mod Commands
 pub use Rattle.vyrd_base.specs.Devices
 pub use Rattle.vyrd_log_check.specs.Checking
 pub use Rattle.vyrd_batch.specs.LongBatches
+pub use Rattle.vyrd_log_check.specs.Costs
 pub use Rattle.vyrd_trace.specs.Hands
 pub use Rattle.vyrd_work.specs.Workloads
 pub use Rattle.vyrd_work.specs.WorkLimits

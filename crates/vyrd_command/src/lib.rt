@@ -9,9 +9,9 @@
 //!
 //! [`check_limited`] is `check` under a limit of lines that the caller chooses.
 //! [`answer_explained`] answers `explain` and `follow` under such a limit, and [`play`] a live run
-//! under a limit of events; neither writes the [`Answer`]. [`batch_counted`] answers `batch`, with
-//! its steps counted. `status` names the statuses without a
-//! verdict, and `laws` says what follows from the clauses of `vyrd`.
+//! under a limit of events; neither writes the [`Answer`]. Nor do [`check_counted`] and
+//! [`batch_counted`], which answer `check` and `batch` with their steps counted. `status` names the
+//! statuses without a verdict, and `laws` says what follows from the clauses of `vyrd`.
 //!
 //! What is promised stands in `specs/`. `Commands` has a table each for what depends on the form of
 //! the words (`Forms`), and `Checks`, `Steps`, `Runs`, `Generated`, `Moved`, `Batches` and
@@ -41,6 +41,7 @@ mod telling;
 
 pub use answer::Answer;
 pub use batch::batch_counted;
+pub use check::check_counted;
 pub use explain::answer_explained;
 pub use limited::check_limited;
 pub use program::{Ended, vyrd};

@@ -1,16 +1,18 @@
 //! Reading a log from a source.
 
 ghost use Rattle.std.specs.Prelude.{◌≡◌, ◌≤◌, ◌<◌, ◌+◌, ℕ, false, [], length, vec_len};
-ghost use Rattle.std.specs.Prelude.{IfOk, IfSome, IfNone, Err};
+ghost use Rattle.std.specs.Prelude.{IfOk, OnOk, IfSome, IfNone, Err};
 ghost use Rattle.vyrd_base.specs.Devices.{SourceKnown, AfterReads};
 ghost use Rattle.vyrd_log_check.specs.Checking.{HasChecked, IsLimit, most_lines};
+ghost use Rattle.vyrd_log_check.specs.Owed.{checker_debt};
 ghost use Rattle.vyrd_command.specs.Inputs.{longest_read, is_failed};
-ghost use Rattle.vyrd_command.specs.Checks.{IsReadNoFurther, IsUnsettled};
-ghost use Rattle.vyrd_command.specs.Progress.{IsChecking, IsReached};
+ghost use Rattle.vyrd_command.specs.Checks.{IsReadNoFurther, IsUnsettled, IsCounted};
+ghost use Rattle.vyrd_command.specs.Progress.{IsChecking, IsCounting, IsReached};
 ghost use Rattle.vyrd_command.specs.declared.read_log.ReadFault.TheVariants.{Failed, Memory};
 
 use std::alloc::{AllocError, AllocFailed, Global};
-use vyrd_base::{Source, Verdict};
+use std::sync::ledger::Ledger;
+use vyrd_base::{Source, Steps, Verdict};
 use vyrd_log_check::LogChecker;
 
 /// How many bytes one read takes at most.
@@ -36,11 +38,12 @@ impl From<AllocError> for ReadFault {
 /// Reads a log of at most `max_lines` lines: until its verdict stands, or to the source's end.
 ///
 /// Each read takes at most 65,536 bytes. The bytes of a read are forgotten at the next, so the
-/// memory is that of a [`LogChecker`].
-pub fn read_verdict<S: Source>(
+/// memory is that of a [`LogChecker`], which counts the steps.
+pub fn read_verdict<S: Source, L: Ledger>(
     alloc: Global,
     max_lines: u64,
     source: &mut S,
+    steps: &mut Steps<L>,
 ) -> Result<Verdict, ReadFault>
     requires low { 1 ≤ max_lines }
     requires high { max_lines ≤ most_lines }
@@ -50,21 +53,25 @@ pub fn read_verdict<S: Source>(
     ensures unsettled { result ≡ Err Failed
         → IsUnsettled max_lines (S.known source.old) (S.known source.new) }
     ensures source { AfterReads (is_failed result) (S.known source.old) (S.known source.new) }
+    ensures steps { OnOk result
+        (IsCounted max_lines (S.known source.old) (S.known source.new) steps.old steps.new) }
 {
     let mut buffer = zeros(alloc, LONGEST_READ)?;
     let mut checker = LogChecker::new(alloc, max_lines);
-    read_on(&mut checker, &mut buffer, source)
+    read_on(&mut checker, &mut buffer, source, steps)
 }
 
 /// Reads and checks until the verdict stands, or to the source's end.
-fn read_on<S: Source>(
+fn read_on<S: Source, L: Ledger>(
     checker: &mut LogChecker,
     buffer: &mut [u8],
     source: &mut S,
+    steps: &mut Steps<L>,
 ) -> Result<Verdict, ReadFault>
     requires room { length buffer.old ≡ longest_read }
     requires limit { IsLimit checker.old.max_lines }
     requires fresh { HasChecked checker.old [] }
+    requires owed { checker_debt checker.old [] ≡ 0 }
     requires unended { (S.known source.old).ended ≡ false }
     ensures reached { IfOk result
         (IsReached checker.old.max_lines (S.known source.old) (S.known source.new)) }
@@ -73,9 +80,12 @@ fn read_on<S: Source>(
     ensures unsettled { result ≡ Err Failed
         → IsUnsettled checker.old.max_lines (S.known source.old) (S.known source.new) }
     ensures source { AfterReads (is_failed result) (S.known source.old) (S.known source.new) }
+    ensures steps { OnOk result
+        (IsCounted checker.old.max_lines (S.known source.old) (S.known source.new)
+        steps.old steps.new) }
 {
     for round in 0..u64::MAX {
-        if let Some(verdict) = read_piece(checker, buffer, source)? {
+        if let Some(verdict) = read_piece(checker, buffer, source, steps)? {
             return Ok(verdict);
         }
     }
@@ -91,10 +101,11 @@ fn zeros(alloc: Global, n: usize) -> Result<Vec<u8>, AllocError>
 
 /// Reads once, and checks what came. The answer is the verdict, if it stands now or the source has
 /// said its end.
-fn read_piece<S: Source>(
+fn read_piece<S: Source, L: Ledger>(
     checker: &mut LogChecker,
     buffer: &mut [u8],
     source: &mut S,
+    steps: &mut Steps<L>,
 ) -> Result<Option<Verdict>, ReadFault>
     requires room { 0 < length buffer.old }
     requires short { length buffer.old ≤ longest_read }
@@ -106,6 +117,14 @@ fn read_piece<S: Source>(
     ensures reached { (max : ℕ) (before : SourceKnown) (rounds : ℕ) → IsLimit max
         → IsChecking max before (S.known source.old) checker.old rounds
         → IfOk result (λ verdict. IfSome verdict (IsReached max before (S.known source.new))) }
+    ensures counting { (max : ℕ) (before : SourceKnown) (rounds first : ℕ) → IsLimit max
+        → IsCounting max before (S.known source.old) checker.old rounds first steps.old
+        → IfOk result (λ verdict. IfNone verdict (IsCounting max before (S.known source.new)
+        checker.new (rounds + 1) first steps.new)) }
+    ensures counted { (max : ℕ) (before : SourceKnown) (rounds first : ℕ) → IsLimit max
+        → IsCounting max before (S.known source.old) checker.old rounds first steps.old
+        → IfOk result (λ verdict. IfSome verdict
+        (λ v. IsCounted max before (S.known source.new) first steps.new)) }
     ensures no_further { (max : ℕ) (before : SourceKnown) (rounds : ℕ) → IsLimit max
         → IsChecking max before (S.known source.old) checker.old rounds
         → IsReadNoFurther max before (S.known source.new) }
@@ -117,8 +136,8 @@ fn read_piece<S: Source>(
         Err(_) => return Err(ReadFault::Failed),
     };
     if n == 0 {
-        return Ok(Some(checker.finish()?));
+        return Ok(Some(checker.finish_counted(steps)?));
     }
     let (piece, _) = buffer.split_at(n);
-    Ok(checker.feed(piece)?)
+    Ok(checker.feed_counted(piece, steps)?)
 }

@@ -1,8 +1,8 @@
 use Rattle.std.proofs.Common.{◌≡◌, sym, subst}
-use Rattle.std.specs.Prelude.{IfOk, Err}
+use Rattle.std.specs.Prelude.{IfOk, OnOk, Err}
 use Rattle.vyrd_log_check.specs.Checking.{IsLimit}
 use Rattle.vyrd_command.specs.Progress.{IsReached}
-use Rattle.vyrd_command.specs.Checks.{IsReadNoFurther, IsUnsettled}
+use Rattle.vyrd_command.specs.Checks.{IsReadNoFurther, IsUnsettled, IsCounted}
 use Rattle.vyrd_command.specs.declared.read_log.ReadFault.TheVariants.{Failed}
 use Rattle.vyrd_command.proofs.PieceLaws.{nothing_no_further}
 use Rattle.vyrd_command.proofs.read_log.read_verdict.Goals as goal
@@ -29,3 +29,9 @@ pub returns-clause-unsettled : goal.returns-clause-unsettled
 returns-clause-unsettled g c =
     subst (λ max. c.read_on.result ≡ Err Failed → IsUnsettled max (g.S.Source.known c.args.source.now) (g.S.Source.known c.read_on.new.source))
     c.new-checker.ensures.limit c.read_on.ensures.unsettled
+
+pub returns-clause-steps : goal.returns-clause-steps
+returns-clause-steps g c =
+    subst (λ max. OnOk c.read_on.result (IsCounted max (g.S.Source.known c.args.source.now)
+    (g.S.Source.known c.read_on.new.source) c.args.steps.now c.read_on.new.steps))
+    c.new-checker.ensures.limit c.read_on.ensures.steps

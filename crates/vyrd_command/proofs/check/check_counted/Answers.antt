@@ -1,7 +1,7 @@
 use Rattle.std.proofs.Common.{sym, ◌∙◌}
 use Rattle.vyrd_command.proofs.CheckLaws.{reached_judged, reached_settled, reached_accepted}
 use Rattle.vyrd_command.proofs.StatusLaws.{verdict_isnt_four, none_failed}
-use Rattle.vyrd_command.proofs.check.check.Goals as goal
+use Rattle.vyrd_command.proofs.check.check_counted.Goals as goal
 
 pub returns-in-Ok-answer_with-clause-verdict : goal.returns-in-Ok-answer_with-clause-verdict
 returns-in-Ok-answer_with-clause-verdict g c = λ judged. record {
