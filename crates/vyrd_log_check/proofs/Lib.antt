@@ -8,3 +8,4 @@ pub mod LengthFacts
 pub mod OwnLengths
 pub mod LengthLaws
 pub mod Opened
+pub mod KeptLaws

@@ -14,4 +14,7 @@ mod laws;
 pub mod worked;
 
 pub use checker::{LogChecker, log_verdict_of, log_verdict_of_counted};
-pub use laws::{log_verdict_lasts, nothing_of_no_bytes, so_far_never_accepted, undecided_is_short};
+pub use laws::{
+    little_is_kept, log_verdict_lasts, nothing_of_no_bytes, so_far_never_accepted,
+    undecided_is_short,
+};
