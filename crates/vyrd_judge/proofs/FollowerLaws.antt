@@ -1,13 +1,16 @@
 -- How all that is kept goes on with one more entry, and with one more that is judged.
-use Rattle.std.proofs.Common.{◌≡◌, ℕ, suc, ◌+◌, ◌*◌, ◌<◌, ◌≤◌, ◌^◌, Bool, true, false, cond, ◌&&◌, List, [], ◌∷◌, ◌++◌, map, length, Option, Some, None, refl, ap, subst, ◌∙◌, sym, arith}
-use Rattle.std.specs.Prelude.{count_by, not, option_map, Result, Ok, Err}
+use Rattle.std.proofs.Common.{◌≡◌, ℕ, zero, suc, ◌+◌, ◌*◌, ◌<◌, ◌≤◌, ◌^◌, Bool, true, false, cond, ◌&&◌, List, [], ◌∷◌, ◌++◌, map, length, Option, Some, None, refl, ap, subst, ◌∙◌, sym, arith}
+use Rattle.std.specs.Prelude.{count_by, not, option_map, replicate, Result, Ok, Err}
 use Rattle.std.specs.Result.{MatchResult, is_err}
 use Rattle.std.specs.List.{cons_option}
-use Rattle.std.proofs.lemmas.List.{length_push}
+use Rattle.std.proofs.lemmas.List.{length_push, length-replicate}
+use Rattle.std.proofs.lemmas.Option.{same_Some, none-some}
 use Rattle.std.proofs.lemmas.List.Sums.{sum_by-cons}
 use Rattle.std.proofs.Math.Logic.{∥∥₁_elim, ∥∥₁_map}
 use Rattle.std.proofs.Math.Bool.{Bool-set}
 use Rattle.vyrd_base.specs.declared.header.Header.{Header}
+use Rattle.vyrd_base.specs.declared.subject.Method.{Method}
+use Rattle.vyrd_base.specs.declared.subject.Args.{Args}
 use Rattle.vyrd_base.specs.declared.log.Kind.{Kind}
 use Rattle.vyrd_base.specs.declared.log.Entry.{Entry}
 use Rattle.vyrd_base.specs.declared.log.StartWord.{StartWord}
@@ -32,7 +35,7 @@ use Rattle.vyrd_shape.specs.Following.{Kept as ShapeKept, HasFollowed as ShapeFo
 use Rattle.vyrd_judge.specs.declared.waiting.Waiting.{Waiting}
 use Rattle.vyrd_words.specs.HasWords.{HasWords, HasTaken, Keeps, MayFollow}
 use Rattle.vyrd_base.specs.Entries.{place_of}
-use Rattle.vyrd_observers.specs.Watching.{Seen, answer_count}
+use Rattle.vyrd_observers.specs.Watching.{Seen, answer_count, unwatched}
 use Rattle.vyrd_judge.specs.declared.waiting.Event.{Event}
 use Rattle.vyrd_words.specs.Cuts.{first_with}
 use Rattle.vyrd_words.specs.Effects.{parts_behind, effect_parts, with_effects, cut_if, AllFew, AreFew}
@@ -42,19 +45,20 @@ use Rattle.vyrd_judge.proofs.PartLaws.{parts_more}
 use Rattle.vyrd_judge.specs.Waiting.{replied, event_of, waiting_of, waiting_at}
 use Rattle.vyrd_observers.specs.Watching.{AreCurrent}
 use Rattle.vyrd_judge.specs.Queued.{HasQueued, HasTakenUp, MayQueue, AwaitsReturn}
-use Rattle.vyrd_judge.specs.Judged.{Judged, MayJudge}
+use Rattle.vyrd_judge.specs.Judged.{Judged, MayJudge, AreSeenFew}
 use Rattle.vyrd_judge.specs.Following.{Kept, HasTakenIn, IsFaultless, IsSomewhere, with_first, IsCatchingUp, MayCatchUp}
 use Rattle.vyrd_base.proofs.FrontLaws.{kept-push, front_at_break, break_at_break, nothing_broken}
 use Rattle.vyrd_base.proofs.VerdictParts.{sound_start, so_far_kept, so_far_break, at_end_open, at_end_accepted}
 use Rattle.vyrd_judge.proofs.JudgedLaws.{judged_more, judged_head, judged_all}
+use Rattle.vyrd_judge.proofs.AnswerLaws.{seen_nothing}
 use Rattle.vyrd_judge.proofs.JudgingLaws.{judged_waits}
 
 -- before the first entry
 pub judged_nothing : (r : Rules) (starting : List StartWord) (state : State) (watches : List Seen) (first : List ℕ)
     → state_at_start r starting ≡ Some state → first ≡ words_at_start r.header starting → AreCurrent (r.answer state) watches
-    → Judged r starting [] state 0 watches [] first []
+    → AreSeenFew [] watches → Judged r starting [] state 0 watches [] first []
 unfolding commits first_fault
-judged_nothing r starting state watches first begins words current = record {
+judged_nothing r starting state watches first begins words current seen = record {
   earlier = [];
   later = [];
   whole = refl;
@@ -71,6 +75,8 @@ judged_nothing r starting state watches first begins words current = record {
   clean = λ more. refl;
   few = omega arith;
   current = current;
+  returned = tt;
+  seen_few = seen;
 }
   where
     no_some : {called : Called} → None ≡ Some called → ⊥
@@ -132,8 +138,9 @@ pub taken_on : (k n : Kept) (starting : List StartWord) (log : List Entry) (xs :
     → n.charter ≡ k.charter → n.started ≡ k.started → n.shape ≡ k.shape → n.shadow ≡ k.shadow → n.inner ≡ k.inner → n.views.header ≡ k.views.header
     → (n.views.specified ≡ (rules_by k.charter).shown n.state) × (n.views.refused ≡ false)
     → n.entries ≡ k.entries → n.commits ≡ k.commits → n.observers ≡ k.observers
+    → length n.watches ≡ (rules_by k.charter).header.callers
     → n.answers ≤ 2 * answer_count n.watches → AreFew n.views.begun n.views.since (effect_parts [] [] log) → HasTakenIn n starting log
-taken_on k n starting log xs t judged queued waiting header started shape shadow inner views_header known entries commits_same observers answers writes = record {
+taken_on k n starting log xs t judged queued waiting header started shape shadow inner views_header known entries commits_same observers watched answers writes = record {
   started = started ∙ t.started;
   begun = ap (λ g. start_verdict (rules_by g) starting) header ∙ t.begun;
   shape = subst (λ s. ShapeFollows s (newest_first log)) (sym shape) t.shape;
@@ -152,6 +159,7 @@ taken_on k n starting log xs t judged queued waiting header started shape shadow
   entries = entries ∙ t.entries;
   commits = commits_same ∙ t.commits;
   observers = observers ∙ t.observers;
+  watched = watched ∙ sym (ap (λ g. (rules_by g).header.callers) header);
   few_answers = answers;
   few_writes = writes;
 }
@@ -215,6 +223,7 @@ taken_more k n starting log e t keeps shape shape_header words shadow_header vie
   commits = commits_more ∙ ap (λ m. m + cond (is_commit e.kind) 1 0) t.commits ∙ sym (count_more (λ x. is_commit x.kind) log e);
   observers = observers ∙ ap (λ m. m + cond (is_return e.kind && not (has_committed e.caller (newest_first log))) 1 0) t.observers
       ∙ sym (observers_more [] log e);
+  watched = ap length watches ∙ t.watched ∙ sym (ap (λ g. (rules_by g).header.callers) header);
   few_answers = omega (arith, t.few_answers, answers, ap answer_count watches);
   few_writes = subst (AreFew n.views.begun n.views.since) (sym parts)
       (subst (λ s. AreFew n.views.begun s (cut_if (is_commit e.kind) (with_effects behind now (effect_parts [] [] log)))) (sym words.since)
@@ -315,15 +324,25 @@ pub low_caller_of : {k : Kept} (e : Entry) → IsSomewhere k → ((starting : Li
 low_caller_of {k} e somewhere keeps = below_of _ _ (∥∥₁_elim somewhere (Bool-set _ _) (λ s.
     is_below _ _ (caller_kept (rules_by k.charter).header (newest_first s.1) e (keeps s.0 s.1 s.2).rules)))
 
+-- nobody has an open observer, so all are current
+none_current : (told : Method → Args → ℕ) (n : ℕ) → AreCurrent told (replicate n unwatched)
+none_current told zero c seen here is_open = absurd (none-some _ here)
+none_current told (suc n) zero seen here is_open =
+    absurd (apart (ap (λ (s : Seen). s.is_open) (same_Some _ _ here) ∙ is_open))
+  where
+    apart : false ≡ true → ⊥
+    apart p = cc
+none_current told (suc n) (suc c) seen here is_open = none_current told n c seen here is_open
+
 -- before the first entry all is kept
 pub first_taken_in : (k : Kept) (r : Rules) (starting : List StartWord) → rules_by k.charter ≡ r → k.started ≡ length starting
     → state_at_start r starting ≡ Some k.state → ShapeFollows k.shape [] → k.shape.header ≡ r.header → HasWords k.shadow k.inner starting []
     → k.shadow.header ≡ r.header → k.views.header ≡ r.header → HasQueued r.header k.waiting k.taken k.callers [] → k.made ≡ 0
-    → AreCurrent (r.answer k.state) k.watches → k.waiting ≡ [] → k.views.first ≡ words_at_start r.header starting → k.views.since ≡ []
+    → k.watches ≡ replicate r.header.callers unwatched → k.waiting ≡ [] → k.views.first ≡ words_at_start r.header starting → k.views.since ≡ []
     → k.entries ≡ 0 → k.commits ≡ 0 → k.observers ≡ 0
     → (k.views.specified ≡ (rules_by k.charter).shown k.state) × (k.views.refused ≡ false)
     → k.answers ≤ 2 * answer_count k.watches → k.views.begun ≡ 0 → HasTakenIn k starting []
-first_taken_in k r starting header started begins shape shape_header words shadow_header views_header queued made current waiting first since entries commits_none observers known answers none = record {
+first_taken_in k r starting header started begins shape shape_header words shadow_header views_header queued made closed waiting first since entries commits_none observers known answers none = record {
   started = started;
   begun = ap (λ g. start_verdict g starting) header ∙ sound_start r starting k.state begins;
   shape = shape;
@@ -336,13 +355,16 @@ first_taken_in k r starting header started begins shape shape_header words shado
       (subst (λ m. Judged r starting [] k.state m k.watches k.waiting k.views.first k.views.since) (sym made)
       (subst (λ q. Judged r starting [] k.state 0 k.watches q k.views.first k.views.since) (sym waiting)
       (subst (Judged r starting [] k.state 0 k.watches [] k.views.first) (sym since)
-      (judged_nothing r starting k.state k.watches k.views.first begins first current))));
+      (judged_nothing r starting k.state k.watches k.views.first begins first
+      (subst (AreCurrent (r.answer k.state)) (sym closed) (none_current (r.answer k.state) r.header.callers))
+      (subst (AreSeenFew []) (sym closed) (seen_nothing r.header.callers))))));
   kept = nothing_broken (rules_by k.charter).header;
   specified = known.0;
   sound = known.1;
   entries = entries;
   commits = commits_none;
   observers = observers;
+  watched = ap length closed ∙ length-replicate r.header.callers unwatched ∙ sym (ap (λ g. g.header.callers) header);
   few_answers = answers;
   few_writes = record {
     judged = [];

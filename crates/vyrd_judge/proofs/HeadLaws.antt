@@ -33,11 +33,13 @@ use Rattle.vyrd_shadow.specs.Blocks.{with_writes}
 use Rattle.vyrd_judge.specs.declared.waiting.Waiting.{Waiting}
 use Rattle.vyrd_words.specs.Effects.{effect_parts, AllActAlike}
 use Rattle.vyrd_base.specs.Entries.{has_method, place_of}
-use Rattle.vyrd_observers.specs.Watching.{Seen, has_answer}
+use Rattle.vyrd_observers.specs.Watching.{Seen, has_answer, unwatched}
 use Rattle.vyrd_judge.specs.Reached.{IsWatched}
 use Rattle.vyrd_judge.specs.Reached.{Reached}
 use Rattle.vyrd_observers.specs.Watching.{AreCurrent, AllSee}
-use Rattle.vyrd_judge.specs.Judged.{Judged}
+use Rattle.vyrd_judge.specs.Answers.{answers_of}
+use Rattle.vyrd_judge.specs.Judged.{Judged, AreSeenFew}
+use Rattle.vyrd_judge.proofs.AnswerLaws.{begun_answers, seen_changed, seen_closed, seen_commit}
 use Rattle.vyrd_judge.proofs.AlikeLaws.{Split, has_parts_next}
 use Rattle.vyrd_base.proofs.KeptLaws.{call_kept, commit_kept, block_commit_runs, return_kept}
 use Rattle.vyrd_base.proofs.CommittedLaws.{return_free}
@@ -74,6 +76,9 @@ head_begins {r} {starting} {log} {state} {made} {watches} new {x} {xs} {first} {
     judged_next r starting log state state made made watches new x xs first first since since at
     (no_return at.here.caller at.here.kind at.later (ap is_commit is.kind))
     (parts_on r.header starting first since at.here at.earlier at.later (ap is_commit is.kind) at.judged.parts) (omega arith) current
+    (subst (λ e. AreSeenFew (e ∷ at.earlier) new) (named at.here (Call method args) is.kind)
+    (seen_changed at.here.caller (Call method args) at.earlier watches new
+    (subst (λ c. OthersStay c watches new) is.caller others) own at.judged.seen_few))
     (onward_as (named at.here (Call method args) is.kind) (record {
       fault = λ more. refl;
       reached = λ more. reached_begins r (states_along r starting (log ++ more)) at.here.caller method args at.earlier (at.later ++ more) state watches new
@@ -83,6 +88,16 @@ head_begins {r} {starting} {log} {state} {made} {watches} new {x} {xs} {first} {
           (at.judged.reached more));
     }))
   where
+    one : Seen
+    one = record { is_open = true; method = method; args = args; answers = r.answer state method args ∷ [] }
+
+    own : (seen : Seen) → slice_get new at.here.caller ≡ Some seen
+        → length seen.answers ≤ answers_of at.here.caller (entry at.here.caller (Call method args) ∷ at.earlier)
+    own seen there =
+        let is_one : one ≡ seen = same_Some _ _ (sym here ∙ ap (slice_get new) is.caller ∙ there) in
+        let same = ap (λ (s : Seen). length s.answers) is_one in
+        let begun = begun_answers at.here.caller method args at.earlier is.free in omega (arith, same, begun)
+
     may : has_method r.header method args ≡ true
     may = call_kept r.header at.here.caller method args at.earlier
         (subst (λ e. broken_rule r.header at.earlier e ≡ None) (sym (named at.here (Call method args) is.kind)) at.keeps)
@@ -135,11 +150,15 @@ return_fault {r} {starting} {log} {state} {watches = watches} {reply = reply} se
 pub head_answered : {r : Rules} {starting : List StartWord} {log : List Entry} {state : State} {made : ℕ} {watches : List Seen} (new : List Seen) {x : Waiting}
     {xs : List Waiting} {first : List ℕ} {since : List (List (ℕ × ℕ))} {reply : ℕ} (seen : Seen) (at : AtHead r starting log state made watches x xs first since)
     → IsReturn at.here at.earlier x reply → slice_get watches x.caller ≡ Some seen → has_answer seen.answers reply ≡ true
-    → OthersStay x.caller watches new → AreCurrent (r.answer state) new → Judged r starting log state made new xs first since
-head_answered {r} {starting} {log} {state} {made} {watches} new {x} {xs} {first} {since} {reply} seen at is here answered others current =
+    → OthersStay x.caller watches new → slice_get new x.caller ≡ Some unwatched → AreCurrent (r.answer state) new → Judged r starting log state made new xs first since
+head_answered {r} {starting} {log} {state} {made} {watches} new {x} {xs} {first} {since} {reply} seen at is here answered others closed current =
     judged_next r starting log state state made made watches new x xs first first since since at
     (no_return at.here.caller at.here.kind at.later (ap is_commit is.kind))
     (parts_on r.header starting first since at.here at.earlier at.later (ap is_commit is.kind) at.judged.parts) (omega arith) current
+    (subst (λ e. AreSeenFew (e ∷ at.earlier) new) (named at.here (Return reply) is.kind)
+    (seen_changed at.here.caller (Return reply) at.earlier watches new
+    (subst (λ c. OthersStay c watches new) is.caller others)
+    (seen_closed at.here.caller new _ (ap (slice_get new) (sym is.caller) ∙ closed)) at.judged.seen_few))
     (onward_as (named at.here (Return reply) is.kind) (record {
       fault = λ more. return_fault seen at is here more ∙ ap (λ b. cond b None (Some (Observer reply))) answered;
       reached = λ more. reached_return r (states_along r starting (log ++ more)) at.here.caller reply at.earlier (at.later ++ more) state watches new
@@ -238,12 +257,16 @@ pub head_right : {r : Rules} {starting : List StartWord} {log : List Entry} {sta
     (at : AtHead r starting log state made watches x xs first since)
     (is : IsCommit at.here at.earlier at.later x method args (Some reply)) → r.next method args reply state ≡ Some next
     → first_difference (r.view first) (r.shown next) ≡ None → more ≤ made + 1
-    → OthersStay x.caller watches closed → AllSee (r.answer next) closed new → AreCurrent (r.answer next) new
+    → OthersStay x.caller watches closed → slice_get closed x.caller ≡ Some unwatched → length new ≡ length closed
+    → AllSee (r.answer next) closed new → AreCurrent (r.answer next) new
     → Judged r starting log next more new xs (with_writes first (split_here at is).part) (split_here at is).rest
-head_right {r} {starting} {log} {state} {made} {watches} closed new {x} {xs} {first} {since} {method} {args} {reply} next more at is after same count others see current =
+head_right {r} {starting} {log} {state} {made} {watches} closed new {x} {xs} {first} {since} {method} {args} {reply} next more at is after same count others mine long see current =
     let split = split_here at is in
     judged_next r starting log state next made more watches new x xs first (with_writes first split.part) since split.rest at
     (λ commits. (reply, is.replies)) split.has count current
+    (seen_commit (r.answer next) at.here.caller at.here.kind at.earlier watches closed new
+    (commits_is at.here.kind is.commits) (subst (λ c. OthersStay c watches closed) is.caller others)
+    (ap (slice_get closed) (sym is.caller) ∙ mine) long see at.judged.seen_few)
     (record { fault = λ es. (right es).0; reached = λ es. (right es).1 })
   where
     right : (es : List Entry) → (fault_at r starting (states_along r starting (log ++ es)) (place_of at.here at.earlier (at.later ++ es)) ≡ None)

@@ -37,14 +37,15 @@ use Rattle.vyrd_observers.specs.Watching.{Seen}
 use Rattle.vyrd_judge.specs.Waiting.{waiting_of, waiting_at, waiting_after, replied, commit_of}
 use Rattle.vyrd_judge.specs.Reached.{Reached}
 use Rattle.vyrd_observers.specs.Watching.{AreCurrent}
-use Rattle.vyrd_judge.specs.Judged.{Judged}
+use Rattle.vyrd_judge.specs.Judged.{Judged, AllReturned, AreSeenFew}
 use Rattle.vyrd_judge.proofs.AlikeLaws.{has_parts_more}
 use Rattle.vyrd_judge.proofs.EndingLaws.{AllEnd, end_next, end_more}
 use Rattle.vyrd_base.proofs.KeptLaws.{call_kept, commit_kept, block_commit_runs, return_kept}
 use Rattle.vyrd_judge.proofs.PartLaws.{parts_more}
 use Rattle.vyrd_judge.proofs.Reaching.{reached_inside, reached_owes, reached_return}
 use Rattle.vyrd_judge.proofs.ReachedFaults.{return_committed_at}
-use Rattle.vyrd_judge.proofs.WaitingLaws.{listed, waiting_more}
+use Rattle.vyrd_judge.proofs.AnswerLaws.{seen_on, closed_here, returned_more}
+use Rattle.vyrd_judge.proofs.WaitingLaws.{listed, waiting_more, uncommitted}
 use Rattle.vyrd_base.specs.Rules.{Rules}
 
 -- one more entry that keeps the rules: it may be the reply of a commit that waits, and may wait itself
@@ -77,6 +78,8 @@ judged_more r starting log e state made watches queue first since writes well_fo
       ∙ ap (λ es. first_answer (violation_at r starting (states_along r starting es)) (places_after j.earlier ((j.later ++ e ∷ []) ++ more))) (sym (append_assoc log (e ∷ []) more));
   few = j.few;
   current = j.current;
+  returned = returned_more j.earlier j.later (e ∷ []) j.returned;
+  seen_few = j.seen_few;
 }
   where
     behind : List Entry → ℕ
@@ -175,36 +178,6 @@ quiet_on r starting log e earlier later state watches keeps quiet val = by_kind 
     by_kind Commit keeps' none r' = at_commit (open_call c earlier) _ (commit_kept r.header c earlier keeps') (unwaiting (place Commit) _ none)
     by_kind BlockCommit keeps' none r' = at_commit (open_call c earlier) _ (block_commit_runs r.header c earlier keeps') (unwaiting (place BlockCommit) _ none)
 
--- an entry that isn't judged isn't a commit
-pub uncommitted : (h : Header) (e : Entry) (earlier later : List Entry) → broken_rule h earlier e ≡ None → waiting_at (place_of e earlier later) ≡ None
-    → is_commit e.kind ≡ false
-uncommitted h e earlier later keeps quiet = by_kind e.kind keeps quiet
-  where
-    c : ℕ
-    c = e.caller
-
-    at_commit : {A : Type 0} (kind : Kind) (o : Option Called) (reply : Option ℕ)
-        → (called : Called) × (o ≡ Some called) × (is_observer called.method ≡ false)
-        → option_map (waiting_of (place_of (entry c kind) earlier later)) (option_map (commit_of reply) o) ≡ None → A
-    at_commit kind None reply runs none = absurd (apart runs.1)
-      where
-        apart : None ≡ Some runs.0 → ⊥
-        apart p = cc
-    at_commit kind (Some called) reply runs none = absurd (apart none)
-      where
-        apart : Some (waiting_of (place_of (entry c kind) earlier later) (commit_of reply called)) ≡ None → ⊥
-        apart p = cc
-
-    by_kind : (kind : Kind) → broken_rule h earlier (entry c kind) ≡ None → waiting_at (place_of (entry c kind) earlier later) ≡ None
-        → is_commit kind ≡ false
-    by_kind Commit keeps' none = at_commit Commit (open_call c earlier) _ (commit_kept h c earlier keeps') none
-    by_kind BlockCommit keeps' none = at_commit BlockCommit (open_call c earlier) _ (block_commit_runs h c earlier keeps') none
-    by_kind (Call method args) keeps' none = refl
-    by_kind (Return reply) keeps' none = refl
-    by_kind (Write word value) keeps' none = refl
-    by_kind BlockOpen keeps' none = refl
-    by_kind BlockClose keeps' none = refl
-
 -- All before a place is judged: what is known there, however the log goes on.
 pub record IsJudged (r : Rules) (starting : List StartWord) (log : List Entry) (state : State) (made : ℕ) (watches : List Seen)
     (first : List ℕ) (since : List (List (ℕ × ℕ))) (earlier later : List Entry) : Type 0 where
@@ -214,6 +187,8 @@ pub record IsJudged (r : Rules) (starting : List StartWord) (log : List Entry) (
   pub reached : IsReached r starting log earlier later state watches
   pub clean : IsClean r starting log earlier later
   pub few : made ≤ length earlier
+  pub returned : AllReturned earlier later
+  pub seen_few : AreSeenFew earlier watches
 
 -- what isn't a commit changes nothing of the words that wait
 pub parts_on : (h : Header) (starting : List StartWord) (first : List ℕ) (since : List (List (ℕ × ℕ))) (e : Entry) (earlier later : List Entry)
@@ -247,6 +222,8 @@ judged_quiet r starting log state made watches first since e earlier later keeps
       reached = onward.reached;
       clean = clean_on r starting log e earlier later onward.fault j.clean;
       few = omega (arith, j.few);
+      returned = (closed_here e later is, j.returned);
+      seen_few = seen_on r.header e earlier later watches keeps quiet j.seen_few;
     }
   where
     apart : {b : Bool} → b ≡ false → b ≡ true → ⊥
@@ -313,7 +290,16 @@ known_of : {r : Rules} {starting : List StartWord} {log : List Entry} {state : S
     {first : List ℕ} {since : List (List (ℕ × ℕ))} (j : Judged r starting log state made watches queue first since)
     → IsJudged r starting log state made watches first since j.earlier j.later
 known_of j =
-    record { parts = j.parts; settled = j.settled; ended = j.ended; reached = j.reached; clean = j.clean; few = j.few }
+    record {
+      parts = j.parts;
+      settled = j.settled;
+      ended = j.ended;
+      reached = j.reached;
+      clean = j.clean;
+      few = j.few;
+      returned = j.returned;
+      seen_few = j.seen_few;
+    }
 
 pub judged_head : (r : Rules) (starting : List StartWord) (log : List Entry) (state : State) (made : ℕ) (watches : List Seen) (x : Waiting)
     (xs : List Waiting) (first : List ℕ) (since : List (List (ℕ × ℕ))) → Judged r starting log state made watches (x ∷ xs) first since
@@ -351,9 +337,9 @@ pub judged_next : (r : Rules) (starting : List StartWord) (log : List Entry) (st
     (x : Waiting) (xs : List Waiting) (first next_first : List ℕ) (since next_since : List (List (ℕ × ℕ)))
     (at : AtHead r starting log state made watches x xs first since) → IsReturned at.here.caller at.here.kind at.later
     → HasParts r.header starting next_first next_since (effect_parts (effects (at.here ∷ at.earlier) at.later) (at.here ∷ at.earlier) at.later)
-    → more ≤ made + 1 → AreCurrent (r.answer next) new
+    → more ≤ made + 1 → AreCurrent (r.answer next) new → AreSeenFew (at.here ∷ at.earlier) new
     → Onward r starting log at.here at.earlier at.later next new → Judged r starting log next more new xs next_first next_since
-judged_next r starting log state next made more watches new x xs first next_first since next_since at is parts count current onward = record {
+judged_next r starting log state next made more watches new x xs first next_first since next_since at is parts count current seen onward = record {
   earlier = at.here ∷ at.earlier;
   later = at.later;
   whole = at.whole;
@@ -366,6 +352,8 @@ judged_next r starting log state next made more watches new x xs first next_firs
   clean = clean_on r starting log at.here at.earlier at.later onward.fault at.judged.clean;
   few = omega (arith, count, at.judged.few);
   current = current;
+  returned = (closed_here at.here at.later is, at.judged.returned);
+  seen_few = seen;
 }
 
 -- the entry that waits first is a fault

@@ -190,6 +190,7 @@ pub judged_answered : {r : Rules} {starting : List StartWord} {log : List Entry}
 judged_answered {r} {state = state} {watches = watches} {x} seen event here answered j =
     let found = returns_at event j in
     head_answered (set watches x.caller unwatched) seen found.0 found.1 here answered (others_stay x.caller watches unwatched)
+    (slice_get-set_same watches x.caller unwatched (slice_get_within watches x.caller seen here))
     (current_closed r state x.caller watches (slice_get_within watches x.caller seen here) j.current)
 
 pub judged_unanswered : {r : Rules} {starting : List StartWord} {log : List Entry} {state : State} {made : ℕ} {watches : List Seen} {x : Waiting} {xs : List Waiting}
@@ -222,11 +223,11 @@ commit_splits event j =
 pub judged_commits : {E : Type 0} {r : Rules} {starting : List StartWord} {log : List Entry} {state : State} {made : ℕ} {watches : List Seen} {x : Waiting}
     {xs : List Waiting} {first : List ℕ} {since : List (List (ℕ × ℕ))} {method : Method} {args : Args} {reply : ℕ} (after : State) (more : ℕ)
     (new : List Seen) (next_first : List ℕ) (next_since : List (List (ℕ × ℕ))) (val : Result Outcome E) → x.event ≡ Commits method args (Some reply)
-    → Judged r starting log state made watches (x ∷ xs) first since
+    → length watches ≡ r.header.callers → Judged r starting log state made watches (x ∷ xs) first since
     → ((part : List (ℕ × ℕ)) (rest : List (List (ℕ × ℕ))) → since ≡ part ∷ rest
     → IfOk val (CommitLeads r first part rest x.caller (record { method = method; args = args }) reply state made watches after more new next_first next_since))
     → IfOk val (HeadGives r starting log after more new x xs next_first next_since)
-judged_commits {E} {r} {starting} {log} {state} {made} {watches} {x} {xs} {first} {since} {method} {args} {reply} after more new next_first next_since val event j leads =
+judged_commits {E} {r} {starting} {log} {state} {made} {watches} {x} {xs} {first} {since} {method} {args} {reply} after more new next_first next_since val event long j leads =
     let found = commits_at event j in
     let split = split_here found.0 found.1 in
     by_result found.0 found.1 val (leads split.part split.rest split.is)
@@ -241,7 +242,8 @@ judged_commits {E} {r} {starting} {log} {state} {made} {watches} {x} {xs} {first
         subst (λ ws. Judged r starting log after more new xs ws next_since) (sym right.words)
         (subst (λ ps. Judged r starting log after more new xs (with_writes first (split_here at is).part) ps) (sym right.since)
         (head_right (set watches x.caller unwatched) new after more at is right.next right.same right.count (others_stay x.caller watches unwatched)
-        right.seen right.current))
+        (slice_get-set_same watches x.caller unwatched (omega (arith, long, head_caller at is.caller)))
+        right.len right.seen right.current))
     by_outcome at is (Faults why) faulty = head_faults why at is faulty
 
     by_result : (at : AtHead r starting log state made watches x xs first since) (is : IsCommit at.here at.earlier at.later x method args (Some reply))

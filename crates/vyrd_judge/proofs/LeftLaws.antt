@@ -21,7 +21,7 @@ use Rattle.vyrd_base.proofs.Fronts.{break_after}
 use Rattle.vyrd_base.proofs.Lasting.{commit_count-cons}
 use Rattle.vyrd_base.proofs.ListLaws.{both_none}
 use Rattle.vyrd_base.proofs.PlaceLaws.{length-mapped}
-use Rattle.vyrd_observers.specs.Watching.{answer_count}
+use Rattle.vyrd_judge.specs.Answers.{answers_left}
 use Rattle.vyrd_judge.specs.Costs.{callers_of}
 use Rattle.vyrd_shadow.specs.Following.{Kept as ShadowKept, kept_writes}
 use Rattle.vyrd_words.specs.Costs.{kept_back, all_kept_back}
@@ -34,11 +34,13 @@ use Rattle.vyrd_judge.specs.Following.{JudgeView, HasFollowed, FollowsBy, IsFaul
 use Rattle.vyrd_judge.specs.Judged.{Judged}
 use Rattle.vyrd_judge.specs.Keeping.{effects_in, next_has_returned, effects_left}
 use Rattle.vyrd_judge.specs.Keeping.{count_all, writes_kept, blocks_keep}
+use Rattle.vyrd_judge.specs.LittleKept.{KeepsLittle}
 use Rattle.vyrd_judge.specs.Queued.{AwaitsReturn}
 use Rattle.vyrd_judge.specs.Waiting.{waiting_at, waiting_after}
 use Rattle.vyrd_judge.proofs.AlikeLaws.{alike_count}
-use Rattle.vyrd_judge.proofs.JudgedLaws.{uncommitted}
-use Rattle.vyrd_judge.proofs.KeepingLaws.{left_open, log_parts}
+use Rattle.vyrd_judge.proofs.WaitingLaws.{uncommitted}
+use Rattle.vyrd_judge.proofs.AnswersLeft.{seen_few_all}
+use Rattle.vyrd_judge.proofs.KeepingLaws.{left_open, log_parts, waits_behind_open}
 
 -- the effects of all parts
 sum_parts : (before : List (ℕ × ℕ)) (earlier later : List Entry)
@@ -265,7 +267,7 @@ faultless j starting log followed undecided =
     subst (FollowsBy j.kept starting log) undecided followed.follows
 
 -- the writes that it keeps for the commits that wait
-pub writes_few : (j : JudgeView) (starting : List StartWord) (log : List Entry)
+writes_few : (j : JudgeView) (starting : List StartWord) (log : List Entry)
     → HasFollowed j starting log → j.so_far ≡ None
     → writes_kept j.kept.views ≤ effects_left [] log
 writes_few j starting log followed undecided =
@@ -349,7 +351,7 @@ blocks_from shadow inner starting earlier has k (suc n) low =
     )
 
 -- the writes that the open blocks keep
-pub blocks_few : (j : JudgeView) (starting : List StartWord) (log : List Entry)
+blocks_few : (j : JudgeView) (starting : List StartWord) (log : List Entry)
     → HasFollowed j starting log → j.so_far ≡ None
     → blocks_keep j.kept.shadow ≤ all_kept_back (callers_of j.kept) (newest_first log)
 blocks_few j starting log followed undecided =
@@ -360,14 +362,24 @@ blocks_few j starting log followed undecided =
     j.kept.shadow.header.callers (omega arith))
 
 -- the answers that it keeps
-pub answers_few : (j : JudgeView) (starting : List StartWord) (log : List Entry)
+answers_few : (j : JudgeView) (starting : List StartWord) (log : List Entry)
     → HasFollowed j starting log → j.so_far ≡ None
-    → j.kept.answers ≤ 2 * answer_count j.kept.watches
+    → j.kept.answers ≤ 2 * answers_left (callers_of j.kept) log
 answers_few j starting log followed undecided =
-    let going = faultless j starting log followed undecided in going.taken_in.few_answers
+    let all = seen_few_all (callers_of j.kept) j.kept.watches judged.earlier judged.later log
+    (rules_by j.kept.charter).header judged.whole judged.kept
+    (subst AwaitsReturn judged.queued going.awaits) judged.returned judged.seen_few
+    going.taken_in.watched in omega (arith, going.taken_in.few_answers, all)
+  where
+    going : IsFaultless j.kept starting log
+    going = faultless j starting log followed undecided
+
+    judged : Judged (rules_by j.kept.charter) starting log j.kept.state j.kept.made j.kept.watches
+        j.kept.waiting j.kept.views.first j.kept.views.since
+    judged = going.taken_in.judged
 
 -- the words that it keeps
-pub words_few : (j : JudgeView) (starting : List StartWord) (log : List Entry)
+words_few : (j : JudgeView) (starting : List StartWord) (log : List Entry)
     → HasFollowed j starting log → j.so_far ≡ None
     → length j.kept.shadow.words ≡ plain_words (rules_by j.kept.charter).header
 unfolding words_after
@@ -376,3 +388,14 @@ words_few j starting log followed undecided =
     ap length going.taken_in.words.followed.words
     ∙ length-mapped (value_after starting (effects (newest_first log) [])) 0
     (plain_words j.kept.shadow.header) ∙ ap plain_words going.taken_in.shadow_header
+
+-- a judge with no verdict keeps little of the log that it has followed
+pub keeps_little : (j : JudgeView) (starting : List StartWord) (log : List Entry)
+    → HasFollowed j starting log → j.so_far ≡ None → KeepsLittle j log
+keeps_little j starting log followed nothing = record {
+  entries = waits_behind_open j starting log followed nothing;
+  writes = writes_few j starting log followed nothing;
+  blocks = blocks_few j starting log followed nothing;
+  answers = answers_few j starting log followed nothing;
+  words = words_few j starting log followed nothing;
+}

@@ -1,3 +1,5 @@
+pub mod AnswersLeft
+pub mod AnswerLaws
 pub mod LeftLaws
 pub mod KeepingLaws
 pub mod EndingLaws

@@ -180,10 +180,10 @@ reached_commit r states c kind earlier later state next watches closed new insid
           (λ other.
           let old = val.watched d called within (sym (open_call-quiet d c kind earlier inside) ∙ is) free
           (sym (committed-other d c kind earlier other) ∙ none) in
-          let more = see d old.0 (others d other ∙ old.1) old.2.is_open in (
+          let more = see d old.0 (others d other ∙ old.1) in (
             more.0,
             more.1,
-            sees (window-commit states d (entry c kind) earlier next commits (before_call-quiet d c kind earlier uncalled) here) old.2 more.2,
+            sees (window-commit states d (entry c kind) earlier next commits (before_call-quiet d c kind earlier uncalled) here) old.2 (more.2.answers old.2.is_open),
           ));
     }
   where

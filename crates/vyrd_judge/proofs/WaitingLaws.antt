@@ -11,8 +11,12 @@ use Rattle.vyrd_base.specs.declared.log.Kind.TheVariants.{Call, Return, Write, C
 use Rattle.vyrd_base.specs.declared.log.Entry.{Entry}
 use Rattle.vyrd_base.specs.Places.{Place, places_after, newest_first_onto}
 use Rattle.vyrd_base.specs.Callers.{Called, open_call, has_committed, by_caller}
-use Rattle.vyrd_base.specs.Subjects.{must_commit}
-use Rattle.vyrd_base.specs.Commits.{returned, next_reply}
+use Rattle.vyrd_base.specs.declared.header.Header.{Header}
+use Rattle.vyrd_base.specs.Shape.{broken_rule}
+use Rattle.vyrd_base.specs.Subjects.{is_observer, must_commit}
+use Rattle.vyrd_base.specs.Commits.{is_commit, returned, next_reply}
+use Rattle.vyrd_base.proofs.BlockLaws.{entry}
+use Rattle.vyrd_base.proofs.KeptLaws.{commit_kept, block_commit_runs}
 use Rattle.vyrd_base.proofs.PlaceLaws.{with_later, places_after-append, first_answer-append}
 use Rattle.vyrd_base.proofs.ListLaws.{or_none}
 use Rattle.vyrd_judge.specs.declared.waiting.Event.{Event}
@@ -163,3 +167,33 @@ waits e earlier later x is = by_kind e.kind refl is
     by_kind (Write word value) named p = none p
     by_kind BlockOpen named p = none p
     by_kind BlockClose named p = none p
+
+-- an entry that isn't judged isn't a commit
+pub uncommitted : (h : Header) (e : Entry) (earlier later : List Entry) → broken_rule h earlier e ≡ None → waiting_at (place_of e earlier later) ≡ None
+    → is_commit e.kind ≡ false
+uncommitted h e earlier later keeps quiet = by_kind e.kind keeps quiet
+  where
+    c : ℕ
+    c = e.caller
+
+    at_commit : {A : Type 0} (kind : Kind) (o : Option Called) (reply : Option ℕ)
+        → (called : Called) × (o ≡ Some called) × (is_observer called.method ≡ false)
+        → option_map (waiting_of (place_of (entry c kind) earlier later)) (option_map (commit_of reply) o) ≡ None → A
+    at_commit kind None reply runs none = absurd (apart runs.1)
+      where
+        apart : None ≡ Some runs.0 → ⊥
+        apart p = cc
+    at_commit kind (Some called) reply runs none = absurd (apart none)
+      where
+        apart : Some (waiting_of (place_of (entry c kind) earlier later) (commit_of reply called)) ≡ None → ⊥
+        apart p = cc
+
+    by_kind : (kind : Kind) → broken_rule h earlier (entry c kind) ≡ None → waiting_at (place_of (entry c kind) earlier later) ≡ None
+        → is_commit kind ≡ false
+    by_kind Commit keeps' none = at_commit Commit (open_call c earlier) _ (commit_kept h c earlier keeps') none
+    by_kind BlockCommit keeps' none = at_commit BlockCommit (open_call c earlier) _ (block_commit_runs h c earlier keeps') none
+    by_kind (Call method args) keeps' none = refl
+    by_kind (Return reply) keeps' none = refl
+    by_kind (Write word value) keeps' none = refl
+    by_kind BlockOpen keeps' none = refl
+    by_kind BlockClose keeps' none = refl

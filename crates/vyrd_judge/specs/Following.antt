@@ -68,6 +68,7 @@ pub record HasTakenIn (k : Kept) (starting : List StartWord) (log : List Entry) 
   pub entries : k.entries ≡ length log
   pub commits : k.commits ≡ commit_count log
   pub observers : k.observers ≡ observer_count log
+  pub watched : length k.watches ≡ (rules_by k.charter).header.callers
   pub few_answers : k.answers ≤ 2 * answer_count k.watches
   pub few_writes : AreFew k.views.begun k.views.since (effect_parts [] [] log)
 

@@ -1,6 +1,6 @@
 -- What is judged of a log so far, and what waits.
 use Rattle.std.specs.Prelude.{◌≡◌, ◌≤◌, ◌+◌, ◌^◌, ℕ, true, false, List, ◌∷◌, ◌++◌, Some, None}
-use Rattle.std.specs.Prelude.{length, slice_set}
+use Rattle.std.specs.Prelude.{[], length, slice_get, slice_set}
 use Rattle.vyrd_base.specs.declared.log.Entry.{Entry}
 use Rattle.vyrd_base.specs.declared.log.StartWord.{StartWord}
 use Rattle.vyrd_base.specs.Places.{places_after, newest_first_onto, newest_first, first_answer}
@@ -19,10 +19,23 @@ use Rattle.vyrd_judge.specs.declared.waiting.Waiting.{Waiting}
 use Rattle.vyrd_words.specs.Cuts.{Cuts}
 use Rattle.vyrd_words.specs.Effects.{effect_parts, HasParts, is_ended}
 use Rattle.vyrd_observers.specs.Watching.{Seen, unwatched}
+use Rattle.vyrd_judge.specs.Answers.{answers_of}
+use Rattle.vyrd_judge.specs.Keeping.{is_left_open}
 use Rattle.vyrd_judge.specs.Waiting.{waiting_after}
 use Rattle.vyrd_judge.specs.Reached.{Reached}
 use Rattle.vyrd_observers.specs.Watching.{AreCurrent, AllSee}
 use Rattle.vyrd_base.specs.Rules.{Rules}
+
+-- each commit before a place has a return after it
+abbrev pub AllReturned : List Entry → List Entry → Type 0
+AllReturned [] later = Unit {0}
+AllReturned (e ∷ earlier) later =
+    (is_left_open e later ≡ false) × AllReturned earlier (e ∷ later)
+
+-- no caller has seen more answers than its open observer has at a place
+abbrev pub AreSeenFew : List Entry → List Seen → Type 0
+AreSeenFew earlier watches = (c : ℕ) (seen : Seen) → slice_get watches c ≡ Some seen
+    → length seen.answers ≤ answers_of c earlier
 
 -- All entries before some place are judged, and none of them is a fault; those from it on that are
 -- judged wait, and so do the words at its commits. This stands however the log goes on: a commit
@@ -50,6 +63,8 @@ pub record Judged (r : Rules) (starting : List StartWord) (log : List Entry) (st
       (places_after earlier (later ++ more))
   pub few : made ≤ length earlier
   pub current : AreCurrent (r.answer state) watches
+  pub returned : AllReturned earlier later
+  pub seen_few : AreSeenFew earlier watches
 
 -- What the entry that waits first leads to: it is judged and no fault; or it is this fault, the
 -- first of the log.
@@ -77,6 +92,7 @@ pub record CommitRight (r : Rules) (first : List ℕ) (part : List (ℕ × ℕ))
   pub same : first_difference (r.view first) (r.shown after) ≡ None
   pub count : more ≤ made + 1
   pub seen : AllSee (r.answer after) (slice_set old caller unwatched) new
+  pub len : length new ≡ length (slice_set old caller unwatched)
   pub current : AreCurrent (r.answer after) new
   pub words : next_first ≡ with_writes first part
   pub since : next_since ≡ rest

@@ -1,3 +1,4 @@
+pub mod Answers
 pub mod Keeping
 pub mod WaitingView
 pub mod Waiting
@@ -6,3 +7,4 @@ pub mod Judged
 pub mod Costs
 pub mod Queued
 pub mod Following
+pub mod LittleKept

@@ -2,7 +2,7 @@
 
 ghost use Rattle.std.specs.Prelude.{◌≡◌, ◌<◌, ◌≤◌, ◌+◌, ◌*◌, ◌^◌, ◌∷◌, ℕ, List, [], true, false};
 ghost use Rattle.std.specs.Prelude.{Some, None};
-ghost use Rattle.std.specs.Prelude.{IfOk, OnOk, slice_get, slice_set, length};
+ghost use Rattle.std.specs.Prelude.{IfOk, OnOk, slice_get, slice_set, length, replicate};
 ghost use Rattle.vyrd_base.specs.Rules.{rules_by};
 ghost use Rattle.vyrd_base.specs.declared.log.Entry.{Entry};
 ghost use Rattle.vyrd_base.specs.declared.log.StartWord.{StartWord};
@@ -43,9 +43,8 @@ impl<S: Spec> Replay<S> {
     pub fn new(alloc: Global, header: Header, spec: S) -> Result<Replay<S>, AllocError>
         requires spec_header { (rules_by (S.charter spec)).header ≡ header }
         ensures spec { IfOk result (λ r. r.spec ≡ spec) }
-        ensures current { IfOk result
-            (λ r. AreCurrent
-            ((rules_by (S.charter spec)).answer (S.state spec)) r.watches.by_caller) }
+        ensures unwatched { IfOk result
+            (λ r. r.watches.by_caller ≡ replicate header.callers unwatched) }
         ensures owed { IfOk result (λ r. owed r.watches ≡ 0) }
     {
         Ok(Replay {

@@ -1,10 +1,8 @@
 -- How much the judge of a checker keeps.
 use Rattle.std.proofs.Common.{◌≡◌, ℕ, List, Some, None, subst}
-use Rattle.vyrd_base.specs.declared.log.Entry.{Entry}
-use Rattle.vyrd_base.specs.declared.log.StartWord.{StartWord}
-use Rattle.vyrd_judge.specs.Following.{JudgeView, HasFollowed}
-use Rattle.vyrd_judge.proofs.KeepingLaws.{waits_behind_open}
-use Rattle.vyrd_judge.proofs.LeftLaws.{writes_few, blocks_few, answers_few, words_few}
+use Rattle.vyrd_judge.specs.Following.{JudgeView}
+use Rattle.vyrd_judge.specs.LittleKept.{KeepsLittle}
+use Rattle.vyrd_judge.proofs.LeftLaws.{keeps_little}
 use Rattle.vyrd_check.specs.Checking as first_checking
 use Rattle.vyrd_check.specs.LogReadings as first_readings
 use Rattle.vyrd_own_check.specs.declared.checker.OwnChecker.{OwnChecker}
@@ -12,18 +10,6 @@ use Rattle.vyrd_own_check.specs.CheckerView.{checker_in}
 use Rattle.vyrd_own_check.specs.Checking as own_checking
 use Rattle.vyrd_own_check.specs.LogReadings as own_readings
 use Rattle.vyrd_log_check.specs.Checking.{LogCheckerState, HasChecked, FollowsBy}
-use Rattle.vyrd_log_check.specs.Keeping.{KeepsLittle}
-
--- a judge with no verdict keeps little of the log that it has followed
-followed_keeps : (j : JudgeView) (starting : List StartWord) (log : List Entry)
-    → HasFollowed j starting log → j.so_far ≡ None → KeepsLittle j log
-followed_keeps j starting log followed nothing = record {
-  entries = waits_behind_open j starting log followed nothing;
-  writes = writes_few j starting log followed nothing;
-  blocks = blocks_few j starting log followed nothing;
-  answers = answers_few j starting log followed nothing;
-  words = words_few j starting log followed nothing;
-}
 
 pub first_keeps : (c : LogCheckerState) (bytes : List ℕ) (j : JudgeView) → HasChecked c bytes
     → c.own ≡ None → c.first.so_far ≡ None → c.first.kept.judge ≡ Some j
@@ -36,7 +22,7 @@ first_keeps c bytes j checked none nothing is =
     let read = first_readings.read_so_far c.first.kept.reader.max_lines bytes in
     let at : first_checking.IsJudging (Some j) read =
     subst (λ judge. first_checking.IsJudging judge read) is undecided.judging in
-    followed_keeps j read.starting read.entries at.followed at.so_far
+    keeps_little j read.starting read.entries at.followed at.so_far
 
 pub own_keeps : (c : LogCheckerState) (bytes : List ℕ) (o : OwnChecker) (j : JudgeView)
     → HasChecked c bytes → c.own ≡ Some o → (checker_in o).so_far ≡ None
@@ -52,4 +38,4 @@ own_keeps c bytes o j checked some nothing is =
     let read = own_readings.read_so_far (own_checking.limit_of kept) bytes in
     let at : own_checking.IsJudging (Some j) read =
     subst (λ judge. own_checking.IsJudging judge read) is undecided.judging in
-    followed_keeps j read.starting read.entries at.followed at.so_far
+    keeps_little j read.starting read.entries at.followed at.so_far

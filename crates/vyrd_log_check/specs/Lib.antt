@@ -4,4 +4,3 @@ pub mod Checking
 pub mod Owed
 pub mod CheckerView
 pub mod Worked
-pub mod Keeping

@@ -1,8 +1,8 @@
 -- What is kept and what observers have seen, as the steps are paid by it.
 use Rattle.std.proofs.Common.{◌≡◌, ℕ, zero, suc, ◌+◌, ◌*◌, ◌<◌, ◌≤◌, Bool, true, false, cond, List}
 use Rattle.std.proofs.Common.{[], ◌∷◌, ◌++◌, length, drop, map, set, get_or, Option, Some, None}
-use Rattle.std.proofs.Common.{slice_get, refl, ap, sym, ◌∙◌, arith, length-drop, length-append}
-use Rattle.std.specs.Prelude.{◌==◌, ◌&&◌, sum_by, replicate}
+use Rattle.std.proofs.Common.{slice_get, refl, ap, ◌∙◌, arith, length-drop, length-append}
+use Rattle.std.specs.Prelude.{◌==◌, ◌&&◌, replicate}
 use Rattle.std.proofs.lemmas.List.Sums.{sum_by-cons, sum_by-append}
 use Rattle.std.proofs.lemmas.Option.{slice_get-get_or}
 use Rattle.vyrd_base.specs.declared.header.Header.{Header}
@@ -11,7 +11,7 @@ use Rattle.vyrd_base.specs.declared.subject.Args.{Args}
 use Rattle.vyrd_base.proofs.ChangedLists.{changed_below}
 use Rattle.vyrd_observers.specs.declared.watch.Watch.{Watch}
 use Rattle.vyrd_observers.specs.Order.{AreInOrder, Closes}
-use Rattle.vyrd_observers.specs.Trails.{Asked, with_answer, after_state, seen_from, seen_by}
+use Rattle.vyrd_observers.specs.Trails.{Asked, after_state, seen_from, seen_by}
 use Rattle.vyrd_observers.specs.Trails.{kept_by, kept_count}
 use Rattle.vyrd_observers.specs.Watching.{Seen, unwatched, answer_count}
 use Rattle.vyrd_observers.proofs.AskerLaws.{sum_set}

@@ -17,9 +17,8 @@ pub record SeenBelow (told : Method → Args → ℕ) (i : ℕ) (old new : List 
 
 -- all have seen it
 pub seen_all : (told : Method → Args → ℕ) (i : ℕ) (old new : List Seen) → length old ≤ i → SeenBelow told i old new → AllSee told old new
-seen_all told i old new past so = λ c seen here open_now.
-    let more = so.below c seen (omega (arith, past, slice_get_within old c seen here)) here in
-    (more.0, more.1, more.2.answers open_now)
+seen_all told i old new past so = λ c seen here.
+    so.below c seen (omega (arith, past, slice_get_within old c seen here)) here
 
 -- and know its answer
 pub seen_current : (told : Method → Args → ℕ) (i : ℕ) (old new : List Seen) → length old ≤ i → length new ≡ length old

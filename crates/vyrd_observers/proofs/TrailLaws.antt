@@ -1,5 +1,5 @@
 -- Trails of answers that open observers share.
-use Rattle.std.proofs.Common.{◌≡◌, ℕ, zero, suc, ◌+◌, ◌-◌, ◌*◌, ◌<◌, ◌≤◌, Bool, true, false, cond, ◌&&◌, ◌||◌, ◌≢◌, ◌⊎◌, inl, inr, ⊎_elim, List, [], ◌∷◌, ◌++◌, length, drop, map, set, get_or, Option, Some, None, slice_get, refl, ap, subst, ◌∙◌, sym, arith, length-drop}
+use Rattle.std.proofs.Common.{◌≡◌, ℕ, zero, suc, ◌+◌, ◌-◌, ◌*◌, ◌<◌, ◌≤◌, Bool, true, false, cond, ◌&&◌, ◌||◌, ◌≢◌, ◌⊎◌, inl, inr, ⊎_elim, List, [], ◌∷◌, ◌++◌, length, drop, map, set, get_or, Option, Some, None, slice_get, refl, ap, subst, ◌∙◌, sym, arith, length-drop, length-append}
 use Rattle.std.specs.Prelude.{◌==◌, option_map, unwrap_or, replicate}
 use Rattle.std.specs.List.{list_any}
 use Rattle.std.proofs.lemmas.List.{drop-append-le, drop-drop, length-map, map-set, set-get_or}
@@ -686,12 +686,35 @@ sees_state affects told since t is_asked within current =
     answer : ℕ
     answer = told t.method t.args
 
+    one_more_there : (b : Bool)
+        → length (seen_from since (Some (cond b t
+        (record t { latest = answer; others = t.others ++ t.latest ∷ [] })))).answers
+        ≤ suc (suc (length (drop since t.others)))
+    one_more_there true = omega arith
+    one_more_there false = omega (
+      arith,
+      ap length (drop-append-le since t.others (t.latest ∷ []) within),
+      length-append (drop since t.others) (t.latest ∷ []),
+    )
+
     by_touched : (b : Bool) → affects t.method t.args ≡ b
         → SeesState told (seen_from since (Some t)) (seen_from since (Some (cond b (with_answer answer t) t)))
     by_touched true e = let sees = sees_answer answer since t within in
-        record { is_open = sees.is_open; method = sees.method; args = sees.args; answers = λ is_open. sees }
+        record {
+          is_open = sees.is_open;
+          method = sees.method;
+          args = sees.args;
+          answers = λ is_open. sees;
+          few = one_more_there (answer == t.latest);
+        }
     by_touched false e = let sees = knows_already answer (seen_from since (Some t)) (current e) in
-        record { is_open = refl; method = refl; args = refl; answers = λ is_open. sees }
+        record {
+          is_open = refl;
+          method = refl;
+          args = refl;
+          answers = λ is_open. sees;
+          few = omega arith;
+        }
 
 -- all callers see the state that all trails have the answer of
 pub callers_see : (affects : Method → Args → Bool) (told : Method → Args → ℕ) (trails : List Asked) (watches : List (Option Watch)) → AreOn trails watches
@@ -709,7 +732,13 @@ callers_see affects told trails watches on current = record {
     now = map (after_state affects told) trails
 
     closed : SeesState told unwatched unwatched
-    closed = record { is_open = refl; method = refl; args = refl; answers = λ is_open. absurd (false_true refl is_open) }
+    closed = record {
+      is_open = refl;
+      method = refl;
+      args = refl;
+      answers = λ is_open. absurd (false_true refl is_open);
+      few = omega arith;
+    }
 
     by_place : (k : ℕ) (seen : Seen) (o : Option (Option Watch)) → slice_get watches k ≡ o → option_map (seen_by trails) o ≡ Some seen
         → (next : Seen) × (slice_get (map (seen_by now) watches) k ≡ Some next) × SeesState told seen next
@@ -763,15 +792,13 @@ begins_seen old new watches c i since t method args answer keeps on there same_m
     ∙ (λ j. set (map (seen_by old) watches) c (record { is_open = true; method = same_method j; args = same_args j; answers = same_answer j ∷ [] }))
 
 -- no caller has an open observer
-replicated : {A : Type 0} (n : ℕ) (a : A) (i : ℕ) (x : A) → slice_get (replicate n a) i ≡ Some x → a ≡ x
-replicated zero a i x is = absurd (none-some _ is)
-replicated (suc n) a zero x is = same_Some _ _ is
-replicated (suc n) a (suc i) x is = replicated n a i x is
-
-pub all_closed : (trails : List Asked) (watches : List (Option Watch)) (n : ℕ) → watches ≡ replicate n None
-    → (c : ℕ) (seen : Seen) → slice_get (map (seen_by trails) watches) c ≡ Some seen → seen.is_open ≡ false
-all_closed trails watches n none = all_mapped (λ s. s.is_open ≡ false) (seen_by trails) watches (λ i o here.
-    ap (λ p. (seen_by trails p).is_open) (sym (replicated n None i o (ap (λ xs. slice_get xs i) (sym none) ∙ here))))
+pub none_watched : (trails : List Asked) (watches : List (Option Watch)) (n : ℕ)
+    → watches ≡ replicate n None → map (seen_by trails) watches ≡ replicate n unwatched
+none_watched trails watches n none = ap (map (seen_by trails)) none ∙ mapped n
+  where
+    mapped : (n : ℕ) → map (seen_by trails) (replicate n None) ≡ replicate n unwatched
+    mapped zero = refl
+    mapped (suc n) = ap (λ seen. unwatched ∷ seen) (mapped n)
 
 -- a caller that has none is as after its return
 pub closed_stays : (trails : List Asked) (watches : List (Option Watch)) (c : ℕ) → slice_get watches c ≡ Some None

@@ -1,5 +1,6 @@
 -- What is kept of a caller's open observer.
-use Rattle.std.specs.Prelude.{◌≡◌, ◌≤◌, ◌*◌, ℕ, Bool, true, false, Some, ◌||◌, ◌==◌, List, []}
+use Rattle.std.specs.Prelude.{◌≡◌, ◌≤◌, ◌*◌, ℕ, zero, suc, Bool, true, false, Some, ◌||◌, ◌==◌}
+use Rattle.std.specs.Prelude.{List, []}
 use Rattle.std.specs.Prelude.{length, slice_get, count_by, sum_by}
 use Rattle.std.specs.List.{list_any}
 use Rattle.vyrd_base.specs.declared.header.Header.{Header}
@@ -61,12 +62,19 @@ pub record SeesAnswer (answer : ℕ) (old new : Seen) : Type 0 where
   pub answers : (reply : ℕ)
       → has_answer new.answers reply ≡ (has_answer old.answers reply || answer == reply)
 
--- the same watch, which has seen this state too if it is open
+-- one more answer of an observer that has so many, since an open one has at least one: none of a
+-- caller that has none
+abbrev pub one_more : ℕ → ℕ
+one_more zero = 0
+one_more (suc n) = suc (suc n)
+
+-- the same watch, which has seen this state too if it is open, and has at most one answer more
 pub record SeesState (told : Method → Args → ℕ) (old new : Seen) : Type 0 where
   pub is_open : new.is_open ≡ old.is_open
   pub method : new.method ≡ old.method
   pub args : new.args ≡ old.args
   pub answers : old.is_open ≡ true → SeesAnswer (told old.method old.args) old new
+  pub few : length new.answers ≤ one_more (length old.answers)
 
 -- every open watch knows the state's answer
 abbrev pub AreCurrent : (Method → Args → ℕ) → List Seen → Type 0
@@ -74,8 +82,7 @@ AreCurrent told watches =
     (c : ℕ) (seen : Seen) → slice_get watches c ≡ Some seen → seen.is_open ≡ true
     → has_answer seen.answers (told seen.method seen.args) ≡ true
 
--- each open watch has seen the state's answer too
+-- each watch has seen the state
 abbrev pub AllSee : (Method → Args → ℕ) → List Seen → List Seen → Type 0
-AllSee told old new = (c : ℕ) (seen : Seen) → slice_get old c ≡ Some seen → seen.is_open ≡ true
-    → (next : Seen) × (slice_get new c ≡ Some next)
-    × SeesAnswer (told seen.method seen.args) seen next
+AllSee told old new = (c : ℕ) (seen : Seen) → slice_get old c ≡ Some seen
+    → (next : Seen) × (slice_get new c ≡ Some next) × SeesState told seen next

@@ -60,9 +60,8 @@ impl Watches {
     /// No caller has an open observer.
     pub fn new(alloc: Global, header: Header) -> Result<Watches, AllocError>
         ensures header { IfOk result (λ w. w.header ≡ header) }
-        ensures len { IfOk result (λ w. length w.by_caller ≡ header.callers) }
-        ensures closed { IfOk result (λ w. (c : ℕ) (seen : Seen)
-            → slice_get w.by_caller c ≡ Some seen → seen.is_open ≡ false) }
+        ensures unwatched { IfOk result
+            (λ w. w.by_caller ≡ replicate header.callers unwatched) }
         ensures trails { IfOk result (λ w. w.trails ≡ 0) }
         ensures keeps_few { IfOk result (λ w. KeepsFew w) }
         ensures owed { IfOk result (λ w. owed w ≡ 0) }

@@ -1,4 +1,4 @@
-use Rattle.std.proofs.Common.{◌<◌, ◌≤◌, ◌+◌, ◌*◌, List, map, slice_get, ap, sym, subst, ◌∙◌, length}
+use Rattle.std.proofs.Common.{◌<◌, ◌≤◌, ◌+◌, List, map, slice_get, ap, sym, subst, ◌∙◌, length}
 use Rattle.std.proofs.Common.{set, Some, arith}
 use Rattle.std.proofs.lemmas.List.{set-get_or}
 use Rattle.std.proofs.lemmas.Option.{slice_get-get_or}

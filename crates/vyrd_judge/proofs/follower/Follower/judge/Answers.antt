@@ -42,6 +42,7 @@ returns-in-Goes-clause-gives g c = λ starting log going.
           (subst (λ h. HasQueued h i.queue.waiting.items c.leave.new.self.taken c.leave.new.self.callers.items (newest_first log)) c.self.invariant.2 queued)
           c.leave.ensures.waiting c.judge.ensures.charter refl refl c.judge.ensures.shadow c.judge.ensures.inner c.judge.ensures.views_header
           (subst (KnowsState (rules_by (g.S.Spec.charter i.replay.spec)) c.judge.new.words.views (g.S.Spec.state c.judge.new.self.spec)) c.in-Goes.is (c.in_ok-judge.ensures.known was.taken_in.specified)) refl refl refl
+          (c.judge.new.self.callers ∙ ap (λ g'. (rules_by g').header.callers) c.judge.ensures.charter)
           c.judge.new.self.few.kept
           (c.in_ok-judge.ensures.few starting log i.queue.waiting.items (effect_parts [] [] log) was.taken_in.judged was.taken_in.few_writes);
       awaits = c.leave.ensures.awaits;

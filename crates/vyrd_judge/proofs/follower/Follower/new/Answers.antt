@@ -2,7 +2,9 @@ use Rattle.std.proofs.Common.{[], Some, refl, ap, sym, subst, ◌∙◌, arith}
 use Rattle.vyrd_base.specs.Rules.{rules_by}
 use Rattle.vyrd_base.specs.Starts.{words_at_start}
 use Rattle.vyrd_judge.specs.Queued.{HasQueued}
-use Rattle.vyrd_observers.specs.Watching.{AreCurrent}
+use Rattle.std.specs.Prelude.{replicate}
+use Rattle.vyrd_base.specs.declared.header.Header.{Header}
+use Rattle.vyrd_observers.specs.Watching.{unwatched}
 use Rattle.vyrd_base.proofs.HeaderLaws.{few_words}
 use Rattle.vyrd_words.proofs.StartWords.{start_few}
 use Rattle.vyrd_judge.proofs.FollowerLaws.{first_taken_in}
@@ -19,7 +21,7 @@ returns-clause-taken_in g c =
     c.in_ok-words.ensures.words (c.in_ok-words.ensures.header ∙ named)
     (c.in_ok-words.ensures.views_header ∙ named) (subst (λ h. HasQueued h c.in_ok-queue.queue.waiting.items c.in_ok-queue.queue.taken c.in_ok-queue.queue.callers.items []) named c.in_ok-queue.ensures.queued)
     (ap g.S.Spec.made c.in_ok-replay.ensures.spec ∙ c.requires.made)
-    (subst (λ s. AreCurrent (r.answer (g.S.Spec.state s)) c.in_ok-replay.replay.watches.by_caller) (sym c.in_ok-replay.ensures.spec) c.in_ok-replay.ensures.current)
+    (c.in_ok-replay.ensures.unwatched ∙ ap (λ (h : Header). replicate h.callers unwatched) named)
     c.in_ok-queue.ensures.waiting (c.in_ok-words.ensures.first ∙ c.requires.words ∙ ap (λ h. words_at_start h c.args.start.now) named) c.in_ok-words.ensures.since refl refl refl
     (c.in_ok-words.ensures.specified, c.in_ok-words.ensures.sound)
     c.in_ok-replay.replay.few.kept c.in_ok-words.ensures.begun

@@ -1,4 +1,4 @@
-use Rattle.std.proofs.Common.{◌≡◌, ℕ, List, Ok, set, ap, sym, subst, ◌∙◌, arith}
+use Rattle.std.proofs.Common.{◌≡◌, ℕ, List, Ok, length, set, ap, sym, subst, ◌∙◌, arith}
 use Rattle.std.specs.Prelude.{option_map}
 use Rattle.vyrd_base.specs.Amounts.{Amounts, first_difference}
 use Rattle.vyrd_base.specs.States.{State}
@@ -84,6 +84,7 @@ returns-clause-leads g c = λ part rest is known.
           (subst (λ ws. AllSee ((rules_by (g.S.Spec.charter c.step.new.self)).answer after) ws
           c.see_all_counted.new.self.by_caller) c.close_counted.ensures.watches
           c.in_ok-see_all_counted.ensures.seen);
+      len = c.see_all_counted.ensures.len ∙ ap length c.close_counted.ensures.watches;
       current = subst (λ (p : Rules). AreCurrent (p.answer after)
           c.see_all_counted.new.self.by_caller) (ap rules_by c.step.ensures.charter)
           c.in_ok-see_all_counted.ensures.current;

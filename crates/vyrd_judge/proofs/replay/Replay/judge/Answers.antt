@@ -53,7 +53,8 @@ unreachable-requires g c =
 pub returns-in-Some-clause-gives : goal.returns-in-Some-clause-gives
 returns-in-Some-clause-gives g c = λ starting log xs j known.
     judged_commits (g.S.Spec.state c.commit.new.self.spec) (g.S.Spec.made c.commit.new.self.spec) c.commit.new.self.watches.by_caller c.commit.new.words.views.first c.commit.new.words.views.since
-    c.commit.result (sym c.event.ensures ∙ c.in-Commits.is ∙ ap (Commits c.in-Commits.method c.in-Commits.args) c.in-Some.is) j
+    c.commit.result (sym c.event.ensures ∙ c.in-Commits.is ∙ ap (Commits c.in-Commits.method c.in-Commits.args) c.in-Some.is)
+    c.args.self.now.callers j
     (λ part rest is. rw c.caller-in-Some.ensures.is at c.commit.ensures.leads part rest is known)
 
 pub returns-then-end-clause-gives : goal.returns-then-end-clause-gives

@@ -6,7 +6,7 @@ use Rattle.vyrd_base.specs.Entries.{has_method}
 use Rattle.vyrd_base.proofs.ListLaws.{slice_get-is}
 use Rattle.vyrd_observers.specs.declared.watch.Watch.{Watch}
 use Rattle.vyrd_observers.specs.Watching.{Watched, Seen, unwatched, open_count, answer_count}
-use Rattle.vyrd_observers.specs.Trails.{Asked, seen_by, with_asker, kept_by, kept_count}
+use Rattle.vyrd_observers.specs.Trails.{Asked, seen_by, with_asker, kept_by}
 use Rattle.vyrd_observers.specs.Costs.{owed}
 use Rattle.vyrd_observers.specs.Order.{AreInOrder}
 use Rattle.vyrd_observers.proofs.CostLaws.{owed_by, owed_closed, answers_set, kept_set}
