@@ -138,6 +138,7 @@ impl EventSink for Account {
 
 /// Appends what is shown of an event: its line in the log, if it has one there, or its line in the
 /// history.
+#[inline(always)]
 fn show_event(show: Show, event: Stamped, text: &mut Vec<u8>) -> Result<(), AllocError>
     ensures { (h : Header) (history : List Stamped) → text.old.items ≡ text_so_far show h history
         → OnOk result (text.new.items ≡ text_so_far show h (history ++ event ∷ [])) }

@@ -20,6 +20,7 @@ pub fn log_of(alloc: Global, history: &[Stamped]) -> Result<Vec<Entry>, AllocErr
 }
 
 /// An event as an entry, if it is a mark or a write.
+#[inline(always)]
 pub fn entry_of(event: Stamped) -> Option<Entry>
     ensures { result ≡ logged event.caller event.did }
 {
