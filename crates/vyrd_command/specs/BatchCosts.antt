@@ -8,7 +8,7 @@ use Rattle.vyrd_command.specs.Inputs.{IsTaken}
 
 -- how many bytes come at least between two rounds, except before the last one
 abbrev pub round_bytes : ℕ
-round_bytes = 524288
+round_bytes = 1048576
 
 -- The most steps for so many bytes. A round takes 3 for each byte that came, and 32. In each round
 -- except the last so many bytes come that 4 for each pay for both. The last takes 32 more.

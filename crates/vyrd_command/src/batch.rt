@@ -24,10 +24,10 @@ use std::thread::Threads;
 use vyrd_base::{Source, Steps, Verdict};
 use vyrd_batch::{BatchFault, BatchJudge, status_of, write_refusal, write_verdicts};
 
-/// How many bytes more are read before the logs that are whole by then are judged: 512 KiB. So
+/// How many bytes more are read before the logs that are whole by then are judged: 1 MiB. So
 /// threads have enough to do for the time that it takes to start them, and the bytes are few enough
 /// to stay near the processor.
-const ROUND: usize = 524_288;
+const ROUND: usize = 1_048_576;
 
 /// The answer to a batch: a line for each log's verdict and one that counts them; or that it is
 /// refused; or nothing after a failed read or out of memory.

@@ -100,7 +100,7 @@ fn no_read_behind_a_refused_batch(rt: HostRuntime) {
 }
 
 /// How many bytes take more than two rounds.
-const ROUNDS: usize = 1_200_000;
+const ROUNDS: usize = 2_400_000;
 
 /// A batch in which a long line of a letter follows the input, and then these bytes.
 struct Row {
@@ -111,7 +111,7 @@ struct Row {
 const LONG_LOG: Case = Case {
     name: "long log",
     words: BATCH,
-    input: b"batch\nlog 1200000\n",
+    input: b"batch\nlog 2400000\n",
     devices: LONG,
     status: 2,
     answer: b"log 0: malformed at line 1: bad header\nbatch: 1 logs\n",
@@ -141,7 +141,7 @@ const ROWS: &[Row] = &[
     },
     Row {
         case: Case {
-            input: b"batch\nlog 1200001\n",
+            input: b"batch\nlog 2400001\n",
             ..AT_LOG_0
         },
         back: b"",
