@@ -11,10 +11,9 @@ use Rattle.vyrd_base.proofs.TestLaws.{flipped}
 use Rattle.std.specs.Cmp.{unsigned_tied}
 use Rattle.std.proofs.lemmas.List.{length-set}
 use Rattle.std.proofs.lemmas.List.Folds.{list_any-append}
-use Rattle.vyrd_base.proofs.AmountLaws.{no_amounts}
+use Rattle.vyrd_spec.proofs.FormedLaws.{formed_after}
 use Rattle.vyrd_spec.proofs.StepMeets.{with_formed, with_amounts}
 use Rattle.vyrd_own.specs.Sets.{shown_after}
-use Rattle.vyrd_own.proofs.SetLaws.{formed_set}
 use Rattle.vyrd_own.proofs.ApartLaws.{shown_by}
 use Rattle.vyrd_base.specs.States.{State}
 use Rattle.vyrd_base.specs.declared.own.effect.Effect.{Effect}
@@ -63,16 +62,6 @@ not_there (p ∷ s) q e =
     ap (λ b. unwrap_or (cond b (Some p.1) (find nat_cmp q s)) 0)
     (unsigned_tied q p.0 ∙ flipped p.0 q (left_false (p.0 == q) (is_touched (keys_of s) q) e))
     ∙ not_there s q (right_false (p.0 == q) (is_touched (keys_of s) q) e)
-
-formed_first : (b : Bool) (s : Amounts) → IsAmounts s → IsAmounts (cond b [] s)
-formed_first true s is = no_amounts
-formed_first false s is = is
-
-formed_after : (s : State) (es : List Effect) → IsAmounts s.shown → IsAmounts (with_effects s es).shown
-formed_after s es is =
-    subst IsAmounts (sym (shown_by s.shown [] s es refl))
-    (formed_set (cond (list_any is_clearing es) [] s.shown) (shown_after [] es)
-    (formed_first (list_any is_clearing es) s.shown is))
 
 -- the touched keys have their amounts, and so has every other key
 pub touched_all : (s : State) (es : List Effect) → IsAmounts s.shown

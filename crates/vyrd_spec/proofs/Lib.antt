@@ -5,6 +5,7 @@ pub mod CacheSteps
 pub mod TreeSteps
 pub mod BufferSteps
 pub mod StepMeets
+pub mod FormedLaws
 pub mod RowAmounts
 pub mod RowLaws
 pub mod SoundRows

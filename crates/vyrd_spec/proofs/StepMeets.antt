@@ -18,7 +18,8 @@ use Rattle.vyrd_spec.proofs.CacheSteps.{cache_steps}
 use Rattle.vyrd_spec.proofs.TreeSteps.{tree_steps}
 use Rattle.vyrd_spec.proofs.BufferSteps.{buffers_steps}
 
-next_state-formed : (method : Method) (args : Args) (reply : ℕ) (s t : Amounts) → IsAmounts s
+-- a step leaves amounts
+pub next_state-formed : (method : Method) (args : Args) (reply : ℕ) (s t : Amounts) → IsAmounts s
     → next_state method args reply s ≡ Some t → IsAmounts t
 next_state-formed (OfMultiset m) = multiset_steps.formed m
 next_state-formed (OfCache m) = cache_steps.formed m
