@@ -125,7 +125,7 @@ begun_answers c method args earlier free =
     es = entry c (Call method args) ∷ earlier
 
 -- a call stands outside any execution of its caller, and a return that isn't judged behind a commit
-call_is_free : (h : Header) (c : ℕ) (method : Method) (args : Args) (earlier : List Entry)
+pub call_is_free : (h : Header) (c : ℕ) (method : Method) (args : Args) (earlier : List Entry)
     → broken_rule h earlier (entry c (Call method args)) ≡ None → open_call c earlier ≡ None
 call_is_free h c method args earlier keeps = free (open_call c earlier)
     (all_kept (checks_at h earlier (entry c (Call method args))) keeps).1.1.1.0

@@ -52,13 +52,16 @@ use Rattle.vyrd_base.proofs.VerdictParts.{sound_start, so_far_kept, so_far_break
 use Rattle.vyrd_judge.proofs.JudgedLaws.{judged_more, judged_head, judged_all}
 use Rattle.vyrd_judge.proofs.AnswerLaws.{seen_nothing}
 use Rattle.vyrd_judge.proofs.JudgingLaws.{judged_waits}
+use Rattle.vyrd_judge.specs.Shown.{ShowsFew}
+use Rattle.vyrd_judge.proofs.ShownLaws.{start_shows}
 
 -- before the first entry
 pub judged_nothing : (r : Rules) (starting : List StartWord) (state : State) (watches : List Seen) (first : List ℕ)
     → state_at_start r starting ≡ Some state → first ≡ words_at_start r.header starting → AreCurrent (r.answer state) watches
-    → AreSeenFew [] watches → Judged r starting [] state 0 watches [] first []
+    → AreSeenFew [] watches → ShowsFew r starting state
+    → Judged r starting [] state 0 watches [] first []
 unfolding commits first_fault
-judged_nothing r starting state watches first begins words current seen = record {
+judged_nothing r starting state watches first begins words current seen shows = record {
   earlier = [];
   later = [];
   whole = refl;
@@ -77,6 +80,7 @@ judged_nothing r starting state watches first begins words current seen = record
   current = current;
   returned = tt;
   seen_few = seen;
+  shows = shows;
 }
   where
     no_some : {called : Called} → None ≡ Some called → ⊥
@@ -357,7 +361,9 @@ first_taken_in k r starting header started begins shape shape_header words shado
       (subst (Judged r starting [] k.state 0 k.watches [] k.views.first) (sym since)
       (judged_nothing r starting k.state k.watches k.views.first begins first
       (subst (AreCurrent (r.answer k.state)) (sym closed) (none_current (r.answer k.state) r.header.callers))
-      (subst (AreSeenFew []) (sym closed) (seen_nothing r.header.callers))))));
+      (subst (AreSeenFew []) (sym closed) (seen_nothing r.header.callers))
+      (subst (λ g. ShowsFew g starting k.state) header (start_shows k.charter starting k.state
+      (ap (λ g. state_at_start g starting) header ∙ begins)))))));
   kept = nothing_broken (rules_by k.charter).header;
   specified = known.0;
   sound = known.1;

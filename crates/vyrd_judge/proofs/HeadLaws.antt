@@ -18,7 +18,7 @@ use Rattle.vyrd_base.specs.Places.{places_after, first_answer}
 use Rattle.vyrd_base.specs.Callers.{Called, open_call}
 use Rattle.vyrd_base.specs.Subjects.{is_observer, must_commit}
 use Rattle.vyrd_base.specs.Shape.{broken_rule}
-use Rattle.vyrd_base.specs.Words.{words_at, effects}
+use Rattle.vyrd_base.specs.Words.{words_at, words_with, effects}
 use Rattle.vyrd_base.specs.Amounts.{first_difference}
 use Rattle.vyrd_base.specs.States.{State}
 use Rattle.vyrd_base.specs.Commits.{is_commit, commit_count}
@@ -48,6 +48,7 @@ use Rattle.vyrd_judge.proofs.Reaching.{OthersStay, reached_begins, reached_retur
 use Rattle.vyrd_judge.proofs.ReachedFaults.{commit_fault_at, commit_right, commit_waits, observer_at}
 use Rattle.vyrd_judge.proofs.WaitingLaws.{IsBegin, IsCommit, IsReturn}
 use Rattle.vyrd_judge.proofs.JudgedLaws.{AtHead, Onward, parts_on, parts_at, judged_next, judged_fault}
+use Rattle.vyrd_judge.proofs.ShownLaws.{AreFormed, commit_shows}
 use Rattle.vyrd_base.specs.Rules.{Rules}
 
 -- what a place leads to, by another name of its entry
@@ -78,7 +79,7 @@ head_begins {r} {starting} {log} {state} {made} {watches} new {x} {xs} {first} {
     (parts_on r.header starting first since at.here at.earlier at.later (ap is_commit is.kind) at.judged.parts) (omega arith) current
     (subst (λ e. AreSeenFew (e ∷ at.earlier) new) (named at.here (Call method args) is.kind)
     (seen_changed at.here.caller (Call method args) at.earlier watches new
-    (subst (λ c. OthersStay c watches new) is.caller others) own at.judged.seen_few))
+    (subst (λ c. OthersStay c watches new) is.caller others) own at.judged.seen_few)) at.judged.shows
     (onward_as (named at.here (Call method args) is.kind) (record {
       fault = λ more. refl;
       reached = λ more. reached_begins r (states_along r starting (log ++ more)) at.here.caller method args at.earlier (at.later ++ more) state watches new
@@ -159,6 +160,7 @@ head_answered {r} {starting} {log} {state} {made} {watches} new {x} {xs} {first}
     (seen_changed at.here.caller (Return reply) at.earlier watches new
     (subst (λ c. OthersStay c watches new) is.caller others)
     (seen_closed at.here.caller new _ (ap (slice_get new) (sym is.caller) ∙ closed)) at.judged.seen_few))
+    at.judged.shows
     (onward_as (named at.here (Return reply) is.kind) (record {
       fault = λ more. return_fault seen at is here more ∙ ap (λ b. cond b None (Some (Observer reply))) answered;
       reached = λ more. reached_return r (states_along r starting (log ++ more)) at.here.caller reply at.earlier (at.later ++ more) state watches new
@@ -251,22 +253,35 @@ head_faults {r} {starting} {log} {state} {watches = watches} {method = method} {
     ∙ ap (λ ws. step_fault r (r.view ws) (record { method = method; args = args }) reply state) (words_stay at is more)
     ∙ faulty)
 
+-- they are what some writes leave of the words at the start
+words_of : {r : Rules} {starting : List StartWord} {log : List Entry} {state : State} {made : ℕ}
+    {watches : List Seen} {x : Waiting} {xs : List Waiting} {first : List ℕ}
+    {since : List (List (ℕ × ℕ))} {method : Method} {args : Args} {o : Option ℕ}
+    (at : AtHead r starting log state made watches x xs first since)
+    → IsCommit at.here at.earlier at.later x method args o
+    → first ≡ words_with r.header starting (effects (at.here ∷ at.earlier) at.later)
+unfolding words_at
+words_of at is = (words_here at is).0
+
 -- a commit that is right
 pub head_right : {r : Rules} {starting : List StartWord} {log : List Entry} {state : State} {made : ℕ} {watches : List Seen} (closed new : List Seen) {x : Waiting} {xs : List Waiting}
     {first : List ℕ} {since : List (List (ℕ × ℕ))} {method : Method} {args : Args} {reply : ℕ} (next : State) (more : ℕ)
     (at : AtHead r starting log state made watches x xs first since)
-    (is : IsCommit at.here at.earlier at.later x method args (Some reply)) → r.next method args reply state ≡ Some next
+    (is : IsCommit at.here at.earlier at.later x method args (Some reply)) → AreFormed r
+    → r.next method args reply state ≡ Some next
     → first_difference (r.view first) (r.shown next) ≡ None → more ≤ made + 1
     → OthersStay x.caller watches closed → slice_get closed x.caller ≡ Some unwatched → length new ≡ length closed
     → AllSee (r.answer next) closed new → AreCurrent (r.answer next) new
     → Judged r starting log next more new xs (with_writes first (split_here at is).part) (split_here at is).rest
-head_right {r} {starting} {log} {state} {made} {watches} closed new {x} {xs} {first} {since} {method} {args} {reply} next more at is after same count others mine long see current =
+head_right {r} {starting} {log} {state} {made} {watches} closed new {x} {xs} {first} {since} {method} {args} {reply} next more at is rules after same count others mine long see current =
     let split = split_here at is in
     judged_next r starting log state next made more watches new x xs first (with_writes first split.part) since split.rest at
     (λ commits. (reply, is.replies)) split.has count current
     (seen_commit (r.answer next) at.here.caller at.here.kind at.earlier watches closed new
     (commits_is at.here.kind is.commits) (subst (λ c. OthersStay c watches closed) is.caller others)
     (ap (slice_get closed) (sym is.caller) ∙ mine) long see at.judged.seen_few)
+    (commit_shows first (effects (at.here ∷ at.earlier) at.later) method args reply rules
+    (words_of at is) after same at.judged.shows)
     (record { fault = λ es. (right es).0; reached = λ es. (right es).1 })
   where
     right : (es : List Entry) → (fault_at r starting (states_along r starting (log ++ es)) (place_of at.here at.earlier (at.later ++ es)) ≡ None)

@@ -36,6 +36,7 @@ use Rattle.vyrd_base.specs.Entries.{place_of}
 use Rattle.vyrd_observers.specs.Watching.{Seen}
 use Rattle.vyrd_judge.specs.Waiting.{waiting_of, waiting_at, waiting_after, replied, commit_of}
 use Rattle.vyrd_judge.specs.Reached.{Reached}
+use Rattle.vyrd_judge.specs.Shown.{ShowsFew}
 use Rattle.vyrd_observers.specs.Watching.{AreCurrent}
 use Rattle.vyrd_judge.specs.Judged.{Judged, AllReturned, AreSeenFew}
 use Rattle.vyrd_judge.proofs.AlikeLaws.{has_parts_more}
@@ -80,6 +81,7 @@ judged_more r starting log e state made watches queue first since writes well_fo
   current = j.current;
   returned = returned_more j.earlier j.later (e ∷ []) j.returned;
   seen_few = j.seen_few;
+  shows = j.shows;
 }
   where
     behind : List Entry → ℕ
@@ -189,6 +191,7 @@ pub record IsJudged (r : Rules) (starting : List StartWord) (log : List Entry) (
   pub few : made ≤ length earlier
   pub returned : AllReturned earlier later
   pub seen_few : AreSeenFew earlier watches
+  pub shows : ShowsFew r starting state
 
 -- what isn't a commit changes nothing of the words that wait
 pub parts_on : (h : Header) (starting : List StartWord) (first : List ℕ) (since : List (List (ℕ × ℕ))) (e : Entry) (earlier later : List Entry)
@@ -224,6 +227,7 @@ judged_quiet r starting log state made watches first since e earlier later keeps
       few = omega (arith, j.few);
       returned = (closed_here e later is, j.returned);
       seen_few = seen_on r.header e earlier later watches keeps quiet j.seen_few;
+      shows = j.shows;
     }
   where
     apart : {b : Bool} → b ≡ false → b ≡ true → ⊥
@@ -299,6 +303,7 @@ known_of j =
       few = j.few;
       returned = j.returned;
       seen_few = j.seen_few;
+      shows = j.shows;
     }
 
 pub judged_head : (r : Rules) (starting : List StartWord) (log : List Entry) (state : State) (made : ℕ) (watches : List Seen) (x : Waiting)
@@ -338,8 +343,8 @@ pub judged_next : (r : Rules) (starting : List StartWord) (log : List Entry) (st
     (at : AtHead r starting log state made watches x xs first since) → IsReturned at.here.caller at.here.kind at.later
     → HasParts r.header starting next_first next_since (effect_parts (effects (at.here ∷ at.earlier) at.later) (at.here ∷ at.earlier) at.later)
     → more ≤ made + 1 → AreCurrent (r.answer next) new → AreSeenFew (at.here ∷ at.earlier) new
-    → Onward r starting log at.here at.earlier at.later next new → Judged r starting log next more new xs next_first next_since
-judged_next r starting log state next made more watches new x xs first next_first since next_since at is parts count current seen onward = record {
+    → ShowsFew r starting next → Onward r starting log at.here at.earlier at.later next new → Judged r starting log next more new xs next_first next_since
+judged_next r starting log state next made more watches new x xs first next_first since next_since at is parts count current seen shows onward = record {
   earlier = at.here ∷ at.earlier;
   later = at.later;
   whole = at.whole;
@@ -354,6 +359,7 @@ judged_next r starting log state next made more watches new x xs first next_firs
   current = current;
   returned = (closed_here at.here at.later is, at.judged.returned);
   seen_few = seen;
+  shows = shows;
 }
 
 -- the entry that waits first is a fault

@@ -1,9 +1,9 @@
 -- The entry that waits first is judged by its event.
-use Rattle.std.proofs.Common.{◌≡◌, ℕ, zero, suc, ◌<◌, ◌^◌, true, false, List, [], ◌∷◌, length, set, Option, Some, None, slice_get, refl, ap, subst, ◌∙◌, sym, arith}
+use Rattle.std.proofs.Common.{◌≡◌, ℕ, ◌<◌, ◌^◌, true, false, List, [], ◌∷◌, length, set, get_or, Option, Some, None, slice_get, ap, subst, ◌∙◌, sym, arith}
 use Rattle.std.specs.Prelude.{◌||◌, Result, Ok, Err, IfOk}
 use Rattle.std.proofs.Math.Logic.{∥∥₁_elim}
 use Rattle.std.proofs.Math.Bool.{Bool-set}
-use Rattle.std.proofs.lemmas.Option.{slice_get_within}
+use Rattle.std.proofs.lemmas.Option.{slice_get_within, slice_get-get_or}
 use Rattle.std.proofs.lemmas.Option.{same_Some}
 use Rattle.vyrd_base.specs.declared.subject.Method.{Method}
 use Rattle.vyrd_base.specs.declared.subject.Args.{Args}
@@ -30,6 +30,7 @@ use Rattle.vyrd_judge.proofs.Reaching.{OthersStay}
 use Rattle.vyrd_judge.proofs.WaitingLaws.{Waits, begins, commits, returns, waits, IsBegin, IsCommit, IsReturn}
 use Rattle.vyrd_judge.proofs.JudgedLaws.{AtHead, judged_head}
 use Rattle.vyrd_judge.proofs.HeadLaws.{head_begins, begin_fits, head_caller, head_answered, head_unanswered, commit_fits, split_here, head_faults, head_right, head_waits, head_few}
+use Rattle.vyrd_judge.proofs.ShownLaws.{AreFormed}
 use Rattle.vyrd_base.specs.Rules.{Rules}
 
 -- the entry that waits first, by its event
@@ -171,17 +172,14 @@ judged_begins {r} {state = state} {watches = watches} {x} {method = method} {arg
     seen : Seen
     seen = record { is_open = true; method = method; args = args; answers = r.answer state method args ∷ [] }
 
-there : (xs : List Seen) (c : ℕ) → c < length xs → (seen : Seen) × (slice_get xs c ≡ Some seen)
-there [] c low = absurd (omega (arith, low))
-there (x ∷ xs) zero low = (x, refl)
-there (x ∷ xs) (suc c) low = there xs c (omega (arith, low))
-
 -- an execution without a commit returns
 pub watch_there : {r : Rules} {starting : List StartWord} {log : List Entry} {state : State} {made : ℕ} {watches : List Seen} {x : Waiting} {xs : List Waiting}
     {first : List ℕ} {since : List (List (ℕ × ℕ))} {reply : ℕ} → x.event ≡ Returns reply → length watches ≡ r.header.callers
     → Judged r starting log state made watches (x ∷ xs) first since → (seen : Seen) × (slice_get watches x.caller ≡ Some seen)
 watch_there {watches = watches} {x} event long j =
-    let found = returns_at event j in there watches x.caller (omega (arith, long, head_caller found.0 found.1.caller))
+    let found = returns_at event j in
+    let low : x.caller < length watches = omega (arith, long, head_caller found.0 found.1.caller) in
+    (get_or watches x.caller unwatched, slice_get-get_or watches x.caller unwatched low)
 
 pub judged_answered : {r : Rules} {starting : List StartWord} {log : List Entry} {state : State} {made : ℕ} {watches : List Seen} {x : Waiting} {xs : List Waiting}
     {first : List ℕ} {since : List (List (ℕ × ℕ))} {reply : ℕ} (seen : Seen) → x.event ≡ Returns reply → slice_get watches x.caller ≡ Some seen
@@ -223,11 +221,12 @@ commit_splits event j =
 pub judged_commits : {E : Type 0} {r : Rules} {starting : List StartWord} {log : List Entry} {state : State} {made : ℕ} {watches : List Seen} {x : Waiting}
     {xs : List Waiting} {first : List ℕ} {since : List (List (ℕ × ℕ))} {method : Method} {args : Args} {reply : ℕ} (after : State) (more : ℕ)
     (new : List Seen) (next_first : List ℕ) (next_since : List (List (ℕ × ℕ))) (val : Result Outcome E) → x.event ≡ Commits method args (Some reply)
-    → length watches ≡ r.header.callers → Judged r starting log state made watches (x ∷ xs) first since
+    → AreFormed r → length watches ≡ r.header.callers
+    → Judged r starting log state made watches (x ∷ xs) first since
     → ((part : List (ℕ × ℕ)) (rest : List (List (ℕ × ℕ))) → since ≡ part ∷ rest
     → IfOk val (CommitLeads r first part rest x.caller (record { method = method; args = args }) reply state made watches after more new next_first next_since))
     → IfOk val (HeadGives r starting log after more new x xs next_first next_since)
-judged_commits {E} {r} {starting} {log} {state} {made} {watches} {x} {xs} {first} {since} {method} {args} {reply} after more new next_first next_since val event long j leads =
+judged_commits {E} {r} {starting} {log} {state} {made} {watches} {x} {xs} {first} {since} {method} {args} {reply} after more new next_first next_since val event rules long j leads =
     let found = commits_at event j in
     let split = split_here found.0 found.1 in
     by_result found.0 found.1 val (leads split.part split.rest split.is)
@@ -241,7 +240,7 @@ judged_commits {E} {r} {starting} {log} {state} {made} {watches} {x} {xs} {first
     by_outcome at is Goes right =
         subst (λ ws. Judged r starting log after more new xs ws next_since) (sym right.words)
         (subst (λ ps. Judged r starting log after more new xs (with_writes first (split_here at is).part) ps) (sym right.since)
-        (head_right (set watches x.caller unwatched) new after more at is right.next right.same right.count (others_stay x.caller watches unwatched)
+        (head_right (set watches x.caller unwatched) new after more at is rules right.next right.same right.count (others_stay x.caller watches unwatched)
         (slice_get-set_same watches x.caller unwatched (omega (arith, long, head_caller at is.caller)))
         right.len right.seen right.current))
     by_outcome at is (Faults why) faulty = head_faults why at is faulty

@@ -36,10 +36,12 @@ use Rattle.vyrd_judge.specs.Keeping.{effects_in, next_has_returned, effects_left
 use Rattle.vyrd_judge.specs.Keeping.{count_all, writes_kept, blocks_keep}
 use Rattle.vyrd_judge.specs.LittleKept.{KeepsLittle}
 use Rattle.vyrd_judge.specs.Queued.{AwaitsReturn}
+use Rattle.vyrd_judge.specs.Shown.{most_shown}
 use Rattle.vyrd_judge.specs.Waiting.{waiting_at, waiting_after}
 use Rattle.vyrd_judge.proofs.AlikeLaws.{alike_count}
 use Rattle.vyrd_judge.proofs.WaitingLaws.{uncommitted}
 use Rattle.vyrd_judge.proofs.AnswersLeft.{seen_few_all}
+use Rattle.vyrd_judge.proofs.ShownLaws.{few_shown}
 use Rattle.vyrd_judge.proofs.KeepingLaws.{left_open, log_parts, waits_behind_open}
 
 -- the effects of all parts
@@ -389,6 +391,24 @@ words_few j starting log followed undecided =
     ∙ length-mapped (value_after starting (effects (newest_first log) [])) 0
     (plain_words j.kept.shadow.header) ∙ ap plain_words going.taken_in.shadow_header
 
+-- the keys that its state shows
+keys_few : (j : JudgeView) (starting : List StartWord) (log : List Entry)
+    → HasFollowed j starting log → j.so_far ≡ None
+    → length ((rules_by j.kept.charter).shown j.kept.state) ≤ most_shown j.kept.charter
+keys_few j starting log followed undecided =
+    few_shown j.kept.charter starting j.kept.state going.taken_in.judged.shows
+  where
+    going : IsFaultless j.kept starting log
+    going = faultless j starting log followed undecided
+
+-- the comparison has the same keys
+compared_few : (j : JudgeView) (starting : List StartWord) (log : List Entry)
+    → HasFollowed j starting log → j.so_far ≡ None
+    → length j.kept.views.specified ≤ most_shown j.kept.charter
+compared_few j starting log followed undecided =
+    let same = ap length (faultless j starting log followed undecided).taken_in.specified in
+    omega (arith, same, keys_few j starting log followed undecided)
+
 -- a judge with no verdict keeps little of the log that it has followed
 pub keeps_little : (j : JudgeView) (starting : List StartWord) (log : List Entry)
     → HasFollowed j starting log → j.so_far ≡ None → KeepsLittle j log
@@ -398,4 +418,6 @@ keeps_little j starting log followed nothing = record {
   blocks = blocks_few j starting log followed nothing;
   answers = answers_few j starting log followed nothing;
   words = words_few j starting log followed nothing;
+  keys = keys_few j starting log followed nothing;
+  compared = compared_few j starting log followed nothing;
 }

@@ -1,3 +1,4 @@
+pub mod ShownLaws
 pub mod AnswersLeft
 pub mod AnswerLaws
 pub mod LeftLaws

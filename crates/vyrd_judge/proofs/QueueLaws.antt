@@ -1,6 +1,6 @@
 -- How the queue goes on with one more entry, and how entries leave it.
 use Rattle.std.proofs.Common.{◌≡◌, ℕ, zero, suc, ◌+◌, ◌-◌, ◌<◌, ◌≤◌, ◌^◌, Bool, true, false, cond, List, [], ◌∷◌, ◌++◌, map, length, set, get_or, ◌&&◌, Option, Some, None, Result, Ok, Err, slice_get, refl, ap, subst, ◌∙◌, sym, arith, length-append, length-set}
-use Rattle.std.specs.Prelude.{◌==◌, ◌≢◌, not, option_map, is_some, OnOk, IfOk}
+use Rattle.std.specs.Prelude.{◌==◌, ◌≢◌, not, option_map, OnOk, IfOk}
 use Rattle.std.specs.Option.{option_or, option_flatten}
 use Rattle.std.specs.Bool.{then_some}
 use Rattle.std.specs.List.{cons_option}
@@ -30,6 +30,7 @@ use Rattle.vyrd_judge.specs.declared.waiting.Event.{Event}
 use Rattle.vyrd_judge.specs.declared.waiting.Event.TheVariants.{Begins, Commits, Returns}
 use Rattle.vyrd_judge.specs.declared.waiting.Waiting.{Waiting}
 use Rattle.vyrd_words.specs.HasWords.{Keeps}
+use Rattle.vyrd_judge.proofs.AnswerLaws.{call_is_free}
 use Rattle.vyrd_base.specs.Entries.{place_of}
 use Rattle.vyrd_judge.specs.Queued.{IsCaller, IsPending, IsUnreturned, HasQueued, HasTakenUp, MayQueue, CanLeave, AwaitsReturn}
 use Rattle.vyrd_judge.specs.WaitingView.{is_unreturned}
@@ -44,15 +45,6 @@ apart : false ≡ true → ⊥
 apart e = cc
 
 -- what the rules say of an entry, by its kind
-call_is_free : {h : Header} {c : ℕ} {method : Method} {args : Args} {earlier : List Entry} → Keeps h earlier (entry c (Call method args))
-    → open_call c earlier ≡ None
-call_is_free {h} {c} {method} {args} {earlier} keeps = free (open_call c earlier)
-    (all_kept (checks_at h earlier (entry c (Call method args))) keeps.rules).1.1.1.0
-  where
-    free : (o : Option Called) → is_some o ≡ false → o ≡ None
-    free None e = refl
-    free (Some k) e = cc
-
 commit_is_first : {h : Header} {c : ℕ} {earlier : List Entry} (kind : Kind) → Committing kind → Keeps h earlier (entry c kind) → has_committed c earlier ≡ false
 commit_is_first {h} {c} {earlier} _ alone keeps = (all_kept (checks_at h earlier (entry c Commit)) keeps.rules).1.1.1.0
 commit_is_first {h} {c} {earlier} _ with_block keeps = (all_kept (checks_at h earlier (entry c BlockCommit)) keeps.rules).1.1.1.1.0
@@ -208,7 +200,7 @@ call_queued {h} {waiting} {taken} {callers} {earlier} {c} {method} {args} caller
       (sym (committed-other d c (Call method args) earlier other) ∙ none)
       (sym (slice_get-set_other callers c d caller (apart_of c d other)) ∙ at));
   unreturned = λ i commit k at event. let u = q.unreturned i commit k at event in by_same c commit.caller
-      (λ same. absurd (none-some _ (sym (call_is_free keeps) ∙ ap (λ x. open_call x earlier) same ∙ u.opened)))
+      (λ same. absurd (none-some _ (sym (call_is_free h c method args earlier keeps.rules) ∙ ap (λ x. open_call x earlier) same ∙ u.opened)))
       (λ other. record {
         opened = open_call-other commit.caller c (Call method args) earlier other ∙ u.opened;
         committed = committed-other commit.caller c (Call method args) earlier other ∙ u.committed;

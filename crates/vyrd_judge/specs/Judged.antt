@@ -23,6 +23,7 @@ use Rattle.vyrd_judge.specs.Answers.{answers_of}
 use Rattle.vyrd_judge.specs.Keeping.{is_left_open}
 use Rattle.vyrd_judge.specs.Waiting.{waiting_after}
 use Rattle.vyrd_judge.specs.Reached.{Reached}
+use Rattle.vyrd_judge.specs.Shown.{ShowsFew}
 use Rattle.vyrd_observers.specs.Watching.{AreCurrent, AllSee}
 use Rattle.vyrd_base.specs.Rules.{Rules}
 
@@ -65,6 +66,7 @@ pub record Judged (r : Rules) (starting : List StartWord) (log : List Entry) (st
   pub current : AreCurrent (r.answer state) watches
   pub returned : AllReturned earlier later
   pub seen_few : AreSeenFew earlier watches
+  pub shows : ShowsFew r starting state
 
 -- What the entry that waits first leads to: it is judged and no fault; or it is this fault, the
 -- first of the log.

@@ -1,4 +1,5 @@
 pub mod Answers
+pub mod Shown
 pub mod Keeping
 pub mod WaitingView
 pub mod Waiting

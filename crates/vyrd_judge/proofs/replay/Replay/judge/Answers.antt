@@ -7,6 +7,7 @@ use Rattle.vyrd_judge.proofs.JudgingLaws.{commits_may, commits_mutates, returns_
 use Rattle.vyrd_judge.proofs.JudgingLaws.{judged_current, judged_begins, watch_there}
 use Rattle.vyrd_judge.proofs.JudgingLaws.{judged_answered, judged_unanswered, judged_commits}
 use Rattle.vyrd_judge.proofs.JudgingLaws.{commit_splits}
+use Rattle.vyrd_judge.proofs.ShownLaws.{formed_rules}
 use Rattle.vyrd_judge.proofs.replay.Replay.judge.Goals as goal
 
 pub begin-requires-clause-caller : goal.begin-requires-clause-caller
@@ -54,7 +55,7 @@ pub returns-in-Some-clause-gives : goal.returns-in-Some-clause-gives
 returns-in-Some-clause-gives g c = λ starting log xs j known.
     judged_commits (g.S.Spec.state c.commit.new.self.spec) (g.S.Spec.made c.commit.new.self.spec) c.commit.new.self.watches.by_caller c.commit.new.words.views.first c.commit.new.words.views.since
     c.commit.result (sym c.event.ensures ∙ c.in-Commits.is ∙ ap (Commits c.in-Commits.method c.in-Commits.args) c.in-Some.is)
-    c.args.self.now.callers j
+    (formed_rules (g.S.Spec.charter c.args.self.now.spec)) c.args.self.now.callers j
     (λ part rest is. rw c.caller-in-Some.ensures.is at c.commit.ensures.leads part rest is known)
 
 pub returns-then-end-clause-gives : goal.returns-then-end-clause-gives
