@@ -23,13 +23,19 @@ use Rattle.vyrd_batch.proofs.UnfinishedLaws.{one_begins, says_few, never_ended, 
 
 -- where there is no line feed, and where there is one
 pub no_end : (bytes : List ℕ) → is_one_line bytes ≡ true → line_look bytes ≡ length bytes
-no_end bytes e = ap (λ o. elim o as (λ _. ℕ) [ None ↦ length bytes | Some cut ↦ length cut.line + 1 ]) (no_line bytes e)
+no_end bytes e =
+    ap (λ o. elim o as (λ _. ℕ) [ None ↦ length bytes | Some cut ↦ length cut.line + 1 ])
+    (no_line bytes e)
 
 pub end_there : (bytes line rest : List ℕ) → is_one_line line ≡ true → bytes ≡ line ++ 10 ∷ rest
     → line_look bytes ≡ length line + 1
 end_there bytes line rest e is =
     ap line_look is
-    ∙ ap (λ o. elim o as (λ _. ℕ) [ None ↦ length (line ++ 10 ∷ rest) | Some cut ↦ length cut.line + 1 ]) (one_line line rest e)
+    ∙ ap (λ o. elim o as (λ _. ℕ) [
+      | None ↦ length (line ++ 10 ∷ rest)
+      | Some cut ↦ length cut.line
+          + 1
+    ]) (one_line line rest e)
 
 -- no more are looked at than there are
 pub look_within : (bytes : List ℕ) → line_look bytes ≤ length bytes
@@ -43,15 +49,21 @@ look_within bytes = by_cut (first_line bytes) (cut_len bytes)
 
 -- and of more bytes only the others are looked at besides
 pub look_longer : (bytes more : List ℕ) → line_look (bytes ++ more) ≤ line_look bytes + length more
-look_longer bytes more = by_cut (first_line bytes) (first_line (bytes ++ more)) (first_longer bytes more) (look_within (bytes ++ more))
+look_longer bytes more = by_cut (first_line bytes) (first_line (bytes ++ more))
+    (first_longer bytes more) (look_within (bytes ++ more))
   where
     by_cut : (o all : Option Cut) → IsLonger bytes more o all
-        → elim all as (λ _. ℕ) [ None ↦ length (bytes ++ more) | Some cut ↦ length cut.line + 1 ] ≤ length (bytes ++ more)
+        → elim all as (λ _. ℕ) [ None ↦ length (bytes ++ more) | Some cut ↦ length cut.line + 1 ]
+        ≤ length (bytes ++ more)
         → elim all as (λ _. ℕ) [ None ↦ length (bytes ++ more) | Some cut ↦ length cut.line + 1 ]
         ≤ elim o as (λ _. ℕ) [ None ↦ length bytes | Some cut ↦ length cut.line + 1 ] + length more
     by_cut None all is within = omega (arith, within, length-append bytes more)
     by_cut (Some cut) all is within =
-        subst (λ all. elim all as (λ _. ℕ) [ None ↦ length (bytes ++ more) | Some cut ↦ length cut.line + 1 ] ≤ length cut.line + 1 + length more)
+        subst (λ all. elim all as (λ _. ℕ) [
+          | None ↦ length (bytes ++ more)
+          | Some cut ↦ length
+              cut.line + 1
+        ] ≤ length cut.line + 1 + length more)
         (sym (is.same cut refl)) (omega arith)
 
 -- the line of a log is short, and the log's bytes stand behind it
@@ -66,11 +78,15 @@ pub framed : (place : ℕ) (bytes : List ℕ) (span : Span) → log_at place byt
 framed place bytes span found =
     let s = stands_at place bytes span found in
     let word = log_word s.size in
-    let look : line_look bytes ≡ length word + 1 = end_there bytes word s.rest (one_line_word s.size s.small) s.is in
-    let len : length word ≡ 4 + length (decimal s.size) = length-append (codes "log ") (decimal s.size) in
-    let most : length (decimal s.size) ≤ 8 = length-decimal-le 8 s.size (omega arith) (omega (arith, s.small)) (omega (arith, s.small)) in
+    let look : line_look bytes ≡ length word + 1 = end_there bytes word s.rest
+    (one_line_word s.size s.small) s.is in
+    let len : length word ≡ 4 + length (decimal s.size) = length-append (codes "log ")
+    (decimal s.size) in
+    let most : length (decimal s.size) ≤ 8 = length-decimal-le 8 s.size (omega arith)
+    (omega (arith, s.small)) (omega (arith, s.small)) in
     let least : 0 < length (decimal s.size) = decimal_nonempty s.size (omega (arith, s.small)) in
-    let all : length bytes ≡ length word + suc (length s.rest) = ap length s.is ∙ length-append word (10 ∷ s.rest) in
+    let all : length bytes ≡ length word + suc (length s.rest) = ap length s.is
+    ∙ length-append word (10 ∷ s.rest) in
     record {
       short = omega (arith, look, len, most);
       long = omega (arith, look, len, least);
@@ -83,10 +99,15 @@ pub left_short : (place : ℕ) (left fresh : List ℕ) (span : Span) → log_at 
     → log_at place (left ++ fresh) ≡ Some span
     → place + length left < span.past
 left_short place left fresh span none found =
-    by_cut (first_line left) (first_line (left ++ fresh)) (first_longer left fresh) (cut_len left) none found
+    by_cut (first_line left) (first_line (left ++ fresh)) (first_longer left fresh)
+    (cut_len left) none found
   where
     at_cut : Option Cut → Option Span
-    at_cut o = elim o as (λ _. Option Span) [ None ↦ None | Some cut ↦ span_of (place + length cut.line + 1) cut.rest (size_in cut.line) ]
+    at_cut o = elim o as (λ _. Option Span) [
+      | None ↦ None
+      | Some cut ↦ span_of
+          (place + length cut.line + 1) cut.rest (size_in cut.line)
+    ]
 
     -- where the line's end is in the bytes that were left
     by_size : (first : ℕ) (rest more : List ℕ) (o : Option ℕ) → span_of first rest o ≡ None
@@ -94,7 +115,8 @@ left_short place left fresh span none found =
         → first + length rest < span.past
     by_size first rest more None none found = cc
     by_size first rest more (Some size) none found =
-        by_tests (nat_le size (length rest)) (nat_le size (length (rest ++ more))) (nat_le (first + size) logs_end_within) refl none found
+        by_tests (nat_le size (length rest)) (nat_le size (length (rest ++ more)))
+        (nat_le (first + size) logs_end_within) refl none found
       where
         here : Span
         here = record { first = first; past = first + size }
@@ -114,25 +136,38 @@ left_short place left fresh span none found =
     by_far : (first : ℕ) (rest : List ℕ) (o : Option ℕ) → span_of first rest o ≡ Some span
         → first ≤ span.past
     by_far first rest None found = cc
-    by_far first rest (Some size) found = by_test (nat_le size (length rest) && nat_le (first + size) logs_end_within) found
+    by_far first rest (Some size) found = by_test
+        (nat_le size (length rest) && nat_le (first + size) logs_end_within) found
       where
         here : Span
         here = record { first = first; past = first + size }
 
         by_test : (t : Bool) → cond t (Some here) None ≡ Some span → first ≤ span.past
         by_test false found = cc
-        by_test true found = let past : first + size ≡ span.past = ap (λ s. s.past) (same_Some here span found) in omega (arith, past)
+        by_test true found = let past : first + size ≡ span.past = ap (λ s. s.past)
+            (same_Some here span found) in omega (arith, past)
 
     by_cut : (o all : Option Cut) → IsLonger left fresh o all
         → ((cut : Cut) → o ≡ Some cut → length left ≡ length cut.line + 1 + length cut.rest)
         → at_cut o ≡ None → at_cut all ≡ Some span → place + length left < span.past
     by_cut None None is len none found = cc
     by_cut None (Some cut) is len none found =
-        omega (arith, is.other refl cut refl, by_far (place + length cut.line + 1) cut.rest (size_in cut.line) found)
+        omega (
+          arith,
+          is.other refl cut refl,
+          by_far (place + length cut.line + 1) cut.rest
+              (size_in cut.line) found,
+        )
     by_cut (Some cut) all is len none found =
-        let next : at_cut (Some (record { line = cut.line; rest = cut.rest ++ fresh })) ≡ Some span =
+        let next : at_cut (Some (record { line = cut.line; rest = cut.rest ++ fresh }))
+        ≡ Some span =
         sym (ap at_cut (is.same cut refl)) ∙ found in
-        omega (arith, len cut refl, by_size (place + length cut.line + 1) cut.rest fresh (size_in cut.line) none next)
+        omega (
+          arith,
+          len cut refl,
+          by_size (place + length cut.line + 1) cut.rest fresh
+              (size_in cut.line) none next,
+        )
 
 -- The line of what a round leaves is short, since a longer one would show that no log comes.
 pub spent_look : (place log : ℕ) (left : List ℕ) → IsSpentBy false (Some place) log left
@@ -143,7 +178,11 @@ spent_look place log left spent = by_len (nat_le (length left) longest_line) ref
     ever : longest_line < length left → ((more : List ℕ) → log_at place (left ++ more) ≡ None) → ⊥
     ever long none =
         let never : IsNothingEver (Some place) log left =
-        λ more. ((λ e. absurd (omega (arith, long, ap length e, length-append left more))), inr (none more)) in
+        λ more. (
+          (λ e. absurd (omega (arith, long, ap length e, length-append left more))),
+          inr
+              (none more),
+        ) in
         absurd (omega (arith, long, spent.2 never))
 
     by_size : longest_line < length left → (cut : Cut) → first_line left ≡ Some cut
@@ -166,10 +205,12 @@ spent_look place log left spent = by_len (nat_le (length left) longest_line) ref
 pub record AreFoundFor (bytes : List ℕ) (place logs taken old new : ℕ) : Type 0 where
   pub none : logs ≡ 0 → (taken ≡ 0) × (new ≡ old)
   pub some : 0 < logs → (span : Span) × (log_at place bytes ≡ Some span)
-      × (new + (span.past - place) ≤ old + 13 + taken) × (6 * logs + (span.past - place) ≤ 6 + taken)
+      × (new + (span.past - place) ≤ old + 13 + taken)
+      × (6 * logs + (span.past - place) ≤ 6 + taken)
 
 pub none_for : (bytes : List ℕ) (place old : ℕ) → AreFoundFor bytes place 0 0 old old
-none_for bytes place old = record { none = λ e. (refl, refl); some = λ some. absurd (omega (arith, some)) }
+none_for bytes place old =
+    record { none = λ e. (refl, refl); some = λ some. absurd (omega (arith, some)) }
 
 pub more_for : (bytes : List ℕ) (place logs taken old new next : ℕ) (span : Span)
     → AreFoundFor bytes place logs taken old new
@@ -186,29 +227,36 @@ more_for bytes place logs taken old new next span for found is = record {
 
     by_logs : (logs : ℕ) → (logs ≡ 0 → (taken ≡ 0) × (new ≡ old))
         → (0 < logs → (span : Span) × (log_at place bytes ≡ Some span)
-        × (new + (span.past - place) ≤ old + 13 + taken) × (6 * logs + (span.past - place) ≤ 6 + taken))
+        × (new + (span.past - place) ≤ old + 13 + taken)
+        × (6 * logs + (span.past - place) ≤ 6 + taken))
         → (first : Span) × (log_at place bytes ≡ Some first)
-        × (next + (first.past - place) ≤ old + 13 + (span.past - place)) × (6 * (logs + 1) + (first.past - place) ≤ 6 + (span.past - place))
+        × (next + (first.past - place) ≤ old + 13 + (span.past - place))
+        × (6 * (logs + 1) + (first.past - place) ≤ 6 + (span.past - place))
     by_logs zero none some =
         let start = none refl in
         let here : place + taken ≡ place = omega (arith, start.0) in
-        let same : log_at place bytes ≡ Some span = (λ i. log_at (sym here i) (drop (sym start.0 i) bytes)) ∙ found in
+        let same : log_at place bytes ≡ Some span =
+        (λ i. log_at (sym here i) (drop (sym start.0 i) bytes)) ∙ found in
         (span, same, omega (arith, is, start.1, f.short), omega arith)
     by_logs (suc n) none some =
         let s = some (omega arith) in
         (s.0, s.1, omega (arith, s.2, is, f.past), omega (arith, s.3, f.past, f.long))
 
 -- the same, by the spans themselves
-pub more_spans : (bytes rest : List ℕ) (place taken old new next : ℕ) (spans grown : List Span) (span : Span)
+pub more_spans : (bytes rest : List ℕ) (place taken old new next : ℕ) (spans grown : List Span)
+    (span : Span)
     → AreFoundFor bytes place (length spans) taken old new
     → log_at (place + taken) rest ≡ Some span → rest ≡ drop taken bytes
     → grown ≡ spans ++ from_place place span ∷ [] → next ≡ new + line_look rest
     → AreFoundFor bytes place (length grown) (span.past - place) old next
 more_spans bytes rest place taken old new next spans grown span for found rest_is is steps =
-    let here : log_at (place + taken) (drop taken bytes) ≡ Some span = ap (log_at (place + taken)) (sym rest_is) ∙ found in
-    let count : length spans + 1 ≡ length grown = sym (ap length is ∙ count_more spans (from_place place span)) in
+    let here : log_at (place + taken) (drop taken bytes) ≡ Some span = ap (log_at (place + taken))
+    (sym rest_is) ∙ found in
+    let count : length spans + 1 ≡ length grown =
+    sym (ap length is ∙ count_more spans (from_place place span)) in
     subst (λ n. AreFoundFor bytes place n (span.past - place) old next) count
-    (more_for bytes place (length spans) taken old new next span for here (omega (arith, steps, ap line_look rest_is)))
+    (more_for bytes place (length spans) taken old new next span for here
+    (omega (arith, steps, ap line_look rest_is)))
 
 -- the bytes that stay are moved at most once
 moved_few : (taken len : ℕ) → moved taken len ≤ len - taken
@@ -220,8 +268,10 @@ pub found_cost : (bytes left fresh : List ℕ) (log place logs taken old new nex
     → AreFoundFor bytes place logs taken old new
     → IsLeft log place left → bytes ≡ left ++ fresh → taken ≤ length bytes → log + logs ≤ most_logs
     → next ≤ new + line_look (drop taken bytes)
-    → next + 6 * logs + line_look (drop taken bytes) + moved taken (length bytes) ≤ old + 3 * length fresh + 26
-found_cost bytes left fresh log place logs taken old new next for spent is within few steps = by_logs logs for few
+    → next + 6 * logs + line_look (drop taken bytes) + moved taken (length bytes) ≤ old + 3
+    * length fresh + 26
+found_cost bytes left fresh log place logs taken old new next for spent is within few steps =
+    by_logs logs for few
   where
     all : length bytes ≡ length left + length fresh
     all = ap length is ∙ length-append left fresh
@@ -232,14 +282,17 @@ found_cost bytes left fresh log place logs taken old new next for spent is withi
     by_none : (n : ℕ) → n ≡ taken → n ≡ 0 → new ≡ old
         → next + line_look (drop n bytes) + moved n (length bytes) ≤ old + 3 * length fresh + 26
     by_none zero same z e =
-        let start : line_look (drop taken bytes) ≡ line_look bytes = ap (λ n. line_look (drop n bytes)) (sym same) in
+        let start : line_look (drop taken bytes) ≡ line_look bytes =
+        ap (λ n. line_look (drop n bytes)) (sym same) in
         let more : line_look bytes ≡ line_look (left ++ fresh) = ap line_look is in
         omega (arith, steps, start, more, look_longer left fresh, spent.1, e)
     by_none (suc n) same z e = absurd (omega (arith, z))
 
     by_logs : (logs : ℕ) → AreFoundFor bytes place logs taken old new → log + logs ≤ most_logs
-        → next + 6 * logs + line_look (drop taken bytes) + moved taken (length bytes) ≤ old + 3 * length fresh + 26
-    by_logs zero for few = let start = for.none refl in omega (arith, by_none taken refl start.0 start.1)
+        → next + 6 * logs + line_look (drop taken bytes) + moved taken (length bytes) ≤ old + 3
+        * length fresh + 26
+    by_logs zero for few = let start = for.none refl in
+        omega (arith, by_none taken refl start.0 start.1)
     by_logs (suc n) for few =
         let s = for.some (omega arith) in
         let none : log_at place left ≡ None = there spent.0 in
@@ -255,39 +308,50 @@ found_cost bytes left fresh log place logs taken old new next for spent is withi
 pub first_cost : (bytes : List ℕ) (place logs taken old new next : ℕ)
     → AreFoundFor bytes place logs taken old new
     → taken ≤ length bytes → next ≤ new + line_look (drop taken bytes)
-    → next + 6 * logs + line_look (drop taken bytes) + length (drop taken bytes) ≤ old + 3 * length bytes + 26
+    → next + 6 * logs + line_look (drop taken bytes) + length (drop taken bytes) ≤ old + 3
+    * length bytes + 26
 first_cost bytes place logs taken old new next for within steps = by_logs logs for
   where
     look : line_look (drop taken bytes) ≤ length (drop taken bytes)
     look = look_within (drop taken bytes)
 
     by_logs : (logs : ℕ) → AreFoundFor bytes place logs taken old new
-        → next + 6 * logs + line_look (drop taken bytes) + length (drop taken bytes) ≤ old + 3 * length bytes + 26
-    by_logs zero for = let start = for.none refl in omega (arith, steps, look, length-drop taken bytes, start.0, start.1)
+        → next + 6 * logs + line_look (drop taken bytes) + length (drop taken bytes) ≤ old + 3
+        * length bytes + 26
+    by_logs zero for = let start = for.none refl in
+        omega (arith, steps, look, length-drop taken bytes, start.0, start.1)
     by_logs (suc n) for =
-        let s = for.some (omega arith) in omega (arith, s.2, s.3, steps, look, length-drop taken bytes, within)
+        let s = for.some (omega arith) in
+        omega (arith, s.2, s.3, steps, look, length-drop taken bytes, within)
 
 -- what is left of the first line, which wasn't read, is short
 front_short : (bytes left fresh more : List ℕ) (log : ℕ) → IsNothingMore None log left
     → bytes ≡ left ++ fresh → bytes ≡ ended_line first_word ++ more
     → length bytes ≤ length fresh + 6
-front_short bytes left fresh more log apart is begins = elim (one_begins left (ended_line first_word) fresh more (sym is ∙ begins)) [
-  | inl m ↦ let word : 6 ≡ length left + length m.0 = ap length m.1 ∙ length-append left m.0 in omega (arith, ap length is, length-append left fresh, word)
-  | inr m ↦ absurd (apart m.0 m.1)
-]
+front_short bytes left fresh more log apart is begins =
+    elim (one_begins left (ended_line first_word) fresh more (sym is ∙ begins)) [
+      | inl m ↦ let word : 6 ≡ length left + length m.0 = ap length m.1 ∙ length-append left m.0 in
+          omega (arith, ap length is, length-append left fresh, word)
+      | inr m ↦ absurd (apart m.0 m.1)
+    ]
 
 -- the bytes behind the first line, as what a round begins with
 none_left : (log place : ℕ) → IsLeft log place []
 none_left log place = (inr refl, omega arith)
 
 -- what a round costs, whether it reads the first line or not
-pub whole_cost : (before after : Option ℕ) (log place first taken : ℕ) (bytes behind left fresh : List ℕ) (old new : ℕ) → IsBegun before place first bytes
+pub whole_cost : (before after : Option ℕ) (log place first taken : ℕ)
+    (bytes behind left fresh : List ℕ) (old new : ℕ) → IsBegun before place first bytes
     → behind ≡ drop first bytes → IsSpentBy false before log left → bytes ≡ left ++ fresh
     → ((left fresh : List ℕ) → IsLeft log place left → behind ≡ left ++ fresh
-    → new + line_look (drop taken behind) + moved taken (length behind) ≤ old + 3 * length fresh + 26)
-    → new + line_look (drop taken behind) + length (drop taken behind) ≤ old + 3 * length behind + 26
-    → new + rest_look after (drop (first + taken) bytes) + moved (first + taken) (length bytes) ≤ old + 3 * length fresh + 26
-whole_cost before after log place first taken bytes behind left fresh old new begun behind_is spent is again first_time = by_before before begun spent
+    → new + line_look (drop taken behind) + moved taken (length behind) ≤ old + 3 * length fresh
+    + 26)
+    → new + line_look (drop taken behind) + length (drop taken behind) ≤ old + 3 * length behind
+    + 26
+    → new + rest_look after (drop (first + taken) bytes) + moved (first + taken) (length bytes)
+    ≤ old + 3 * length fresh + 26
+whole_cost before after log place first taken bytes behind left fresh old new begun behind_is spent
+    is again first_time = by_before before begun spent
   where
     stay : drop taken behind ≡ drop (first + taken) bytes
     stay = ap (drop taken) behind_is ∙ drop-drop taken first bytes
@@ -302,32 +366,49 @@ whole_cost before after log place first taken bytes behind left fresh old new be
 
     by_before : (before : Option ℕ) → IsBegun before place first bytes
         → IsSpentBy false before log left
-        → new + rest_look after (drop (first + taken) bytes) + moved (first + taken) (length bytes) ≤ old + 3 * length fresh + 26
+        → new + rest_look after (drop (first + taken) bytes) + moved (first + taken) (length bytes)
+        ≤ old + 3 * length fresh + 26
     by_before None begun spent =
         let short = front_short bytes left fresh begun.1.0 log spent.0 is begun.1.1 in
-        let all : length behind ≡ length bytes - first = ap length behind_is ∙ length-drop first bytes in
-        omega (arith, first_time, look, short, all, begun.0, length-drop taken behind, moved_few (first + taken) (length bytes))
+        let all : length behind ≡ length bytes - first = ap length behind_is
+        ∙ length-drop first bytes in
+        omega (
+          arith,
+          first_time,
+          look,
+          short,
+          all,
+          begun.0,
+          length-drop taken behind,
+          moved_few
+              (first + taken) (length bytes),
+        )
     by_before (Some n) begun spent =
         let zero_first : first ≡ 0 = begun.0 in
         let all : behind ≡ bytes = behind_is ∙ ap (λ n. drop n bytes) zero_first in
-        let left_here : IsLeft log place left = subst (λ n. IsLeft log n left) begun.1 (spent.0, spent_look n log left spent) in
+        let left_here : IsLeft log place left = subst (λ n. IsLeft log n left) begun.1
+        (spent.0, spent_look n log left spent) in
         let count : first + taken ≡ taken = omega (arith, zero_first) in
         let moves : moved (first + taken) (length bytes) ≡ moved taken (length behind) =
         (λ i. moved (count i) (length (sym all i))) in
         omega (arith, again left fresh left_here (all ∙ is), look, moves)
 
 -- and at most, whatever comes of it
-pub whole_ever : (before : Option ℕ) (log place first : ℕ) (bytes behind left fresh : List ℕ) (old new : ℕ) → IsBegun before place first bytes
+pub whole_ever : (before : Option ℕ) (log place first : ℕ) (bytes behind left fresh : List ℕ)
+    (old new : ℕ) → IsBegun before place first bytes
     → behind ≡ drop first bytes → IsSpentBy false before log left → bytes ≡ left ++ fresh
-    → ((left fresh : List ℕ) → IsLeft log place left → behind ≡ left ++ fresh → new ≤ old + 3 * length fresh + 26)
+    → ((left fresh : List ℕ) → IsLeft log place left → behind ≡ left ++ fresh
+    → new ≤ old + 3 * length fresh + 26)
     → new ≤ old + 3 * length fresh + 26
 whole_ever None log place first bytes behind left fresh old new begun behind_is spent is ever =
     let short = front_short bytes left fresh begun.1.0 log spent.0 is begun.1.1 in
-    let all : length behind ≡ length bytes - first = ap length behind_is ∙ length-drop first bytes in
+    let all : length behind ≡ length bytes - first = ap length behind_is
+    ∙ length-drop first bytes in
     omega (arith, ever [] behind (none_left log place) refl, short, all, begun.0)
 whole_ever (Some n) log place first bytes behind left fresh old new begun behind_is spent is ever =
     let all : behind ≡ bytes = behind_is ∙ ap (λ n. drop n bytes) begun.0 in
-    ever left fresh (subst (λ n. IsLeft log n left) begun.1 (spent.0, spent_look n log left spent)) (all ∙ is)
+    ever left fresh (subst (λ n. IsLeft log n left) begun.1 (spent.0, spent_look n log left spent))
+    (all ∙ is)
 
 -- what is left is short
 pub spent_short : (refused : Bool) (place : Option ℕ) (log : ℕ) (rest : List ℕ)
@@ -337,4 +418,8 @@ spent_short true place log rest spent = omega (arith, ap length spent)
 
 -- before the first round nothing is left
 pub none_spent : IsSpentBy false None 0 []
-none_spent = ((λ more e. absurd (omega (arith, ap length e, length-append (ended_line first_word) more))), omega arith, (λ _. omega arith))
+none_spent = (
+  (λ more e. absurd (omega (arith, ap length e, length-append (ended_line first_word) more))),
+  omega arith,
+  (λ _. omega arith),
+)

@@ -1,12 +1,15 @@
 -- The logs of a batch, one after the other.
-use Rattle.std.proofs.Common.{◌≡◌, ℕ, zero, suc, ◌+◌, ◌-◌, ◌<◌, ◌≤◌, Bool, true, false, cond, List, [], ◌∷◌, ◌++◌, length, drop, Option, Some, None, Result, Ok, Err, refl, ap, ◌∙◌, sym, subst, arith, append_assoc, append-nil}
+use Rattle.std.proofs.Common.{◌≡◌, ℕ, zero, suc, ◌+◌, ◌-◌, ◌<◌, ◌≤◌, Bool, true, false, cond, List}
+use Rattle.std.proofs.Common.{[], ◌∷◌, ◌++◌, length, drop, Option, Some, None, Result, Ok, Err}
+use Rattle.std.proofs.Common.{refl, ap, ◌∙◌, sym, subst, arith, append_assoc, append-nil}
 use Rattle.std.specs.Str.{bytes_eq}
 use Rattle.std.specs.List.{AllByRecursion}
 use Rattle.std.proofs.lemmas.Slice.Eq.{bytes_eq-Decides}
 use Rattle.vyrd_base.proofs.SplitLaws.{bytes_same}
 use Rattle.vyrd_text.specs.Steps.{is_one_line}
 use Rattle.vyrd_batch.specs.declared.span.Span.{Span}
-use Rattle.vyrd_batch.specs.Batches.{most_logs, first_word, last_line, Cut, first_line, log_at, span_before, logs_from, logs_behind, batch_reading, LiesWithin}
+use Rattle.vyrd_batch.specs.Batches.{most_logs, first_word, last_line, Cut, first_line, log_at}
+use Rattle.vyrd_batch.specs.Batches.{span_before, logs_from, logs_behind, batch_reading, LiesWithin}
 use Rattle.vyrd_batch.proofs.LineFacts.{no_line, one_line}
 
 -- the test of two lists that aren't the same
@@ -29,83 +32,108 @@ none_before : (r : Result (List Span) ℕ) → spans_after [] r ≡ r
 none_before (Ok spans) = refl
 none_before (Err log) = refl
 
-one_before : (spans : List Span) (span : Span) (r : Result (List Span) ℕ) → spans_after spans (span_before span r) ≡ spans_after (spans ++ span ∷ []) r
+one_before : (spans : List Span) (span : Span) (r : Result (List Span) ℕ)
+    → spans_after spans (span_before span r) ≡ spans_after (spans ++ span ∷ []) r
 one_before spans span (Ok more) = ap Ok (sym (append_assoc spans (span ∷ []) more))
 one_before spans span (Err log) = refl
 
 -- at the last line
-pub logs_end : (more log place : ℕ) (bytes : List ℕ) → bytes ≡ last_line → logs_from more log place bytes ≡ Ok []
+pub logs_end : (more log place : ℕ) (bytes : List ℕ) → bytes ≡ last_line
+    → logs_from more log place bytes ≡ Ok []
 unfolding logs_from
 logs_end zero log place bytes e = ap (λ t. cond t (Ok []) (Err log)) (same_bytes bytes last_line e)
 logs_end (suc more) log place bytes e =
     ap (λ t. cond t (Ok []) (elim (log_at place bytes) as (λ _. Result (List Span) ℕ) [
       | None ↦ Err log
-      | Some span ↦ span_before span (logs_from more (log + 1) span.past (drop (span.past - place) bytes))
+      | Some span ↦ span_before span
+          (logs_from more (log + 1) span.past (drop (span.past - place) bytes))
     ])) (same_bytes bytes last_line e)
 
 -- where no more logs may come
-pub logs_full : (log place : ℕ) (bytes : List ℕ) → (bytes ≡ last_line → ⊥) → logs_from zero log place bytes ≡ Err log
+pub logs_full : (log place : ℕ) (bytes : List ℕ) → (bytes ≡ last_line → ⊥)
+    → logs_from zero log place bytes ≡ Err log
 unfolding logs_from
-logs_full log place bytes apart = ap (λ t. cond t (Ok []) (Err log)) (other_bytes bytes last_line apart)
+logs_full log place bytes apart = ap (λ t. cond t (Ok []) (Err log))
+    (other_bytes bytes last_line apart)
 
 -- at a line that isn't the last
-pub at_line : (more log place : ℕ) (bytes : List ℕ) (o : Option Span) → (bytes ≡ last_line → ⊥) → log_at place bytes ≡ o
+pub at_line : (more log place : ℕ) (bytes : List ℕ) (o : Option Span) → (bytes ≡ last_line → ⊥)
+    → log_at place bytes ≡ o
     → logs_from (suc more) log place bytes ≡ elim o as (λ _. Result (List Span) ℕ) [
       | None ↦ Err log
-      | Some span ↦ span_before span (logs_from more (log + 1) span.past (drop (span.past - place) bytes))
+      | Some span ↦ span_before span
+          (logs_from more (log + 1) span.past (drop (span.past - place) bytes))
     ]
 unfolding logs_from
 at_line more log place bytes o apart is =
     ap (λ t. cond t (Ok []) (elim (log_at place bytes) as (λ _. Result (List Span) ℕ) [
       | None ↦ Err log
-      | Some span ↦ span_before span (logs_from more (log + 1) span.past (drop (span.past - place) bytes))
+      | Some span ↦ span_before span
+          (logs_from more (log + 1) span.past (drop (span.past - place) bytes))
     ])) (other_bytes bytes last_line apart)
     ∙ ap (λ o. elim o as (λ _. Result (List Span) ℕ) [
       | None ↦ Err log
-      | Some span ↦ span_before span (logs_from more (log + 1) span.past (drop (span.past - place) bytes))
+      | Some span ↦ span_before span
+          (logs_from more (log + 1) span.past (drop (span.past - place) bytes))
     ]) is
 
 -- What stands from a place on, after the spans that were found, is what all bytes say.
-pub record HasFound (whole : Result (List Span) ℕ) (limit : ℕ) (spans : List Span) (place : ℕ) (rest : List ℕ) : Type 0 where
+pub record HasFound (whole : Result (List Span) ℕ) (limit : ℕ) (spans : List Span) (place : ℕ)
+    (rest : List ℕ) : Type 0 where
   pub few : length spans ≤ most_logs
-  pub goes_on : whole ≡ spans_after spans (logs_from (most_logs - length spans) (length spans) place rest)
+  pub goes_on : whole ≡ spans_after spans
+      (logs_from (most_logs - length spans) (length spans) place rest)
   pub within : AllByRecursion (LiesWithin limit) spans
   pub place_is : place + length rest ≡ limit
 
 pub found_none : (place : ℕ) (bytes : List ℕ) (spans : List Span) → spans ≡ []
     → HasFound (logs_from most_logs 0 place bytes) (place + length bytes) spans place bytes
-found_none place bytes spans none = subst (λ spans. HasFound (logs_from most_logs 0 place bytes) (place + length bytes) spans place bytes) (sym none) (record {
-  few = omega arith;
-  goes_on = sym (none_before (logs_from most_logs 0 place bytes));
-  within = tt;
-  place_is = refl;
-})
+found_none place bytes spans none =
+    subst (λ spans. HasFound (logs_from most_logs 0 place bytes) (place + length bytes) spans place
+    bytes) (sym none) (record {
+      few = omega arith;
+      goes_on = sym (none_before (logs_from most_logs 0 place bytes));
+      within = tt;
+      place_is = refl;
+    })
 
-pub all_more : (P : Span → Type 0) (spans : List Span) (span : Span) → AllByRecursion P spans → P span → AllByRecursion P (spans ++ span ∷ [])
+pub all_more : (P : Span → Type 0) (spans : List Span) (span : Span) → AllByRecursion P spans
+    → P span → AllByRecursion P (spans ++ span ∷ [])
 all_more P [] span all one = (one, tt)
 all_more P (s ∷ spans) span all one = (all.0, all_more P spans span all.1 one)
 
-one_more : (whole : Result (List Span) ℕ) (spans : List Span) (span : Span) (n place : ℕ) (rest next : List ℕ) → length spans ≡ n → n < most_logs
+one_more : (whole : Result (List Span) ℕ) (spans : List Span) (span : Span) (n place : ℕ)
+    (rest next : List ℕ) → length spans ≡ n → n < most_logs
     → whole ≡ spans_after spans (logs_from (most_logs - n) n place rest)
     → (rest ≡ last_line → ⊥) → log_at place rest ≡ Some span → next ≡ drop (span.past - place) rest
-    → whole ≡ spans_after (spans ++ span ∷ []) (logs_from (most_logs - (n + 1)) (n + 1) span.past next)
+    → whole ≡ spans_after (spans ++ span ∷ [])
+    (logs_from (most_logs - (n + 1)) (n + 1) span.past next)
 one_more whole spans span n place rest next len room so apart is behind =
     let count : most_logs - n ≡ suc (most_logs - (n + 1)) = omega arith in
     so ∙ ap (λ m. spans_after spans (logs_from m n place rest)) count
     ∙ ap (spans_after spans) (at_line (most_logs - (n + 1)) n place rest (Some span) apart is)
-    ∙ one_before spans span (logs_from (most_logs - (n + 1)) (n + 1) span.past (drop (span.past - place) rest))
-    ∙ ap (λ bytes. spans_after (spans ++ span ∷ []) (logs_from (most_logs - (n + 1)) (n + 1) span.past bytes)) (sym behind)
+    ∙ one_before spans span
+    (logs_from (most_logs - (n + 1)) (n + 1) span.past (drop (span.past - place) rest))
+    ∙ ap (λ bytes. spans_after (spans ++ span ∷ [])
+    (logs_from (most_logs - (n + 1)) (n + 1) span.past bytes)) (sym behind)
 
-pub found_more : (whole : Result (List Span) ℕ) (limit : ℕ) (spans new : List Span) (span : Span) (place : ℕ) (rest next : List ℕ)
-    → HasFound whole limit spans place rest → length spans < most_logs → (rest ≡ last_line → ⊥) → log_at place rest ≡ Some span
-    → next ≡ drop (span.past - place) rest → span.first ≤ span.past → span.past + length next ≡ place + length rest
+pub found_more : (whole : Result (List Span) ℕ) (limit : ℕ) (spans new : List Span) (span : Span)
+    (place : ℕ) (rest next : List ℕ)
+    → HasFound whole limit spans place rest → length spans < most_logs → (rest ≡ last_line → ⊥)
+    → log_at place rest ≡ Some span
+    → next ≡ drop (span.past - place) rest → span.first ≤ span.past → span.past + length next
+    ≡ place + length rest
     → new ≡ spans ++ span ∷ [] → HasFound whole limit new span.past next
-found_more whole limit spans new span place rest next found room apart is behind ordered place_next grown =
+found_more whole limit spans new span place rest next found room apart is behind ordered place_next
+    grown =
     subst (λ new. HasFound whole limit new span.past next) (sym grown) (record {
       few = omega (arith, len, room);
-      goes_on = one_more whole spans span (length spans) place rest next refl room found.goes_on apart is behind
-          ∙ ap (λ n. spans_after (spans ++ span ∷ []) (logs_from (most_logs - n) n span.past next)) (sym len);
-      within = all_more (LiesWithin limit) spans span found.within (ordered, omega (arith, place_next, found.place_is));
+      goes_on = one_more whole spans span (length spans) place rest next refl room found.goes_on
+          apart is behind
+          ∙ ap (λ n. spans_after (spans ++ span ∷ []) (logs_from (most_logs - n) n span.past next))
+          (sym len);
+      within = all_more (LiesWithin limit) spans span found.within
+          (ordered, omega (arith, place_next, found.place_is));
       place_is = place_next ∙ found.place_is;
     })
   where
@@ -116,46 +144,62 @@ found_more whole limit spans new span place rest next found room apart is behind
         length_more [] = refl
         length_more (x ∷ xs) = omega (arith, length_more xs)
 
-pub found_all : (whole : Result (List Span) ℕ) (limit : ℕ) (spans : List Span) (place : ℕ) (rest : List ℕ)
+pub found_all : (whole : Result (List Span) ℕ) (limit : ℕ) (spans : List Span) (place : ℕ)
+    (rest : List ℕ)
     → HasFound whole limit spans place rest → rest ≡ last_line → whole ≡ Ok spans
 found_all whole limit spans place rest found is =
-    found.goes_on ∙ ap (spans_after spans) (logs_end (most_logs - length spans) (length spans) place rest is) ∙ ap Ok (append-nil spans)
+    found.goes_on
+    ∙ ap (spans_after spans) (logs_end (most_logs - length spans) (length spans) place rest is)
+    ∙ ap Ok (append-nil spans)
 
-pub found_too_many : (whole : Result (List Span) ℕ) (limit : ℕ) (spans : List Span) (place log : ℕ) (rest : List ℕ)
-    → HasFound whole limit spans place rest → (rest ≡ last_line → ⊥) → length spans ≡ most_logs → length spans ≡ log → whole ≡ Err log
+pub found_too_many : (whole : Result (List Span) ℕ) (limit : ℕ) (spans : List Span) (place log : ℕ)
+    (rest : List ℕ)
+    → HasFound whole limit spans place rest → (rest ≡ last_line → ⊥) → length spans ≡ most_logs
+    → length spans ≡ log → whole ≡ Err log
 found_too_many whole limit spans place log rest found apart full is =
     let none : most_logs - length spans ≡ zero = omega (arith, full) in
     found.goes_on ∙ ap (λ n. spans_after spans (logs_from n (length spans) place rest)) none
     ∙ ap (spans_after spans) (logs_full (length spans) place rest apart) ∙ ap Err is
 
-pub found_no_log : (whole : Result (List Span) ℕ) (limit : ℕ) (spans : List Span) (place log : ℕ) (rest : List ℕ)
-    → HasFound whole limit spans place rest → (rest ≡ last_line → ⊥) → (length spans ≡ most_logs → ⊥) → log_at place rest ≡ None
+pub found_no_log : (whole : Result (List Span) ℕ) (limit : ℕ) (spans : List Span) (place log : ℕ)
+    (rest : List ℕ)
+    → HasFound whole limit spans place rest → (rest ≡ last_line → ⊥)
+    → (length spans ≡ most_logs → ⊥) → log_at place rest ≡ None
     → length spans ≡ log → whole ≡ Err log
 found_no_log whole limit spans place log rest found apart room none is =
     let low : length spans < most_logs = omega (arith, found.few, room) in
     let count : most_logs - length spans ≡ suc (most_logs - (length spans + 1)) = omega arith in
     found.goes_on ∙ ap (λ n. spans_after spans (logs_from n (length spans) place rest)) count
-    ∙ ap (spans_after spans) (at_line (most_logs - (length spans + 1)) (length spans) place rest None apart none) ∙ ap Err is
+    ∙ ap (spans_after spans)
+    (at_line (most_logs - (length spans + 1)) (length spans) place rest None apart none) ∙ ap Err is
 
 -- the whole input
-pub reading_at : (bytes : List ℕ) (o : Option Cut) → first_line bytes ≡ o → batch_reading bytes ≡ elim o as (λ _. Result (List Span) ℕ) [
-  | None ↦ Err 0
-  | Some cut ↦ logs_behind cut
-]
+pub reading_at : (bytes : List ℕ) (o : Option Cut) → first_line bytes ≡ o → batch_reading bytes
+    ≡ elim o as (λ _. Result (List Span) ℕ) [
+      | None ↦ Err 0
+      | Some cut ↦ logs_behind cut
+    ]
 unfolding batch_reading
-reading_at bytes o is = ap (λ o. elim o as (λ _. Result (List Span) ℕ) [ None ↦ Err 0 | Some cut ↦ logs_behind cut ]) is
+reading_at bytes o is =
+    ap (λ o. elim o as (λ _. Result (List Span) ℕ) [ None ↦ Err 0 | Some cut ↦ logs_behind cut ]) is
 
 pub no_first_line : (bytes : List ℕ) → is_one_line bytes ≡ true → batch_reading bytes ≡ Err 0
 no_first_line bytes e = reading_at bytes None (no_line bytes e)
 
-at_first : (bytes line rest : List ℕ) → is_one_line line ≡ true → bytes ≡ line ++ 10 ∷ rest → batch_reading bytes ≡ logs_behind (record { line = line; rest = rest })
-at_first bytes line rest e is = reading_at bytes (Some (record { line = line; rest = rest })) (ap first_line is ∙ one_line line rest e)
+at_first : (bytes line rest : List ℕ) → is_one_line line ≡ true → bytes ≡ line ++ 10 ∷ rest
+    → batch_reading bytes ≡ logs_behind (record { line = line; rest = rest })
+at_first bytes line rest e is = reading_at bytes (Some (record { line = line; rest = rest }))
+    (ap first_line is ∙ one_line line rest e)
 
-pub other_first_line : (bytes line rest : List ℕ) → is_one_line line ≡ true → bytes ≡ line ++ 10 ∷ rest → (line ≡ first_word → ⊥) → batch_reading bytes ≡ Err 0
+pub other_first_line : (bytes line rest : List ℕ) → is_one_line line ≡ true → bytes ≡ line
+    ++ 10 ∷ rest → (line ≡ first_word → ⊥) → batch_reading bytes ≡ Err 0
 other_first_line bytes line rest e is apart = at_first bytes line rest e is
-    ∙ ap (λ t. cond t (logs_from most_logs 0 (length line + 1) rest) (Err 0)) (other_bytes line first_word apart)
+    ∙ ap (λ t. cond t (logs_from most_logs 0 (length line + 1) rest) (Err 0))
+    (other_bytes line first_word apart)
 
-pub behind_first_line : (bytes line rest : List ℕ) → is_one_line line ≡ true → bytes ≡ line ++ 10 ∷ rest → line ≡ first_word
+pub behind_first_line : (bytes line rest : List ℕ) → is_one_line line ≡ true → bytes ≡ line
+    ++ 10 ∷ rest → line ≡ first_word
     → batch_reading bytes ≡ logs_from most_logs 0 (length line + 1) rest
 behind_first_line bytes line rest e is same = at_first bytes line rest e is
-    ∙ ap (λ t. cond t (logs_from most_logs 0 (length line + 1) rest) (Err 0)) (same_bytes line first_word same)
+    ∙ ap (λ t. cond t (logs_from most_logs 0 (length line + 1) rest) (Err 0))
+    (same_bytes line first_word same)

@@ -1,4 +1,5 @@
--- One name whose unfolding opens the definitions of a batch, so that what written-out bytes say computes.
+-- One name whose unfolding opens the definitions of a batch, so that what written-out bytes say
+-- computes.
 use Rattle.std.specs.Prelude.{ℕ}
 use Rattle.std.specs.Fmt.{digits}
 use Rattle.vyrd_batch.specs.Batches.{logs_from, batch_reading}

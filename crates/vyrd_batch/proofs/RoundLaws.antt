@@ -1,5 +1,8 @@
 -- A batch that is cut after some of its logs: it says these logs, and then what its rest says.
-use Rattle.std.proofs.Common.{◌≡◌, ℕ, zero, suc, ◌+◌, ◌-◌, ◌<◌, ◌≤◌, Bool, true, false, cond, List, [], ◌∷◌, ◌++◌, length, map, take, drop, Option, Some, None, Result, Ok, Err, refl, ap, ◌∙◌, sym, subst, arith, append_assoc, append-nil, length-append, length-take, inl, inr}
+use Rattle.std.proofs.Common.{◌≡◌, ℕ, zero, suc, ◌+◌, ◌-◌, ◌<◌, ◌≤◌, Bool, true, false, cond, List}
+use Rattle.std.proofs.Common.{[], ◌∷◌, ◌++◌, length, map, take, drop, Option, Some, None, Result}
+use Rattle.std.proofs.Common.{Ok, Err, refl, ap, ◌∙◌, sym, subst, arith, append_assoc, append-nil}
+use Rattle.std.proofs.Common.{length-append, length-take, inl, inr}
 use Rattle.std.specs.Prelude.{◌⊎◌, is_some}
 use Rattle.std.specs.Str.{bytes_eq}
 use Rattle.std.proofs.lemmas.List.{take-append-drop, drop-drop, map-append, length-map}
@@ -10,11 +13,17 @@ use Rattle.vyrd_base.specs.Spelling.{ended_line}
 use Rattle.vyrd_base.specs.LogVerdicts.{log_verdict}
 use Rattle.vyrd_log_check.specs.Checking.{most_lines}
 use Rattle.vyrd_batch.specs.declared.span.Span.{Span}
-use Rattle.vyrd_batch.specs.Batches.{most_logs, most_bytes, logs_end_within, first_word, log_word, log_text, last_line, Cut, first_line, log_at, span_before, logs_from, batch_reading, bytes_of, logs_of, batch_logs, LiesWithin}
+use Rattle.vyrd_batch.specs.Batches.{most_logs, most_bytes, logs_end_within, first_word, log_word}
+use Rattle.vyrd_batch.specs.Batches.{log_text, last_line, Cut, first_line, log_at, span_before}
+use Rattle.vyrd_batch.specs.Batches.{logs_from, batch_reading, bytes_of, logs_of, batch_logs}
+use Rattle.vyrd_batch.specs.Batches.{LiesWithin}
 use Rattle.vyrd_batch.specs.BatchAnswers.{verdicts_of}
-use Rattle.vyrd_batch.specs.Rounds.{logs_before, logs_on, IsCut, IsNoLog, AreJudged, AreJudgedTo, IsRefused, IsJudgedBy, IsNothingMore, IsNothingEver, IsSpentBy}
-use Rattle.vyrd_batch.proofs.LogFacts.{all_more, at_line, logs_end, logs_full, reading_at, behind_first_line}
-use Rattle.vyrd_batch.proofs.TextLaws.{StandsAt, stands_at, log_bytes, next_bytes, cut_is, log_isnt_end, span_at, text_stands, text_found}
+use Rattle.vyrd_batch.specs.Rounds.{logs_before, logs_on, IsCut, IsNoLog, AreJudged, AreJudgedTo}
+use Rattle.vyrd_batch.specs.Rounds.{IsRefused, IsJudgedBy, IsNothingMore, IsNothingEver, IsSpentBy}
+use Rattle.vyrd_batch.proofs.LogFacts.{all_more, at_line, logs_end, logs_full, reading_at}
+use Rattle.vyrd_batch.proofs.LogFacts.{behind_first_line}
+use Rattle.vyrd_batch.proofs.TextLaws.{StandsAt, stands_at, log_bytes, next_bytes, cut_is}
+use Rattle.vyrd_batch.proofs.TextLaws.{log_isnt_end, span_at, text_stands, text_found}
 
 -- a log before those of the rest
 span_first : (input : List ℕ) (span : Span) (r : Result (List Span) ℕ)
@@ -22,7 +31,8 @@ span_first : (input : List ℕ) (span : Span) (r : Result (List Span) ℕ)
 span_first input span (Ok spans) = refl
 span_first input span (Err log) = refl
 
-logs_joined : (a b : List (List ℕ)) (r : Result (List (List ℕ)) ℕ) → logs_before a (logs_before b r) ≡ logs_before (a ++ b) r
+logs_joined : (a b : List (List ℕ)) (r : Result (List (List ℕ)) ℕ) → logs_before a (logs_before b r)
+    ≡ logs_before (a ++ b) r
 logs_joined a b (Ok more) = ap Ok (sym (append_assoc a b more))
 logs_joined a b (Err log) = refl
 
@@ -31,21 +41,28 @@ none_first (Ok more) = refl
 none_first (Err log) = refl
 
 -- the logs from a place on, where a log's text stands
-one_log : (front log more : List ℕ) (n place : ℕ) → length front ≡ place → n < most_logs → length log ≤ most_bytes
+one_log : (front log more : List ℕ) (n place : ℕ) → length front ≡ place → n < most_logs
+    → length log ≤ most_bytes
     → place + length (log_text log) ≤ logs_end_within
     → logs_on (front ++ (log_text log ++ more)) n place (log_text log ++ more)
-    ≡ logs_before (log ∷ []) (logs_on (front ++ (log_text log ++ more)) (n + 1) (span_at place log).past more)
+    ≡ logs_before (log ∷ [])
+    (logs_on (front ++ (log_text log ++ more)) (n + 1) (span_at place log).past more)
 one_log front log more n place len room small near =
     let bytes = log_text log ++ more in
     let whole = front ++ bytes in
     let span = span_at place log in
     let s = text_stands place log more small near in
     let count : most_logs - n ≡ suc (most_logs - (n + 1)) = omega arith in
-    let behind : drop (span.past - place) bytes ≡ more = next_bytes bytes place span s ∙ drop-append_seam log more in
-    let here : bytes_of whole span ≡ log = log_bytes front bytes place span s len ∙ take-append_seam log more in
+    let behind : drop (span.past - place) bytes ≡ more = next_bytes bytes place span s
+    ∙ drop-append_seam log more in
+    let here : bytes_of whole span ≡ log = log_bytes front bytes place span s len
+    ∙ take-append_seam log more in
     ap (λ m. logs_of whole (logs_from m n place bytes)) count
-    ∙ ap (logs_of whole) (at_line (most_logs - (n + 1)) n place bytes (Some span) (log_isnt_end log more) (text_found place log more small near))
-    ∙ span_first whole span (logs_from (most_logs - (n + 1)) (n + 1) span.past (drop (span.past - place) bytes))
+    ∙ ap (logs_of whole)
+    (at_line (most_logs - (n + 1)) n place bytes (Some span) (log_isnt_end log more)
+    (text_found place log more small near))
+    ∙ span_first whole span
+    (logs_from (most_logs - (n + 1)) (n + 1) span.past (drop (span.past - place) bytes))
     ∙ (λ i. logs_before (here i ∷ []) (logs_on whole (n + 1) span.past (behind i)))
 
 -- a span, counted from a place on
@@ -53,24 +70,29 @@ abbrev pub from_place : ℕ → Span → Span
 from_place place span = record { first = span.first - place; past = span.past - place }
 
 -- how many bytes stand before a place, with some more
-moved_len : (front bytes : List ℕ) (place taken : ℕ) → length front ≡ place → taken ≤ length bytes → length (front ++ take taken bytes) ≡ place + taken
+moved_len : (front bytes : List ℕ) (place taken : ℕ) → length front ≡ place → taken ≤ length bytes
+    → length (front ++ take taken bytes) ≡ place + taken
 moved_len front bytes place taken len within =
-    let short : length (take taken bytes) ≡ taken = omega (arith, length-take taken bytes, within) in
+    let short : length (take taken bytes)
+    ≡ taken = omega (arith, length-take taken bytes, within) in
     omega (arith, length-append front (take taken bytes), short, len)
 
 pub count_more : (spans : List Span) (span : Span) → length (spans ++ span ∷ []) ≡ length spans + 1
 count_more spans span = length-append spans (span ∷ [])
 
 -- one more log
-pub cut_more : (bytes : List ℕ) (log place : ℕ) (spans new : List Span) (span : Span) (taken : ℕ) → IsCut bytes log place spans taken
-    → log + length spans < most_logs → log_at (place + taken) (drop taken bytes) ≡ Some span → new ≡ spans ++ from_place place span ∷ []
+pub cut_more : (bytes : List ℕ) (log place : ℕ) (spans new : List Span) (span : Span) (taken : ℕ)
+    → IsCut bytes log place spans taken
+    → log + length spans < most_logs → log_at (place + taken) (drop taken bytes) ≡ Some span
+    → new ≡ spans ++ from_place place span ∷ []
     → IsCut bytes log place new (span.past - place)
 cut_more bytes log place spans new span taken cut room found grown =
     subst (λ new. IsCut bytes log place new (span.past - place)) (sym grown) (record {
       few = omega (arith, count_more spans here, room);
       near = omega (arith, s.near, s.first_is, s.past_is);
       within = within;
-      inside = all_more (LiesWithin (length bytes)) spans here cut.inside (omega (arith, s.past_is), within);
+      inside = all_more (LiesWithin (length bytes)) spans here cut.inside
+          (omega (arith, s.past_is), within);
       goes_on = goes_on;
     })
   where
@@ -85,8 +107,10 @@ cut_more bytes log place spans new span taken cut room found grown =
 
     within : span.past - place ≤ length bytes
     within =
-        let all : length (take taken bytes ++ rest) ≡ length bytes = ap length (take-append-drop taken bytes) in
-        let short : length (take taken bytes) ≡ taken = omega (arith, length-take taken bytes, cut.within) in
+        let all : length (take taken bytes ++ rest) ≡ length bytes = ap length
+        (take-append-drop taken bytes) in
+        let short : length (take taken bytes)
+        ≡ taken = omega (arith, length-take taken bytes, cut.within) in
         omega (
           arith,
           all,
@@ -101,7 +125,8 @@ cut_more bytes log place spans new span taken cut room found grown =
 
     log_is : bytes_of bytes here ≡ take s.size s.rest
     log_is =
-        let short : length (take taken bytes) ≡ taken = omega (arith, length-take taken bytes, cut.within) in
+        let short : length (take taken bytes)
+        ≡ taken = omega (arith, length-take taken bytes, cut.within) in
         let stands : StandsAt taken rest here = record {
           size = s.size;
           rest = s.rest;
@@ -112,7 +137,8 @@ cut_more bytes log place spans new span taken cut room found grown =
           first_is = omega (arith, s.first_is);
           past_is = omega (arith, s.first_is, s.past_is);
         } in
-        ap (λ all. bytes_of all here) (sym (take-append-drop taken bytes)) ∙ log_bytes (take taken bytes) rest taken here stands short
+        ap (λ all. bytes_of all here) (sym (take-append-drop taken bytes))
+        ∙ log_bytes (take taken bytes) rest taken here stands short
 
     body : List ℕ
     body = take s.size s.rest
@@ -124,21 +150,34 @@ cut_more bytes log place spans new span taken cut room found grown =
     taken_is : take (span.past - place) bytes ≡ take taken bytes ++ log_text body
     taken_is =
         let word = log_word s.size in
-        let count : span.past - place ≡ taken + (length word + suc s.size) = omega (arith, s.first_is, s.past_is) in
+        let count : span.past - place ≡ taken + (length word + suc s.size) =
+        omega (arith, s.first_is, s.past_is) in
         let text : take (length word + suc s.size) rest ≡ log_text body =
         ap (take (length word + suc s.size)) s.is ∙ take-append-add word (10 ∷ s.rest) (suc s.size)
-        ∙ sym (append_assoc word (10 ∷ []) body) ∙ ap (λ n. (log_word n ++ 10 ∷ []) ++ body) (sym size) in
-        ap (λ n. take n bytes) count ∙ take-add taken (length word + suc s.size) bytes ∙ ap (λ t. take taken bytes ++ t) text
+        ∙ sym (append_assoc word (10 ∷ []) body) ∙ ap (λ n. (log_word n ++ 10 ∷ []) ++ body)
+        (sym size) in
+        ap (λ n. take n bytes) count ∙ take-add taken (length word + suc s.size) bytes
+        ∙ ap (λ t. take taken bytes ++ t) text
 
     text_len : length (log_text body) ≡ length (log_word s.size) + 1 + s.size
     text_len =
-        let word : length (log_word (length body)) ≡ length (log_word s.size) = ap (λ n. length (log_word n)) size in
-        omega (arith, length-append (ended_line (log_word (length body))) body, length-append (log_word (length body)) (10 ∷ []), word, size)
+        let word : length (log_word (length body)) ≡ length (log_word s.size) =
+        ap (λ n. length (log_word n)) size in
+        omega (
+          arith,
+          length-append (ended_line (log_word (length body))) body,
+          length-append
+              (log_word (length body)) (10 ∷ []),
+          word,
+          size,
+        )
 
     goes_on : (front more : List ℕ) → length front ≡ place
-        → logs_on (front ++ (take (span.past - place) bytes ++ more)) log place (take (span.past - place) bytes ++ more)
+        → logs_on (front ++ (take (span.past - place) bytes ++ more)) log place
+        (take (span.past - place) bytes ++ more)
         ≡ logs_before (map (bytes_of bytes) (spans ++ here ∷ []))
-        (logs_on (front ++ (take (span.past - place) bytes ++ more)) (log + length (spans ++ here ∷ [])) (place + (span.past - place)) more)
+        (logs_on (front ++ (take (span.past - place) bytes ++ more))
+        (log + length (spans ++ here ∷ [])) (place + (span.past - place)) more)
     goes_on front more len =
         let logs = map (bytes_of bytes) spans in
         let n = log + length spans in
@@ -146,32 +185,44 @@ cut_more bytes log place spans new span taken cut room found grown =
         let whole = front ++ (take taken bytes ++ next) in
         let all : take (span.past - place) bytes ++ more ≡ take taken bytes ++ next =
         ap (λ t. t ++ more) taken_is ∙ append_assoc (take taken bytes) (log_text body) more in
-        let parted : (front ++ take taken bytes) ++ next ≡ whole = append_assoc front (take taken bytes) next in
-        let count : n + 1 ≡ log + length (spans ++ here ∷ []) = omega (arith, count_more spans here) in
-        let word : length (log_word (length body)) ≡ length (log_word s.size) = ap (λ n. length (log_word n)) size in
-        let past : (span_at (place + taken) body).past ≡ place + (span.past - place) = omega (arith, word, size, s.first_is, s.past_is) in
-        let behind = logs_on whole (log + length (spans ++ here ∷ [])) (place + (span.past - place)) more in
-        let one : logs_on whole n (place + taken) next ≡ logs_before (bytes_of bytes here ∷ []) behind =
+        let parted : (front ++ take taken bytes) ++ next ≡ whole = append_assoc front
+        (take taken bytes) next in
+        let count : n + 1 ≡ log + length (spans ++ here ∷ []) =
+        omega (arith, count_more spans here) in
+        let word : length (log_word (length body)) ≡ length (log_word s.size) =
+        ap (λ n. length (log_word n)) size in
+        let past : (span_at (place + taken) body).past ≡ place + (span.past - place) =
+        omega (arith, word, size, s.first_is, s.past_is) in
+        let behind = logs_on whole (log + length (spans ++ here ∷ [])) (place + (span.past - place))
+        more in
+        let one : logs_on whole n (place + taken) next ≡ logs_before (bytes_of bytes here ∷ [])
+        behind =
         ap (λ w. logs_on w n (place + taken) next) (sym parted)
-        ∙ one_log (front ++ take taken bytes) body more n (place + taken) (moved_len front bytes place taken len cut.within) room
+        ∙ one_log (front ++ take taken bytes) body more n (place + taken)
+        (moved_len front bytes place taken len cut.within) room
         (omega (arith, size, s.small)) (omega (arith, text_len, s.near, s.first_is, s.past_is))
         ∙ (λ i. logs_before (sym log_is i ∷ []) (logs_on (parted i) (count i) (past i) more)) in
         ap (λ xs. logs_on (front ++ xs) log place xs) all ∙ cut.goes_on front next len
         ∙ ap (logs_before logs) one ∙ logs_joined logs (bytes_of bytes here ∷ []) behind
         ∙ ap (λ logs. logs_before logs behind) (sym (map-append (bytes_of bytes) spans (here ∷ [])))
         ∙ ap (λ xs. logs_before (map (bytes_of bytes) (spans ++ here ∷ []))
-        (logs_on (front ++ xs) (log + length (spans ++ here ∷ [])) (place + (span.past - place)) more)) (sym all)
+        (logs_on (front ++ xs) (log + length (spans ++ here ∷ [])) (place + (span.past - place))
+        more)) (sym all)
 
 -- what comes after the logs
-pub cut_rest : (bytes rest next : List ℕ) (place taken : ℕ) (span : Span) → log_at (place + taken) rest ≡ Some span → rest ≡ drop taken bytes
+pub cut_rest : (bytes rest next : List ℕ) (place taken : ℕ) (span : Span)
+    → log_at (place + taken) rest ≡ Some span → rest ≡ drop taken bytes
     → next ≡ drop (span.past - (place + taken)) rest → next ≡ drop (span.past - place) bytes
 cut_rest bytes rest next place taken span found is behind =
     let s = stands_at (place + taken) rest span found in
-    let count : taken + (span.past - (place + taken)) ≡ span.past - place = omega (arith, s.first_is, s.past_is) in
-    behind ∙ ap (drop (span.past - (place + taken))) is ∙ drop-drop (span.past - (place + taken)) taken bytes ∙ ap (λ n. drop n bytes) count
+    let count : taken + (span.past - (place + taken)) ≡ span.past - place =
+    omega (arith, s.first_is, s.past_is) in
+    behind ∙ ap (drop (span.past - (place + taken))) is
+    ∙ drop-drop (span.past - (place + taken)) taken bytes ∙ ap (λ n. drop n bytes) count
 
 -- more bytes come
-judged_more : (input rest more : List ℕ) (verdicts : List Verdict) (place : Option ℕ) → AreJudgedTo place input verdicts rest
+judged_more : (input rest more : List ℕ) (verdicts : List Verdict) (place : Option ℕ)
+    → AreJudgedTo place input verdicts rest
     → AreJudgedTo place (input ++ more) verdicts (rest ++ more)
 judged_more input rest more verdicts None j = (ap (λ all. all ++ more) j.0, j.1)
 judged_more input rest more verdicts (Some place) j = record {
@@ -183,8 +234,10 @@ judged_more input rest more verdicts (Some place) j = record {
   goes_on = j.goes_on;
 }
 
-pub judged_longer : (refused : Bool) (input rest more : List ℕ) (verdicts : List Verdict) (place : Option ℕ)
-    → IsJudgedBy refused place input verdicts rest → IsJudgedBy refused place (input ++ more) verdicts (rest ++ more)
+pub judged_longer : (refused : Bool) (input rest more : List ℕ) (verdicts : List Verdict)
+    (place : Option ℕ)
+    → IsJudgedBy refused place input verdicts rest → IsJudgedBy refused place
+    (input ++ more) verdicts (rest ++ more)
 judged_longer false input rest more verdicts place j = judged_more input rest more verdicts place j
 judged_longer true input rest more verdicts place r = record {
   rest = r.rest ++ more;
@@ -198,7 +251,8 @@ none_there None none = refl
 none_there (Some n) none = cc
 
 -- the first line was read
-pub judged_begun : (input bytes rest : List ℕ) (verdicts : List Verdict) → AreJudgedTo None input verdicts bytes → bytes ≡ ended_line first_word ++ rest
+pub judged_begun : (input bytes rest : List ℕ) (verdicts : List Verdict)
+    → AreJudgedTo None input verdicts bytes → bytes ≡ ended_line first_word ++ rest
     → AreJudged input verdicts 6 rest
 judged_begun input bytes rest verdicts j is = record {
   front = ended_line first_word;
@@ -208,13 +262,16 @@ judged_begun input bytes rest verdicts j is = record {
   verdicts_are = j.1;
   goes_on = λ more.
       let whole = ended_line first_word ++ more in
-      let read : batch_reading whole ≡ logs_from most_logs 0 6 more = behind_first_line whole first_word more refl refl refl in
+      let read : batch_reading whole ≡ logs_from most_logs 0 6 more =
+      behind_first_line whole first_word more refl refl refl in
       ap (logs_of whole) read ∙ none_first (logs_on whole 0 6 more);
 }
 
 -- more logs were judged
-pub judged_logs : (input bytes : List ℕ) (old new : List Verdict) (place taken : ℕ) (spans : List Span) → AreJudged input old place bytes
-    → IsCut bytes (length old) place spans taken → new ≡ old ++ verdicts_of (map (bytes_of bytes) spans)
+pub judged_logs : (input bytes : List ℕ) (old new : List Verdict) (place taken : ℕ)
+    (spans : List Span) → AreJudged input old place bytes
+    → IsCut bytes (length old) place spans taken → new ≡ old
+    ++ verdicts_of (map (bytes_of bytes) spans)
     → AreJudged input new (place + taken) (drop taken bytes)
 judged_logs input bytes old new place taken spans j cut grown = record {
   front = j.front ++ take taken bytes;
@@ -227,9 +284,11 @@ judged_logs input bytes old new place taken spans j cut grown = record {
   goes_on = λ more.
       let next = take taken bytes ++ more in
       let whole = j.front ++ next in
-      let parted : (j.front ++ take taken bytes) ++ more ≡ whole = append_assoc j.front (take taken bytes) more in
+      let parted : (j.front ++ take taken bytes) ++ more ≡ whole = append_assoc j.front
+      (take taken bytes) more in
       ap batch_logs parted ∙ j.goes_on next
-      ∙ ap (logs_before j.logs) (ap (λ n. logs_on whole n place next) (sym count) ∙ cut.goes_on j.front more j.place_is)
+      ∙ ap (logs_before j.logs) (ap (λ n. logs_on whole n place next) (sym count)
+      ∙ cut.goes_on j.front more j.place_is)
       ∙ logs_joined j.logs here (logs_on whole (length old + length spans) (place + taken) more)
       ∙ (λ i. logs_before logs (logs_on (sym parted i) (all i) (place + taken) more));
 }
@@ -247,34 +306,41 @@ judged_logs input bytes old new place taken spans j cut grown = record {
     all = omega (arith, count, length-append j.logs here, length-map spans (bytes_of bytes))
 
 -- the input ends here
-pub judged_all : (input rest : List ℕ) (verdicts : List Verdict) (place : ℕ) → AreJudged input verdicts place rest → rest ≡ last_line
+pub judged_all : (input rest : List ℕ) (verdicts : List Verdict) (place : ℕ)
+    → AreJudged input verdicts place rest → rest ≡ last_line
     → (logs : List (List ℕ)) × (batch_logs input ≡ Ok logs) × (verdicts ≡ verdicts_of logs)
 judged_all input rest verdicts place j is = (
   j.logs,
   ap batch_logs j.input_is ∙ j.goes_on rest
-      ∙ ap (λ r. logs_before j.logs (logs_of (j.front ++ rest) r)) (logs_end (most_logs - length j.logs) (length j.logs) place rest is)
+      ∙ ap (λ r. logs_before j.logs (logs_of (j.front ++ rest) r))
+      (logs_end (most_logs - length j.logs) (length j.logs) place rest is)
       ∙ ap Ok (append-nil j.logs),
   j.verdicts_are,
 )
 
-refused_from : (k n place : ℕ) (rest : List ℕ) → (rest ≡ last_line → ⊥) → (k ≡ zero) ⊎ (log_at place rest ≡ None) → logs_from k n place rest ≡ Err n
+refused_from : (k n place : ℕ) (rest : List ℕ) → (rest ≡ last_line → ⊥) → (k ≡ zero)
+    ⊎ (log_at place rest ≡ None) → logs_from k n place rest ≡ Err n
 refused_from zero n place rest apart why = logs_full n place rest apart
 refused_from (suc k) n place rest apart (inl none) = absurd (omega (arith, none))
 refused_from (suc k) n place rest apart (inr none) = at_line k n place rest None apart none
 
-pub judged_refused : (input rest : List ℕ) (verdicts : List Verdict) (place : ℕ) → AreJudged input verdicts place rest
-    → (rest ≡ last_line → ⊥) → IsNoLog (length verdicts) place rest → batch_logs input ≡ Err (length verdicts)
+pub judged_refused : (input rest : List ℕ) (verdicts : List Verdict) (place : ℕ)
+    → AreJudged input verdicts place rest
+    → (rest ≡ last_line → ⊥) → IsNoLog (length verdicts) place rest → batch_logs input
+    ≡ Err (length verdicts)
 judged_refused input rest verdicts place j apart why =
     let n = length j.logs in
     let full : (most_logs - n ≡ zero) ⊎ (log_at place rest ≡ None) = no_more why in
     ap batch_logs j.input_is ∙ j.goes_on rest
-    ∙ ap (λ r. logs_before j.logs (logs_of (j.front ++ rest) r)) (refused_from (most_logs - n) n place rest apart full)
+    ∙ ap (λ r. logs_before j.logs (logs_of (j.front ++ rest) r))
+    (refused_from (most_logs - n) n place rest apart full)
     ∙ ap Err (sym count)
   where
     count : length verdicts ≡ length j.logs
     count = ap length j.verdicts_are ∙ length-map j.logs (λ log. log_verdict most_lines log)
 
-    no_more : IsNoLog (length verdicts) place rest → (most_logs - length j.logs ≡ zero) ⊎ (log_at place rest ≡ None)
+    no_more : IsNoLog (length verdicts) place rest → (most_logs - length j.logs ≡ zero)
+        ⊎ (log_at place rest ≡ None)
     no_more (inl e) = inl (omega (arith, e, count))
     no_more (inr e) = inr e
 
@@ -284,7 +350,8 @@ pub judged_unbegun : (input bytes : List ℕ) → input ≡ bytes
 judged_unbegun input bytes is apart =
     ap batch_logs is ∙ ap (logs_of bytes) (by_cut (first_line bytes) refl)
   where
-    by_word : (cut : Cut) → bytes ≡ cut.line ++ 10 ∷ cut.rest → (t : Bool) → bytes_eq cut.line first_word ≡ t
+    by_word : (cut : Cut) → bytes ≡ cut.line ++ 10 ∷ cut.rest → (t : Bool)
+        → bytes_eq cut.line first_word ≡ t
         → cond t (logs_from most_logs 0 (length cut.line + 1) cut.rest) (Err 0) ≡ Err 0
     by_word cut is true e =
         let word : cut.line ≡ first_word = (bytes_eq-Decides cut.line first_word).0 e in
@@ -293,37 +360,47 @@ judged_unbegun input bytes is apart =
 
     by_cut : (o : Option Cut) → first_line bytes ≡ o → batch_reading bytes ≡ Err 0
     by_cut None e = reading_at bytes None e
-    by_cut (Some cut) e = reading_at bytes (Some cut) e ∙ by_word cut (cut_is bytes cut e) (bytes_eq cut.line first_word) refl
+    by_cut (Some cut) e = reading_at bytes (Some cut) e ∙ by_word cut (cut_is bytes cut e)
+        (bytes_eq cut.line first_word) refl
 
 -- however the input goes on, nothing comes after the logs that were judged
-pub judged_never : (place : Option ℕ) (input rest : List ℕ) (verdicts : List Verdict) → AreJudgedTo place input verdicts rest
+pub judged_never : (place : Option ℕ) (input rest : List ℕ) (verdicts : List Verdict)
+    → AreJudgedTo place input verdicts rest
     → IsNothingEver place (length verdicts) rest → IsRefused place input verdicts
-judged_never place input rest verdicts j never = record { rest = rest; judged = j; lasts = lasts place j never }
+judged_never place input rest verdicts j never =
+    record { rest = rest; judged = j; lasts = lasts place j never }
   where
-    lasts : (place : Option ℕ) → AreJudgedTo place input verdicts rest → IsNothingEver place (length verdicts) rest
+    lasts : (place : Option ℕ) → AreJudgedTo place input verdicts rest
+        → IsNothingEver place (length verdicts) rest
         → (more : List ℕ) → batch_logs (input ++ more) ≡ Err (length verdicts)
     lasts None j never more =
-        judged_unbegun (input ++ more) (rest ++ more) (ap (λ bytes. bytes ++ more) j.0) (never more) ∙ ap Err (sym (ap length j.1))
+        judged_unbegun (input ++ more) (rest ++ more) (ap (λ bytes. bytes ++ more) j.0) (never more)
+        ∙ ap Err (sym (ap length j.1))
     lasts (Some place) j never more =
-        judged_refused (input ++ more) (rest ++ more) verdicts place (judged_more input rest more verdicts (Some place) j) (never more).0 (never more).1
+        judged_refused (input ++ more) (rest ++ more) verdicts place
+        (judged_more input rest more verdicts (Some place) j) (never more).0 (never more).1
 
-pub refused_at_end : (place : Option ℕ) (input : List ℕ) (verdicts : List Verdict) → IsRefused place input verdicts
+pub refused_at_end : (place : Option ℕ) (input : List ℕ) (verdicts : List Verdict)
+    → IsRefused place input verdicts
     → batch_logs input ≡ Err (length verdicts)
 refused_at_end place input verdicts r = ap batch_logs (sym (append-nil input)) ∙ r.lasts []
 
 -- what is judged and left while the batch isn't refused
-pub not_refused : (refused : Bool) (place : Option ℕ) (input rest : List ℕ) (verdicts : List Verdict) → refused ≡ false
+pub not_refused : (refused : Bool) (place : Option ℕ) (input rest : List ℕ)
+    (verdicts : List Verdict) → refused ≡ false
     → IsJudgedBy refused place input verdicts rest → AreJudgedTo place input verdicts rest
 not_refused false place input rest verdicts e j = j
 not_refused true place input rest verdicts e j = cc
 
-pub nothing_more : (refused : Bool) (place : Option ℕ) (log : ℕ) (rest : List ℕ) → refused ≡ false → IsSpentBy refused place log rest
+pub nothing_more : (refused : Bool) (place : Option ℕ) (log : ℕ) (rest : List ℕ) → refused ≡ false
+    → IsSpentBy refused place log rest
     → IsNothingMore place log rest
 nothing_more false place log rest e spent = spent.0
 nothing_more true place log rest e spent = cc
 
 -- and once it is
-pub is_refused : (refused : Bool) (place : Option ℕ) (input rest : List ℕ) (verdicts : List Verdict) → refused ≡ true
+pub is_refused : (refused : Bool) (place : Option ℕ) (input rest : List ℕ) (verdicts : List Verdict)
+    → refused ≡ true
     → IsJudgedBy refused place input verdicts rest → IsRefused place input verdicts
 is_refused false place input rest verdicts e j = cc
 is_refused true place input rest verdicts e r = r

@@ -1,5 +1,7 @@
 -- Long inputs are settled.
-use Rattle.std.proofs.Common.{◌≡◌, ℕ, zero, suc, ◌+◌, ◌-◌, ◌<◌, ◌≤◌, Bool, true, false, cond, ◌&&◌, List, [], ◌∷◌, ◌++◌, length, drop, Option, Some, None, Result, Ok, Err, refl, ap, ◌∙◌, sym, arith, length-append, length-drop}
+use Rattle.std.proofs.Common.{◌≡◌, ℕ, zero, suc, ◌+◌, ◌-◌, ◌<◌, ◌≤◌, Bool, true, false, cond, ◌&&◌}
+use Rattle.std.proofs.Common.{List, [], ◌∷◌, ◌++◌, length, drop, Option, Some, None, Result, Ok}
+use Rattle.std.proofs.Common.{Err, refl, ap, ◌∙◌, sym, arith, length-append, length-drop}
 use Rattle.std.proofs.lemmas.Option.{same_Some}
 use Rattle.std.specs.Prelude.{◌==◌, nat_le, option_map}
 use Rattle.std.specs.Str.{bytes_eq}
@@ -7,13 +9,16 @@ use Rattle.std.proofs.lemmas.List.{drop-append-le}
 use Rattle.std.proofs.lemmas.Slice.Eq.{bytes_eq-Decides}
 use Rattle.vyrd_base.proofs.TestLaws.{is_at_most, at_most_of, isnt_at_most, first_true, second_true}
 use Rattle.vyrd_batch.specs.declared.span.Span.{Span}
-use Rattle.vyrd_batch.specs.Batches.{most_logs, logs_end_within, first_word, last_line, Cut, longer, first_line, size_in, span_of, log_at, span_before, logs_from, logs_behind, batch_reading, logs_of, batch_logs}
+use Rattle.vyrd_batch.specs.Batches.{most_logs, logs_end_within, first_word, last_line, Cut, longer}
+use Rattle.vyrd_batch.specs.Batches.{first_line, size_in, span_of, log_at, span_before, logs_from}
+use Rattle.vyrd_batch.specs.Batches.{logs_behind, batch_reading, logs_of, batch_logs}
 use Rattle.vyrd_batch.specs.LongBatches.{longest_batch_input}
 use Rattle.vyrd_batch.proofs.LogFacts.{other_bytes}
 
 -- What the first line of longer bytes is: the same, or one that is no shorter than these bytes.
 pub record IsLonger (bytes more : List ℕ) (o all : Option Cut) : Type 0 where
-  pub same : (cut : Cut) → o ≡ Some cut → all ≡ Some (record { line = cut.line; rest = cut.rest ++ more })
+  pub same : (cut : Cut) → o ≡ Some cut
+      → all ≡ Some (record { line = cut.line; rest = cut.rest ++ more })
   pub other : o ≡ None → (cut : Cut) → all ≡ Some cut → length bytes ≤ length cut.line
 
 next_byte : (b : ℕ) (bytes more : List ℕ) (o all : Option Cut) → IsLonger bytes more o all
@@ -29,42 +34,53 @@ next_byte b bytes more None (Some whole) is = record {
 next_byte b bytes more (Some cut) all is = record {
   same = λ next e.
       let grown : longer b cut ≡ next = same_Some (longer b cut) next e in
-      ap (option_map (longer b)) (is.same cut refl) ∙ ap (λ c. Some (record { line = c.line; rest = c.rest ++ more })) grown;
+      ap (option_map (longer b)) (is.same cut refl)
+      ∙ ap (λ c. Some (record { line = c.line; rest = c.rest ++ more })) grown;
   other = λ e next f. cc;
 }
 
-pub first_longer : (bytes more : List ℕ) → IsLonger bytes more (first_line bytes) (first_line (bytes ++ more))
+pub first_longer : (bytes more : List ℕ) → IsLonger bytes more (first_line bytes)
+    (first_line (bytes ++ more))
 first_longer [] more = record { same = λ cut e. cc; other = λ e cut f. omega arith }
 first_longer (b ∷ bytes) more = by_test (b == 10) (first_longer bytes more)
   where
     by_test : (t : Bool) → IsLonger bytes more (first_line bytes) (first_line (bytes ++ more))
-        → IsLonger (b ∷ bytes) more (cond t (Some (record { line = []; rest = bytes })) (option_map (longer b) (first_line bytes)))
-        (cond t (Some (record { line = []; rest = bytes ++ more })) (option_map (longer b) (first_line (bytes ++ more))))
+        → IsLonger (b ∷ bytes) more
+        (cond t (Some (record { line = []; rest = bytes }))
+        (option_map (longer b) (first_line bytes)))
+        (cond t (Some (record { line = []; rest = bytes ++ more }))
+        (option_map (longer b) (first_line (bytes ++ more))))
     by_test true is = record {
       same = λ cut e.
-          let at : record { line = []; rest = bytes } ≡ cut = same_Some (record { line = []; rest = bytes }) cut e in
+          let at : record { line = []; rest = bytes } ≡ cut = same_Some
+          (record { line = []; rest = bytes }) cut e in
           ap (λ c. Some (record { line = c.line; rest = c.rest ++ more })) at;
       other = λ e cut f. cc;
     }
     by_test false is = next_byte b bytes more (first_line bytes) (first_line (bytes ++ more)) is
 
 -- how long bytes are that were cut
-pub cut_len : (bytes : List ℕ) (cut : Cut) → first_line bytes ≡ Some cut → length bytes ≡ length cut.line + 1 + length cut.rest
+pub cut_len : (bytes : List ℕ) (cut : Cut) → first_line bytes ≡ Some cut → length bytes
+    ≡ length cut.line + 1 + length cut.rest
 cut_len [] cut e = cc
 cut_len (b ∷ bytes) cut e = by_test (b == 10) (first_line bytes) (cut_len bytes) e
   where
-    by_test : (t : Bool) (o : Option Cut) → ((inner : Cut) → o ≡ Some inner → length bytes ≡ length inner.line + 1 + length inner.rest)
+    by_test : (t : Bool) (o : Option Cut)
+        → ((inner : Cut) → o ≡ Some inner → length bytes ≡ length inner.line + 1
+        + length inner.rest)
         → cond t (Some (record { line = []; rest = bytes })) (option_map (longer b) o) ≡ Some cut
         → length (b ∷ bytes) ≡ length cut.line + 1 + length cut.rest
     by_test true o inner e =
-        let at : record { line = []; rest = bytes } ≡ cut = same_Some (record { line = []; rest = bytes }) cut e in
+        let at : record { line = []; rest = bytes } ≡ cut = same_Some
+        (record { line = []; rest = bytes }) cut e in
         let line : 0 ≡ length cut.line = ap (λ c. length c.line) at in
         let rest : length bytes ≡ length cut.rest = ap (λ c. length c.rest) at in
         omega (arith, line, rest)
     by_test false None inner e = cc
     by_test false (Some one) inner e =
         let at : longer b one ≡ cut = same_Some (longer b one) cut e in
-        let line : length one.line + 1 ≡ length cut.line = omega (arith, ap (λ c. length c.line) at) in
+        let line : length one.line + 1 ≡ length cut.line =
+        omega (arith, ap (λ c. length c.line) at) in
         let rest : length one.rest ≡ length cut.rest = ap (λ c. length c.rest) at in
         omega (arith, inner one refl, line, rest)
 
@@ -74,44 +90,63 @@ pub record IsNear (place len : ℕ) (span : Span) : Type 0 where
   pub near : span.past ≤ logs_end_within
   pub within : span.past ≤ place + len
 
-span_near : (place first : ℕ) (rest : List ℕ) (o : Option ℕ) (span : Span) → place ≤ first → span_of first rest o ≡ Some span
+span_near : (place first : ℕ) (rest : List ℕ) (o : Option ℕ) (span : Span) → place ≤ first
+    → span_of first rest o ≡ Some span
     → IsNear place (first - place + length rest) span
 span_near place first rest None span low e = cc
-span_near place first rest (Some size) span low e = by_test (nat_le size (length rest) && nat_le (first + size) logs_end_within) refl e
+span_near place first rest (Some size) span low e = by_test
+    (nat_le size (length rest) && nat_le (first + size) logs_end_within) refl e
   where
     by_test : (t : Bool) → (nat_le size (length rest) && nat_le (first + size) logs_end_within) ≡ t
-        → cond t (Some (record { first = first; past = first + size })) None ≡ Some span → IsNear place (first - place + length rest) span
+        → cond t (Some (record { first = first; past = first + size })) None ≡ Some span
+        → IsNear place (first - place + length rest) span
     by_test true is e =
         let fits : size ≤ length rest = at_most_of size (length rest) (first_true _ _ is) in
-        let near : first + size ≤ logs_end_within = at_most_of (first + size) logs_end_within (second_true (nat_le size (length rest)) _ is) in
-        let past : first + size ≡ span.past = ap (λ s. s.past) (same_Some (record { first = first; past = first + size }) span e) in
+        let near : first + size ≤ logs_end_within = at_most_of (first + size) logs_end_within
+        (second_true (nat_le size (length rest)) _ is) in
+        let past : first + size ≡ span.past = ap (λ s. s.past)
+        (same_Some (record { first = first; past = first + size }) span e) in
         record { later = omega arith; near = omega arith; within = omega arith }
     by_test false is e = cc
 
-log_near : (place : ℕ) (bytes : List ℕ) (span : Span) → log_at place bytes ≡ Some span → IsNear place (length bytes) span
+log_near : (place : ℕ) (bytes : List ℕ) (span : Span) → log_at place bytes ≡ Some span
+    → IsNear place (length bytes) span
 log_near place bytes span e = by_cut (first_line bytes) (cut_len bytes) e
   where
-    by_cut : (o : Option Cut) → ((cut : Cut) → o ≡ Some cut → length bytes ≡ length cut.line + 1 + length cut.rest)
-        → elim o as (λ _. Option Span) [ None ↦ None | Some cut ↦ span_of (place + length cut.line + 1) cut.rest (size_in cut.line) ] ≡ Some span
+    by_cut : (o : Option Cut)
+        → ((cut : Cut) → o ≡ Some cut → length bytes ≡ length cut.line + 1 + length cut.rest)
+        → elim o as (λ _. Option Span) [
+          | None ↦ None
+          | Some cut ↦ span_of
+              (place + length cut.line + 1) cut.rest (size_in cut.line)
+        ] ≡ Some span
         → IsNear place (length bytes) span
     by_cut None len e = cc
     by_cut (Some cut) len e =
-        let near = span_near place (place + length cut.line + 1) cut.rest (size_in cut.line) span (omega arith) e in
-        record { later = near.later; near = near.near; within = omega (arith, near.within, len cut refl) }
+        let near = span_near place (place + length cut.line + 1) cut.rest (size_in cut.line) span
+        (omega arith) e in
+        record {
+          later = near.later;
+          near = near.near;
+          within = omega (arith, near.within, len cut refl);
+        }
 
 -- where the bytes are long, more of them change no span
-span_settled : (first : ℕ) (rest more : List ℕ) (o : Option ℕ) → logs_end_within ≤ first + length rest
+span_settled : (first : ℕ) (rest more : List ℕ) (o : Option ℕ) → logs_end_within ≤ first
+    + length rest
     → span_of first (rest ++ more) o ≡ span_of first rest o
 span_settled first rest more None long = refl
 span_settled first rest more (Some size) long =
-    ap (λ t. cond t (Some (record { first = first; past = first + size })) None) (by_near (nat_le (first + size) logs_end_within) refl)
+    ap (λ t. cond t (Some (record { first = first; past = first + size })) None)
+    (by_near (nat_le (first + size) logs_end_within) refl)
   where
     by_near : (t : Bool) → nat_le (first + size) logs_end_within ≡ t
         → (nat_le size (length (rest ++ more)) && t) ≡ (nat_le size (length rest) && t)
     by_near true e =
         let near : first + size ≤ logs_end_within = at_most_of (first + size) logs_end_within e in
         let here : nat_le size (length rest) ≡ true = is_at_most size (length rest) (omega arith) in
-        let there : nat_le size (length (rest ++ more)) ≡ true = is_at_most size (length (rest ++ more)) (omega (arith, length-append rest more)) in
+        let there : nat_le size (length (rest ++ more)) ≡ true = is_at_most size
+        (length (rest ++ more)) (omega (arith, length-append rest more)) in
         ap (λ b. b && true) (there ∙ sym here)
     by_near false e = no_matter (nat_le size (length (rest ++ more))) (nat_le size (length rest))
       where
@@ -121,47 +156,67 @@ span_settled first rest more (Some size) long =
         no_matter false true = refl
         no_matter false false = refl
 
-span_far : (first : ℕ) (rest : List ℕ) (o : Option ℕ) → logs_end_within < first → span_of first rest o ≡ None
+span_far : (first : ℕ) (rest : List ℕ) (o : Option ℕ) → logs_end_within < first
+    → span_of first rest o ≡ None
 span_far first rest None far = refl
-span_far first rest (Some size) far = by_size (nat_le size (length rest)) (nat_le (first + size) logs_end_within) (isnt_at_most (first + size) logs_end_within (omega arith))
+span_far first rest (Some size) far = by_size (nat_le size (length rest))
+    (nat_le (first + size) logs_end_within)
+    (isnt_at_most (first + size) logs_end_within (omega arith))
   where
-    by_size : (a b : Bool) → b ≡ false → cond {A = Option Span} (a && b) (Some (record { first = first; past = first + size })) None ≡ None
-    by_size true b f = ap (λ t. cond t (Some (record { first = first; past = first + size })) None) f
+    by_size : (a b : Bool) → b ≡ false → cond {A = Option Span} (a && b)
+        (Some (record { first = first; past = first + size })) None ≡ None
+    by_size true b f = ap (λ t. cond t (Some (record { first = first; past = first + size })) None)
+        f
     by_size false b f = refl
 
-log_settled : (place : ℕ) (bytes more : List ℕ) → longest_batch_input ≤ place + length bytes → log_at place (bytes ++ more) ≡ log_at place bytes
-log_settled place bytes more long = by_cut (first_line bytes) (first_line (bytes ++ more)) (first_longer bytes more) (cut_len bytes)
+log_settled : (place : ℕ) (bytes more : List ℕ) → longest_batch_input ≤ place + length bytes
+    → log_at place (bytes ++ more) ≡ log_at place bytes
+log_settled place bytes more long = by_cut (first_line bytes) (first_line (bytes ++ more))
+    (first_longer bytes more) (cut_len bytes)
   where
     at_cut : Option Cut → Option Span
-    at_cut o = elim o as (λ _. Option Span) [ None ↦ None | Some cut ↦ span_of (place + length cut.line + 1) cut.rest (size_in cut.line) ]
+    at_cut o = elim o as (λ _. Option Span) [
+      | None ↦ None
+      | Some cut ↦ span_of
+          (place + length cut.line + 1) cut.rest (size_in cut.line)
+    ]
 
-    by_cut : (o all : Option Cut) → IsLonger bytes more o all → ((cut : Cut) → o ≡ Some cut → length bytes ≡ length cut.line + 1 + length cut.rest)
+    by_cut : (o all : Option Cut) → IsLonger bytes more o all
+        → ((cut : Cut) → o ≡ Some cut → length bytes ≡ length cut.line + 1 + length cut.rest)
         → at_cut all ≡ at_cut o
     by_cut None None is len = refl
     by_cut None (Some cut) is len =
-        span_far (place + length cut.line + 1) cut.rest (size_in cut.line) (omega (arith, is.other refl cut refl))
+        span_far (place + length cut.line + 1) cut.rest (size_in cut.line)
+        (omega (arith, is.other refl cut refl))
     by_cut (Some cut) all is len =
         ap at_cut (is.same cut refl)
-        ∙ span_settled (place + length cut.line + 1) cut.rest more (size_in cut.line) (omega (arith, len cut refl))
+        ∙ span_settled (place + length cut.line + 1) cut.rest more (size_in cut.line)
+        (omega (arith, len cut refl))
 
 word_of : (line : List ℕ) → bytes_eq line first_word ≡ true → line ≡ first_word
 word_of line e = (bytes_eq-Decides line first_word).0 e
 
 -- bytes of another length than the last line's aren't that line
 longer_isnt_last : (bytes : List ℕ) → 4 < length bytes → bytes_eq bytes last_line ≡ false
-longer_isnt_last bytes long = other_bytes bytes last_line (λ e. let len : length bytes ≡ 4 = ap length e in omega (arith, len))
+longer_isnt_last bytes long = other_bytes bytes last_line
+    (λ e. let len : length bytes ≡ 4 = ap length e in omega (arith, len))
 
-logs_settled : (n log place : ℕ) (bytes more : List ℕ) → place ≤ logs_end_within → longest_batch_input ≤ place + length bytes
+logs_settled : (n log place : ℕ) (bytes more : List ℕ) → place ≤ logs_end_within
+    → longest_batch_input ≤ place + length bytes
     → logs_from n log place (bytes ++ more) ≡ logs_from n log place bytes
 unfolding logs_from
 logs_settled zero log place bytes more near long =
     let more_long : 4 < length (bytes ++ more) = omega (arith, length-append bytes more) in
-    ap (λ t. cond t (Ok []) (Err log)) (longer_isnt_last (bytes ++ more) more_long ∙ sym (longer_isnt_last bytes (omega arith)))
+    ap (λ t. cond t (Ok []) (Err log)) (longer_isnt_last (bytes ++ more) more_long
+    ∙ sym (longer_isnt_last bytes (omega arith)))
 logs_settled (suc n) log place bytes more near long =
-    ap (λ t. cond t (Ok []) (at_log (bytes ++ more) (log_at place (bytes ++ more)))) (longer_isnt_last (bytes ++ more) more_long)
+    ap (λ t. cond t (Ok []) (at_log (bytes ++ more) (log_at place (bytes ++ more))))
+    (longer_isnt_last (bytes ++ more) more_long)
     ∙ ap (at_log (bytes ++ more)) (log_settled place bytes more long)
-    ∙ by_log (λ rest place near long. logs_settled n (log + 1) place rest more near long) (log_at place bytes) refl
-    ∙ sym (ap (λ t. cond t (Ok []) (at_log bytes (log_at place bytes))) (longer_isnt_last bytes (omega arith)))
+    ∙ by_log (λ rest place near long. logs_settled n (log + 1) place rest more near long)
+    (log_at place bytes) refl
+    ∙ sym (ap (λ t. cond t (Ok []) (at_log bytes (log_at place bytes)))
+    (longer_isnt_last bytes (omega arith)))
   where
     more_long : 4 < length (bytes ++ more)
     more_long = omega (arith, length-append bytes more, near, long)
@@ -169,7 +224,8 @@ logs_settled (suc n) log place bytes more near long =
     at_log : List ℕ → Option Span → Result (List Span) ℕ
     at_log bytes o = elim o as (λ _. Result (List Span) ℕ) [
       | None ↦ Err log
-      | Some span ↦ span_before span (logs_from n (log + 1) span.past (drop (span.past - place) bytes))
+      | Some span ↦ span_before span
+          (logs_from n (log + 1) span.past (drop (span.past - place) bytes))
     ]
 
     by_log : ((rest : List ℕ) (p : ℕ) → p ≤ logs_end_within → longest_batch_input ≤ p + length rest
@@ -184,44 +240,57 @@ logs_settled (suc n) log place bytes more near long =
         ∙ ap (span_before span) (settled rest span.past is.near
         (omega (arith, length-drop (span.past - place) bytes, is.later, is.within, long)))
 
-pub batch_settled : (bytes more : List ℕ) → longest_batch_input ≤ length bytes → batch_reading (bytes ++ more) ≡ batch_reading bytes
+pub batch_settled : (bytes more : List ℕ) → longest_batch_input ≤ length bytes
+    → batch_reading (bytes ++ more) ≡ batch_reading bytes
 unfolding batch_reading
-batch_settled bytes more long = by_cut (first_line bytes) (first_line (bytes ++ more)) (first_longer bytes more) (cut_len bytes)
+batch_settled bytes more long = by_cut (first_line bytes) (first_line (bytes ++ more))
+    (first_longer bytes more) (cut_len bytes)
   where
     at_cut : Option Cut → Result (List Span) ℕ
     at_cut o = elim o as (λ _. Result (List Span) ℕ) [ None ↦ Err 0 | Some cut ↦ logs_behind cut ]
 
-    by_cut : (o all : Option Cut) → IsLonger bytes more o all → ((cut : Cut) → o ≡ Some cut → length bytes ≡ length cut.line + 1 + length cut.rest)
+    by_cut : (o all : Option Cut) → IsLonger bytes more o all
+        → ((cut : Cut) → o ≡ Some cut → length bytes ≡ length cut.line + 1 + length cut.rest)
         → at_cut all ≡ at_cut o
     by_cut None None is len = refl
     by_cut None (Some cut) is len =
         ap (λ t. cond t (logs_from most_logs 0 (length cut.line + 1) cut.rest) (Err 0))
-        (other_bytes cut.line first_word (λ e. let five : length cut.line ≡ 5 = ap length e in omega (arith, is.other refl cut refl, five, long)))
+        (other_bytes cut.line first_word (λ e. let five : length cut.line ≡ 5 = ap length e in
+        omega (arith, is.other refl cut refl, five, long)))
     by_cut (Some cut) all is len =
-        ap at_cut (is.same cut refl) ∙ by_word (bytes_eq cut.line first_word) (bytes_eq_word cut.line)
+        ap at_cut (is.same cut refl) ∙ by_word (bytes_eq cut.line first_word)
+        (bytes_eq_word cut.line)
       where
         bytes_eq_word : (line : List ℕ) → bytes_eq line first_word ≡ true → length line ≡ 5
         bytes_eq_word line e = ap length (word_of line e)
 
         by_word : (t : Bool) → (t ≡ true → length cut.line ≡ 5)
-            → cond t (logs_from most_logs 0 (length cut.line + 1) (cut.rest ++ more)) (Err 0) ≡ cond t (logs_from most_logs 0 (length cut.line + 1) cut.rest) (Err 0)
-        by_word true five = logs_settled most_logs 0 (length cut.line + 1) cut.rest more (omega (arith, five refl)) (omega (arith, len cut refl, long))
+            → cond t (logs_from most_logs 0 (length cut.line + 1) (cut.rest ++ more)) (Err 0)
+            ≡ cond t (logs_from most_logs 0 (length cut.line + 1) cut.rest) (Err 0)
+        by_word true five = logs_settled most_logs 0 (length cut.line + 1) cut.rest more
+            (omega (arith, five refl)) (omega (arith, len cut refl, long))
         by_word false five = refl
 
 -- long bytes are refused somewhere
-logs_refused : (n log place : ℕ) (bytes : List ℕ) → place ≤ logs_end_within → longest_batch_input ≤ place + length bytes
+logs_refused : (n log place : ℕ) (bytes : List ℕ) → place ≤ logs_end_within → longest_batch_input
+    ≤ place + length bytes
     → (at : ℕ) × (logs_from n log place bytes ≡ Err at)
 unfolding logs_from
 logs_refused zero log place bytes near long =
     (log, ap (λ t. cond t (Ok []) (Err log)) (longer_isnt_last bytes (omega arith)))
 logs_refused (suc n) log place bytes near long =
-    let found = by_log (λ rest p near long. logs_refused n (log + 1) p rest near long) (log_at place bytes) refl in
-    (found.0, ap (λ t. cond t (Ok []) (at_log (log_at place bytes))) (longer_isnt_last bytes (omega arith)) ∙ found.1)
+    let found = by_log (λ rest p near long. logs_refused n (log + 1) p rest near long)
+    (log_at place bytes) refl in (
+      found.0,
+      ap (λ t. cond t (Ok []) (at_log (log_at place bytes)))
+          (longer_isnt_last bytes (omega arith)) ∙ found.1,
+    )
   where
     at_log : Option Span → Result (List Span) ℕ
     at_log o = elim o as (λ _. Result (List Span) ℕ) [
       | None ↦ Err log
-      | Some span ↦ span_before span (logs_from n (log + 1) span.past (drop (span.past - place) bytes))
+      | Some span ↦ span_before span
+          (logs_from n (log + 1) span.past (drop (span.past - place) bytes))
     ]
 
     by_log : ((rest : List ℕ) (p : ℕ) → p ≤ logs_end_within → longest_batch_input ≤ p + length rest
@@ -234,22 +303,33 @@ logs_refused (suc n) log place bytes near long =
         (omega (arith, length-drop (span.past - place) bytes, is.later, is.within, long)) in
         (found.0, ap (span_before span) found.1)
 
-pub batch_refused : (bytes : List ℕ) → longest_batch_input ≤ length bytes → (log : ℕ) × (batch_reading bytes ≡ Err log)
+pub batch_refused : (bytes : List ℕ) → longest_batch_input ≤ length bytes → (log : ℕ)
+    × (batch_reading bytes ≡ Err log)
 unfolding batch_reading
 batch_refused bytes long = by_cut (first_line bytes) (cut_len bytes)
   where
-    by_cut : (o : Option Cut) → ((cut : Cut) → o ≡ Some cut → length bytes ≡ length cut.line + 1 + length cut.rest)
-        → (log : ℕ) × (elim o as (λ _. Result (List Span) ℕ) [ None ↦ Err 0 | Some cut ↦ logs_behind cut ] ≡ Err log)
+    by_cut : (o : Option Cut)
+        → ((cut : Cut) → o ≡ Some cut → length bytes ≡ length cut.line + 1 + length cut.rest)
+        → (log : ℕ) × (elim o as (λ _. Result (List Span) ℕ) [
+          | None ↦ Err 0
+          | Some cut ↦ logs_behind
+              cut
+        ] ≡ Err log)
     by_cut None len = (0, refl)
-    by_cut (Some cut) len = by_word (bytes_eq cut.line first_word) (λ e. ap length (word_of cut.line e))
+    by_cut (Some cut) len = by_word (bytes_eq cut.line first_word)
+        (λ e. ap length (word_of cut.line e))
       where
         by_word : (t : Bool) → (t ≡ true → length cut.line ≡ 5)
-            → (log : ℕ) × (cond t (logs_from most_logs 0 (length cut.line + 1) cut.rest) (Err 0) ≡ Err log)
-        by_word true five = logs_refused most_logs 0 (length cut.line + 1) cut.rest (omega (arith, five refl)) (omega (arith, len cut refl, long))
+            → (log : ℕ) × (cond t (logs_from most_logs 0 (length cut.line + 1) cut.rest) (Err 0)
+            ≡ Err log)
+        by_word true five = logs_refused most_logs 0 (length cut.line + 1) cut.rest
+            (omega (arith, five refl)) (omega (arith, len cut refl, long))
         by_word false five = (0, refl)
 
 -- what a long input says as logs
-pub logs_are_settled : (bytes more : List ℕ) → longest_batch_input ≤ length bytes → batch_logs (bytes ++ more) ≡ batch_logs bytes
+pub logs_are_settled : (bytes more : List ℕ) → longest_batch_input ≤ length bytes
+    → batch_logs (bytes ++ more) ≡ batch_logs bytes
 logs_are_settled bytes more long =
     let refused = batch_refused bytes long in
-    ap (logs_of (bytes ++ more)) (batch_settled bytes more long ∙ refused.1) ∙ sym (ap (logs_of bytes) refused.1)
+    ap (logs_of (bytes ++ more)) (batch_settled bytes more long ∙ refused.1)
+    ∙ sym (ap (logs_of bytes) refused.1)

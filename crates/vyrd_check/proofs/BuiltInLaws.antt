@@ -1,5 +1,6 @@
 -- A text of versions 1 and 2 can name a built-in subject alone.
-use Rattle.std.proofs.Common.{◌≡◌, ℕ, Bool, true, false, cond, ◌&&◌, List, [], ◌∷◌, ◌^◌, Option, Some, None, Ok, Err, Result, refl, ap, ◌∙◌, sym}
+use Rattle.std.proofs.Common.{◌≡◌, ℕ, Bool, true, false, cond, ◌&&◌, List, [], ◌∷◌, ◌^◌, Option}
+use Rattle.std.proofs.Common.{Some, None, Ok, Err, Result, refl, ap, ◌∙◌, sym}
 use Rattle.std.specs.Prelude.{ok_or, nat_lt}
 use Rattle.std.specs.Str.{bytes_eq}
 use Rattle.std.specs.List.{slice_split}
@@ -11,8 +12,10 @@ use Rattle.vyrd_base.specs.declared.verdict.Rule.TheVariants.{BadHeader, Unknown
 use Rattle.vyrd_base.specs.Limits.{is_sized}
 use Rattle.vyrd_base.specs.Subjects.{is_built_in, limits_of}
 use Rattle.vyrd_base.specs.Spelling.{header_line}
-use Rattle.vyrd_base.specs.Lines.{fields_of, number_of, subject_called, header_if, header_of, header_spelled, header_from, header_in}
-use Rattle.vyrd_base.specs.Reading.{Reading, Input, body_read, header_before, stopped, text_read, reading}
+use Rattle.vyrd_base.specs.Lines.{fields_of, number_of, subject_called, header_if, header_of}
+use Rattle.vyrd_base.specs.Lines.{header_spelled, header_from, header_in}
+use Rattle.vyrd_base.specs.Reading.{Reading, Input, body_read, header_before, stopped, text_read}
+use Rattle.vyrd_base.specs.Reading.{reading}
 use Rattle.vyrd_base.proofs.SubjectLaws.{called_built_in}
 
 -- whether a header, if there is one, is that of a built-in subject
@@ -20,8 +23,10 @@ abbrev of_built_in : Result Header Rule → Bool
 of_built_in (Ok h) = is_built_in h.subject
 of_built_in (Err rule) = true
 
-made_built_in : (version : ℕ) (subject : Subject) (size callers : ℕ) (b : Bool) (e : limits_of subject version size callers ≡ b)
-    → is_built_in subject ≡ true → of_built_in (ok_or (header_if version subject size callers b e) UnknownVersion) ≡ true
+made_built_in : (version : ℕ) (subject : Subject) (size callers : ℕ) (b : Bool)
+    (e : limits_of subject version size callers ≡ b)
+    → is_built_in subject ≡ true
+    → of_built_in (ok_or (header_if version subject size callers b e) UnknownVersion) ≡ true
 made_built_in version subject size callers true e built = built
 made_built_in version subject size callers false e built = refl
 
@@ -30,40 +35,53 @@ spelled_built_in : (line : List ℕ) (version : ℕ) (subject : Option Subject) 
     → of_built_in (header_spelled line version subject size callers) ≡ true
 spelled_built_in line version None size callers known = refl
 spelled_built_in line version (Some subject) size callers known =
-    by_test (nat_lt version (2 ^ 32) && is_sized size callers && bytes_eq (header_line version subject size callers) line)
+    by_test (nat_lt version (2 ^ 32) && is_sized size callers
+    && bytes_eq (header_line version subject size callers) line)
   where
     by_test : (b : Bool)
-        → of_built_in (cond b (ok_or (header_of version subject size callers) UnknownVersion) (Err BadHeader)) ≡ true
-    by_test true = made_built_in version subject size callers (limits_of subject version size callers) refl (known subject refl)
+        → of_built_in (cond b (ok_or (header_of version subject size callers) UnknownVersion)
+        (Err BadHeader)) ≡ true
+    by_test true = made_built_in version subject size callers
+        (limits_of subject version size callers) refl (known subject refl)
     by_test false = refl
 
-from_built_in : (line : List ℕ) (fields : List (List ℕ)) → of_built_in (header_from line fields) ≡ true
+from_built_in : (line : List ℕ) (fields : List (List ℕ)) → of_built_in (header_from line fields)
+    ≡ true
 from_built_in line [] = refl
 from_built_in line (a ∷ []) = refl
 from_built_in line (a ∷ b ∷ []) = refl
 from_built_in line (a ∷ b ∷ c ∷ []) = refl
 from_built_in line (a ∷ b ∷ c ∷ d ∷ []) = refl
 from_built_in line (a ∷ b ∷ c ∷ d ∷ e ∷ more) =
-    spelled_built_in line (number_of b) (subject_called c) (number_of d) (number_of e) (called_built_in c)
+    spelled_built_in line (number_of b) (subject_called c) (number_of d) (number_of e)
+    (called_built_in c)
 
 line_built_in : (line : List ℕ) → of_built_in (header_in line) ≡ true
 unfolding header_in
 line_built_in line = from_built_in line (fields_of line)
 
-text_built_in : (input : Input) (parts : List (List ℕ)) (h : Header) → (text_read input parts).header ≡ Some h → is_built_in h.subject ≡ true
+text_built_in : (input : Input) (parts : List (List ℕ)) (h : Header)
+    → (text_read input parts).header ≡ Some h → is_built_in h.subject ≡ true
 text_built_in input [] h has = cc
 text_built_in input (rest ∷ []) h has = cc
 text_built_in input (line ∷ next ∷ lines) h has = by_header (header_in line) refl has
   where
     text : Result Header Rule → Reading
-    text r = elim r as (λ _. Reading) [ Ok x ↦ header_before x (body_read input x (next ∷ lines)) | Err rule ↦ stopped 1 (Some rule) ]
+    text r = elim r as (λ _. Reading) [
+      | Ok x ↦ header_before x
+          (body_read input x (next ∷ lines))
+      | Err rule ↦ stopped 1 (Some rule)
+    ]
 
-    by_header : (r : Result Header Rule) → header_in line ≡ r → (text r).header ≡ Some h → is_built_in h.subject ≡ true
+    by_header : (r : Result Header Rule) → header_in line ≡ r → (text r).header ≡ Some h
+        → is_built_in h.subject ≡ true
     by_header (Err rule) is e = cc
     by_header (Ok x) is e =
         let same : x ≡ h = cc in
-        ap (λ (y : Header). is_built_in y.subject) (sym same) ∙ ap of_built_in (sym is) ∙ line_built_in line
+        ap (λ (y : Header). is_built_in y.subject) (sym same) ∙ ap of_built_in (sym is)
+        ∙ line_built_in line
 
-pub reading_built_in : (input : Input) (bytes : List ℕ) (h : Header) → (reading input bytes).header ≡ Some h → is_built_in h.subject ≡ true
+pub reading_built_in : (input : Input) (bytes : List ℕ) (h : Header) → (reading input bytes).header
+    ≡ Some h → is_built_in h.subject ≡ true
 unfolding reading
 reading_built_in input bytes h has = text_built_in input (slice_split (λ b. b == 10) bytes) h has

@@ -1,5 +1,6 @@
 -- What a checker answers, by what it keeps.
-use Rattle.std.proofs.Common.{◌≡◌, ℕ, true, List, [], ◌∷◌, ◌++◌, length, append_assoc, Option, Some, None, refl, ap, subst, ◌∙◌, sym, append-nil, arith}
+use Rattle.std.proofs.Common.{◌≡◌, ℕ, true, List, [], ◌∷◌, ◌++◌, length, append_assoc, Option, Some}
+use Rattle.std.proofs.Common.{None, refl, ap, subst, ◌∙◌, sym, append-nil, arith}
 use Rattle.std.specs.Prelude.{◌==◌, is_some}
 use Rattle.std.proofs.lemmas.Bool.Decides.{nat_tests}
 use Rattle.vyrd_base.specs.declared.verdict.Verdict.{Verdict}
@@ -8,29 +9,38 @@ use Rattle.vyrd_base.proofs.TextLasts.{text_verdict_lasts, text_verdict_stands}
 use Rattle.vyrd_check.specs.Checking.{IsLimit, CheckerState, FollowsBy, HasChecked}
 
 -- the verdict that is kept is that of the bytes so far
-pub so_far_is : (c : CheckerState) (bytes : List ℕ) → HasChecked c bytes → c.so_far ≡ text_verdict_so_far c.kept.reader.max_lines bytes
+pub so_far_is : (c : CheckerState) (bytes : List ℕ) → HasChecked c bytes → c.so_far
+    ≡ text_verdict_so_far c.kept.reader.max_lines bytes
 so_far_is c bytes checked = by_verdict c.so_far checked.follows
   where
-    by_verdict : (o : Option Verdict) → FollowsBy c.kept bytes o → o ≡ text_verdict_so_far c.kept.reader.max_lines bytes
+    by_verdict : (o : Option Verdict) → FollowsBy c.kept bytes o
+        → o ≡ text_verdict_so_far c.kept.reader.max_lines bytes
     by_verdict None f = sym f.nothing
     by_verdict (Some v) f = sym f
 
 -- a verdict that stands is that of all longer bytes
-pub checked_longer : (c : CheckerState) (bytes more : List ℕ) → IsLimit c.kept.reader.max_lines → is_some c.so_far ≡ true
+pub checked_longer : (c : CheckerState) (bytes more : List ℕ) → IsLimit c.kept.reader.max_lines
+    → is_some c.so_far ≡ true
     → HasChecked c bytes → HasChecked c (bytes ++ more)
-checked_longer c bytes more limit there checked = record { follows = by_verdict c.so_far there checked.follows }
+checked_longer c bytes more limit there checked =
+    record { follows = by_verdict c.so_far there checked.follows }
   where
-    by_verdict : (o : Option Verdict) → is_some o ≡ true → FollowsBy c.kept bytes o → FollowsBy c.kept (bytes ++ more) o
+    by_verdict : (o : Option Verdict) → is_some o ≡ true → FollowsBy c.kept bytes o
+        → FollowsBy c.kept (bytes ++ more) o
     by_verdict None there f = cc
-    by_verdict (Some v) there f = text_verdict_lasts c.kept.reader.max_lines bytes more v limit.low f
+    by_verdict (Some v) there f = text_verdict_lasts c.kept.reader.max_lines bytes more v limit.low
+        f
 
 -- and of the whole input
-pub checked_whole : (c : CheckerState) (bytes : List ℕ) (v : Verdict) → IsLimit c.kept.reader.max_lines → c.so_far ≡ Some v
+pub checked_whole : (c : CheckerState) (bytes : List ℕ) (v : Verdict)
+    → IsLimit c.kept.reader.max_lines → c.so_far ≡ Some v
     → HasChecked c bytes → v ≡ text_verdict c.kept.reader.max_lines bytes
 checked_whole c bytes v limit there checked =
     let max = c.kept.reader.max_lines in
-    let here : text_verdict_so_far max bytes ≡ Some v = subst (FollowsBy c.kept bytes) there checked.follows in
-    sym (ap (text_verdict max) (sym (append-nil bytes)) ∙ text_verdict_stands max bytes [] v limit.low here)
+    let here : text_verdict_so_far max bytes ≡ Some v = subst (FollowsBy c.kept bytes) there
+    checked.follows in
+    sym (ap (text_verdict max) (sym (append-nil bytes)) ∙ text_verdict_stands max bytes
+    [] v limit.low here)
 
 pub empty_of : (xs : List ℕ) → true ≡ (length xs == 0) → xs ≡ []
 empty_of xs e = let none : length xs ≡ 0 = grind (arith, nat_tests) in by_length xs none
@@ -40,14 +50,17 @@ empty_of xs e = let none : length xs ≡ 0 = grind (arith, nat_tests) in by_leng
     by_length (y ∷ ys) none = absurd (omega arith)
 
 -- all parts of a piece were followed
-pub checked_all : (c : CheckerState) (bytes piece read rest : List ℕ) → piece ≡ read ++ rest → true ≡ (length rest == 0)
+pub checked_all : (c : CheckerState) (bytes piece read rest : List ℕ) → piece ≡ read ++ rest
+    → true ≡ (length rest == 0)
     → HasChecked c (bytes ++ read) → HasChecked c (bytes ++ piece)
 checked_all c bytes piece read rest parted none checked =
-    let same : read ≡ piece = sym (parted ∙ ap (λ xs. read ++ xs) (empty_of rest none) ∙ append-nil read) in
+    let same : read ≡ piece = sym (parted ∙ ap (λ xs. read ++ xs) (empty_of rest none)
+    ∙ append-nil read) in
     subst (λ xs. HasChecked c (bytes ++ xs)) same checked
 
 -- a verdict stands before the last part
-pub checked_stands : (c : CheckerState) (bytes piece read rest : List ℕ) (v : Verdict) → IsLimit c.kept.reader.max_lines → c.so_far ≡ Some v
+pub checked_stands : (c : CheckerState) (bytes piece read rest : List ℕ) (v : Verdict)
+    → IsLimit c.kept.reader.max_lines → c.so_far ≡ Some v
     → piece ≡ read ++ rest → HasChecked c (bytes ++ read) → HasChecked c (bytes ++ piece)
 checked_stands c bytes piece read rest v limit there parted checked =
     subst (HasChecked c) (append_assoc bytes read rest ∙ ap (λ xs. bytes ++ xs) (sym parted))

@@ -25,7 +25,8 @@ use Rattle.vyrd_view.specs.Comparing.{price_by}
 use Rattle.vyrd_judge.specs.Costs.{judge_debt}
 use Rattle.vyrd_judge.specs.Following.{JudgeView, HasFollowed}
 use Rattle.vyrd_check.specs.LogReadings.{read_so_far}
-use Rattle.vyrd_check.specs.Checking.{IsLimit, IsJudging, IsReady, IsBegun, HasRoom, Kept, IsUndecided, IsSomewhere, wrong_in}
+use Rattle.vyrd_check.specs.Checking.{IsLimit, IsJudging, IsReady, IsBegun, HasRoom, Kept}
+use Rattle.vyrd_check.specs.Checking.{IsUndecided, IsSomewhere, wrong_in}
 use Rattle.vyrd_check.specs.Checking.{has_begun}
 use Rattle.vyrd_check.specs.Costs.{starting_cost, bytes_cost}
 use Rattle.vyrd_check.specs.Owed.{judge_owes, following_cost, kept_debt}
@@ -36,13 +37,16 @@ use Rattle.vyrd_check.proofs.CostLaws.{piece_paid, bytes_more}
 use Rattle.vyrd_check.proofs.BuiltInLaws.{reading_built_in}
 
 -- a piece was read, and the judge is there if it may be
-pub record Fed (old : Kept) (reader : ReaderState) (begun : Option JudgeView) (piece : List ℕ) (entries : List Entry) (fault : Option Verdict) : Type 0 where
+pub record Fed (old : Kept) (reader : ReaderState) (begun : Option JudgeView) (piece : List ℕ)
+    (entries : List Entry) (fault : Option Verdict) : Type 0 where
   pub limit : reader.max_lines ≡ old.reader.max_lines
   pub read : (bytes : List ℕ) → HasRead old.reader bytes → HasRead reader (bytes ++ piece)
   pub grown : (bytes : List ℕ) → HasRead old.reader bytes
-      → IsGrownBy [] (read_so_far old.reader.max_lines bytes).entries entries (read_so_far old.reader.max_lines (bytes ++ piece)).entries
+      → IsGrownBy [] (read_so_far old.reader.max_lines bytes).entries entries
+      (read_so_far old.reader.max_lines (bytes ++ piece)).entries
   pub faulty : (bytes : List ℕ) → HasRead old.reader bytes
-      → fault ≡ option_map (λ fault. Malformed fault.line fault.rule) (read_so_far old.reader.max_lines (bytes ++ piece)).fault
+      → fault ≡ option_map (λ fault. Malformed fault.line fault.rule)
+      (read_so_far old.reader.max_lines (bytes ++ piece)).fault
   pub judge : IsBegun (has_any entries || reader.ended) reader.header reader.start old.judge begun
 
 -- a log may begin with the starting words that the reader keeps
@@ -62,7 +66,8 @@ pub fed_built_in : (old : Kept) (reader : ReaderState) (piece : List ℕ)
     → IsSomewhere old
     → (h : Header) → reader.header ≡ Some h → is_built_in h.subject ≡ true
 fed_built_in old reader piece reads somewhere h has = ∥∥₁_elim somewhere (Bool-set _ _) (λ s.
-    reading_built_in (input_of reader.max_lines false) (s.0 ++ piece) h (sym (reads s.0 s.1.read).header ∙ has))
+    reading_built_in (input_of reader.max_lines false) (s.0 ++ piece) h
+    (sym (reads s.0 s.1.read).header ∙ has))
 
 -- what the reader keeps is what the bytes with the piece say, up to the old limit
 record IsReadTo (reader : ReaderState) (bytes : List ℕ) (max : ℕ) : Type 0 where
@@ -101,8 +106,10 @@ fed_ready old reader begun piece entries fault fed limit bytes u =
     }
 
 -- there is room for the entries of the piece
-pub fed_room : (old : Kept) (reader : ReaderState) (begun : Option JudgeView) (piece : List ℕ) (entries : List Entry) (fault : Option Verdict)
-    → Fed old reader begun piece entries fault → IsLimit old.reader.max_lines → IsSomewhere old → HasRoom begun entries
+pub fed_room : (old : Kept) (reader : ReaderState) (begun : Option JudgeView) (piece : List ℕ)
+    (entries : List Entry) (fault : Option Verdict)
+    → Fed old reader begun piece entries fault → IsLimit old.reader.max_lines → IsSomewhere old
+    → HasRoom begun entries
 fed_room old reader begun piece entries fault fed limit somewhere = by_judge begun refl
   where
     max : ℕ
@@ -122,7 +129,8 @@ fed_room old reader begun piece entries fault fed limit somewhere = by_judge beg
         is_at_most _ _ (subst (λ o. HasRoom o entries) is (room s.0 s.1))))
 
 -- the answer is the verdict so far
-pub fed_answer : (old : Kept) (reader : ReaderState) (begun : Option JudgeView) (piece : List ℕ) (entries : List Entry) (fault wrong : Option Verdict)
+pub fed_answer : (old : Kept) (reader : ReaderState) (begun : Option JudgeView) (piece : List ℕ)
+    (entries : List Entry) (fault wrong : Option Verdict)
     → Fed old reader begun piece entries fault → (bytes : List ℕ) → HasRead old.reader bytes
     → wrong ≡ wrong_in (read_so_far old.reader.max_lines (bytes ++ piece))
     → option_or wrong fault ≡ text_verdict_so_far old.reader.max_lines (bytes ++ piece)
@@ -130,7 +138,8 @@ fed_answer old reader begun piece entries fault wrong fed bytes read wrong_is =
     known_so_far old.reader.max_lines (bytes ++ piece) wrong fault wrong_is (fed.faulty bytes read)
 
 -- without a verdict what is kept goes on
-pub fed_undecided : (old : Kept) (reader : ReaderState) (begun after : Option JudgeView) (piece : List ℕ) (entries : List Entry) (fault : Option Verdict)
+pub fed_undecided : (old : Kept) (reader : ReaderState) (begun after : Option JudgeView)
+    (piece : List ℕ) (entries : List Entry) (fault : Option Verdict)
     → Fed old reader begun piece entries fault → (bytes : List ℕ) → HasRead old.reader bytes
     → IsJudging after (read_so_far old.reader.max_lines (bytes ++ piece))
     → text_verdict_so_far old.reader.max_lines (bytes ++ piece) ≡ None

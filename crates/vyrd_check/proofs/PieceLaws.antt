@@ -1,5 +1,7 @@
 -- How what is kept goes on with a piece of the text.
-use Rattle.std.proofs.Common.{◌≡◌, ◌≤◌, Bool, true, false, cond, ◌||◌, List, [], ◌∷◌, ◌++◌, length, Option, Some, None, refl, ap, subst, ◌∙◌, sym, arith, length-append, option_map}
+use Rattle.std.proofs.Common.{◌≡◌, ◌≤◌, Bool, true, false, cond, ◌||◌, List, [], ◌∷◌, ◌++◌, length}
+use Rattle.std.proofs.Common.{Option, Some, None, refl, ap, subst, ◌∙◌, sym, arith, length-append}
+use Rattle.std.proofs.Common.{option_map}
 use Rattle.std.specs.Prelude.{option_and_then, is_none, is_some, IfSome}
 use Rattle.std.specs.Bool.{then_some}
 use Rattle.std.specs.Option.{option_or}
@@ -14,7 +16,8 @@ use Rattle.vyrd_base.specs.Places.{newest_first}
 use Rattle.vyrd_base.specs.Front.{front}
 use Rattle.vyrd_base.specs.Starts.{state_at_start}
 use Rattle.vyrd_base.specs.Reading.{Reading, has_any, reading}
-use Rattle.vyrd_base.specs.Verdicts.{line_of, first_fault, shape_verdict, verdict_so_far, is_call_open, end_verdict}
+use Rattle.vyrd_base.specs.Verdicts.{line_of, first_fault, shape_verdict, verdict_so_far}
+use Rattle.vyrd_base.specs.Verdicts.{is_call_open, end_verdict}
 use Rattle.vyrd_base.specs.TextVerdicts.{entries_verdict, text_verdict_so_far}
 use Rattle.vyrd_base.proofs.ReadingGrows.{TextGrown}
 use Rattle.vyrd_base.proofs.TextLasts.{nothing_so_far}
@@ -24,7 +27,8 @@ use Rattle.vyrd_view.specs.Known.{by_rules}
 use Rattle.vyrd_judge.specs.Costs.{judge_debt, start_cost}
 use Rattle.vyrd_judge.specs.Following.{JudgeView, HasFollowed}
 use Rattle.vyrd_judge.proofs.OnlineLaws.{faultless_of}
-use Rattle.vyrd_check.specs.Checking.{wrong_in, has_begun, IsJudging, IsBefore, IsReady, HasRoom, IsMade, IsBegun, IsUndecided}
+use Rattle.vyrd_check.specs.Checking.{wrong_in, has_begun, IsJudging, IsBefore, IsReady, HasRoom}
+use Rattle.vyrd_check.specs.Checking.{IsMade, IsBegun, IsUndecided}
 
 -- a judge without a verdict has counted the entries that it has followed
 pub counted : (j : JudgeView) (starting : List StartWord) (log : List Entry) → j.so_far ≡ None
@@ -154,13 +158,18 @@ has_room (Some j) read log entries before few =
 -- what is wrong with what was read, by the judge's header
 pub wrong_by : (j : JudgeView) (read : Reading) (log more : List Entry) (done : Bool)
     → IsReady (Some j) read log more done
-    → wrong_in read ≡ option_or (verdict_so_far (rules_by j.kept.charter) read.starting (log ++ more))
+    → wrong_in read
+    ≡ option_or (verdict_so_far (rules_by j.kept.charter) read.starting (log ++ more))
     (cond done (end_verdict (rules_by j.kept.charter) read.starting (log ++ more)) None)
 wrong_by j read log more done ready =
-    sym (of_charter (λ l. option_or (verdict_so_far (rules_by l) read.starting read.entries) (cond read.ended (end_verdict (rules_by l) read.starting read.entries) None)) read.header)
-    ∙ ap (option_and_then (λ l. option_or (verdict_so_far (rules_by l) read.starting read.entries) (cond read.ended (end_verdict (rules_by l) read.starting read.entries) None))) ready.before.charter
+    sym (of_charter (λ l. option_or (verdict_so_far (rules_by l) read.starting read.entries)
+    (cond read.ended (end_verdict (rules_by l) read.starting read.entries) None)) read.header)
+    ∙ ap (option_and_then (λ l. option_or (verdict_so_far (rules_by l) read.starting read.entries)
+    (cond read.ended (end_verdict (rules_by l) read.starting read.entries) None)))
+    ready.before.charter
     ∙ (λ i. option_or (verdict_so_far (rules_by j.kept.charter) read.starting (ready.entries i))
-    (cond (ready.ended i) (end_verdict (rules_by j.kept.charter) read.starting (ready.entries i)) None))
+    (cond (ready.ended i) (end_verdict (rules_by j.kept.charter) read.starting (ready.entries i))
+    None))
 
 -- a judge that has followed the last entries, with no verdict
 pub judging_on : (old new : JudgeView) (read : Reading) (log more : List Entry) (done : Bool)
@@ -180,7 +189,8 @@ judging_on old new read log more done ready same shows followed none = record {
 start_wrong : (h : Header) (starting : List StartWord) (entries : List Entry) (done : Bool)
     → is_none (state_at_start (rules_of h) starting) ≡ true
     → (has_any entries || done) ≡ true
-    → option_or (verdict_so_far (rules_of h) starting entries) (cond done (end_verdict (rules_of h) starting entries) None)
+    → option_or (verdict_so_far (rules_of h) starting entries)
+    (cond done (end_verdict (rules_of h) starting entries) None)
     ≡ Some (Malformed 2 StartState)
 unfolding verdict_so_far end_verdict
 start_wrong h starting [] false stands begun = cc
@@ -217,7 +227,8 @@ nothing_wrong read e =
     ∙ by_header read.header
   where
     by_header : (o : Option Header)
-        → option_and_then (λ h. option_or (verdict_so_far (rules_of h) read.starting []) None) o ≡ None
+        → option_and_then (λ h. option_or (verdict_so_far (rules_of h) read.starting []) None) o
+        ≡ None
     by_header None = refl
     by_header (Some h) = ap (λ o. option_or o None) (nothing_so_far h read.starting)
 
@@ -250,6 +261,7 @@ still_without read log more done ready none = by_test (has_any more || done) ref
     by_test true e f = cc
 
 -- before the first byte
-pub undecided_first : (reader : ReaderState) → HasRead reader [] → IsUndecided (record { reader = reader; judge = None }) []
+pub undecided_first : (reader : ReaderState) → HasRead reader []
+    → IsUndecided (record { reader = reader; judge = None }) []
 unfolding reading text_verdict_so_far
 undecided_first reader read = record { read = read; judging = (refl, refl); nothing = refl }

@@ -1,5 +1,6 @@
 -- How many entries a reading has, and what is wrong with them.
-use Rattle.std.proofs.Common.{◌≡◌, ℕ, ◌+◌, ◌≤◌, Bool, true, false, cond, List, [], ◌∷◌, length, Option, Some, None, Result, Ok, Err, refl, ap, ◌∙◌, sym, arith}
+use Rattle.std.proofs.Common.{◌≡◌, ℕ, ◌+◌, ◌≤◌, Bool, true, false, cond, List, [], ◌∷◌, length}
+use Rattle.std.proofs.Common.{Option, Some, None, Result, Ok, Err, refl, ap, ◌∙◌, sym, arith}
 use Rattle.std.specs.Prelude.{◌==◌, nat_lt, unwrap_or, option_map, option_and_then}
 use Rattle.std.specs.Option.{option_or}
 use Rattle.std.specs.List.{slice_split}
@@ -16,7 +17,9 @@ use Rattle.vyrd_base.specs.declared.verdict.Verdict.TheVariants.{Malformed}
 use Rattle.vyrd_base.specs.Spelling.{end_line}
 use Rattle.vyrd_base.specs.Starts.{start_rule}
 use Rattle.vyrd_base.specs.Lines.{start_in, entry_in, header_in}
-use Rattle.vyrd_base.specs.Reading.{Reading, TextFault, stopped, ended, after_end_rule, entry_before, lines_read, start_before, starts_read, body_read, header_before, text_read, reading}
+use Rattle.vyrd_base.specs.Reading.{Reading, TextFault, stopped, ended, after_end_rule}
+use Rattle.vyrd_base.specs.Reading.{entry_before, lines_read, start_before, starts_read, body_read}
+use Rattle.vyrd_base.specs.Reading.{header_before, text_read, reading}
 use Rattle.vyrd_base.specs.TextVerdicts.{entries_verdict, text_verdict, text_verdict_so_far}
 use Rattle.vyrd_base.specs.Verdicts.{verdict_so_far, end_verdict, accepted, verdict}
 use Rattle.vyrd_base.proofs.ReadingGrows.{so_far}
@@ -31,19 +34,23 @@ lines_few : (max : ℕ) (subject : Subject) (n : ℕ) (lines : List (List ℕ)) 
 lines_few max subject n [] within = omega (arith, within)
 lines_few max subject n (rest ∷ []) within = omega (arith, within)
 lines_few max subject n (line ∷ next ∷ lines) within =
-    by_tests (λ low. lines_few max subject (n + 1) (next ∷ lines) low) (nat_lt max n) (bytes_eq line end_line) refl
+    by_tests (λ low. lines_few max subject (n + 1) (next ∷ lines) low) (nat_lt max n)
+    (bytes_eq line end_line) refl
   where
     after : Reading
     after = lines_read (so_far max) subject (n + 1) (next ∷ lines)
 
-    by_entry : (n + 1 ≤ max + 1 → length after.entries + (n + 1) ≤ max + 1) → n ≤ max → (o : Option Entry)
+    by_entry : (n + 1 ≤ max + 1 → length after.entries + (n + 1) ≤ max + 1) → n ≤ max
+        → (o : Option Entry)
         → length (entry_before n o after).entries + n ≤ max + 1
     by_entry onward low None = omega (arith, low)
     by_entry onward low (Some e) = omega (arith, onward (omega (arith, low)))
 
-    by_tests : (n + 1 ≤ max + 1 → length after.entries + (n + 1) ≤ max + 1) → (past is_end : Bool) → nat_lt max n ≡ past
+    by_tests : (n + 1 ≤ max + 1 → length after.entries + (n + 1) ≤ max + 1) → (past is_end : Bool)
+        → nat_lt max n ≡ past
         → length (cond past (stopped n (Some TooManyLines))
-        (cond is_end (ended (n + 1) (after_end_rule (so_far max) (n + 1) next lines)) (entry_before n (entry_in subject line) after))).entries + n ≤ max + 1
+        (cond is_end (ended (n + 1) (after_end_rule (so_far max) (n + 1) next lines))
+        (entry_before n (entry_in subject line) after))).entries + n ≤ max + 1
     by_tests onward true is_end p = omega (arith, within)
     by_tests onward false true p = omega (arith, within)
     by_tests onward false false p = by_entry onward (not_below_of max n p) (entry_in subject line)
@@ -93,7 +100,8 @@ body_few max h lines low = by_version (h.version == 2)
     by_version true = omega (arith, starts_few max h None 2 lines (omega (arith, low)))
     by_version false = omega (arith, lines_few max h.subject 2 lines (omega (arith, low)))
 
-parts_few : (max : ℕ) (parts : List (List ℕ)) → 1 ≤ max → length (text_read (so_far max) parts).entries ≤ max
+parts_few : (max : ℕ) (parts : List (List ℕ)) → 1 ≤ max
+    → length (text_read (so_far max) parts).entries ≤ max
 parts_few max [] low = omega arith
 parts_few max (rest ∷ []) low = omega arith
 parts_few max (line ∷ next ∷ lines) low = by_header (header_in line)
@@ -106,7 +114,8 @@ parts_few max (line ∷ next ∷ lines) low = by_header (header_in line)
     by_header (Ok h) = body_few max h (next ∷ lines) low
     by_header (Err rule) = omega arith
 
-pub entries_few : (max : ℕ) (bytes : List ℕ) → 1 ≤ max → length (read_so_far max bytes).entries ≤ max
+pub entries_few : (max : ℕ) (bytes : List ℕ) → 1 ≤ max → length (read_so_far max bytes).entries
+    ≤ max
 unfolding reading
 entries_few max bytes low = parts_few max (slice_split (λ b. b == 10) bytes) low
 
@@ -155,10 +164,12 @@ unfolding text_verdict_so_far
 entries_right max bytes nothing = first_none _ _ nothing
 
 -- nothing is wrong with the entries, nor with their end
-header_right : (max : ℕ) (bytes : List ℕ) (h : Header) → text_verdict_so_far max bytes ≡ None → (read_so_far max bytes).header ≡ Some h
+header_right : (max : ℕ) (bytes : List ℕ) (h : Header) → text_verdict_so_far max bytes ≡ None
+    → (read_so_far max bytes).header ≡ Some h
     → entries_verdict (read_so_far max bytes) h ≡ None
 header_right max bytes h nothing has =
-    sym (ap (option_and_then (entries_verdict (read_so_far max bytes))) has) ∙ entries_right max bytes nothing
+    sym (ap (option_and_then (entries_verdict (read_so_far max bytes))) has)
+    ∙ entries_right max bytes nothing
 
 -- no fault of text is known
 pub text_right : (max : ℕ) (bytes : List ℕ) → text_verdict_so_far max bytes ≡ None
@@ -172,7 +183,8 @@ text_right max bytes nothing = by_fault (read_so_far max bytes).fault (second_no
     by_fault (Some fault) e = cc
 
 -- if `end` was read and nothing is wrong, the log is accepted
-pub ended_right : (max : ℕ) (bytes : List ℕ) (h : Header) → text_verdict_so_far max bytes ≡ None → (read_so_far max bytes).header ≡ Some h
+pub ended_right : (max : ℕ) (bytes : List ℕ) (h : Header) → text_verdict_so_far max bytes ≡ None
+    → (read_so_far max bytes).header ≡ Some h
     → (read_so_far max bytes).ended ≡ true
     → verdict (rules_of h) (read_so_far max bytes).starting (read_so_far max bytes).entries
     ≡ accepted (read_so_far max bytes).entries
@@ -180,7 +192,8 @@ unfolding verdict
 ended_right max bytes h nothing has done =
     let r = read_so_far max bytes in
     let wrong = header_right max bytes h nothing has in
-    let none : option_or (verdict_so_far (rules_of h) r.starting r.entries) (end_verdict (rules_of h) r.starting r.entries) ≡ None =
+    let none : option_or (verdict_so_far (rules_of h) r.starting r.entries)
+    (end_verdict (rules_of h) r.starting r.entries) ≡ None =
     ap (λ b. option_or (verdict_so_far (rules_of h) r.starting r.entries)
     (cond b (end_verdict (rules_of h) r.starting r.entries) None)) (sym done) ∙ wrong in
     ap (λ o. unwrap_or o (accepted r.entries)) none
@@ -189,7 +202,8 @@ ended_right max bytes h nothing has done =
 -- text, or otherwise acceptance.
 pub whole_right : (max : ℕ) (bytes : List ℕ) → text_verdict_so_far max bytes ≡ None
     → text_verdict max bytes
-    ≡ unwrap_or (option_map (λ fault. Malformed fault.line fault.rule) (read_whole max bytes).fault) (accepted (read_so_far max bytes).entries)
+    ≡ unwrap_or (option_map (λ fault. Malformed fault.line fault.rule) (read_whole max bytes).fault)
+    (accepted (read_so_far max bytes).entries)
 unfolding text_verdict
 whole_right max bytes nothing =
     let r = read_so_far max bytes in
@@ -199,24 +213,32 @@ whole_right max bytes nothing =
     let wrong_is : wrong_in w ≡ None =
     (λ i. option_and_then (λ h.
     option_or (verdict_so_far (rules_of h) (sym same.starting i) (sym same.entries i))
-    (cond (sym same.ended i) (end_verdict (rules_of h) (sym same.starting i) (sym same.entries i)) None))
+    (cond (sym same.ended i) (end_verdict (rules_of h) (sym same.starting i) (sym same.entries i))
+    None))
     (sym same.header i)) ∙ right in
-    (λ i. unwrap_or (option_or (wrong_is i) (option_map (λ fault. Malformed fault.line fault.rule) w.fault)) (accepted (sym same.entries i)))
+    (λ i. unwrap_or
+    (option_or (wrong_is i) (option_map (λ fault. Malformed fault.line fault.rule) w.fault))
+    (accepted (sym same.entries i)))
 
-pub whole_faulty : (max : ℕ) (bytes : List ℕ) (line : ℕ) (rule : Rule) → text_verdict_so_far max bytes ≡ None
-    → (read_whole max bytes).fault ≡ Some (record { line = line; rule = rule }) → Malformed line rule ≡ text_verdict max bytes
+pub whole_faulty : (max : ℕ) (bytes : List ℕ) (line : ℕ) (rule : Rule)
+    → text_verdict_so_far max bytes ≡ None
+    → (read_whole max bytes).fault ≡ Some (record { line = line; rule = rule })
+    → Malformed line rule ≡ text_verdict max bytes
 whole_faulty max bytes line rule nothing fault =
     sym (whole_right max bytes nothing
-    ∙ ap (λ o. unwrap_or (option_map (λ fault. Malformed fault.line fault.rule) o) (accepted (read_so_far max bytes).entries)) fault)
+    ∙ ap (λ o. unwrap_or (option_map (λ fault. Malformed fault.line fault.rule) o)
+    (accepted (read_so_far max bytes).entries)) fault)
 
 pub whole_accepted : (max : ℕ) (bytes : List ℕ) (h : Header) → text_verdict_so_far max bytes ≡ None
-    → (read_whole max bytes).fault ≡ None → (read_whole max bytes).ended ≡ true → (read_so_far max bytes).header ≡ Some h
+    → (read_whole max bytes).fault ≡ None → (read_whole max bytes).ended ≡ true
+    → (read_so_far max bytes).header ≡ Some h
     → verdict (rules_of h) (read_so_far max bytes).starting (read_so_far max bytes).entries
     ≡ text_verdict max bytes
 whole_accepted max bytes h nothing fault done has =
     ended_right max bytes h nothing has ((whole_same max bytes).ended ∙ done)
     ∙ sym (whole_right max bytes nothing
-    ∙ ap (λ o. unwrap_or (option_map (λ fault. Malformed fault.line fault.rule) o) (accepted (read_so_far max bytes).entries)) fault)
+    ∙ ap (λ o. unwrap_or (option_map (λ fault. Malformed fault.line fault.rule) o)
+    (accepted (read_so_far max bytes).entries)) fault)
 
 -- if `end` isn't read so far, it isn't in the whole input either
 pub not_ended : (max : ℕ) (bytes : List ℕ) → (read_so_far max bytes).ended ≡ false

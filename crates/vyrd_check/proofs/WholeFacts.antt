@@ -1,5 +1,6 @@
 -- The whole input says of header, starting words, entries and `end` what its bytes say so far.
-use Rattle.std.proofs.Common.{◌≡◌, ℕ, ◌+◌, Bool, true, false, cond, List, [], ◌∷◌, Option, Some, None, Result, Ok, Err, refl, ap}
+use Rattle.std.proofs.Common.{◌≡◌, ℕ, ◌+◌, Bool, true, false, cond, List, [], ◌∷◌, Option, Some}
+use Rattle.std.proofs.Common.{None, Result, Ok, Err, refl, ap}
 use Rattle.std.specs.Prelude.{◌==◌, nat_lt}
 use Rattle.std.specs.List.{slice_split}
 use Rattle.std.specs.Str.{bytes_eq}
@@ -12,7 +13,9 @@ use Rattle.vyrd_base.specs.declared.verdict.Rule.TheVariants.{TooManyLines, BadE
 use Rattle.vyrd_base.specs.Spelling.{end_line}
 use Rattle.vyrd_base.specs.Starts.{start_rule}
 use Rattle.vyrd_base.specs.Lines.{start_in, entry_in, header_in}
-use Rattle.vyrd_base.specs.Reading.{Reading, stopped, ended, after_end_rule, entry_before, lines_read, start_before, starts_read, body_read, header_before, text_read, reading}
+use Rattle.vyrd_base.specs.Reading.{Reading, stopped, ended, after_end_rule, entry_before}
+use Rattle.vyrd_base.specs.Reading.{lines_read, start_before, starts_read, body_read, header_before}
+use Rattle.vyrd_base.specs.Reading.{text_read, reading}
 use Rattle.vyrd_base.proofs.ReadingGrows.{so_far, input_of}
 use Rattle.vyrd_check.specs.LogReadings.{read_so_far, read_whole}
 
@@ -26,7 +29,8 @@ pub record IsSameText (a b : Reading) : Type 0 where
 same_text : (r : Reading) → IsSameText r r
 same_text r = record { header = refl; starting = refl; entries = refl; ended = refl }
 
-entry_same : (n : ℕ) (o : Option Entry) (a b : Reading) → IsSameText a b → IsSameText (entry_before n o a) (entry_before n o b)
+entry_same : (n : ℕ) (o : Option Entry) (a b : Reading) → IsSameText a b
+    → IsSameText (entry_before n o a) (entry_before n o b)
 entry_same n None a b s = same_text (stopped n (Some BadEntry))
 entry_same n (Some e) a b s = record {
   header = s.header;
@@ -36,11 +40,13 @@ entry_same n (Some e) a b s = record {
 }
 
 lines_same : (max : ℕ) (subject : Subject) (n : ℕ) (parts : List (List ℕ))
-    → IsSameText (lines_read (so_far max) subject n parts) (lines_read (input_of max true) subject n parts)
+    → IsSameText (lines_read (so_far max) subject n parts)
+    (lines_read (input_of max true) subject n parts)
 lines_same max subject n [] = same_text (stopped n None)
 lines_same max subject n (rest ∷ []) =
     record { header = refl; starting = refl; entries = refl; ended = refl }
-lines_same max subject n (line ∷ next ∷ lines) = by_tests (lines_same max subject (n + 1) (next ∷ lines)) (nat_lt max n) (bytes_eq line end_line)
+lines_same max subject n (line ∷ next ∷ lines) = by_tests
+    (lines_same max subject (n + 1) (next ∷ lines)) (nat_lt max n) (bytes_eq line end_line)
   where
     of_rest : Bool → Reading
     of_rest whole = lines_read (input_of max whole) subject (n + 1) (next ∷ lines)
@@ -50,7 +56,8 @@ lines_same max subject n (line ∷ next ∷ lines) = by_tests (lines_same max su
         (cond is_end (ended (n + 1) (after_end_rule (input_of max whole) (n + 1) next lines))
         (entry_before n (entry_in subject line) (of_rest whole)))
 
-    by_tests : IsSameText (of_rest false) (of_rest true) → (past is_end : Bool) → IsSameText (at_line false past is_end) (at_line true past is_end)
+    by_tests : IsSameText (of_rest false) (of_rest true) → (past is_end : Bool)
+        → IsSameText (at_line false past is_end) (at_line true past is_end)
     by_tests s true is_end = same_text (stopped n (Some TooManyLines))
     by_tests s false true = record { header = refl; starting = refl; entries = refl; ended = refl }
     by_tests s false false = entry_same n (entry_in subject line) (of_rest false) (of_rest true) s
@@ -66,7 +73,8 @@ start_same n None w a b s = record {
 }
 
 starts_same : (max : ℕ) (h : Header) (last : Option StartWord) (n : ℕ) (parts : List (List ℕ))
-    → IsSameText (starts_read (so_far max) h last n parts) (starts_read (input_of max true) h last n parts)
+    → IsSameText (starts_read (so_far max) h last n parts)
+    (starts_read (input_of max true) h last n parts)
 starts_same max h last n [] = same_text (stopped n None)
 starts_same max h last n (rest ∷ []) =
     record { header = refl; starting = refl; entries = refl; ended = refl }
@@ -85,10 +93,13 @@ starts_same max h last n (line ∷ next ∷ lines) =
 
     by_limit : (s : StartWord) → IsSameText (of_rest false s) (of_rest true s) → (past : Bool)
         → IsSameText
-        (cond past (stopped n (Some TooManyLines)) (start_before n (start_rule h last s) s (of_rest false s)))
-        (cond past (stopped n (Some TooManyLines)) (start_before n (start_rule h last s) s (of_rest true s)))
+        (cond past (stopped n (Some TooManyLines))
+        (start_before n (start_rule h last s) s (of_rest false s)))
+        (cond past (stopped n (Some TooManyLines))
+        (start_before n (start_rule h last s) s (of_rest true s)))
     by_limit s same true = same_text (stopped n (Some TooManyLines))
-    by_limit s same false = start_same n (start_rule h last s) s (of_rest false s) (of_rest true s) same
+    by_limit s same false = start_same n (start_rule h last s) s (of_rest false s)
+        (of_rest true s) same
 
     by_line : ((s : StartWord) → IsSameText (of_rest false s) (of_rest true s))
         → (o : Option StartWord) → IsSameText (at_line false o) (at_line true o)
@@ -100,12 +111,16 @@ body_same : (max : ℕ) (h : Header) (lines : List (List ℕ))
 body_same max h lines = by_version (h.version == 2)
   where
     by_version : (b : Bool)
-        → IsSameText (cond b (starts_read (so_far max) h None 2 lines) (lines_read (so_far max) h.subject 2 lines))
-        (cond b (starts_read (input_of max true) h None 2 lines) (lines_read (input_of max true) h.subject 2 lines))
+        → IsSameText
+        (cond b (starts_read (so_far max) h None 2 lines)
+        (lines_read (so_far max) h.subject 2 lines))
+        (cond b (starts_read (input_of max true) h None 2 lines)
+        (lines_read (input_of max true) h.subject 2 lines))
     by_version true = starts_same max h None 2 lines
     by_version false = lines_same max h.subject 2 lines
 
-parts_same : (max : ℕ) (parts : List (List ℕ)) → IsSameText (text_read (so_far max) parts) (text_read (input_of max true) parts)
+parts_same : (max : ℕ) (parts : List (List ℕ)) → IsSameText (text_read (so_far max) parts)
+    (text_read (input_of max true) parts)
 parts_same max [] = same_text (stopped 1 None)
 parts_same max (rest ∷ []) = record { header = refl; starting = refl; entries = refl; ended = refl }
 parts_same max (line ∷ next ∷ lines) = by_header (header_in line)
@@ -122,6 +137,7 @@ parts_same max (line ∷ next ∷ lines) = by_header (header_in line)
         record { header = refl; starting = s.starting; entries = s.entries; ended = s.ended }
     by_header (Err rule) = same_text (stopped 1 (Some rule))
 
-pub whole_same : (max : ℕ) (bytes : List ℕ) → IsSameText (read_so_far max bytes) (read_whole max bytes)
+pub whole_same : (max : ℕ) (bytes : List ℕ) → IsSameText (read_so_far max bytes)
+    (read_whole max bytes)
 unfolding reading
 whole_same max bytes = parts_same max (slice_split (λ b. b == 10) bytes)

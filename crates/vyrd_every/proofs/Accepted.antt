@@ -1,18 +1,21 @@
 -- The log has no fault, so it is accepted.
-use Rattle.std.proofs.Common.{◌≡◌, ℕ, ◌<◌, true, false, cond, List, [], ◌∷◌, ◌++◌, Some, None, option_map, length, refl, ap, ◌∙◌, sym, subst}
+use Rattle.std.proofs.Common.{◌≡◌, ℕ, ◌<◌, true, false, cond, List, [], ◌∷◌, ◌++◌, Some, None}
+use Rattle.std.proofs.Common.{option_map, length, refl, ap, ◌∙◌, sym, subst}
 use Rattle.std.specs.Prelude.{filter_map, unwrap_or}
 use Rattle.std.specs.Option.{option_or}
 use Rattle.std.specs.Bool.{then_some}
 use Rattle.std.specs.List.{cons_option}
 use Rattle.vyrd_base.specs.declared.header.Header.{Header}
-use Rattle.vyrd_base.specs.declared.log.Kind.TheVariants.{Call, Return, Write, Commit, BlockOpen, BlockClose, BlockCommit}
+use Rattle.vyrd_base.specs.declared.log.Kind.TheVariants.{Call, Return, Write, Commit, BlockOpen}
+use Rattle.vyrd_base.specs.declared.log.Kind.TheVariants.{BlockClose, BlockCommit}
 use Rattle.vyrd_base.specs.declared.log.Entry.{Entry}
 use Rattle.vyrd_base.specs.declared.history.Did.{Did}
 use Rattle.vyrd_base.specs.declared.history.Did.TheVariants.{Read, Wrote, Took, Gave, Marked}
 use Rattle.vyrd_base.specs.declared.history.Stamped.{Stamped}
 use Rattle.vyrd_base.specs.declared.verdict.Rule.TheVariants.{CallOpen}
 use Rattle.vyrd_base.specs.declared.verdict.Verdict.TheVariants.{Violation, Malformed}
-use Rattle.vyrd_base.specs.Places.{Place, places, places_after, position_of, first_answer, newest_first_onto, newest_first}
+use Rattle.vyrd_base.specs.Places.{Place, places, places_after, position_of, first_answer}
+use Rattle.vyrd_base.specs.Places.{newest_first_onto, newest_first}
 use Rattle.vyrd_base.specs.Front.{front, first_break, WellFormed}
 use Rattle.vyrd_base.specs.Amounts.{Amounts}
 use Rattle.vyrd_base.specs.States.{State}
@@ -22,7 +25,8 @@ use Rattle.vyrd_base.specs.Faults.{fault_of_kind, fault_of_commit, return_fault,
 use Rattle.vyrd_base.specs.FirstVersion.{old_words_after}
 use Rattle.vyrd_base.specs.Views.{view_of_words}
 use Rattle.vyrd_base.proofs.NoStart.{states_along-none, verdict_so_far-none, end_verdict-none}
-use Rattle.vyrd_base.specs.Verdicts.{line_of, violation_at, states_along, first_fault, shape_verdict, is_call_open, end_verdict, accepted, verdict}
+use Rattle.vyrd_base.specs.Verdicts.{line_of, violation_at, states_along, first_fault}
+use Rattle.vyrd_base.specs.Verdicts.{shape_verdict, is_call_open, end_verdict, accepted, verdict}
 use Rattle.vyrd_base.specs.Histories.{cells_of, is_legal, logged, log_of}
 use Rattle.vyrd_base.proofs.HistoryLaws.{log_entry}
 use Rattle.vyrd_base.proofs.BlockLaws.{entry}
@@ -48,43 +52,63 @@ use Rattle.vyrd_base.specs.Rules.{rules_of}
 -- the first fault among the entries to come, with the states that have passed and those to come
 abbrev FaultFrom : Header → List Amounts → Amounts → List Entry → List Entry → Type 0
 FaultFrom h passed state log logs =
-    first_answer (violation_at (rules_of h) [] (states_with h passed state (commits_after log logs))) (places_after log logs) ≡ None
+    first_answer
+    (violation_at (rules_of h) [] (states_with h passed state (commits_after log logs)))
+    (places_after log logs) ≡ None
 
 -- what a place adds
-place_adds : (h : Header) (states : List State) (place : Place Entry) (rest : List (Place Entry)) → fault_of_kind (rules_of h) [] states place place.here.kind ≡ None
+place_adds : (h : Header) (states : List State) (place : Place Entry) (rest : List (Place Entry))
+    → fault_of_kind (rules_of h) [] states place place.here.kind ≡ None
     → first_answer (violation_at (rules_of h) [] states) rest ≡ None
     → first_answer (violation_at (rules_of h) [] states) (place ∷ rest) ≡ None
 unfolding fault_at
 place_adds h states place rest right later =
-    ap (λ o. option_or (option_map (Violation (line_of [] (position_of place))) o) (first_answer (violation_at (rules_of h) [] states) rest)) right ∙ later
+    ap (λ o. option_or (option_map (Violation (line_of [] (position_of place))) o)
+    (first_answer (violation_at (rules_of h) [] states) rest)) right ∙ later
 
 -- an entry that neither commits nor returns
-plain_place : (h : Header) (passed : List Amounts) (state next : Amounts) (log logs : List Entry) (e : Entry)
-    → ((states : List State) → fault_of_kind (rules_of h) [] states (record { earlier = log; here = e; later = logs }) e.kind ≡ None)
-    → commits_after log (e ∷ logs) ≡ commits_after (e ∷ log) logs → next ≡ state → FaultFrom h passed next (e ∷ log) logs → FaultFrom h passed state log (e ∷ logs)
+plain_place : (h : Header) (passed : List Amounts) (state next : Amounts) (log logs : List Entry)
+    (e : Entry)
+    → ((states : List State) → fault_of_kind (rules_of h) [] states
+    (record { earlier = log; here = e; later = logs }) e.kind ≡ None)
+    → commits_after log (e ∷ logs) ≡ commits_after (e ∷ log) logs → next ≡ state
+    → FaultFrom h passed next (e ∷ log) logs → FaultFrom h passed state log (e ∷ logs)
 plain_place h passed state next log logs e right same unchanged later =
-    place_adds h (states_with h passed state (commits_after log (e ∷ logs))) (record { earlier = log; here = e; later = logs }) (places_after (e ∷ log) logs)
+    place_adds h (states_with h passed state (commits_after log (e ∷ logs)))
+    (record { earlier = log; here = e; later = logs }) (places_after (e ∷ log) logs)
     (right (states_with h passed state (commits_after log (e ∷ logs))))
-    (subst (λ xs. first_answer (violation_at (rules_of h) [] (states_with h passed state xs)) (places_after (e ∷ log) logs) ≡ None) (sym same)
+    (subst (λ xs. first_answer (violation_at (rules_of h) [] (states_with h passed state xs))
+    (places_after (e ∷ log) logs) ≡ None) (sym same)
     (subst (λ s. FaultFrom h passed s (e ∷ log) logs) unchanged later))
 
-commit_place : (h : Header) → h.version ≡ 1 → (passed : List Amounts) (state next : Amounts) (log logs : List Entry) (e : Entry) (rest : Script)
-    → ((states : List State) → fault_of_kind (rules_of h) [] states (record { earlier = log; here = e; later = logs }) e.kind
+commit_place : (h : Header) → h.version ≡ 1 → (passed : List Amounts) (state next : Amounts)
+    (log logs : List Entry) (e : Entry) (rest : Script)
+    → ((states : List State) → fault_of_kind (rules_of h) [] states
+    (record { earlier = log; here = e; later = logs }) e.kind
     ≡ fault_of_commit (rules_of h) [] states (record { earlier = log; here = e; later = logs }))
-    → commits_after log (e ∷ logs) ≡ committed_at (record { earlier = log; here = e; later = logs }) ∷ commits_after (e ∷ log) logs
-    → WellFormed h (e ∷ log) → view_of_words h (old_words_after h (e ∷ log)) ≡ next → length passed ≡ commit_count log
+    → commits_after log (e ∷ logs) ≡ committed_at (record { earlier = log; here = e; later = logs })
+    ∷ commits_after (e ∷ log) logs
+    → WellFormed h (e ∷ log) → view_of_words h (old_words_after h (e ∷ log)) ≡ next → length passed
+    ≡ commit_count log
     → ((reply : ℕ) → WillReturn reply rest → next_reply e.caller logs ≡ Some reply)
     → Committing e.caller log rest state next
-    → FaultFrom h (passed ++ state ∷ []) next (e ∷ log) logs → FaultFrom h passed state log (e ∷ logs)
-commit_place h one passed state next log logs e rest kind_is goes_on wf m count coming committing later =
-    place_adds h (states_with h passed state (commits_after log (e ∷ logs))) place (places_after (e ∷ log) logs)
+    → FaultFrom h (passed ++ state ∷ []) next (e ∷ log) logs → FaultFrom h passed state log
+    (e ∷ logs)
+commit_place h one passed state next log logs e rest kind_is goes_on wf m count coming committing
+    later =
+    place_adds h (states_with h passed state (commits_after log (e ∷ logs))) place
+    (places_after (e ∷ log) logs)
     (kind_is (states_with h passed state (commits_after log (e ∷ logs)))
-    ∙ ap (λ states. fault_of_commit (rules_of h) [] states place) (states_begin h passed state (commits_after log (e ∷ logs)))
-    ∙ commit_is_right h one passed (later_states h state (commits_after log (e ∷ logs))) state next place committing.called committing.reply wf m count
+    ∙ ap (λ states. fault_of_commit (rules_of h) [] states place)
+    (states_begin h passed state (commits_after log (e ∷ logs)))
+    ∙ commit_is_right h one passed (later_states h state (commits_after log (e ∷ logs))) state next
+    place committing.called committing.reply wf m count
     committing.is_called (coming committing.reply committing.returns) committing.allowed)
-    (subst (λ states. first_answer (violation_at (rules_of h) [] states) (places_after (e ∷ log) logs) ≡ None)
+    (subst (λ states. first_answer (violation_at (rules_of h) [] states)
+    (places_after (e ∷ log) logs) ≡ None)
     (sym (ap (states_with h passed state) goes_on
-    ∙ state_goes_on h passed state next (committed_at place) (commits_after (e ∷ log) logs) committing.called committing.reply committing.is_called
+    ∙ state_goes_on h passed state next (committed_at place) (commits_after (e ∷ log) logs)
+    committing.called committing.reply committing.is_called
     (coming committing.reply committing.returns) committing.allowed))
     later)
   where
@@ -92,40 +116,64 @@ commit_place h one passed state next log logs e rest kind_is goes_on wf m count 
     place = record { earlier = log; here = e; later = logs }
 
 -- one more event has no fault
-event_place : (h : Header) → h.version ≡ 1 → (c : ℕ) (did : Did) (passed : List Amounts) (state next : Amounts) (log logs : List Entry) (rest : Script)
-    → WellFormed h (cons_option (logged c did) log) → view_of_words h (old_words_after h (cons_option (logged c did) log)) ≡ next
+event_place : (h : Header) → h.version ≡ 1 → (c : ℕ) (did : Did) (passed : List Amounts)
+    (state next : Amounts) (log logs : List Entry) (rest : Script)
+    → WellFormed h (cons_option (logged c did) log)
+    → view_of_words h (old_words_after h (cons_option (logged c did) log)) ≡ next
     → length passed ≡ commit_count log
-    → (commits_now did ≡ true → (reply : ℕ) → WillReturn reply rest → next_reply c logs ≡ Some reply)
+    → (commits_now did ≡ true → (reply : ℕ) → WillReturn reply rest → next_reply c logs
+    ≡ Some reply)
     → Leading c did log rest state next → Returning c did log passed state
     → FaultFrom h (passed_after did passed state) next (cons_option (logged c did) log) logs
     → FaultFrom h passed state log (cons_option (logged c did) logs)
-event_place h one c (Read cell value) passed state next log logs rest wf m count coming leading returning later =
+event_place h one c (Read cell value) passed state next log logs rest wf m count coming leading
+    returning later =
     subst (λ s. FaultFrom h passed s log logs) leading later
-event_place h one c (Took lock) passed state next log logs rest wf m count coming leading returning later =
+event_place h one c (Took lock) passed state next log logs rest wf m count coming leading returning
+    later =
     subst (λ s. FaultFrom h passed s log logs) leading later
-event_place h one c (Gave lock) passed state next log logs rest wf m count coming leading returning later =
+event_place h one c (Gave lock) passed state next log logs rest wf m count coming leading returning
+    later =
     subst (λ s. FaultFrom h passed s log logs) leading later
-event_place h one c (Wrote cell value) passed state next log logs rest wf m count coming leading returning later =
-    plain_place h passed state next log logs (entry c (Write cell value)) (λ states. refl) refl leading later
-event_place h one c (Marked (Call method args)) passed state next log logs rest wf m count coming leading returning later =
-    plain_place h passed state next log logs (entry c (Call method args)) (λ states. refl) refl leading later
-event_place h one c (Marked (Return reply)) passed state next log logs rest wf m count coming leading returning later =
+event_place h one c (Wrote cell value) passed state next log logs rest wf m count coming leading
+    returning later =
+    plain_place h passed state next log logs (entry c (Write cell value)) (λ states. refl) refl
+    leading later
+event_place h one c (Marked (Call method args)) passed state next log logs rest wf m count coming
+    leading returning later =
+    plain_place h passed state next log logs (entry c (Call method args)) (λ states. refl) refl
+    leading later
+event_place h one c (Marked (Return reply)) passed state next log logs rest wf m count coming
+    leading returning later =
     place_adds h (states_with h passed state (commits_after log (entry c (Return reply) ∷ logs)))
-    (record { earlier = log; here = entry c (Return reply); later = logs }) (places_after (entry c (Return reply) ∷ log) logs)
-    (ap (λ states. return_fault (rules_of h) states c log reply) (states_begin h passed state (commits_after log (entry c (Return reply) ∷ logs)))
-    ∙ return_is_right h (first_version_built_in h one) passed (later_states h state (commits_after log (entry c (Return reply) ∷ logs))) state c log reply count
+    (record { earlier = log; here = entry c (Return reply); later = logs })
+    (places_after (entry c (Return reply) ∷ log) logs)
+    (ap (λ states. return_fault (rules_of h) states c log reply)
+    (states_begin h passed state (commits_after log (entry c (Return reply) ∷ logs)))
+    ∙ return_is_right h (first_version_built_in h one) passed
+    (later_states h state (commits_after log (entry c (Return reply) ∷ logs))) state c log reply
+    count
     wf.1 wf.0 returning)
     (subst (λ s. FaultFrom h passed s (entry c (Return reply) ∷ log) logs) leading later)
-event_place h one c (Marked (Write word value)) passed state next log logs rest wf m count coming leading returning later =
-    plain_place h passed state next log logs (entry c (Write word value)) (λ states. refl) refl leading later
-event_place h one c (Marked BlockOpen) passed state next log logs rest wf m count coming leading returning later =
+event_place h one c (Marked (Write word value)) passed state next log logs rest wf m count coming
+    leading returning later =
+    plain_place h passed state next log logs (entry c (Write word value)) (λ states. refl) refl
+    leading later
+event_place h one c (Marked BlockOpen) passed state next log logs rest wf m count coming leading
+    returning later =
     plain_place h passed state next log logs (entry c BlockOpen) (λ states. refl) refl leading later
-event_place h one c (Marked BlockClose) passed state next log logs rest wf m count coming leading returning later =
-    plain_place h passed state next log logs (entry c BlockClose) (λ states. refl) refl leading later
-event_place h one c (Marked Commit) passed state next log logs rest wf m count coming leading returning later =
-    commit_place h one passed state next log logs (entry c Commit) rest (λ states. refl) refl wf m count (coming refl) leading later
-event_place h one c (Marked BlockCommit) passed state next log logs rest wf m count coming leading returning later =
-    commit_place h one passed state next log logs (entry c BlockCommit) rest (λ states. refl) refl wf m count (coming refl) leading later
+event_place h one c (Marked BlockClose) passed state next log logs rest wf m count coming leading
+    returning later =
+    plain_place h passed state next log logs (entry c BlockClose) (λ states. refl) refl leading
+    later
+event_place h one c (Marked Commit) passed state next log logs rest wf m count coming leading
+    returning later =
+    commit_place h one passed state next log logs (entry c Commit) rest (λ states. refl) refl wf m
+    count (coming refl) leading later
+event_place h one c (Marked BlockCommit) passed state next log logs rest wf m count coming leading
+    returning later =
+    commit_place h one passed state next log logs (entry c BlockCommit) rest (λ states. refl) refl
+    wf m count (coming refl) leading later
 
 -- a commit is answered by 0
 zero_answer : (did : Did) → commits_now did ≡ true → answer_of did ≡ 0
@@ -136,22 +184,28 @@ zero_answer (Gave lock) e = refl
 zero_answer (Marked kind) e = refl
 
 -- what was run of a longer history was run before
-pub run_so_far : (h : Header) (scripts : List Script) (earlier xs : List Stamped) → IsRun h scripts (newest_first_onto earlier xs) → IsRun h scripts earlier
+pub run_so_far : (h : Header) (scripts : List Script) (earlier xs : List Stamped)
+    → IsRun h scripts (newest_first_onto earlier xs) → IsRun h scripts earlier
 run_so_far h scripts earlier [] run = run
-run_so_far h scripts earlier (e ∷ xs) run = run_before h scripts e earlier (run_so_far h scripts (e ∷ earlier) xs run)
+run_so_far h scripts earlier (e ∷ xs) run = run_before h scripts e earlier
+    (run_so_far h scripts (e ∷ earlier) xs run)
 
 -- each caller is at its end
 abbrev pub AreDone : Header → List Script → List Stamped → Type 0
-AreDone h scripts earlier = (c : ℕ) → c < h.callers → left_after (script_of scripts c) (part_of c earlier) ≡ stop
+AreDone h scripts earlier = (c : ℕ) → c < h.callers → left_after (script_of scripts c)
+    (part_of c earlier) ≡ stop
 
 -- from any moment on there is no fault
-no_fault_from : (h : Header) → h.version ≡ 1 → (scripts : List Script) (k : Keeping h scripts) (earlier xs : List Stamped) (passed : List Amounts) (state : Amounts)
-    → IsRun h scripts (newest_first_onto earlier xs) → AreDone h scripts (newest_first_onto earlier xs) → k.Holds earlier passed state
+no_fault_from : (h : Header) → h.version ≡ 1 → (scripts : List Script) (k : Keeping h scripts)
+    (earlier xs : List Stamped) (passed : List Amounts) (state : Amounts)
+    → IsRun h scripts (newest_first_onto earlier xs)
+    → AreDone h scripts (newest_first_onto earlier xs) → k.Holds earlier passed state
     → FaultFrom h passed state (log_in earlier) (filter_map log_entry xs)
 no_fault_from h one scripts k earlier [] passed state run done holds = refl
 no_fault_from h one scripts k earlier (e ∷ xs) passed state run done holds =
     go (k.goes_on earlier e.number e.caller e.did passed state now holds)
-    (λ passed' state' holds'. no_fault_from h one scripts k (e ∷ earlier) xs passed' state' run done holds')
+    (λ passed' state' holds'. no_fault_from h one scripts k (e ∷ earlier) xs passed' state' run done
+    holds')
   where
     now : IsRun h scripts (e ∷ earlier)
     now = run_so_far h scripts (e ∷ earlier) xs run
@@ -162,60 +216,89 @@ no_fault_from h one scripts k earlier (e ∷ xs) passed state run done holds =
     go : GoesOn k.Holds scripts earlier e.number e.caller e.did passed state
         → ((passed' : List Amounts) (state' : Amounts) → k.Holds (e ∷ earlier) passed' state'
         → FaultFrom h passed' state' (log_in (e ∷ earlier)) (filter_map log_entry xs))
-        → FaultFrom h passed state (log_in earlier) (cons_option (logged e.caller e.did) (filter_map log_entry xs))
+        → FaultFrom h passed state (log_in earlier)
+        (cons_option (logged e.caller e.did) (filter_map log_entry xs))
     go next later =
-        event_place h one e.caller e.did passed state next.next (log_in earlier) (filter_map log_entry xs)
+        event_place h one e.caller e.did passed state next.next (log_in earlier)
+        (filter_map log_entry xs)
         (after_answer (left_after (script_of scripts e.caller) (part_of e.caller earlier)) 0)
         (k.kept (e ∷ earlier) (passed_after e.did passed state) next.next next.holds_now)
-        (k.view (e ∷ earlier) (passed_after e.did passed state) next.next now next.holds_now) (k.count earlier passed state holds) coming
-        next.leading next.returning (later (passed_after e.did passed state) next.next next.holds_now)
+        (k.view (e ∷ earlier) (passed_after e.did passed state) next.next now next.holds_now)
+        (k.count earlier passed state holds) coming
+        next.leading next.returning
+        (later (passed_after e.did passed state) next.next next.holds_now)
       where
         coming : commits_now e.did ≡ true → (reply : ℕ)
-            → WillReturn reply (after_answer (left_after (script_of scripts e.caller) (part_of e.caller earlier)) 0)
+            → WillReturn reply
+            (after_answer (left_after (script_of scripts e.caller) (part_of e.caller earlier)) 0)
             → next_reply e.caller (filter_map log_entry xs) ≡ Some reply
         coming commits reply will =
             reply_comes e.caller (script_of scripts e.caller) (e ∷ earlier) xs reply
-            (subst (λ b. WillReturn reply (left_after (script_of scripts e.caller) (cons_option (cond b (Some e.did) None) (part_of e.caller earlier))))
+            (subst (λ b. WillReturn reply
+            (left_after (script_of scripts e.caller)
+            (cons_option (cond b (Some e.did) None) (part_of e.caller earlier))))
             (sym (same_number e.caller))
-            (subst (λ n. WillReturn reply (after_answer (left_after (script_of scripts e.caller) (part_of e.caller earlier)) n)) (sym (zero_answer e.did commits)) will))
-            (run.plays e.caller) (are_answers (cells_of h) (newest_first_onto earlier (e ∷ xs)) e.caller run.legal) (done e.caller low)
+            (subst (λ n. WillReturn reply
+            (after_answer (left_after (script_of scripts e.caller) (part_of e.caller earlier)) n))
+            (sym (zero_answer e.did commits)) will))
+            (run.plays e.caller)
+            (are_answers (cells_of h) (newest_first_onto earlier (e ∷ xs)) e.caller run.legal)
+            (done e.caller low)
 
 -- the log has no fault
-pub no_fault : (h : Header) → h.version ≡ 1 → (scripts : List Script) (k : Keeping h scripts) (history : List Stamped) → IsRun h scripts (newest_first history)
-    → AreDone h scripts (newest_first history) → first_fault (rules_of h) [] (front h (log_of history)) ≡ None
+pub no_fault : (h : Header) → h.version ≡ 1 → (scripts : List Script) (k : Keeping h scripts)
+    (history : List Stamped) → IsRun h scripts (newest_first history)
+    → AreDone h scripts (newest_first history) → first_fault (rules_of h) []
+    (front h (log_of history)) ≡ None
 unfolding first_fault commits log_of
 no_fault h one scripts k history run done =
-    ap (λ es. first_answer (violation_at (rules_of h) [] (states_along (rules_of h) [] es)) (places es)) (all_front h scripts k history run)
-    ∙ ap (λ states. first_answer (violation_at (rules_of h) [] states) (places (log_of history))) (states_along-none h (log_of history))
+    ap (λ es. first_answer (violation_at (rules_of h) [] (states_along (rules_of h) [] es))
+    (places es)) (all_front h scripts k history run)
+    ∙ ap (λ states. first_answer (violation_at (rules_of h) [] states) (places (log_of history)))
+    (states_along-none h (log_of history))
     ∙ no_fault_from h one scripts k [] history [] start.shown run done k.begins
 
 -- a legal history in which the scripts are played to their end is a run
-pub whole_run : (h : Header) (scripts : List Script) (history : List Stamped) → is_legal (cells_of h) history ≡ true → PlayToTheEnd scripts history
+pub whole_run : (h : Header) (scripts : List Script) (history : List Stamped)
+    → is_legal (cells_of h) history ≡ true → PlayToTheEnd scripts history
     → IsRun h scripts (newest_first history)
-whole_run h scripts history legal played = record { legal = legal_events (cells_of h) history legal; plays = λ c. (played c).plays }
+whole_run h scripts history legal played =
+    record { legal = legal_events (cells_of h) history legal; plays = λ c. (played c).plays }
 
 -- so the log is accepted
-by_parts : (h : Header) (entries : List Entry) → first_fault (rules_of h) [] (front h entries) ≡ None → first_break h entries ≡ None
-    → is_call_open h (newest_first entries) ≡ false → verdict (rules_of h) [] entries ≡ accepted entries
+by_parts : (h : Header) (entries : List Entry) → first_fault (rules_of h) [] (front h entries)
+    ≡ None → first_break h entries ≡ None
+    → is_call_open h (newest_first entries) ≡ false → verdict (rules_of h) [] entries
+    ≡ accepted entries
 unfolding verdict shape_verdict
 by_parts h entries fault broken closed =
-    ap (λ o. unwrap_or (option_or o (end_verdict (rules_of h) [] entries)) (accepted entries)) (verdict_so_far-none h entries)
-    ∙ ap (λ o. unwrap_or (option_or (option_or (first_fault (rules_of h) [] (front h entries)) (shape_verdict h [] entries)) o) (accepted entries))
+    ap (λ o. unwrap_or (option_or o (end_verdict (rules_of h) [] entries)) (accepted entries))
+    (verdict_so_far-none h entries)
+    ∙ ap (λ o. unwrap_or
+    (option_or (option_or (first_fault (rules_of h) [] (front h entries))
+    (shape_verdict h [] entries)) o) (accepted entries))
     (end_verdict-none h entries)
-    ∙ (λ i. unwrap_or (option_or (option_or (fault i) (option_map (Malformed (line_of [] (length (front h entries)))) (broken i)))
+    ∙ (λ i. unwrap_or
+    (option_or (option_or (fault i) (option_map (Malformed (line_of [] (length (front h entries))))
+    (broken i)))
     (then_some (closed i) (Malformed (line_of [] (length entries)) CallOpen))) (accepted entries))
 
 -- no execution is open at the end
-pub none_open_at_end : (h : Header) (scripts : List Script) (k : Keeping h scripts) (history : List Stamped) → is_legal (cells_of h) history ≡ true
+pub none_open_at_end : (h : Header) (scripts : List Script) (k : Keeping h scripts)
+    (history : List Stamped) → is_legal (cells_of h) history ≡ true
     → PlayToTheEnd scripts history → is_call_open h (newest_first (log_of history)) ≡ false
 none_open_at_end h scripts k history legal played =
     let run : IsRun h scripts (newest_first history) = whole_run h scripts history legal played in
     ap (is_call_open h) (newest_log history)
-    ∙ none_open h (newest_first history) (all_keep h scripts history k.sound run.legal played) (all_rest h scripts history k.sound run.legal played)
+    ∙ none_open h (newest_first history) (all_keep h scripts history k.sound run.legal played)
+    (all_rest h scripts history k.sound run.legal played)
 
-pub is_accepted : (h : Header) → h.version ≡ 1 → (scripts : List Script) (k : Keeping h scripts) (history : List Stamped) → is_legal (cells_of h) history ≡ true
-    → PlayToTheEnd scripts history → verdict (rules_of h) [] (log_of history) ≡ accepted (log_of history)
+pub is_accepted : (h : Header) → h.version ≡ 1 → (scripts : List Script) (k : Keeping h scripts)
+    (history : List Stamped) → is_legal (cells_of h) history ≡ true
+    → PlayToTheEnd scripts history → verdict (rules_of h) [] (log_of history)
+    ≡ accepted (log_of history)
 is_accepted h one scripts k history legal played =
     let run : IsRun h scripts (newest_first history) = whole_run h scripts history legal played in
-    by_parts h (log_of history) (no_fault h one scripts k history run (λ c low. (played c).done)) (no_break h scripts k history run)
+    by_parts h (log_of history) (no_fault h one scripts k history run (λ c low. (played c).done))
+    (no_break h scripts k history run)
     (none_open_at_end h scripts k history legal played)

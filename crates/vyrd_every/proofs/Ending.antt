@@ -1,7 +1,10 @@
--- A run by turns ends or gets stuck, whatever the scripts are: each event leaves less of one script,
+-- A run by turns ends or gets stuck, whatever the scripts are: each event leaves less of one
+-- script,
 -- and a script is finite.
-use Rattle.std.proofs.Common.{◌≡◌, ℕ, zero, suc, ◌<◌, ◌⊎◌, inl, inr, Bool, true, false, cond, not, ◌&&◌, ◌||◌}
-use Rattle.std.proofs.Common.{List, [], ◌∷◌, ◌++◌, Option, Some, None, length, refl, ap, ◌∙◌, sym, arith}
+use Rattle.std.proofs.Common.{◌≡◌, ℕ, zero, suc, ◌<◌, ◌⊎◌, inl, inr, Bool, true, false, cond, not}
+use Rattle.std.proofs.Common.{◌&&◌, ◌||◌}
+use Rattle.std.proofs.Common.{List, [], ◌∷◌, ◌++◌, Option, Some, None, length, refl, ap, ◌∙◌, sym}
+use Rattle.std.proofs.Common.{arith}
 use Rattle.std.specs.Prelude.{◌≢◌, ◌==◌, is_some}
 use Rattle.std.proofs.lemmas.List.{append-nil}
 use Rattle.std.proofs.lemmas.Option.{none-some}
@@ -15,9 +18,11 @@ use Rattle.vyrd_base.proofs.TestLaws.{same_of, apart_of}
 use Rattle.vyrd_memory.specs.declared.act.Act.{Act}
 use Rattle.vyrd_memory.specs.declared.act.Act.TheVariants.{Load, Store, Take, Give, Mark, Done}
 use Rattle.vyrd_memory.specs.declared.op.Turn.{Turn}
-use Rattle.vyrd_memory.specs.Scripts.{Script, stop, step, next_act, after_answer, answer_of, left_after}
+use Rattle.vyrd_memory.specs.Scripts.{Script, stop, step, next_act, after_answer, answer_of}
+use Rattle.vyrd_memory.specs.Scripts.{left_after}
 use Rattle.vyrd_memory.specs.Turns.{part_of, script_of, act_of, event_now, with_event, after_turns}
-use Rattle.vyrd_memory.specs.Turns.{after_rounds, is_done, are_done, is_held_up, are_stuck, turns_of, run_for}
+use Rattle.vyrd_memory.specs.Turns.{after_rounds, is_done, are_done, is_held_up, are_stuck}
+use Rattle.vyrd_memory.specs.Turns.{turns_of, run_for}
 use Rattle.vyrd_memory.specs.Turns.{RunsTo, GetsStuck}
 
 -- the script in a place, and none past the list
@@ -38,25 +43,31 @@ by_number Q first more (suc i) = more i
 
 -- what holds of scripts as soon as it holds of them with one step less, in any place
 abbrev Steps : ℕ → (List Script → Type 0) → List Script → Type 0
-Steps n P ls = (c answer : ℕ) → c < n → next_act (at ls c) ≢ Done → P (put ls c (after_answer (at ls c) answer))
+Steps n P ls = (c answer : ℕ) → c < n → next_act (at ls c) ≢ Done
+    → P (put ls c (after_answer (at ls c) answer))
 
 abbrev Fewer : ℕ → Type 1
 Fewer n = (P : List Script → Type 0) → ((ls : List Script) → length ls ≡ n → Steps n P ls → P ls)
     → (ls : List Script) → length ls ≡ n → P ls
 
 -- one script more, which is as finite
-first_fewer : (n : ℕ) → Fewer n → (P : List Script → Type 0) → ((ls : List Script) → length ls ≡ suc n → Steps (suc n) P ls → P ls)
+first_fewer : (n : ℕ) → Fewer n → (P : List Script → Type 0)
+    → ((ls : List Script) → length ls ≡ suc n → Steps (suc n) P ls → P ls)
     → (s : Script) (ls : List Script) → length ls ≡ n → P (s ∷ ls)
-first_fewer n others P more stop = others (λ xs. P (stop ∷ xs)) (λ xs f later. more (stop ∷ xs) (omega (arith, f))
+first_fewer n others P more stop = others (λ xs. P (stop ∷ xs))
+    (λ xs f later. more (stop ∷ xs) (omega (arith, f))
     (λ c answer. by_number
-    (λ d. d < suc n → next_act (at (stop ∷ xs) d) ≢ Done → P (put (stop ∷ xs) d (after_answer (at (stop ∷ xs) d) answer)))
+    (λ d. d < suc n → next_act (at (stop ∷ xs) d) ≢ Done
+    → P (put (stop ∷ xs) d (after_answer (at (stop ∷ xs) d) answer)))
     (λ low goes. absurd (goes refl)) (λ d low goes. later d answer (omega (arith, low)) goes) c))
 first_fewer n others P more (step act rest) =
-    others (λ xs. P (step act rest ∷ xs)) (λ xs f later. more (step act rest ∷ xs) (omega (arith, f))
+    others (λ xs. P (step act rest ∷ xs))
+    (λ xs f later. more (step act rest ∷ xs) (omega (arith, f))
     (λ c answer. by_number
     (λ d. d < suc n → next_act (at (step act rest ∷ xs) d) ≢ Done
     → P (put (step act rest ∷ xs) d (after_answer (at (step act rest ∷ xs) d) answer)))
-    (λ low goes. first_fewer n others P more (rest answer) xs f) (λ d low goes. later d answer (omega (arith, low)) goes) c))
+    (λ low goes. first_fewer n others P more (rest answer) xs f)
+    (λ d low goes. later d answer (omega (arith, low)) goes) c))
 
 -- it holds of all, since a script has no endless steps
 fewer : (n : ℕ) → Fewer n
@@ -74,7 +85,8 @@ put_elsewhere [] c d x apart = refl
 put_elsewhere (s ∷ ls) zero zero x apart = absurd (apart refl)
 put_elsewhere (s ∷ ls) zero (suc d) x apart = refl
 put_elsewhere (s ∷ ls) (suc c) zero x apart = refl
-put_elsewhere (s ∷ ls) (suc c) (suc d) x apart = put_elsewhere ls c d x (λ same. apart (ap suc same))
+put_elsewhere (s ∷ ls) (suc c) (suc d) x apart = put_elsewhere ls c d x
+    (λ same. apart (ap suc same))
 
 -- whoever isn't done has a place
 has_place : (ls : List Script) (c : ℕ) → next_act (at ls c) ≢ Done → c < length ls
@@ -84,19 +96,23 @@ has_place (s ∷ ls) (suc c) goes = let later = has_place ls c goes in omega (ar
 
 -- what is left of each script
 abbrev AreLeft : List Script → List Stamped → List Script → Type 0
-AreLeft scripts earlier ls = (c : ℕ) → left_after (script_of scripts c) (part_of c earlier) ≡ at ls c
+AreLeft scripts earlier ls = (c : ℕ) → left_after (script_of scripts c) (part_of c earlier)
+    ≡ at ls c
 
 -- an event of a caller leaves less of its script
-less_left : (scripts : List Script) (earlier : List Stamped) (ls : List Script) (n c : ℕ) (did : Did) → c < length ls
+less_left : (scripts : List Script) (earlier : List Stamped) (ls : List Script) (n c : ℕ)
+    (did : Did) → c < length ls
     → AreLeft scripts earlier ls
-    → AreLeft scripts (record { number = n; caller = c; did = did } ∷ earlier) (put ls c (after_answer (at ls c) (answer_of did)))
+    → AreLeft scripts (record { number = n; caller = c; did = did } ∷ earlier)
+    (put ls c (after_answer (at ls c) (answer_of did)))
 less_left scripts earlier ls n c did low are d = by_caller (c == d) refl
   where
     x : Script
     x = after_answer (at ls c) (answer_of did)
 
     by_caller : (b : Bool) → (c == d) ≡ b
-        → left_after (script_of scripts d) (cons_option (cond b (Some did) None) (part_of d earlier)) ≡ at (put ls c x) d
+        → left_after (script_of scripts d)
+        (cons_option (cond b (Some did) None) (part_of d earlier)) ≡ at (put ls c x) d
     by_caller true e =
         let same : c ≡ d = same_of c d e in
         ap (λ script. after_answer script (answer_of did)) (are d ∙ ap (at ls) (sym same))
@@ -109,7 +125,8 @@ Halts scripts earlier = (n : ℕ) × ((are_done scripts (after_rounds scripts n 
     ⊎ (are_stuck scripts (after_rounds scripts n earlier) ≡ true))
 
 one_round : (scripts : List Script) (earlier : List Stamped)
-    → Halts scripts (after_turns scripts (numbers_below (length scripts)) earlier) → Halts scripts earlier
+    → Halts scripts (after_turns scripts (numbers_below (length scripts)) earlier)
+    → Halts scripts earlier
 one_round scripts earlier halts = (suc halts.0, halts.1)
 
 -- whether the caller's turn is an event
@@ -117,7 +134,8 @@ abbrev acts : List Script → List Stamped → ℕ → Bool
 acts scripts earlier c = is_some (event_now earlier (act_of scripts c earlier))
 
 -- it is one if its script isn't done and it doesn't wait
-acts_if : (earlier : List Stamped) (act : Act) → is_some (event_now earlier act) ≡ not (is_done act || is_held_up earlier act)
+acts_if : (earlier : List Stamped) (act : Act) → is_some (event_now earlier act)
+    ≡ not (is_done act || is_held_up earlier act)
 acts_if earlier (Load cell) = refl
 acts_if earlier (Store cell value) = refl
 acts_if earlier (Take lock) = by_free (value_in earlier lock == 0)
@@ -129,26 +147,31 @@ acts_if earlier (Give lock) = refl
 acts_if earlier (Mark kind) = refl
 acts_if earlier Done = refl
 
-some_other : {A : Type 0} (f g : A → Bool) → ((a : A) → g a ≡ not (f a)) → (xs : List A) → list_any g xs ≡ not (list_all f xs)
+some_other : {A : Type 0} (f g : A → Bool) → ((a : A) → g a ≡ not (f a)) → (xs : List A)
+    → list_any g xs ≡ not (list_all f xs)
 some_other f g other [] = refl
-some_other f g other (x ∷ xs) = ap (λ b. b || list_any g xs) (other x) ∙ ap (λ b. not (f x) || b) (some_other f g other xs) ∙ by_test (f x)
+some_other f g other (x ∷ xs) = ap (λ b. b || list_any g xs) (other x) ∙ ap (λ b. not (f x) || b)
+    (some_other f g other xs) ∙ by_test (f x)
   where
     by_test : (b : Bool) → (not b || not (list_all f xs)) ≡ not (b && list_all f xs)
     by_test true = refl
     by_test false = refl
 
 -- if not all are done, and it isn't so that each waits, somebody acts
-somebody_acts : (scripts : List Script) (earlier : List Stamped) → are_done scripts earlier ≡ false → are_stuck scripts earlier ≡ false
+somebody_acts : (scripts : List Script) (earlier : List Stamped) → are_done scripts earlier ≡ false
+    → are_stuck scripts earlier ≡ false
     → list_any (acts scripts earlier) (numbers_below (length scripts)) ≡ true
 somebody_acts scripts earlier going free =
-    some_other waits (acts scripts earlier) (λ c. acts_if earlier (act_of scripts c earlier)) (numbers_below (length scripts))
+    some_other waits (acts scripts earlier) (λ c. acts_if earlier (act_of scripts c earlier))
+    (numbers_below (length scripts))
     ∙ ap not (sym (ap (λ b. not b && list_all waits (numbers_below (length scripts))) going) ∙ free)
   where
     waits : ℕ → Bool
     waits c = is_done (act_of scripts c earlier) || is_held_up earlier (act_of scripts c earlier)
 
 -- an event is of a script that isn't done
-acts_on : (earlier : List Stamped) (act : Act) (did : Did) → event_now earlier act ≡ Some did → act ≢ Done
+acts_on : (earlier : List Stamped) (act : Act) (did : Did) → event_now earlier act ≡ Some did
+    → act ≢ Done
 acts_on earlier act did e = λ is. none-some did (sym (ap (event_now earlier) is) ∙ e)
 
 -- From any events on, after turns of any callers: the run halts, if it does so after each event.
@@ -158,42 +181,53 @@ halts_on : (scripts ls : List Script) (earlier : List Stamped) → AreLeft scrip
     → (cs : List ℕ) → Halts scripts (after_turns scripts cs earlier)
 halts_on scripts ls earlier are later = turns
   where
-    by_event : (c : ℕ) (cs : List ℕ) (o : Option Did) → event_now earlier (act_of scripts c earlier) ≡ o
-        → Halts scripts (after_turns scripts cs earlier) → Halts scripts (after_turns scripts cs (with_event c earlier o))
+    by_event : (c : ℕ) (cs : List ℕ) (o : Option Did) → event_now earlier (act_of scripts c earlier)
+        ≡ o
+        → Halts scripts (after_turns scripts cs earlier)
+        → Halts scripts (after_turns scripts cs (with_event c earlier o))
     by_event c cs None e none = none
     by_event c cs (Some did) e none = later c did cs e
 
-    until_one : (cs : List ℕ) → list_any (acts scripts earlier) cs ≡ true → Halts scripts (after_turns scripts cs earlier)
+    until_one : (cs : List ℕ) → list_any (acts scripts earlier) cs ≡ true
+        → Halts scripts (after_turns scripts cs earlier)
     until_one [] some = cc
-    until_one (c ∷ cs) some = by_first (event_now earlier (act_of scripts c earlier)) refl some (until_one cs)
+    until_one (c ∷ cs) some = by_first (event_now earlier (act_of scripts c earlier)) refl some
+        (until_one cs)
       where
         by_first : (o : Option Did) → event_now earlier (act_of scripts c earlier) ≡ o
             → (is_some o || list_any (acts scripts earlier) cs) ≡ true
-            → (list_any (acts scripts earlier) cs ≡ true → Halts scripts (after_turns scripts cs earlier))
+            → (list_any (acts scripts earlier) cs ≡ true
+            → Halts scripts (after_turns scripts cs earlier))
             → Halts scripts (after_turns scripts cs (with_event c earlier o))
         by_first None e among rest = rest among
         by_first (Some did) e among rest = later c did cs e
 
-    at_round : (done stuck : Bool) → are_done scripts earlier ≡ done → are_stuck scripts earlier ≡ stuck → Halts scripts earlier
+    at_round : (done stuck : Bool) → are_done scripts earlier ≡ done → are_stuck scripts earlier
+        ≡ stuck → Halts scripts earlier
     at_round true stuck e f = (0, inl e)
     at_round false true e f = (0, inr f)
     at_round false false e f =
-        one_round scripts earlier (until_one (numbers_below (length scripts)) (somebody_acts scripts earlier e f))
+        one_round scripts earlier
+        (until_one (numbers_below (length scripts)) (somebody_acts scripts earlier e f))
 
     turns : (cs : List ℕ) → Halts scripts (after_turns scripts cs earlier)
     turns [] = at_round (are_done scripts earlier) (are_stuck scripts earlier) refl refl
     turns (c ∷ cs) = by_event c cs (event_now earlier (act_of scripts c earlier)) refl (turns cs)
 
 -- so it halts
-halts : (scripts ls : List Script) → length ls ≡ length scripts → (earlier : List Stamped) → AreLeft scripts earlier ls
+halts : (scripts ls : List Script) → length ls ≡ length scripts → (earlier : List Stamped)
+    → AreLeft scripts earlier ls
     → (cs : List ℕ) → Halts scripts (after_turns scripts cs earlier)
 halts scripts =
-    fewer (length scripts) (λ ls. (earlier : List Stamped) → AreLeft scripts earlier ls → (cs : List ℕ) → Halts scripts (after_turns scripts cs earlier))
+    fewer (length scripts) (λ ls. (earlier : List Stamped) → AreLeft scripts earlier ls
+    → (cs : List ℕ) → Halts scripts (after_turns scripts cs earlier))
     (λ ls same one earlier are. halts_on scripts ls earlier are
     (λ c did cs e.
-    let goes : next_act (at ls c) ≢ Done = λ done. acts_on earlier (act_of scripts c earlier) did e (ap next_act (are c) ∙ done) in
+    let goes : next_act (at ls c) ≢ Done = λ done. acts_on earlier (act_of scripts c earlier) did e
+    (ap next_act (are c) ∙ done) in
     let low : c < length ls = has_place ls c goes in
-    one c (answer_of did) (omega (arith, low, same)) goes (record { number = length earlier; caller = c; did = did } ∷ earlier)
+    one c (answer_of did) (omega (arith, low, same)) goes
+    (record { number = length earlier; caller = c; did = did } ∷ earlier)
     (less_left scripts earlier ls (length earlier) c did low are) cs))
 
 -- at the start all of each script is left
@@ -202,7 +236,8 @@ all_left [] c = refl
 all_left (s ∷ scripts) zero = refl
 all_left (s ∷ scripts) (suc c) = all_left scripts c
 
-twice_onto : {A : Type 0} (xs ys later : List A) → newest_first_onto ys (newest_first_onto later xs) ≡ newest_first_onto (xs ++ ys) later
+twice_onto : {A : Type 0} (xs ys later : List A) → newest_first_onto ys (newest_first_onto later xs)
+    ≡ newest_first_onto (xs ++ ys) later
 twice_onto [] ys later = refl
 twice_onto (x ∷ xs) ys later = twice_onto xs ys (x ∷ later)
 
@@ -211,7 +246,8 @@ twice xs = twice_onto xs [] [] ∙ append-nil xs
 
 pub run_ends_or_sticks : (scripts : List Script) (turns : List Turn)
     → ((history : List Stamped) × RunsTo scripts turns history) ⊎ GetsStuck scripts turns
-run_ends_or_sticks scripts turns = by_end (halts scripts scripts refl [] (all_left scripts) (turns_of turns))
+run_ends_or_sticks scripts turns = by_end
+    (halts scripts scripts refl [] (all_left scripts) (turns_of turns))
   where
     by_end : Halts scripts (after_turns scripts (turns_of turns) [])
         → ((history : List Stamped) × RunsTo scripts turns history) ⊎ GetsStuck scripts turns

@@ -1,6 +1,7 @@
 -- Scripts one after the other do right, and so do operations, if the procedure of each does.
 use Rattle.std.proofs.Common.{◌≡◌, ℕ, true, List, [], ◌∷◌, Some, None, refl, sym, subst}
-use Rattle.vyrd_base.specs.declared.log.Kind.TheVariants.{Call, Return, Write, Commit, BlockOpen, BlockClose, BlockCommit}
+use Rattle.vyrd_base.specs.declared.log.Kind.TheVariants.{Call, Return, Write, Commit, BlockOpen}
+use Rattle.vyrd_base.specs.declared.log.Kind.TheVariants.{BlockClose, BlockCommit}
 use Rattle.vyrd_base.specs.Amounts.{Amounts}
 use Rattle.vyrd_base.proofs.TestLaws.{first_true, second_true}
 use Rattle.vyrd_memory.specs.declared.act.Act.{Act}
@@ -16,22 +17,35 @@ use Rattle.vyrd_every.specs.RightScripts.{WillReturn, Commits, Leads, ActsRight,
 use Rattle.vyrd_every.proofs.Acts.{quiet}
 
 -- what returns before something else follows
-pub follows_return : (reply : ℕ) (script later : Script) → WillReturn reply script → WillReturn reply (followed_by script later)
+pub follows_return : (reply : ℕ) (script later : Script) → WillReturn reply script
+    → WillReturn reply (followed_by script later)
 follows_return reply stop later returns_ = absurd returns_
-follows_return reply (step (Load cell) rest) later returns_ = λ answer is. follows_return reply (rest answer) later (returns_ answer is)
-follows_return reply (step (Store cell value) rest) later returns_ = λ answer is. follows_return reply (rest answer) later (returns_ answer is)
-follows_return reply (step (Take lock) rest) later returns_ = λ answer is. follows_return reply (rest answer) later (returns_ answer is)
-follows_return reply (step (Give lock) rest) later returns_ = λ answer is. follows_return reply (rest answer) later (returns_ answer is)
-follows_return reply (step Done rest) later returns_ = λ answer is. follows_return reply (rest answer) later (returns_ answer is)
-follows_return reply (step (Mark (Call method args)) rest) later returns_ = λ answer is. follows_return reply (rest answer) later (returns_ answer is)
+follows_return reply (step (Load cell) rest) later returns_ = λ answer is. follows_return reply
+    (rest answer) later (returns_ answer is)
+follows_return reply (step (Store cell value) rest) later returns_ = λ answer is. follows_return
+    reply (rest answer) later (returns_ answer is)
+follows_return reply (step (Take lock) rest) later returns_ = λ answer is. follows_return reply
+    (rest answer) later (returns_ answer is)
+follows_return reply (step (Give lock) rest) later returns_ = λ answer is. follows_return reply
+    (rest answer) later (returns_ answer is)
+follows_return reply (step Done rest) later returns_ = λ answer is. follows_return reply
+    (rest answer) later (returns_ answer is)
+follows_return reply (step (Mark (Call method args)) rest) later returns_ =
+    λ answer is. follows_return reply (rest answer) later (returns_ answer is)
 follows_return reply (step (Mark (Return other)) rest) later returns_ = returns_
-follows_return reply (step (Mark (Write word value)) rest) later returns_ = λ answer is. follows_return reply (rest answer) later (returns_ answer is)
-follows_return reply (step (Mark Commit) rest) later returns_ = λ answer is. follows_return reply (rest answer) later (returns_ answer is)
-follows_return reply (step (Mark BlockOpen) rest) later returns_ = λ answer is. follows_return reply (rest answer) later (returns_ answer is)
-follows_return reply (step (Mark BlockClose) rest) later returns_ = λ answer is. follows_return reply (rest answer) later (returns_ answer is)
-follows_return reply (step (Mark BlockCommit) rest) later returns_ = λ answer is. follows_return reply (rest answer) later (returns_ answer is)
+follows_return reply (step (Mark (Write word value)) rest) later returns_ =
+    λ answer is. follows_return reply (rest answer) later (returns_ answer is)
+follows_return reply (step (Mark Commit) rest) later returns_ = λ answer is. follows_return reply
+    (rest answer) later (returns_ answer is)
+follows_return reply (step (Mark BlockOpen) rest) later returns_ = λ answer is. follows_return reply
+    (rest answer) later (returns_ answer is)
+follows_return reply (step (Mark BlockClose) rest) later returns_ = λ answer is. follows_return
+    reply (rest answer) later (returns_ answer is)
+follows_return reply (step (Mark BlockCommit) rest) later returns_ = λ answer is. follows_return
+    reply (rest answer) later (returns_ answer is)
 
-follows_commit : (S : Structure) (k : Locals) (rest later : Script) (now : Memory) (state : Amounts) → Commits k S rest now state
+follows_commit : (S : Structure) (k : Locals) (rest later : Script) (now : Memory) (state : Amounts)
+    → Commits k S rest now state
     → Commits k S (followed_by rest later) now state
 follows_commit S k rest later now state c = record {
   called = c.called;
@@ -43,7 +57,8 @@ follows_commit S k rest later now state c = record {
   means = c.means;
 }
 
-follows_leads : (S : Structure) (k : Locals) (act : Act) (rest later : Script) (now : Memory) (state : Amounts) → Leads S k act rest now state
+follows_leads : (S : Structure) (k : Locals) (act : Act) (rest later : Script) (now : Memory)
+    (state : Amounts) → Leads S k act rest now state
     → Leads S k act (followed_by rest later) now state
 follows_leads S k (Load cell) rest later now state leads = leads
 follows_leads S k (Store cell value) rest later now state leads = leads
@@ -53,51 +68,67 @@ follows_leads S k Done rest later now state leads = leads
 follows_leads S k (Mark (Call method args)) rest later now state leads = leads
 follows_leads S k (Mark (Return reply)) rest later now state leads = leads
 follows_leads S k (Mark (Write word value)) rest later now state leads = leads
-follows_leads S k (Mark Commit) rest later now state leads = follows_commit S k rest later now state leads
+follows_leads S k (Mark Commit) rest later now state leads = follows_commit S k rest later now state
+    leads
 follows_leads S k (Mark BlockOpen) rest later now state leads = leads
 follows_leads S k (Mark BlockClose) rest later now state leads = leads
-follows_leads S k (Mark BlockCommit) rest later now state leads = follows_commit S k rest later now state leads
+follows_leads S k (Mark BlockCommit) rest later now state leads = follows_commit S k rest later now
+    state leads
 
-follows_does : (S : Structure) (s : Situation) (k : Locals) (shown : Memory) (act : Act) (rest later : Script) (next : Locals)
+follows_does : (S : Structure) (s : Situation) (k : Locals) (shown : Memory) (act : Act)
+    (rest later : Script) (next : Locals)
     → ActsRight S s k shown act rest next → ActsRight S s k shown act (followed_by rest later) next
 follows_does S s k shown act rest later next does = record {
   reaches = does.reaches;
   guarantee = does.guarantee;
   kept = does.kept;
   fresh = does.fresh;
-  leads = λ state m. follows_leads S k act rest later (shown_after s k shown act) state (does.leads state m);
+  leads = λ state m. follows_leads S k act rest later (shown_after s k shown act) state
+      (does.leads state m);
   pending = does.pending;
   called = does.called;
   answers = does.answers;
 }
 
 -- one script after the other
-followed_right : (S : Structure) (s : Situation) (k : Locals) (shown : Memory) (script later : Script)
+followed_right : (S : Structure) (s : Situation) (k : Locals) (shown : Memory)
+    (script later : Script)
     → ((k' : Locals) (now : Memory) → Rests at_rest k' → DoesRight S at_rest k' now later)
     → DoesRight S s k shown script → DoesRight S s k shown (followed_by script later)
 followed_right S s k shown stop later then_ right =
-    subst (λ s. DoesRight S s k shown later) (sym right.rests) (then_ k shown (record { rests = refl; owned = right.owned; called = right.called }))
+    subst (λ s. DoesRight S s k shown later) (sym right.rests)
+    (then_ k shown (record { rests = refl; owned = right.owned; called = right.called }))
 followed_right S s k shown (step act rest) later then_ right = (
   right.0,
   follows_does S s k shown act (rest 0) later right.0 right.1,
-  λ now rely. followed_right S (after_act s act) right.0 now (rest (answer_at shown act)) later then_ (right.2 now rely),
+  λ now rely. followed_right S (after_act s act) right.0 now (rest (answer_at shown act)) later
+      then_ (right.2 now rely),
 )
 
 -- operations one after the other do right, where the caller is at rest
-pub operations_right : (S : Structure) (procedure : Op → Script) (ops : List Op) (k : Locals) (shown : Memory)
+pub operations_right : (S : Structure) (procedure : Op → Script) (ops : List Op) (k : Locals)
+    (shown : Memory)
     → ((op : Op) → is_callable S.header op ≡ true → IsRight S procedure op)
-    → are_callable S.header ops ≡ true → Rests at_rest k → DoesRight S at_rest k shown (operations procedure ops)
+    → are_callable S.header ops ≡ true → Rests at_rest k → DoesRight S at_rest k shown
+    (operations procedure ops)
 operations_right S procedure [] k shown each callable rests = rests
 operations_right S procedure (op ∷ ops) k shown each callable rests = (
   begun,
-  quiet S at_rest k shown (Mark (Call op.method op.args)) (followed_by (procedure op) (operations procedure ops)) begun
+  quiet S at_rest k shown (Mark (Call op.method op.args))
+      (followed_by (procedure op) (operations procedure ops)) begun
       refl refl tt (λ state m. m) refl refl refl,
   λ now rely.
       followed_right S (just_called op.method) begun now (procedure op) (operations procedure ops)
       (λ k' then_ rests'. operations_right S procedure ops k' then_ each
       (second_true (is_callable S.header op) (are_callable S.header ops) callable) rests')
-      (each op (first_true (is_callable S.header op) (are_callable S.header ops) callable) begun now rests.owned refl),
+      (each op (first_true (is_callable S.header op) (are_callable S.header ops) callable) begun now
+      rests.owned refl),
 )
   where
     begun : Locals
-    begun = record { owned = k.owned; pending = k.pending; called = Some (record { method = op.method; args = op.args }); answered = None }
+    begun = record {
+      owned = k.owned;
+      pending = k.pending;
+      called = Some (record { method = op.method; args = op.args });
+      answered = None;
+    }

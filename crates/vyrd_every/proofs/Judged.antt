@@ -1,5 +1,6 @@
 -- No commit is a fault, and no observer's return is one.
-use Rattle.std.proofs.Common.{◌≡◌, ℕ, Bool, true, false, cond, not, ◌||◌, List, [], ◌∷◌, ◌++◌, map, Option, Some, None, option_map, length, refl, ap, ◌∙◌, sym}
+use Rattle.std.proofs.Common.{◌≡◌, ℕ, Bool, true, false, cond, not, ◌||◌, List, [], ◌∷◌, ◌++◌, map}
+use Rattle.std.proofs.Common.{Option, Some, None, option_map, length, refl, ap, ◌∙◌, sym}
 use Rattle.std.specs.Prelude.{◌==◌, filter, slice_get, drop, option_and_then}
 use Rattle.std.specs.Option.{option_and, option_map_or}
 use Rattle.std.specs.List.{list_any}
@@ -21,7 +22,8 @@ use Rattle.vyrd_base.specs.Front.{WellFormed}
 use Rattle.vyrd_base.proofs.VersionWords.{first_words_at}
 use Rattle.vyrd_base.specs.Views.{view_of_words}
 use Rattle.vyrd_base.specs.Commits.{next_reply, committed_at, commit_count}
-use Rattle.vyrd_base.specs.Faults.{commit_fault, states_since_call, observer_fault, return_fault, fault_of_commit}
+use Rattle.vyrd_base.specs.Faults.{commit_fault, states_since_call, observer_fault, return_fault}
+use Rattle.vyrd_base.specs.Faults.{fault_of_commit}
 use Rattle.vyrd_base.proofs.BlockLaws.{entry}
 use Rattle.vyrd_base.proofs.CommittedLaws.{returns_committed}
 use Rattle.vyrd_base.proofs.TestLaws.{same_number}
@@ -32,25 +34,38 @@ use Rattle.vyrd_base.specs.Rules.{rules_of}
 -- a state differs from itself nowhere
 none_kept : (p : ℕ → Bool) (xs : List ℕ) → ((x : ℕ) → p x ≡ false) → filter p xs ≡ []
 none_kept p [] none = refl
-none_kept p (x ∷ xs) none = ap (λ b. cond b (x ∷ filter p xs) (filter p xs)) (none x) ∙ none_kept p xs none
+none_kept p (x ∷ xs) none = ap (λ b. cond b (x ∷ filter p xs) (filter p xs)) (none x)
+    ∙ none_kept p xs none
 
 no_difference : (state : Amounts) → first_difference state state ≡ None
 no_difference state =
-    ap least (none_kept (λ key. not (amount_of state key == amount_of state key)) (keys_of state ++ keys_of state)
+    ap least (none_kept (λ key. not (amount_of state key == amount_of state key))
+    (keys_of state ++ keys_of state)
     (λ key. ap not (same_number (amount_of state key))))
 
 -- a commit after which the words show the next state isn't a fault
-pub commit_is_right : (h : Header) → h.version ≡ 1 → (passed : List Amounts) (later : List State) (state next : Amounts) (place : Place Entry) (called : Called)
-    (reply : ℕ) → WellFormed h (place.here ∷ place.earlier) → view_of_words h (old_words_after h (place.here ∷ place.earlier)) ≡ next
+pub commit_is_right : (h : Header) → h.version ≡ 1 → (passed : List Amounts) (later : List State)
+    (state next : Amounts) (place : Place Entry) (called : Called)
+    (reply : ℕ) → WellFormed h (place.here ∷ place.earlier)
+    → view_of_words h (old_words_after h (place.here ∷ place.earlier)) ≡ next
     → length passed ≡ commit_count place.earlier
-    → open_call place.here.caller place.earlier ≡ Some called → next_reply place.here.caller place.later ≡ Some reply
+    → open_call place.here.caller place.earlier ≡ Some called
+    → next_reply place.here.caller place.later ≡ Some reply
     → next_state called.method called.args reply state ≡ Some next
     → fault_of_commit (rules_of h) [] (map showing passed ++ showing state ∷ later) place ≡ None
-commit_is_right h one passed later state next place called reply wf shows count call returns allowed =
-    ap (option_and_then (commit_fault (rules_of h) shown (committed_at place))) (state_here passed later state (commit_count place.earlier) count)
-    ∙ (λ i. commit_fault (rules_of h) shown (record { caller = place.here.caller; called = call i; reply = returns i }) (showing state))
-    ∙ ap (λ o. elim (option_map showing o) [ None ↦ Some (Reply reply) | Some after ↦ option_map View (first_difference shown after.shown) ]) allowed
-    ∙ ap (λ s. option_map View (first_difference s next)) (ap (view_of_words h) (first_words_at h place one wf) ∙ shows)
+commit_is_right h one passed later state next place called reply wf shows count call returns
+    allowed =
+    ap (option_and_then (commit_fault (rules_of h) shown (committed_at place)))
+    (state_here passed later state (commit_count place.earlier) count)
+    ∙ (λ i. commit_fault (rules_of h) shown
+    (record { caller = place.here.caller; called = call i; reply = returns i }) (showing state))
+    ∙ ap (λ o. elim (option_map showing o) [
+      | None ↦ Some (Reply reply)
+      | Some after ↦ option_map
+          View (first_difference shown after.shown)
+    ]) allowed
+    ∙ ap (λ s. option_map View (first_difference s next))
+    (ap (view_of_words h) (first_words_at h place one wf) ∙ shows)
     ∙ ap (option_map View) (no_difference next)
   where
     shown : Amounts
@@ -61,11 +76,14 @@ and_none : {A B : Type 0} (o : Option A) → option_and {T = A} {U = B} o None �
 and_none None = refl
 and_none (Some x) = refl
 
-pub return_is_right : (h : Header) → is_built_in h.subject ≡ true → (passed : List Amounts) (later : List State) (state : Amounts) (c : ℕ) (log : List Entry) (reply : ℕ)
+pub return_is_right : (h : Header) → is_built_in h.subject ≡ true
+    → (passed : List Amounts) (later : List State) (state : Amounts) (c : ℕ) (log : List Entry)
+    (reply : ℕ)
     → length passed ≡ commit_count log
     → WellFormed h log → broken_rule h log (entry c (Return reply)) ≡ None
     → ((called : Called) → open_call c log ≡ Some called → is_observer called.method ≡ true
-    → has_answer (passed ++ state ∷ []) (commit_count (entries_before_call c log)) called reply ≡ true)
+    → has_answer (passed ++ state ∷ []) (commit_count (entries_before_call c log)) called reply
+    ≡ true)
     → return_fault (rules_of h) (map showing passed ++ showing state ∷ later) c log reply ≡ None
 return_is_right h built passed later state c log reply count wf kept seen =
     ap (option_and (slice_get states (commit_count log))) (by_call (open_call c log) refl)
@@ -75,25 +93,34 @@ return_is_right h built passed later state c log reply count wf kept seen =
     states = map showing passed ++ showing state ∷ later
 
     -- whether a state in the window has the answer
-    in_window : (called : Called) → list_any (λ s. answer_in s.shown called.method called.args == reply) (states_since_call states c log)
+    in_window : (called : Called)
+        → list_any (λ s. answer_in s.shown called.method called.args == reply)
+        (states_since_call states c log)
         ≡ has_answer (passed ++ state ∷ []) (commit_count (entries_before_call c log)) called reply
     in_window called =
-        ap (list_any (λ s. answer_in s.shown called.method called.args == reply)) (states_seen passed later state c log count)
+        ap (list_any (λ s. answer_in s.shown called.method called.args == reply))
+        (states_seen passed later state c log count)
         ∙ any_showing (λ s. answer_in s.shown called.method called.args == reply)
         (drop (commit_count (entries_before_call c log)) (passed ++ state ∷ []))
 
     -- an execution without a commit is an observer's
-    observes : (called : Called) → open_call c log ≡ Some called → has_committed c log ≡ false → is_observer called.method ≡ true
+    observes : (called : Called) → open_call c log ≡ Some called → has_committed c log ≡ false
+        → is_observer called.method ≡ true
     observes called e none = ap (λ o. option_map_or (λ k. is_observer k.method) o false) (sym e)
-        ∙ not-false (is_observing c log) (sym (returns_committed h c reply log built wf kept) ∙ none)
+        ∙ not-false (is_observing c log) (sym (returns_committed h c reply log built wf kept)
+        ∙ none)
 
-    by_commit : (called : Called) → open_call c log ≡ Some called → (b : Bool) → has_committed c log ≡ b
-        → cond (b || list_any (λ s. answer_in s.shown called.method called.args == reply) (states_since_call states c log)) None (Some (Observer reply))
+    by_commit : (called : Called) → open_call c log ≡ Some called → (b : Bool) → has_committed c log
+        ≡ b
+        → cond (b || list_any (λ s. answer_in s.shown called.method called.args == reply)
+        (states_since_call states c log)) None (Some (Observer reply))
         ≡ None
-    by_commit called e false none = ap (λ b. cond b None (Some (Observer reply))) (in_window called ∙ seen called e (observes called e none))
+    by_commit called e false none = ap (λ b. cond b None (Some (Observer reply)))
+        (in_window called ∙ seen called e (observes called e none))
     by_commit called e true committed = refl
 
     by_call : (o : Option Called) → open_call c log ≡ o
-        → option_and_then (observer_fault (rules_of h) (states_since_call states c log) (has_committed c log) reply) o ≡ None
+        → option_and_then (observer_fault (rules_of h) (states_since_call states c log)
+        (has_committed c log) reply) o ≡ None
     by_call None e = refl
     by_call (Some called) e = by_commit called e (has_committed c log) refl

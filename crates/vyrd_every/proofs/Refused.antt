@@ -1,5 +1,6 @@
 -- Steps that don't do right.
-use Rattle.std.proofs.Common.{◌≡◌, ◌≢◌, ◌⊎◌, inl, inr, ℕ, ◌+◌, ◌*◌, ◌/◌, ◌<◌, ◌≤◌, true, false, [], ◌∷◌, Option, Some, refl, ap, ◌∙◌, sym, arith, None}
+use Rattle.std.proofs.Common.{◌≡◌, ◌≢◌, ◌⊎◌, inl, inr, ℕ, ◌+◌, ◌*◌, ◌/◌, ◌<◌, ◌≤◌, true, false, []}
+use Rattle.std.proofs.Common.{◌∷◌, Option, Some, refl, ap, ◌∙◌, sym, arith, None}
 use Rattle.std.specs.Prelude.{◌==◌, ◌||◌}
 use Rattle.std.specs.List.{list_any}
 use Rattle.vyrd_base.specs.declared.header.Header.{Header}
@@ -37,23 +38,34 @@ use Rattle.vyrd_every.proofs.Acts.{never}
 
 -- the locals of a caller that has just called
 abbrev calling : Method → Args → Locals
-calling method args = record { owned = λ slot. false; pending = []; called = Some (record { method = method; args = args }); answered = None }
+calling method args =
+    record {
+      owned = λ slot. false;
+      pending = [];
+      called = Some (record { method = method; args = args });
+      answered = None;
+    }
 
-pub no_lock : (h : Header) (args : Args) → IsRight (multiset h) (multiset_procedure h Broken) (record { method = OfMultiset Insert; args = args }) → ⊥
-no_lock h args right = never refl (right (calling (OfMultiset Insert) args) (λ w. 0) (λ slot. refl) refl).1.reaches.0.held
+pub no_lock : (h : Header) (args : Args) → IsRight (multiset h) (multiset_procedure h Broken)
+    (record { method = OfMultiset Insert; args = args }) → ⊥
+no_lock h args right = never refl
+    (right (calling (OfMultiset Insert) args) (λ w. 0) (λ slot. refl) refl).1.reaches.0.held
 
 -- the memory in which all chunks are dirty
 abbrev all_dirty : Memory
 all_dirty = λ w. 2
 
 -- lock, load, unlock, and then the store
-pub lock_too_early : (h : Header) (args : Args) → IsRight (cache h) (cache_procedure h Broken) (record { method = OfCache Write; args = args }) → ⊥
+pub lock_too_early : (h : Header) (args : Args) → IsRight (cache h) (cache_procedure h Broken)
+    (record { method = OfCache Write; args = args }) → ⊥
 lock_too_early h args right =
     let begun = right (calling (OfCache Write) args) all_dirty (λ slot. refl) refl in
     let taken = begun.2 all_dirty (rely_same (cache h) locked begun.0 all_dirty) in
     let loaded = taken.2 all_dirty (rely_same (cache h) locked taken.0 all_dirty) in
-    let given = loaded.2 all_dirty (rely_same (cache h) (after_act locked (Give (lock_of h args.a))) loaded.0 all_dirty) in
-    never (ap (λ locks. list_any (λ held. held == lock_of h ((5 * args.a + 1) / 5)) locks) (gone (lock_of h args.a) [])) given.1.reaches.held
+    let given = loaded.2 all_dirty
+    (rely_same (cache h) (after_act locked (Give (lock_of h args.a))) loaded.0 all_dirty) in
+    never (ap (λ locks. list_any (λ held. held == lock_of h ((5 * args.a + 1) / 5)) locks)
+    (gone (lock_of h args.a) [])) given.1.reaches.held
   where
     locked : Situation
     locked = after_act (just_called (OfCache Write)) (Take (lock_of h args.a))
@@ -64,7 +76,8 @@ all_short = λ w. 1
 
 -- the first lock was given back when the characters are loaded
 pub no_source_lock : (h : Header) (args : Args) → args.a ≢ args.b
-    → IsRight (buffers h) (buffers_procedure h Broken) (record { method = OfBuffers AppendFrom; args = args }) → ⊥
+    → IsRight (buffers h) (buffers_procedure h Broken)
+    (record { method = OfBuffers AppendFrom; args = args }) → ⊥
 no_source_lock h args apart right =
     let begun = right (calling (OfBuffers AppendFrom) args) all_short (λ slot. refl) refl in
     let taken = begun.2 all_short (rely_same (buffers h) first begun.0 all_short) in
@@ -72,8 +85,10 @@ no_source_lock h args apart right =
     let given = counted.2 all_short (rely_same (buffers h) between counted.0 all_short) in
     let taken_too = given.2 all_short (rely_same (buffers h) second given.0 all_short) in
     let counted_too = taken_too.2 all_short (rely_same (buffers h) second taken_too.0 all_short) in
-    never (ap (λ locks. list_any (λ held. held == source) (texts.lock_of h args.a ∷ locks)) (gone (texts.lock_of h args.b) [])
-    ∙ ap (λ b. b || false) (isnt_same (texts.lock_of h args.a) source (λ same. apart (omega (arith, same)))))
+    never (ap (λ locks. list_any (λ held. held == source) (texts.lock_of h args.a ∷ locks))
+    (gone (texts.lock_of h args.b) [])
+    ∙ ap (λ b. b || false)
+    (isnt_same (texts.lock_of h args.a) source (λ same. apart (omega (arith, same)))))
     counted_too.1.reaches.0.held
   where
     -- the lock of the buffer whose first character is loaded
@@ -90,14 +105,19 @@ no_source_lock h args apart right =
     second = after_act between (Take (texts.lock_of h args.a))
 
 -- a lock that isn't above one that is held
-pub not_above : (h : Header) (s : Situation) (k : Locals) (shown : Memory) (lock held : ℕ) (later : Script) → holds s held ≡ true → lock ≤ held
+pub not_above : (h : Header) (s : Situation) (k : Locals) (shown : Memory) (lock held : ℕ)
+    (later : Script) → holds s held ≡ true → lock ≤ held
     → DoesRight (multiset h) s k shown (perform (Take lock) later) → ⊥
-not_above h s k shown lock held later is low right = let above : held < lock = right.1.reaches held is in omega (arith, above, low)
+not_above h s k shown lock held later is low right = let above : held < lock =
+    right.1.reaches held is in omega (arith, above, low)
 
--- Words of different nodes, and of nodes and others, have different numbers. So the node is the one whose word is loaded, and
+-- Words of different nodes, and of nodes and others, have different numbers. So the node is the one
+-- whose word is loaded, and
 -- its lock isn't held.
-pub no_node_lock : (h : Header) (s : Situation) (k : TreeLocals) (g : Shape) (m : Memory) (node place : ℕ) (rest : ℕ → Script) → node < h.size
-    → place < 12 → place ≢ 0 → holds s (cells.lock_of h node) ≡ false → TreeRight h s k g m (step (Load (node_cell node place)) rest) → ⊥
+pub no_node_lock : (h : Header) (s : Situation) (k : TreeLocals) (g : Shape) (m : Memory)
+    (node place : ℕ) (rest : ℕ → Script) → node < h.size
+    → place < 12 → place ≢ 0 → holds s (cells.lock_of h node) ≡ false
+    → TreeRight h s k g m (step (Load (node_cell node place)) rest) → ⊥
 no_node_lock h s k g m node place rest fits low some free right = by_word right.2.reaches.0
   where
     by_lock : (n i : ℕ) → node ≡ n → place ≡ i → (holds s (cells.lock_of h n) ≡ true) ⊎ (i ≡ 0) → ⊥
@@ -113,19 +133,23 @@ no_node_lock h s k g m node place rest fits low some free right = by_word right.
     by_word (inr (inr is)) = let at = is.0 in omega (arith, at, low, fits)
 
 -- the root's word isn't a node's, and not the count of nodes in use
-pub no_root_lock : (h : Header) (s : Situation) (k : TreeLocals) (g : Shape) (m : Memory) (root : ℕ) (later : Script) → k.fresh ≡ None
-    → holds s (root_lock h) ≡ false → TreeRight h s k g m (perform (Store (root_cell h) root) later) → ⊥
+pub no_root_lock : (h : Header) (s : Situation) (k : TreeLocals) (g : Shape) (m : Memory) (root : ℕ)
+    (later : Script) → k.fresh ≡ None
+    → holds s (root_lock h) ≡ false → TreeRight h s k g m (perform (Store (root_cell h) root) later)
+    → ⊥
 no_root_lock h s k g m root later none free right = by_block right.2.reaches
   where
     none_isnt : (v : ℕ) → ◌≡◌ {A = Option ℕ} None (Some v) → ⊥
     none_isnt v e = cc
 
     by_node : (n place : ℕ) → 12 * h.size ≡ 12 * n + place → place < 12
-        → (k.fresh ≡ Some n) ⊎ ((g.linked n ≡ true) × (holds s (cells.lock_of h n) ≡ true) × (place ≢ 0) × (level_at m n ≤ g.top)) → ⊥
+        → (k.fresh ≡ Some n) ⊎ ((g.linked n ≡ true) × (holds s (cells.lock_of h n) ≡ true)
+        × (place ≢ 0) × (level_at m n ≤ g.top)) → ⊥
     by_node n place is low (inl mine) = none_isnt n (sym none ∙ mine)
     by_node n place is low (inr other) = other.2 (omega (arith, is, low))
 
-    by_word : InNode h s k g m (root_cell h) ⊎ ((root_cell h ≡ root_cell h) × (holds s (root_lock h) ≡ true)) → ⊥
+    by_word : InNode h s k g m (root_cell h)
+        ⊎ ((root_cell h ≡ root_cell h) × (holds s (root_lock h) ≡ true)) → ⊥
     by_word (inl o) = by_node o.node o.place o.is o.low o.may
     by_word (inr locked) = never free locked.1
 

@@ -1,4 +1,5 @@
--- The correct tree: each of its operations does right, whatever the others do, and one more event keeps what holds between two.
+-- The correct tree: each of its operations does right, whatever the others do, and one more event
+-- keeps what holds between two.
 pub mod Parts
 pub mod Walks
 pub mod Order

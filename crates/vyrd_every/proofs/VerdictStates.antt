@@ -1,6 +1,8 @@
--- The states of a verdict, told by the amounts that they show. The rest of this crate speaks of amounts, and a verdict of states.
+-- The states of a verdict, told by the amounts that they show. The rest of this crate speaks of
+-- amounts, and a verdict of states.
 -- Those of a built-in structure hide nothing, so here the two meet.
-use Rattle.std.proofs.Common.{◌≡◌, ℕ, ◌+◌, Bool, ◌||◌, List, [], ◌∷◌, ◌++◌, map, length, Some, None, option_map, refl, ap, ◌∙◌, sym}
+use Rattle.std.proofs.Common.{◌≡◌, ℕ, ◌+◌, Bool, ◌||◌, List, [], ◌∷◌, ◌++◌, map, length, Some, None}
+use Rattle.std.proofs.Common.{option_map, refl, ap, ◌∙◌, sym}
 use Rattle.std.specs.Prelude.{slice_get, take, drop}
 use Rattle.std.specs.List.{list_any}
 use Rattle.std.proofs.lemmas.List.{append_assoc, map-append, length-map, drop-map}
@@ -11,7 +13,8 @@ use Rattle.vyrd_base.specs.Callers.{Called, entries_before_call}
 use Rattle.vyrd_base.specs.Amounts.{Amounts}
 use Rattle.vyrd_base.specs.States.{State, showing}
 use Rattle.vyrd_base.specs.Specification.{next_state}
-use Rattle.vyrd_base.specs.Commits.{Committed, once_returned, state_after, states_from, commit_count}
+use Rattle.vyrd_base.specs.Commits.{Committed, once_returned, state_after, states_from}
+use Rattle.vyrd_base.specs.Commits.{commit_count}
 use Rattle.vyrd_base.specs.Faults.{states_since_call}
 use Rattle.vyrd_base.specs.Rules.{rules_of}
 use Rattle.vyrd_base.proofs.Lasting.{slice_get_seam}
@@ -23,7 +26,12 @@ states_with h passed state xs = map showing passed ++ states_from (rules_of h) (
 -- those after the one now
 abbrev pub later_states : Header → Amounts → List Committed → List State
 later_states h state [] = []
-later_states h state (x ∷ xs) = elim (state_after (rules_of h) (showing state) x) [ None ↦ [] | Some next ↦ states_from (rules_of h) next xs ]
+later_states h state (x ∷ xs) =
+    elim (state_after (rules_of h) (showing state) x) [
+      | None ↦ []
+      | Some next ↦ states_from
+          (rules_of h) next xs
+    ]
 
 pub states_begin : (h : Header) (passed : List Amounts) (state : Amounts) (xs : List Committed)
     → states_with h passed state xs ≡ map showing passed ++ showing state ∷ later_states h state xs
@@ -32,37 +40,49 @@ states_begin h passed state [] = refl
 states_begin h passed state (x ∷ xs) = refl
 
 -- the state now, at its place
-pub state_here : (passed : List Amounts) (later : List State) (state : Amounts) (n : ℕ) → length passed ≡ n
+pub state_here : (passed : List Amounts) (later : List State) (state : Amounts) (n : ℕ)
+    → length passed ≡ n
     → slice_get (map showing passed ++ showing state ∷ later) n ≡ Some (showing state)
-state_here passed later state n e = slice_get_seam (map showing passed) (showing state ∷ later) n (length-map passed showing ∙ e)
+state_here passed later state n e = slice_get_seam (map showing passed) (showing state ∷ later) n
+    (length-map passed showing ∙ e)
 
 -- an execution that is allowed leads to the next state
-pub state_goes_on : (h : Header) (passed : List Amounts) (state next : Amounts) (x : Committed) (xs : List Committed) (called : Called) (reply : ℕ)
-    → x.called ≡ Some called → x.reply ≡ Some reply → next_state called.method called.args reply state ≡ Some next
+pub state_goes_on : (h : Header) (passed : List Amounts) (state next : Amounts) (x : Committed)
+    (xs : List Committed) (called : Called) (reply : ℕ)
+    → x.called ≡ Some called → x.reply ≡ Some reply
+    → next_state called.method called.args reply state ≡ Some next
     → states_with h passed state (x ∷ xs) ≡ states_with h (passed ++ state ∷ []) next xs
 state_goes_on h passed state next x xs called reply call returns allowed =
-    ap (λ o. map showing passed ++ showing state ∷ (elim o [ None ↦ [] | Some after ↦ states_from (rules_of h) after xs ])) after
-    ∙ sym (append_assoc (map showing passed) (showing state ∷ []) (states_from (rules_of h) (showing next) xs))
-    ∙ ap (λ states. states ++ states_from (rules_of h) (showing next) xs) (sym (map-append showing passed (state ∷ [])))
+    ap (λ o. map showing passed ++ showing state
+    ∷ (elim o [ None ↦ [] | Some after ↦ states_from (rules_of h) after xs ])) after
+    ∙ sym (append_assoc (map showing passed) (showing state ∷ [])
+    (states_from (rules_of h) (showing next) xs))
+    ∙ ap (λ states. states ++ states_from (rules_of h) (showing next) xs)
+    (sym (map-append showing passed (state ∷ [])))
   where
     after : state_after (rules_of h) (showing state) x ≡ Some (showing next)
     after =
-        (λ i. once_returned (λ c r. option_map showing (next_state c.method c.args r state)) (record { caller = x.caller; called = call i; reply = returns i }))
+        (λ i. once_returned (λ c r. option_map showing (next_state c.method c.args r state))
+        (record { caller = x.caller; called = call i; reply = returns i }))
         ∙ ap (option_map showing) allowed
 
 -- the states since a caller's call, up to the one now
-pub states_seen : (passed : List Amounts) (later : List State) (state : Amounts) (c : ℕ) (log : List Entry) → length passed ≡ commit_count log
+pub states_seen : (passed : List Amounts) (later : List State) (state : Amounts) (c : ℕ)
+    (log : List Entry) → length passed ≡ commit_count log
     → states_since_call (map showing passed ++ showing state ∷ later) c log
     ≡ map showing (drop (commit_count (entries_before_call c log)) (passed ++ state ∷ []))
 states_seen passed later state c log count =
-    ap (λ n. drop first (take (n + 1) (map showing passed ++ showing state ∷ later))) (sym count ∙ sym (length-map passed showing))
-    ∙ ap (drop first) (take-append-add (map showing passed) (showing state ∷ later) 1 ∙ sym (map-append showing passed (state ∷ [])))
+    ap (λ n. drop first (take (n + 1) (map showing passed ++ showing state ∷ later)))
+    (sym count ∙ sym (length-map passed showing))
+    ∙ ap (drop first) (take-append-add (map showing passed) (showing state ∷ later) 1
+    ∙ sym (map-append showing passed (state ∷ [])))
     ∙ drop-map showing first (passed ++ state ∷ [])
   where
     first : ℕ
     first = commit_count (entries_before_call c log)
 
 -- a test of the states is one of the amounts
-pub any_showing : (p : State → Bool) (states : List Amounts) → list_any p (map showing states) ≡ list_any (λ state. p (showing state)) states
+pub any_showing : (p : State → Bool) (states : List Amounts) → list_any p (map showing states)
+    ≡ list_any (λ state. p (showing state)) states
 any_showing p [] = refl
 any_showing p (state ∷ states) = ap (λ b. p (showing state) || b) (any_showing p states)

@@ -1,10 +1,12 @@
 -- The laws, of workloads.
-use Rattle.std.proofs.Common.{◌≡◌, ℕ, ◌+◌, ◌*◌, ◌<◌, ◌≤◌, Bool, true, false, List, [], ◌∷◌, Option, Some, None, option_map, length, refl, ap, ◌∙◌, sym, subst, arith}
+use Rattle.std.proofs.Common.{◌≡◌, ℕ, ◌+◌, ◌*◌, ◌<◌, ◌≤◌, Bool, true, false, List, [], ◌∷◌, Option}
+use Rattle.std.proofs.Common.{Some, None, option_map, length, refl, ap, ◌∙◌, sym, subst, arith}
 use Rattle.std.specs.Option.{option_or}
 use Rattle.std.specs.List.{AllByRecursion}
 use Rattle.vyrd_base.specs.declared.header.Header.{Header}
 use Rattle.vyrd_base.specs.declared.subject.Subject.{Subject}
-use Rattle.vyrd_base.specs.declared.subject.Subject.TheVariants.{Multiset, Cache, Tree, Buffers, Own}
+use Rattle.vyrd_base.specs.declared.subject.Subject.TheVariants.{Multiset, Cache, Tree, Buffers}
+use Rattle.vyrd_base.specs.declared.subject.Subject.TheVariants.{Own}
 use Rattle.vyrd_base.specs.declared.log.Kind.{Kind}
 use Rattle.vyrd_base.specs.declared.log.Entry.{Entry}
 use Rattle.vyrd_base.specs.declared.history.Stamped.{Stamped}
@@ -16,7 +18,8 @@ use Rattle.vyrd_base.specs.Front.{first_break}
 use Rattle.vyrd_base.specs.States.{State}
 use Rattle.vyrd_base.specs.Faults.{fault_at}
 use Rattle.vyrd_base.specs.Histories.{log_of}
-use Rattle.vyrd_base.specs.Verdicts.{line_of, violation_at, states_along, first_fault, is_call_open, accepted, verdict}
+use Rattle.vyrd_base.specs.Verdicts.{line_of, violation_at, states_along, first_fault, is_call_open}
+use Rattle.vyrd_base.specs.Verdicts.{accepted, verdict}
 use Rattle.vyrd_base.proofs.HeaderLaws.{some_size}
 use Rattle.vyrd_memory.specs.declared.op.Op.{Op}
 use Rattle.vyrd_memory.specs.Bounds.{bound_in, bounds_of}
@@ -33,7 +36,8 @@ use Rattle.vyrd_work.specs.WorkScripts.{procedure_in, ops_of, work_script, work_
 use Rattle.vyrd_work.proofs.BuiltIn.{work_built_in}
 use Rattle.vyrd_work.proofs.ScriptLaws.{ops_are_few, ops_are_callable}
 use Rattle.vyrd_work.proofs.SoundScripts.{script_at, scripts_sound}
-use Rattle.vyrd_every.specs.Schedules.{IsCorrect, has_few_events, most_few_events, most_cache_events, IsCorrectWithFewEvents, IsSchedule}
+use Rattle.vyrd_every.specs.Schedules.{IsCorrect, has_few_events, most_few_events}
+use Rattle.vyrd_every.specs.Schedules.{most_cache_events, IsCorrectWithFewEvents, IsSchedule}
 use Rattle.vyrd_every.specs.Structures.{Structure}
 use Rattle.vyrd_every.specs.Locals.{empty_locals}
 use Rattle.vyrd_every.specs.RightScripts.{DoesRight, IsRight, AreRight}
@@ -61,28 +65,35 @@ use Rattle.vyrd_base.specs.Rules.{rules_of}
 -- the script of a caller does right, if the procedure of each operation does
 script_right : (S : Structure) (w : Workload) (procedure : Op → Script) (c : ℕ) (now : Memory)
     → procedure_in w.header.subject w.header w.variant ≡ procedure → c < w.header.callers
-    → are_callable S.header (ops_of c w.ops) ≡ true → ((op : Op) → is_callable S.header op ≡ true → IsRight S procedure op)
+    → are_callable S.header (ops_of c w.ops) ≡ true
+    → ((op : Op) → is_callable S.header op ≡ true → IsRight S procedure op)
     → DoesRight S at_rest empty_locals now (script_of (work_scripts w) c)
 script_right S w procedure c now same low callable each =
     subst (DoesRight S at_rest empty_locals now) (sym its)
-    (operations_right S procedure (ops_of c w.ops) empty_locals now each callable (record { rests = refl; owned = λ slot. refl; called = refl }))
+    (operations_right S procedure (ops_of c w.ops) empty_locals now each callable
+    (record { rests = refl; owned = λ slot. refl; called = refl }))
   where
     its : script_of (work_scripts w) c ≡ operations procedure (ops_of c w.ops)
     its =
         let e : 0 + c ≡ c = omega arith in
-        script_at (work_script w) 0 w.header.callers c low ∙ ap (work_script w) e ∙ ap (λ p. operations p (ops_of c w.ops)) same
+        script_at (work_script w) 0 w.header.callers c low ∙ ap (work_script w) e
+        ∙ ap (λ p. operations p (ops_of c w.ops)) same
 
--- so do the scripts of a workload of the correct multiset, of the correct cache, and of correct string buffers
-multisets_right : (w : Workload) → KeepsLimits w → w.header.subject ≡ Multiset → IsCorrect w → AreRight (multiset w.header) (work_scripts w)
+-- so do the scripts of a workload of the correct multiset, of the correct cache, and of correct
+-- string buffers
+multisets_right : (w : Workload) → KeepsLimits w → w.header.subject ≡ Multiset → IsCorrect w
+    → AreRight (multiset w.header) (work_scripts w)
 multisets_right w limits subject correct = record {
   fits = multiset_fits w.header limits.version subject;
   sound = scripts_sound w limits;
-  right = λ c low now. script_right (multiset w.header) w (multiset_procedure w.header Correct) c now
+  right = λ c low now. script_right (multiset w.header) w (multiset_procedure w.header Correct) c
+      now
       (λ i. procedure_in (subject i) w.header (correct i)) low (ops_are_callable w c limits)
       (λ op callable. multiset_right w.header op subject callable);
 }
 
-caches_right : (w : Workload) → KeepsLimits w → w.header.subject ≡ Cache → IsCorrect w → AreRight (cache w.header) (work_scripts w)
+caches_right : (w : Workload) → KeepsLimits w → w.header.subject ≡ Cache → IsCorrect w
+    → AreRight (cache w.header) (work_scripts w)
 caches_right w limits subject correct = record {
   fits = cache_fits w.header limits.version subject;
   sound = scripts_sound w limits;
@@ -91,7 +102,8 @@ caches_right w limits subject correct = record {
       (λ op callable. cache_right w.header op subject callable);
 }
 
-buffer_scripts_right : (w : Workload) → KeepsLimits w → w.header.subject ≡ Buffers → IsCorrect w → AreRight (buffers w.header) (work_scripts w)
+buffer_scripts_right : (w : Workload) → KeepsLimits w → w.header.subject ≡ Buffers → IsCorrect w
+    → AreRight (buffers w.header) (work_scripts w)
 buffer_scripts_right w limits subject correct = record {
   fits = buffers_fit w.header limits.version subject;
   sound = scripts_sound w limits;
@@ -114,19 +126,24 @@ pub keeping : (w : Workload) → KeepsLimits w → IsCorrect w → Keeping w.hea
 keeping w limits is = by_subject w.header.subject refl
   where
     by_subject : (s : Subject) → w.header.subject ≡ s → Keeping w.header (work_scripts w)
-    by_subject Multiset e = keeping_of (multiset w.header) (work_scripts w) (multisets_right w limits e is)
+    by_subject Multiset e = keeping_of (multiset w.header) (work_scripts w)
+        (multisets_right w limits e is)
     by_subject Cache e = keeping_of (cache w.header) (work_scripts w) (caches_right w limits e is)
     by_subject Tree e = trees_right w limits (record { subject = e; variant = is })
-    by_subject Buffers e = keeping_of (buffers w.header) (work_scripts w) (buffer_scripts_right w limits e is)
+    by_subject Buffers e = keeping_of (buffers w.header) (work_scripts w)
+        (buffer_scripts_right w limits e is)
     by_subject Own e = let no : true ≡ false = sym (work_built_in w limits) ∙ ap is_built_in e in cc
 
 -- there is no first fault
-none_first : (h : Header) → h.version ≡ 1 → (scripts : List Script) (k : Keeping h scripts) (history : List Stamped) → IsRun h scripts (newest_first history)
+none_first : (h : Header) → h.version ≡ 1 → (scripts : List Script) (k : Keeping h scripts)
+    (history : List Stamped) → IsRun h scripts (newest_first history)
     → AreDone h scripts (newest_first history)
-    → first_answer (violation_at (rules_of h) [] (states_along (rules_of h) [] (log_of history))) (places (log_of history)) ≡ None
+    → first_answer (violation_at (rules_of h) [] (states_along (rules_of h) [] (log_of history)))
+    (places (log_of history)) ≡ None
 unfolding first_fault
 none_first h one scripts k history run done =
-    sym (ap (λ es. first_answer (violation_at (rules_of h) [] (states_along (rules_of h) [] es)) (places es)) (all_front h scripts k history run))
+    sym (ap (λ es. first_answer (violation_at (rules_of h) [] (states_along (rules_of h) [] es))
+    (places es)) (all_front h scripts k history run))
     ∙ no_fault h one scripts k history run done
 
 -- no place is a fault
@@ -134,73 +151,105 @@ no_why : (line : ℕ) (o : Option Why) → option_map (Violation line) o ≡ Non
 no_why line None e = refl
 no_why line (Some why) e = cc
 
-each_right : (h : Header) (states : List State) (ps : List (Place Entry)) → first_answer (violation_at (rules_of h) [] states) ps ≡ None
+each_right : (h : Header) (states : List State) (ps : List (Place Entry))
+    → first_answer (violation_at (rules_of h) [] states) ps ≡ None
     → AllByRecursion (λ place. fault_at (rules_of h) [] states place ≡ None) ps
 each_right h states [] e = tt
 each_right h states (place ∷ ps) e =
-    let parts = both_none (violation_at (rules_of h) [] states place) (first_answer (violation_at (rules_of h) [] states) ps) e in
-    (no_why (line_of [] (position_of place)) (fault_at (rules_of h) [] states place) parts.0, each_right h states ps parts.1)
+    let parts = both_none (violation_at (rules_of h) [] states place)
+    (first_answer (violation_at (rules_of h) [] states) ps) e in (
+      no_why (line_of [] (position_of place)) (fault_at (rules_of h) [] states place)
+          parts.0,
+      each_right h states ps parts.1,
+    )
   where
     both_none : {A : Type 0} (a b : Option A) → option_or a b ≡ None → (a ≡ None) × (b ≡ None)
     both_none None b e = (refl, e)
     both_none (Some a) b e = cc
 
-pub where_kind : (h : Header) (states : List State) (test : Kind → Bool) (ps : List (Place Entry)) → AllByRecursion (λ place. fault_at (rules_of h) [] states place ≡ None) ps
-    → AllByRecursion (λ place. test place.here.kind ≡ true → fault_at (rules_of h) [] states place ≡ None) ps
+pub where_kind : (h : Header) (states : List State) (test : Kind → Bool) (ps : List (Place Entry))
+    → AllByRecursion (λ place. fault_at (rules_of h) [] states place ≡ None) ps
+    → AllByRecursion (λ place. test place.here.kind ≡ true → fault_at (rules_of h) [] states place
+    ≡ None) ps
 where_kind h states test [] all = tt
 where_kind h states test (place ∷ ps) all = (λ e. all.0, where_kind h states test ps all.1)
 
 -- what follows wherever something holds after every event
-pub formed : (w : Workload) (history : List Stamped) → Keeping w.header (work_scripts w) → IsSchedule w history → first_break w.header (log_of history) ≡ None
-formed w history k schedule = no_break w.header (work_scripts w) k history (whole_run w.header (work_scripts w) history schedule.legal schedule.parts)
+pub formed : (w : Workload) (history : List Stamped) → Keeping w.header (work_scripts w)
+    → IsSchedule w history → first_break w.header (log_of history) ≡ None
+formed w history k schedule = no_break w.header (work_scripts w) k history
+    (whole_run w.header (work_scripts w) history schedule.legal schedule.parts)
 
-pub closed : (w : Workload) (history : List Stamped) → Keeping w.header (work_scripts w) → IsSchedule w history
+pub closed : (w : Workload) (history : List Stamped) → Keeping w.header (work_scripts w)
+    → IsSchedule w history
     → is_call_open w.header (newest_first (log_of history)) ≡ false
-closed w history k schedule = none_open_at_end w.header (work_scripts w) k history schedule.legal schedule.parts
+closed w history k schedule = none_open_at_end w.header (work_scripts w) k history schedule.legal
+    schedule.parts
 
-pub kinds_right : (w : Workload) (history : List Stamped) (test : Kind → Bool) → w.header.version ≡ 1 → Keeping w.header (work_scripts w) → IsSchedule w history
-    → AllByRecursion (λ place. test place.here.kind ≡ true → fault_at (rules_of w.header) [] (states_along (rules_of w.header) [] (log_of history)) place ≡ None) (places (log_of history))
+pub kinds_right : (w : Workload) (history : List Stamped) (test : Kind → Bool) → w.header.version
+    ≡ 1 → Keeping w.header (work_scripts w) → IsSchedule w history
+    → AllByRecursion (λ place. test place.here.kind ≡ true → fault_at (rules_of w.header) []
+    (states_along (rules_of w.header) [] (log_of history)) place ≡ None) (places (log_of history))
 kinds_right w history test one k schedule =
-    where_kind w.header (states_along (rules_of w.header) [] (log_of history)) test (places (log_of history))
-    (each_right w.header (states_along (rules_of w.header) [] (log_of history)) (places (log_of history))
-    (none_first w.header one (work_scripts w) k history (whole_run w.header (work_scripts w) history schedule.legal schedule.parts)
+    where_kind w.header (states_along (rules_of w.header) [] (log_of history)) test
+    (places (log_of history))
+    (each_right w.header (states_along (rules_of w.header) [] (log_of history))
+    (places (log_of history))
+    (none_first w.header one (work_scripts w) k history
+    (whole_run w.header (work_scripts w) history schedule.legal schedule.parts)
     (λ c low. (schedule.parts c).done)))
 
-pub schedule_accepted : (w : Workload) (history : List Stamped) → KeepsLimits w → IsCorrect w → IsSchedule w history
+pub schedule_accepted : (w : Workload) (history : List Stamped) → KeepsLimits w → IsCorrect w
+    → IsSchedule w history
     → verdict (rules_of w.header) [] (log_of history) ≡ accepted (log_of history)
 schedule_accepted w history limits is schedule =
-    is_accepted w.header limits.version (work_scripts w) (keeping w limits is) history schedule.legal schedule.parts
+    is_accepted w.header limits.version (work_scripts w) (keeping w limits is) history
+    schedule.legal schedule.parts
 
-pub not_stuck : (w : Workload) → KeepsLimits w → IsCorrect w → GetsStuck (work_scripts w) w.turns → ⊥
-not_stuck w limits is stuck = never_stuck w.header (work_scripts w) (keeping w limits is) w.turns stuck
+pub not_stuck : (w : Workload) → KeepsLimits w → IsCorrect w → GetsStuck (work_scripts w) w.turns
+    → ⊥
+not_stuck w limits is stuck = never_stuck w.header (work_scripts w) (keeping w limits is) w.turns
+    stuck
 
 -- 32 events for each operation of a multiset or of string buffers, and 16 for each of a cache
-multiset_sum : (h : Header) (ops : List Op) → h.subject ≡ Multiset → bounds_of h ops ≡ 32 * length ops
+multiset_sum : (h : Header) (ops : List Op) → h.subject ≡ Multiset → bounds_of h ops
+    ≡ 32 * length ops
 multiset_sum h [] is = refl
-multiset_sum h (op ∷ ops) is = omega (arith, ap (λ s. bound_in s h.size op.method) is, multiset_sum h ops is)
+multiset_sum h (op ∷ ops) is =
+    omega (arith, ap (λ s. bound_in s h.size op.method) is, multiset_sum h ops is)
 
 cache_sum : (h : Header) (ops : List Op) → h.subject ≡ Cache → bounds_of h ops ≡ 16 * length ops
 cache_sum h [] is = refl
-cache_sum h (op ∷ ops) is = omega (arith, ap (λ s. bound_in s h.size op.method) is, cache_sum h ops is)
+cache_sum h (op ∷ ops) is =
+    omega (arith, ap (λ s. bound_in s h.size op.method) is, cache_sum h ops is)
 
 buffers_sum : (h : Header) (ops : List Op) → h.subject ≡ Buffers → bounds_of h ops ≡ 32 * length ops
 buffers_sum h [] is = refl
-buffers_sum h (op ∷ ops) is = omega (arith, ap (λ s. bound_in s h.size op.method) is, buffers_sum h ops is)
+buffers_sum h (op ∷ ops) is =
+    omega (arith, ap (λ s. bound_in s h.size op.method) is, buffers_sum h ops is)
 
-pub few_multiset_events : (w : Workload) (c : ℕ) → KeepsLimits w → w.header.subject ≡ Multiset → bounds_of w.header (ops_of c w.ops) ≤ most_few_events
-few_multiset_events w c limits is = omega (arith, multiset_sum w.header (ops_of c w.ops) is, ops_are_few w c limits)
+pub few_multiset_events : (w : Workload) (c : ℕ) → KeepsLimits w → w.header.subject ≡ Multiset
+    → bounds_of w.header (ops_of c w.ops) ≤ most_few_events
+few_multiset_events w c limits is =
+    omega (arith, multiset_sum w.header (ops_of c w.ops) is, ops_are_few w c limits)
 
-pub few_cache_events : (w : Workload) (c : ℕ) → KeepsLimits w → w.header.subject ≡ Cache → bounds_of w.header (ops_of c w.ops) ≤ most_cache_events
-few_cache_events w c limits is = omega (arith, cache_sum w.header (ops_of c w.ops) is, ops_are_few w c limits)
+pub few_cache_events : (w : Workload) (c : ℕ) → KeepsLimits w → w.header.subject ≡ Cache
+    → bounds_of w.header (ops_of c w.ops) ≤ most_cache_events
+few_cache_events w c limits is =
+    omega (arith, cache_sum w.header (ops_of c w.ops) is, ops_are_few w c limits)
 
-pub few_buffer_events : (w : Workload) (c : ℕ) → KeepsLimits w → w.header.subject ≡ Buffers → bounds_of w.header (ops_of c w.ops) ≤ most_few_events
-few_buffer_events w c limits is = omega (arith, buffers_sum w.header (ops_of c w.ops) is, ops_are_few w c limits)
+pub few_buffer_events : (w : Workload) (c : ℕ) → KeepsLimits w → w.header.subject ≡ Buffers
+    → bounds_of w.header (ops_of c w.ops) ≤ most_few_events
+few_buffer_events w c limits is =
+    omega (arith, buffers_sum w.header (ops_of c w.ops) is, ops_are_few w c limits)
 
 -- so 6,400,000 are enough for each of them
-pub few_events : (w : Workload) (c : ℕ) → KeepsLimits w → IsCorrectWithFewEvents w → bounds_of w.header (ops_of c w.ops) ≤ most_few_events
+pub few_events : (w : Workload) (c : ℕ) → KeepsLimits w → IsCorrectWithFewEvents w
+    → bounds_of w.header (ops_of c w.ops) ≤ most_few_events
 few_events w c limits is = by_subject w.header.subject refl is.few
   where
-    by_subject : (s : Subject) → w.header.subject ≡ s → has_few_events s ≡ true → bounds_of w.header (ops_of c w.ops) ≤ most_few_events
+    by_subject : (s : Subject) → w.header.subject ≡ s → has_few_events s ≡ true
+        → bounds_of w.header (ops_of c w.ops) ≤ most_few_events
     by_subject Multiset e few = few_multiset_events w c limits e
     by_subject Cache e few = let fewer = few_cache_events w c limits e in omega (arith, fewer)
     by_subject Tree e few = cc

@@ -1,11 +1,13 @@
 -- What is kept of bytes, and what is answered about them.
-use Rattle.std.proofs.Common.{◌≡◌, ℕ, ◌<◌, ◌≤◌, ◌^◌, Bool, true, false, List, [], ◌++◌, length, Option, Some, refl, ap, ◌∙◌, sym, subst, arith}
+use Rattle.std.proofs.Common.{◌≡◌, ℕ, ◌<◌, ◌≤◌, ◌^◌, Bool, true, false, List, [], ◌++◌, length}
+use Rattle.std.proofs.Common.{Option, Some, refl, ap, ◌∙◌, sym, subst, arith}
 use Rattle.std.specs.Prelude.{◌&&◌, is_some}
 use Rattle.std.proofs.Math.Logic.{∥∥₁_elim}
 use Rattle.std.proofs.Math.Bool.{Bool-set}
 use Rattle.vyrd_base.specs.declared.header.Header.{Header}
 use Rattle.vyrd_base.specs.declared.subject.Subject.{Subject}
-use Rattle.vyrd_base.specs.declared.subject.Subject.TheVariants.{Multiset, Cache, Tree, Buffers, Own}
+use Rattle.vyrd_base.specs.declared.subject.Subject.TheVariants.{Multiset, Cache, Tree, Buffers}
+use Rattle.vyrd_base.specs.declared.subject.Subject.TheVariants.{Own}
 use Rattle.vyrd_base.specs.declared.verdict.Verdict.{Verdict}
 use Rattle.vyrd_base.specs.LogVerdicts.{log_verdict, log_verdict_so_far}
 use Rattle.vyrd_base.specs.Own.Log.{own_reading}
@@ -46,7 +48,8 @@ regrouped true b c = refl
 regrouped false b c = refl
 
 -- whether the answer is settled, by what the checker and the readers say
-pub settled_is : (max first other : ℕ) (bytes : List ℕ) (v : Option Verdict) (stops own_stops : Bool)
+pub settled_is : (max first other : ℕ) (bytes : List ℕ) (v : Option Verdict)
+    (stops own_stops : Bool)
     → first ≡ max → other ≡ max → v ≡ log_verdict_so_far max bytes
     → stops ≡ is_some (read_as first bytes).fault
     → own_stops ≡ is_some (own_read_as other bytes).fault
@@ -59,7 +62,8 @@ settled_is max first other bytes v stops own_stops limit own_limit is faulty own
     && (own_faulty ∙ ap (λ m. is_some (own_read_as m bytes).fault) own_limit) i)
 
 -- the answer, by what was read and what the verdict is
-pub explained_is : (about : About) (max first other : ℕ) (bytes : List ℕ) (v : Verdict) → first ≡ max
+pub explained_is : (about : About) (max first other : ℕ) (bytes : List ℕ) (v : Verdict)
+    → first ≡ max
     → other ≡ max → v ≡ log_verdict max bytes
     → explanation about (read_as first bytes) (own_read_as other bytes) v
     ≡ explained about max bytes

@@ -1,5 +1,6 @@
 -- What is wrong if `end` stands after entries with which nothing is wrong.
-use Rattle.std.proofs.Common.{◌≡◌, Bool, true, false, List, length, Option, Some, None, Result, Ok, Err, IfOk, refl, ap, ◌∙◌}
+use Rattle.std.proofs.Common.{◌≡◌, Bool, true, false, List, length, Option, Some, None, Result, Ok}
+use Rattle.std.proofs.Common.{Err, IfOk, refl, ap, ◌∙◌}
 use Rattle.std.specs.Prelude.{unwrap_or, is_none}
 use Rattle.std.specs.Option.{option_or}
 use Rattle.std.specs.Bool.{then_some}
@@ -11,7 +12,8 @@ use Rattle.vyrd_base.specs.declared.verdict.Verdict.{Verdict}
 use Rattle.vyrd_base.specs.declared.verdict.Verdict.TheVariants.{Accepted, Violation, Malformed}
 use Rattle.vyrd_base.specs.Places.{newest_first}
 use Rattle.vyrd_base.specs.Starts.{state_at_start}
-use Rattle.vyrd_base.specs.Verdicts.{line_of, verdict_so_far, is_call_open, end_verdict, accepted, verdict}
+use Rattle.vyrd_base.specs.Verdicts.{line_of, verdict_so_far, is_call_open, end_verdict, accepted}
+use Rattle.vyrd_base.specs.Verdicts.{verdict}
 
 -- a verdict that isn't acceptance
 abbrev pub unless_accepted : Verdict → Option Verdict
@@ -24,7 +26,8 @@ pub open_at_end : (r : Rules) (starting : List StartWord) (log : List Entry) (v 
     → v ≡ verdict r starting log → unless_accepted v ≡ end_verdict r starting log
 unfolding verdict end_verdict accepted
 open_at_end r starting log v none is =
-    ap unless_accepted (is ∙ ap (λ o. unwrap_or (option_or o (end_verdict r starting log)) (accepted log)) none)
+    ap unless_accepted
+    (is ∙ ap (λ o. unwrap_or (option_or o (end_verdict r starting log)) (accepted log)) none)
     ∙ by_tests (is_none (state_at_start r starting)) (is_call_open r.header (newest_first log))
   where
     at_end : Bool → Bool → Option Verdict
@@ -38,7 +41,8 @@ open_at_end r starting log v none is =
     by_tests false true = refl
     by_tests false false = refl
 
-pub where_same : {A E : Type 0} (a b : A) → a ≡ b → (r : Result A E) → IfOk r (λ v. v ≡ a) → IfOk r (λ v. v ≡ b)
+pub where_same : {A E : Type 0} (a b : A) → a ≡ b → (r : Result A E) → IfOk r (λ v. v ≡ a)
+    → IfOk r (λ v. v ≡ b)
 where_same a b same (Ok v) is = is ∙ same
 where_same a b same (Err e) is = tt
 

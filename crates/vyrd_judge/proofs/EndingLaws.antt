@@ -1,12 +1,14 @@
 -- Blocks with a lone commit in them, which have ended where that commit is judged.
-use Rattle.std.proofs.Common.{◌≡◌, ℕ, Bool, true, false, cond, ◌&&◌, ◌||◌, List, [], ◌∷◌, ◌++◌, Some, None, refl, ap, subst, ◌∙◌, sym}
+use Rattle.std.proofs.Common.{◌≡◌, ℕ, Bool, true, false, cond, ◌&&◌, ◌||◌, List, [], ◌∷◌, ◌++◌}
+use Rattle.std.proofs.Common.{Some, None, refl, ap, subst, ◌∙◌, sym}
 use Rattle.std.specs.Prelude.{◌==◌}
 use Rattle.std.specs.Option.{option_or}
 use Rattle.std.proofs.lemmas.List.Folds.{list_any-append}
 use Rattle.std.proofs.Math.Bool.{or-true}
 use Rattle.vyrd_base.specs.declared.header.Header.{Header}
 use Rattle.vyrd_base.specs.declared.log.Kind.{Kind}
-use Rattle.vyrd_base.specs.declared.log.Kind.TheVariants.{Call, Return, Write, Commit, BlockOpen, BlockClose, BlockCommit}
+use Rattle.vyrd_base.specs.declared.log.Kind.TheVariants.{Call, Return, Write, Commit, BlockOpen}
+use Rattle.vyrd_base.specs.declared.log.Kind.TheVariants.{BlockClose, BlockCommit}
 use Rattle.vyrd_base.specs.declared.log.Entry.{Entry}
 use Rattle.vyrd_base.specs.Callers.{has_inner_commit}
 use Rattle.vyrd_base.specs.Shape.{checks_at, broken_rule}
@@ -18,9 +20,11 @@ use Rattle.vyrd_base.proofs.ShadowLaws.{all_kept}
 use Rattle.vyrd_words.specs.Effects.{ends_block, is_ended}
 
 -- a caller that has returned has ended its block
-returned_ended : (c : ℕ) (later : List Entry) (r : ℕ) → next_reply c later ≡ Some r → is_ended c later ≡ true
+returned_ended : (c : ℕ) (later : List Entry) (r : ℕ) → next_reply c later ≡ Some r
+    → is_ended c later ≡ true
 returned_ended c [] r found = cc
-returned_ended c (e ∷ later) r found = by_test (e.caller == c) e.kind (λ f. returned_ended c later r f) found
+returned_ended c (e ∷ later) r found = by_test (e.caller == c) e.kind
+    (λ f. returned_ended c later r f) found
   where
     Rest : Type 0
     Rest = next_reply c later ≡ Some r → is_ended c later ≡ true
@@ -28,7 +32,8 @@ returned_ended c (e ∷ later) r found = by_test (e.caller == c) e.kind (λ f. r
     or_rest : (b : Bool) → is_ended c later ≡ true → (b || is_ended c later) ≡ true
     or_rest b so = ap (λ r. b || r) so ∙ or-true b
 
-    by_test : (b : Bool) (kind : Kind) → Rest → option_or (cond b (returned kind) None) (next_reply c later) ≡ Some r
+    by_test : (b : Bool) (kind : Kind) → Rest → option_or (cond b (returned kind) None)
+        (next_reply c later) ≡ Some r
         → ((b && ends_block kind) || is_ended c later) ≡ true
     by_test false kind rest f = rest f
     by_test true (Return reply) rest f = refl
@@ -54,23 +59,31 @@ other_left true b r none e = cc
 other_left false b r none e = e
 
 -- the caller's own entry
-own_ends : (h : Header) (c : ℕ) (kind : Kind) (earlier later : List Entry) → broken_rule h earlier (entry c kind) ≡ None → IsReturned c kind later
+own_ends : (h : Header) (c : ℕ) (kind : Kind) (earlier later : List Entry)
+    → broken_rule h earlier (entry c kind) ≡ None → IsReturned c kind later
     → (has_inner_commit c earlier ≡ true → is_ended c (entry c kind ∷ later) ≡ true)
     → has_inner_commit c (entry c kind ∷ earlier) ≡ true → is_ended c later ≡ true
 own_ends h c (Call method args) earlier later kept is before inner =
-    left (c == c) false (is_ended c later) refl (before (sym (own_inner c (Call method args) earlier) ∙ inner))
+    left (c == c) false (is_ended c later) refl
+    (before (sym (own_inner c (Call method args) earlier) ∙ inner))
 own_ends h c (Return reply) earlier later kept is before inner =
     never (all_kept (checks_at h earlier (entry c (Return reply))) kept).1.1.0
     (has_block_of c earlier (sym (own_inner c (Return reply) earlier) ∙ inner))
 own_ends h c (Write word value) earlier later kept is before inner =
-    left (c == c) false (is_ended c later) refl (before (sym (own_inner c (Write word value) earlier) ∙ inner))
-own_ends h c Commit earlier later kept is before inner = let reply = is refl in returned_ended c later reply.0 reply.1
-own_ends h c BlockOpen earlier later kept is before inner = never (own_inner c BlockOpen earlier) inner
-own_ends h c BlockClose earlier later kept is before inner = never (own_inner c BlockClose earlier) inner
-own_ends h c BlockCommit earlier later kept is before inner = never (own_inner c BlockCommit earlier) inner
+    left (c == c) false (is_ended c later) refl
+    (before (sym (own_inner c (Write word value) earlier) ∙ inner))
+own_ends h c Commit earlier later kept is before inner = let reply = is refl in
+    returned_ended c later reply.0 reply.1
+own_ends h c BlockOpen earlier later kept is before inner = never (own_inner c BlockOpen earlier)
+    inner
+own_ends h c BlockClose earlier later kept is before inner = never (own_inner c BlockClose earlier)
+    inner
+own_ends h c BlockCommit earlier later kept is before inner =
+    never (own_inner c BlockCommit earlier) inner
 
 -- From one place to the next, where a commit has returned.
-pub end_next : (h : Header) (e : Entry) (earlier later : List Entry) → broken_rule h earlier e ≡ None → IsReturned e.caller e.kind later
+pub end_next : (h : Header) (e : Entry) (earlier later : List Entry) → broken_rule h earlier e
+    ≡ None → IsReturned e.caller e.kind later
     → AllEnd earlier (e ∷ later) → AllEnd (e ∷ earlier) later
 end_next h e earlier later kept is ends = λ c inner. by_same e.caller c
     (λ same. subst (λ d. broken_rule h earlier (entry d e.kind) ≡ None → IsReturned d e.kind later
@@ -81,7 +94,8 @@ end_next h e earlier later kept is ends = λ c inner. by_same e.caller c
     (ends c (sym (other_inner c e.caller e.kind earlier apart) ∙ inner)))
 
 -- with further entries
-pub end_more : (earlier later more : List Entry) → AllEnd earlier later → AllEnd earlier (later ++ more)
+pub end_more : (earlier later more : List Entry) → AllEnd earlier later
+    → AllEnd earlier (later ++ more)
 end_more earlier later more ends = λ c inner.
     list_any-append (λ e. e.caller == c && ends_block e.kind) later more
     ∙ ap (λ b. b || is_ended c more) (ends c inner)

@@ -1,5 +1,6 @@
 -- The log of a history with one more event.
-use Rattle.std.proofs.Common.{◌≡◌, ℕ, ◌<◌, ◌+◌, ◌++◌, List, [], length, take, drop, refl, ap, ◌∙◌, sym}
+use Rattle.std.proofs.Common.{◌≡◌, ℕ, ◌<◌, ◌+◌, ◌++◌, List, [], length, take, drop, refl, ap, ◌∙◌}
+use Rattle.std.proofs.Common.{sym}
 use Rattle.std.specs.Prelude.{get_or}
 use Rattle.std.specs.List.{cons_option}
 use Rattle.std.proofs.lemmas.List.{take-append-drop}
@@ -18,12 +19,15 @@ unfolding log_of
 log_of_none = refl
 
 pub log_more : (history : List Stamped) (i : ℕ) → i < length history
-    → log_of (take (i + 1) history) ≡ log_of (take i history) ++ cons_option (logged (get_or history i past).caller (get_or history i past).did) []
+    → log_of (take (i + 1) history) ≡ log_of (take i history)
+    ++ cons_option (logged (get_or history i past).caller (get_or history i past).did) []
 unfolding log_of
 log_more history i p = filter_map_more (λ e. logged e.caller e.did) history i past p
 
 -- and the log of those before a place, and from it on
-pub log_around : (history : List Stamped) (i : ℕ) → log_of (take i history) ++ log_of (drop i history) ≡ log_of history
+pub log_around : (history : List Stamped) (i : ℕ) → log_of (take i history)
+    ++ log_of (drop i history) ≡ log_of history
 unfolding log_of
 log_around history i =
-    sym (filter_map-append (λ e. logged e.caller e.did) (take i history) (drop i history)) ∙ ap log_of (take-append-drop i history)
+    sym (filter_map-append (λ e. logged e.caller e.did) (take i history) (drop i history))
+    ∙ ap log_of (take-append-drop i history)

@@ -75,7 +75,8 @@ few_wait earlier (e ∷ later) = one_more (waiting_at (place_of e earlier later)
     one_more (Some x) n ws few = omega (arith, few)
 
 -- a commit that waits for its return is left open
-pub left_open : (e : Entry) (earlier later : List Entry) (x : Waiting) (method : Method) (args : Args)
+pub left_open : (e : Entry) (earlier later : List Entry) (x : Waiting) (method : Method)
+    (args : Args)
     → waiting_at (place_of e earlier later) ≡ Some x → x.event ≡ Commits method args None
     → is_left_open e later ≡ true
 left_open e earlier later x method args is event = by_waits (waits e earlier later x is)

@@ -1,5 +1,6 @@
 -- What the online judge answers, by what it keeps.
-use Rattle.std.proofs.Common.{◌≡◌, ◌≤◌, ◌+◌, List, [], ◌∷◌, ◌++◌, length, Option, Some, None, Result, Ok, Err, refl, ap, subst, ◌∙◌, sym, arith, append_assoc}
+use Rattle.std.proofs.Common.{◌≡◌, ◌≤◌, ◌+◌, List, [], ◌∷◌, ◌++◌, length, Option, Some, None}
+use Rattle.std.proofs.Common.{Result, Ok, Err, refl, ap, subst, ◌∙◌, sym, arith, append_assoc}
 use Rattle.std.specs.Prelude.{OnErr}
 use Rattle.vyrd_base.specs.Rules.{rules_by}
 use Rattle.vyrd_base.specs.declared.log.Entry.{Entry}
@@ -10,7 +11,8 @@ use Rattle.vyrd_base.specs.Verdicts.{verdict_so_far, verdict_at, verdict}
 use Rattle.vyrd_base.proofs.VerdictLaws.{verdict_lasts}
 use Rattle.vyrd_judge.specs.declared.waiting.Waiting.{Waiting}
 use Rattle.vyrd_judge.specs.Queued.{AwaitsReturn}
-use Rattle.vyrd_judge.specs.Following.{Kept, JudgeView, FollowsBy, HasFollowed, IsFaultless, HasTakenIn}
+use Rattle.vyrd_judge.specs.Following.{Kept, JudgeView, FollowsBy, HasFollowed, IsFaultless}
+use Rattle.vyrd_judge.specs.Following.{HasTakenIn}
 use Rattle.vyrd_base.proofs.VerdictParts.{no_first_fault, so_far_kept, verdict_standing}
 
 pub standing : {j : JudgeView} {starting : List StartWord} {log : List Entry} {v : Verdict}
@@ -38,7 +40,8 @@ followed_on {j} {starting} {log} {v} more is f = record {
 }
 
 pub stands_whole : {j : JudgeView} {starting : List StartWord} {log : List Entry} {v : Verdict}
-    → j.so_far ≡ Some v → HasFollowed j starting log → v ≡ verdict (rules_by j.kept.charter) starting log
+    → j.so_far ≡ Some v → HasFollowed j starting log
+    → v ≡ verdict (rules_by j.kept.charter) starting log
 unfolding verdict_at
 stands_whole {j} {starting} {log} {v} is f =
     verdict_standing (rules_by j.kept.charter) starting log End v (standing is f)
@@ -49,7 +52,8 @@ pub none_stands : {j : JudgeView} {starting : List StartWord} {log : List Entry}
     → verdict_so_far (rules_by j.kept.charter) starting log ≡ None
 none_stands {j} {starting} {log} is f =
     let all = faultless_of is f in
-    so_far_kept (rules_by j.kept.charter) starting log all.taken_in.begun all.taken_in.kept ∙ all.faultless
+    so_far_kept (rules_by j.kept.charter) starting log all.taken_in.begun all.taken_in.kept
+    ∙ all.faultless
 
 -- before the first entry
 pub faultless_first : {k : Kept} {starting : List StartWord}
@@ -57,7 +61,8 @@ pub faultless_first : {k : Kept} {starting : List StartWord}
 faultless_first {k} {starting} t = record {
   taken_in = t;
   faultless = no_first_fault (rules_by k.charter) starting;
-  awaits = let few : k.taken + length k.waiting ≤ 0 = t.queued.count in nothing k.waiting (omega (arith, few));
+  awaits = let few : k.taken + length k.waiting ≤ 0 = t.queued.count in nothing k.waiting
+      (omega (arith, few));
 }
   where
     nothing : (ws : List Waiting) → length ws ≤ 0 → AwaitsReturn ws
@@ -75,11 +80,13 @@ so_far_is_known {j} {starting} {log} f = known j.so_far refl
     known (Some v) is = is ∙ sym (standing is f)
 
 -- a verdict that stands after some entries stands with those after them
-pub decided : {j : JudgeView} {starting : List StartWord} {whole : List Entry} {v : Verdict} (log part rest : List Entry)
+pub decided : {j : JudgeView} {starting : List StartWord} {whole : List Entry} {v : Verdict}
+    (log part rest : List Entry)
     → part ++ rest ≡ whole → j.so_far ≡ Some v → HasFollowed j starting (log ++ part)
     → HasFollowed j starting (log ++ whole)
 decided {j} {starting} log part rest same is f =
-    subst (HasFollowed j starting) (append_assoc log part rest ∙ ap (λ es. log ++ es) same) (followed_on rest is f)
+    subst (HasFollowed j starting) (append_assoc log part rest ∙ ap (λ es. log ++ es) same)
+    (followed_on rest is f)
 
 -- what holds anyway holds on an error
 pub on_error : {A E : Type 0} {P : Type 0} (r : Result A E) → P → OnErr r P

@@ -1,11 +1,14 @@
 -- The effects of a log in parts, as it grows by one entry.
-use Rattle.std.proofs.Common.{◌≡◌, ℕ, suc, ◌+◌, ◌-◌, ◌<◌, ◌≤◌, Bool, true, false, cond, ◌&&◌, ◌||◌, List, [], ◌∷◌, ◌++◌, length, None, refl, ap, subst, ◌∙◌, sym, arith, append-nil}
+use Rattle.std.proofs.Common.{◌≡◌, ℕ, suc, ◌+◌, ◌-◌, ◌<◌, ◌≤◌, Bool, true, false, cond, ◌&&◌, ◌||◌}
+use Rattle.std.proofs.Common.{List, [], ◌∷◌, ◌++◌, length, None, refl, ap, subst, ◌∙◌, sym, arith}
+use Rattle.std.proofs.Common.{append-nil}
 use Rattle.std.specs.Prelude.{◌==◌, unwrap_or}
 use Rattle.std.specs.Option.{option_or}
 use Rattle.std.proofs.lemmas.Bool.{not-false}
 use Rattle.vyrd_base.specs.declared.header.Header.{Header}
 use Rattle.vyrd_base.specs.declared.log.Kind.{Kind}
-use Rattle.vyrd_base.specs.declared.log.Kind.TheVariants.{Call, Return, Write, Commit, BlockOpen, BlockClose, BlockCommit}
+use Rattle.vyrd_base.specs.declared.log.Kind.TheVariants.{Call, Return, Write, Commit, BlockOpen}
+use Rattle.vyrd_base.specs.declared.log.Kind.TheVariants.{BlockClose, BlockCommit}
 use Rattle.vyrd_base.specs.declared.log.Entry.{Entry}
 use Rattle.vyrd_base.specs.Places.{newest_first_onto, first_answer}
 use Rattle.vyrd_base.specs.Callers.{by_caller, has_block, commit_or_open, has_inner_commit}
@@ -16,10 +19,15 @@ use Rattle.vyrd_base.specs.Commits.{is_commit, commit_count}
 use Rattle.vyrd_base.specs.Front.{WellFormed}
 use Rattle.vyrd_base.proofs.BlockLaws.{entry}
 use Rattle.vyrd_base.proofs.ShadowLaws.{all_kept}
-use Rattle.vyrd_base.proofs.EffectLaws.{SameEffects, same_after, ends_committed_block, MoreAt, at_commit, own, other, MoreAtCommit, more_after, never, committed_since_open, own_inner, other_inner, inner_is_committed}
+use Rattle.vyrd_base.proofs.EffectLaws.{SameEffects, same_after, ends_committed_block, MoreAt}
+use Rattle.vyrd_base.proofs.EffectLaws.{at_commit, own, other, MoreAtCommit, more_after, never}
+use Rattle.vyrd_base.proofs.EffectLaws.{committed_since_open, own_inner, other_inner}
+use Rattle.vyrd_base.proofs.EffectLaws.{inner_is_committed}
 use Rattle.vyrd_base.proofs.Lasting.{commit_count-cons}
-use Rattle.vyrd_base.proofs.TestLaws.{is_same, isnt_same, lower_isnt, flipped, first_true, second_true}
-use Rattle.vyrd_words.specs.Effects.{effect_parts, with_effects, cut_if, number_at, inner_number, parts_since, parts_behind, ends_block, is_ended}
+use Rattle.vyrd_base.proofs.TestLaws.{is_same, isnt_same, lower_isnt, flipped, first_true}
+use Rattle.vyrd_base.proofs.TestLaws.{second_true}
+use Rattle.vyrd_words.specs.Effects.{effect_parts, with_effects, cut_if, number_at, inner_number}
+use Rattle.vyrd_words.specs.Effects.{parts_since, parts_behind, ends_block, is_ended}
 
 -- The effects at the entries from a place on, in parts as `effect_parts` has them, where these
 -- entries stand after them all.
@@ -27,29 +35,37 @@ abbrev pub parts_in : List (ℕ × ℕ) → List Entry → List Entry → List E
 parts_in before earlier [] tail = before ∷ []
 parts_in before earlier (e ∷ later) tail =
     cond (is_commit e.kind)
-    ((effects_at earlier e.caller e.kind (later ++ tail) ++ before) ∷ parts_in [] (e ∷ earlier) later tail)
-    (parts_in (effects_at earlier e.caller e.kind (later ++ tail) ++ before) (e ∷ earlier) later tail)
+    ((effects_at earlier e.caller e.kind (later ++ tail) ++ before) ∷ parts_in []
+    (e ∷ earlier) later tail)
+    (parts_in (effects_at earlier e.caller e.kind (later ++ tail) ++ before)
+    (e ∷ earlier) later tail)
 
-pub parts_alone : (before : List (ℕ × ℕ)) (earlier later : List Entry) → effect_parts before earlier later ≡ parts_in before earlier later []
+pub parts_alone : (before : List (ℕ × ℕ)) (earlier later : List Entry)
+    → effect_parts before earlier later ≡ parts_in before earlier later []
 parts_alone before earlier [] = refl
 parts_alone before earlier (e ∷ later) =
-    let here : effects_at earlier e.caller e.kind later ≡ effects_at earlier e.caller e.kind (later ++ []) =
+    let here : effects_at earlier e.caller e.kind later ≡ effects_at earlier e.caller e.kind
+    (later ++ []) =
     ap (effects_at earlier e.caller e.kind) (sym (append-nil later)) in
     let rest = parts_alone [] (e ∷ earlier) later in
-    let joined = parts_alone (effects_at earlier e.caller e.kind later ++ before) (e ∷ earlier) later in
+    let joined = parts_alone (effects_at earlier e.caller e.kind later ++ before)
+    (e ∷ earlier) later in
     ap (λ ps. cond (is_commit e.kind) ((effects_at earlier e.caller e.kind later ++ before) ∷ ps)
     (effect_parts (effects_at earlier e.caller e.kind later ++ before) (e ∷ earlier) later)) rest
-    ∙ ap (λ ps. cond (is_commit e.kind) ((effects_at earlier e.caller e.kind later ++ before) ∷ parts_in [] (e ∷ earlier) later []) ps) joined
+    ∙ ap (λ ps. cond (is_commit e.kind) ((effects_at earlier e.caller e.kind later ++ before)
+    ∷ parts_in [] (e ∷ earlier) later []) ps) joined
     ∙ ap (λ ws. cond (is_commit e.kind) ((ws ++ before) ∷ parts_in [] (e ∷ earlier) later [])
     (parts_in (ws ++ before) (e ∷ earlier) later [])) here
 
 -- how many parts there are
 pub parts_count : (before : List (ℕ × ℕ)) (earlier later tail : List Entry)
-    → length (parts_in before earlier later tail) + commit_count earlier ≡ suc (commit_count (newest_first_onto earlier later))
+    → length (parts_in before earlier later tail) + commit_count earlier
+    ≡ suc (commit_count (newest_first_onto earlier later))
 parts_count before earlier [] tail = omega arith
 parts_count before earlier (e ∷ later) tail =
     by_test (is_commit e.kind) refl (parts_count [] (e ∷ earlier) later tail)
-    (parts_count (effects_at earlier e.caller e.kind (later ++ tail) ++ before) (e ∷ earlier) later tail)
+    (parts_count (effects_at earlier e.caller e.kind (later ++ tail) ++ before)
+    (e ∷ earlier) later tail)
   where
     now : List (ℕ × ℕ)
     now = effects_at earlier e.caller e.kind (later ++ tail) ++ before
@@ -60,16 +76,20 @@ parts_count before earlier (e ∷ later) tail =
     by_test : (b : Bool) → is_commit e.kind ≡ b
         → length (parts_in [] (e ∷ earlier) later tail) + commit_count (e ∷ earlier) ≡ all
         → length (parts_in now (e ∷ earlier) later tail) + commit_count (e ∷ earlier) ≡ all
-        → length (cond b (now ∷ parts_in [] (e ∷ earlier) later tail) (parts_in now (e ∷ earlier) later tail)) + commit_count earlier ≡ all
+        → length (cond b (now ∷ parts_in [] (e ∷ earlier) later tail)
+        (parts_in now (e ∷ earlier) later tail)) + commit_count earlier ≡ all
     by_test true is apart joined =
-        let one : commit_count (e ∷ earlier) ≡ 1 + commit_count earlier = commit_count-cons e earlier ∙ ap (λ b. cond b 1 0 + commit_count earlier) is in
+        let one : commit_count (e ∷ earlier) ≡ 1 + commit_count earlier =
+        commit_count-cons e earlier ∙ ap (λ b. cond b 1 0 + commit_count earlier) is in
         omega (arith, apart, one)
     by_test false is apart joined =
-        let none : commit_count (e ∷ earlier) ≡ 0 + commit_count earlier = commit_count-cons e earlier ∙ ap (λ b. cond b 1 0 + commit_count earlier) is in
+        let none : commit_count (e ∷ earlier) ≡ 0 + commit_count earlier =
+        commit_count-cons e earlier ∙ ap (λ b. cond b 1 0 + commit_count earlier) is in
         omega (arith, joined, none)
 
 -- some part is always there
-pub some_parts : (before : List (ℕ × ℕ)) (earlier later tail : List Entry) → 0 < length (parts_in before earlier later tail)
+pub some_parts : (before : List (ℕ × ℕ)) (earlier later tail : List Entry)
+    → 0 < length (parts_in before earlier later tail)
 some_parts before earlier later tail =
     let count = parts_count before earlier later tail in
     let fewer = grown earlier later in
@@ -82,13 +102,18 @@ some_parts before earlier later tail =
 -- One more entry: its effects come last, and after a commit a new part begins.
 pub parts_push : (before : List (ℕ × ℕ)) (earlier later : List Entry) (e : Entry)
     → effect_parts before earlier (later ++ e ∷ [])
-    ≡ cut_if (is_commit e.kind) (with_effects 0 (effects_at (newest_first_onto earlier later) e.caller e.kind []) (parts_in before earlier later (e ∷ [])))
+    ≡ cut_if (is_commit e.kind)
+    (with_effects 0 (effects_at (newest_first_onto earlier later) e.caller e.kind [])
+    (parts_in before earlier later (e ∷ [])))
 parts_push before earlier [] e =
-    elim (is_commit e.kind) as (λ b. cond b ((effects_at earlier e.caller e.kind [] ++ before) ∷ [] ∷ []) ((effects_at earlier e.caller e.kind [] ++ before) ∷ [])
-    ≡ cut_if b ((effects_at earlier e.caller e.kind [] ++ before) ∷ [])) [ true ↦ refl | false ↦ refl ]
+    elim (is_commit e.kind) as (λ b. cond b ((effects_at earlier e.caller e.kind [] ++ before) ∷ []
+    ∷ []) ((effects_at earlier e.caller e.kind [] ++ before) ∷ [])
+    ≡ cut_if b ((effects_at earlier e.caller e.kind [] ++ before)
+    ∷ [])) [ true ↦ refl | false ↦ refl ]
 parts_push before earlier (x ∷ later) e =
     by_test (is_commit x.kind) (parts_push [] (x ∷ earlier) later e)
-    (parts_push (effects_at earlier x.caller x.kind (later ++ e ∷ []) ++ before) (x ∷ earlier) later e)
+    (parts_push (effects_at earlier x.caller x.kind (later ++ e ∷ []) ++ before)
+    (x ∷ earlier) later e)
   where
     now : List (ℕ × ℕ)
     now = effects_at earlier x.caller x.kind (later ++ e ∷ []) ++ before
@@ -103,14 +128,20 @@ parts_push before earlier (x ∷ later) e =
     behind true ps = refl
     behind false ps = refl
 
-    by_test : (b : Bool) → effect_parts [] (x ∷ earlier) (later ++ e ∷ []) ≡ cut_if (is_commit e.kind) (with_effects 0 last rest)
-        → effect_parts now (x ∷ earlier) (later ++ e ∷ []) ≡ cut_if (is_commit e.kind) (with_effects 0 last (parts_in now (x ∷ earlier) later (e ∷ [])))
-        → cond b (now ∷ effect_parts [] (x ∷ earlier) (later ++ e ∷ [])) (effect_parts now (x ∷ earlier) (later ++ e ∷ []))
-        ≡ cut_if (is_commit e.kind) (with_effects 0 last (cond b (now ∷ rest) (parts_in now (x ∷ earlier) later (e ∷ []))))
+    by_test : (b : Bool) → effect_parts [] (x ∷ earlier) (later ++ e ∷ [])
+        ≡ cut_if (is_commit e.kind) (with_effects 0 last rest)
+        → effect_parts now (x ∷ earlier) (later ++ e ∷ []) ≡ cut_if (is_commit e.kind)
+        (with_effects 0 last (parts_in now (x ∷ earlier) later (e ∷ [])))
+        → cond b (now ∷ effect_parts [] (x ∷ earlier) (later ++ e ∷ []))
+        (effect_parts now (x ∷ earlier) (later ++ e ∷ []))
+        ≡ cut_if (is_commit e.kind)
+        (with_effects 0 last (cond b (now ∷ rest) (parts_in now (x ∷ earlier) later (e ∷ []))))
     by_test true apart joined =
         ap (λ ps. now ∷ ps) apart ∙ behind (is_commit e.kind) (with_effects 0 last rest)
-        ∙ ap (λ b. cut_if (is_commit e.kind) (cond b ((last ++ now) ∷ rest) (now ∷ with_effects 0 last rest)))
-        (sym (flipped 0 (length rest) (lower_isnt 0 (length rest) (some_parts [] (x ∷ earlier) later (e ∷ [])))))
+        ∙ ap (λ b. cut_if (is_commit e.kind)
+        (cond b ((last ++ now) ∷ rest) (now ∷ with_effects 0 last rest)))
+        (sym (flipped 0 (length rest)
+        (lower_isnt 0 (length rest) (some_parts [] (x ∷ earlier) later (e ∷ [])))))
     by_test false apart joined = joined
 
 -- Each entry from the place on has the same effects, with these entries after them all or with
@@ -118,21 +149,30 @@ parts_push before earlier (x ∷ later) e =
 abbrev pub SameFrom : List Entry → List Entry → List Entry → List Entry → Type 0
 SameFrom earlier [] tail tail' = Unit {0}
 SameFrom earlier (x ∷ later) tail tail' =
-    (effects_at earlier x.caller x.kind (later ++ tail) ≡ effects_at earlier x.caller x.kind (later ++ tail')) × SameFrom (x ∷ earlier) later tail tail'
+    (effects_at earlier x.caller x.kind (later ++ tail) ≡ effects_at earlier x.caller x.kind
+    (later ++ tail')) × SameFrom (x ∷ earlier) later tail tail'
 
-same_parts : (before : List (ℕ × ℕ)) (earlier later tail tail' : List Entry) → SameFrom earlier later tail tail'
+same_parts : (before : List (ℕ × ℕ)) (earlier later tail tail' : List Entry)
+    → SameFrom earlier later tail tail'
     → parts_in before earlier later tail ≡ parts_in before earlier later tail'
 same_parts before earlier [] tail tail' same = refl
 same_parts before earlier (x ∷ later) tail tail' same =
     let rest = same_parts [] (x ∷ earlier) later tail tail' same.1 in
-    let joined = same_parts (effects_at earlier x.caller x.kind (later ++ tail) ++ before) (x ∷ earlier) later tail tail' same.1 in
-    ap (λ ps. cond (is_commit x.kind) ((effects_at earlier x.caller x.kind (later ++ tail) ++ before) ∷ ps)
-    (parts_in (effects_at earlier x.caller x.kind (later ++ tail) ++ before) (x ∷ earlier) later tail)) rest
-    ∙ ap (λ ps. cond (is_commit x.kind) ((effects_at earlier x.caller x.kind (later ++ tail) ++ before) ∷ parts_in [] (x ∷ earlier) later tail') ps) joined
-    ∙ ap (λ ws. cond (is_commit x.kind) ((ws ++ before) ∷ parts_in [] (x ∷ earlier) later tail') (parts_in (ws ++ before) (x ∷ earlier) later tail')) same.0
+    let joined = same_parts (effects_at earlier x.caller x.kind (later ++ tail) ++ before)
+    (x ∷ earlier) later tail tail' same.1 in
+    ap (λ ps. cond (is_commit x.kind)
+    ((effects_at earlier x.caller x.kind (later ++ tail) ++ before) ∷ ps)
+    (parts_in (effects_at earlier x.caller x.kind (later ++ tail) ++ before)
+    (x ∷ earlier) later tail)) rest
+    ∙ ap (λ ps. cond (is_commit x.kind)
+    ((effects_at earlier x.caller x.kind (later ++ tail) ++ before) ∷ parts_in []
+    (x ∷ earlier) later tail') ps) joined
+    ∙ ap (λ ws. cond (is_commit x.kind) ((ws ++ before) ∷ parts_in [] (x ∷ earlier) later tail')
+    (parts_in (ws ++ before) (x ∷ earlier) later tail')) same.0
 
 -- the same told of all entries, newest first
-same_from : (earlier later tail tail' : List Entry) → SameEffects (newest_first_onto earlier later) tail tail'
+same_from : (earlier later tail tail' : List Entry) → SameEffects (newest_first_onto earlier later)
+    tail tail'
     → SameFrom earlier later tail tail' × SameEffects earlier (later ++ tail) (later ++ tail')
 same_from earlier [] tail tail' same = (tt, same)
 same_from earlier (x ∷ later) tail tail' same =
@@ -140,33 +180,45 @@ same_from earlier (x ∷ later) tail tail' same =
 
 -- What the two say of the entries from one on: the writes take effect at a commit, before which
 -- that many commits stand, with `tail'` behind and not with `tail`, and all else is the same.
-pub data MoreHere (m : ℕ) (writes : List (ℕ × ℕ)) (earlier : List Entry) (x : Entry) (later tail tail' : List Entry) (rest : Type 0) : Type 0 where
+pub data MoreHere (m : ℕ) (writes : List (ℕ × ℕ)) (earlier : List Entry) (x : Entry)
+    (later tail tail' : List Entry) (rest : Type 0) : Type 0 where
   here : is_commit x.kind ≡ true → m ≡ commit_count earlier
-      → effects_at earlier x.caller x.kind (later ++ tail) ≡ [] → effects_at earlier x.caller x.kind (later ++ tail') ≡ writes
+      → effects_at earlier x.caller x.kind (later ++ tail) ≡ [] → effects_at earlier x.caller x.kind
+      (later ++ tail') ≡ writes
       → SameFrom (x ∷ earlier) later tail tail' → MoreHere m writes earlier x later tail tail' rest
-  next : effects_at earlier x.caller x.kind (later ++ tail) ≡ effects_at earlier x.caller x.kind (later ++ tail') → rest
+  next : effects_at earlier x.caller x.kind (later ++ tail) ≡ effects_at earlier x.caller x.kind
+      (later ++ tail') → rest
       → MoreHere m writes earlier x later tail tail' rest
 
 abbrev pub MoreFrom : ℕ → List (ℕ × ℕ) → List Entry → List Entry → List Entry → List Entry → Type 0
 MoreFrom m writes earlier [] tail tail' = ⊥
-MoreFrom m writes earlier (x ∷ later) tail tail' = MoreHere m writes earlier x later tail tail' (MoreFrom m writes (x ∷ earlier) later tail tail')
+MoreFrom m writes earlier (x ∷ later) tail tail' = MoreHere m writes earlier x later tail tail'
+    (MoreFrom m writes (x ∷ earlier) later tail tail')
 
-commit_after : (m : ℕ) (writes : List (ℕ × ℕ)) (earlier later tail tail' : List Entry) → MoreFrom m writes earlier later tail tail'
+commit_after : (m : ℕ) (writes : List (ℕ × ℕ)) (earlier later tail tail' : List Entry)
+    → MoreFrom m writes earlier later tail tail'
     → commit_count earlier ≤ m
 commit_after m writes earlier [] tail tail' more = absurd more
-commit_after m writes earlier (x ∷ later) tail tail' more = by_more (commit_after m writes (x ∷ earlier) later tail tail') more
+commit_after m writes earlier (x ∷ later) tail tail' more = by_more
+    (commit_after m writes (x ∷ earlier) later tail tail') more
   where
     by_more : (MoreFrom m writes (x ∷ earlier) later tail tail' → commit_count (x ∷ earlier) ≤ m)
-        → MoreHere m writes earlier x later tail tail' (MoreFrom m writes (x ∷ earlier) later tail tail') → commit_count earlier ≤ m
+        → MoreHere m writes earlier x later tail tail'
+        (MoreFrom m writes (x ∷ earlier) later tail tail') → commit_count earlier ≤ m
     by_more rest (here commits same none all after) = omega (arith, same)
-    by_more rest (next same onward) = let one = commit_count-cons x earlier in omega (arith, rest onward, one)
+    by_more rest (next same onward) = let one = commit_count-cons x earlier in
+        omega (arith, rest onward, one)
 
 -- So they come in the part that ends with that commit.
-more_parts : (m : ℕ) (writes before : List (ℕ × ℕ)) (earlier later tail tail' : List Entry) → MoreFrom m writes earlier later tail tail'
-    → parts_in before earlier later tail' ≡ with_effects (commit_count (newest_first_onto earlier later) - m) writes (parts_in before earlier later tail)
+more_parts : (m : ℕ) (writes before : List (ℕ × ℕ)) (earlier later tail tail' : List Entry)
+    → MoreFrom m writes earlier later tail tail'
+    → parts_in before earlier later tail'
+    ≡ with_effects (commit_count (newest_first_onto earlier later) - m) writes
+    (parts_in before earlier later tail)
 more_parts m writes before earlier [] tail tail' more = absurd more
 more_parts m writes before earlier (x ∷ later) tail tail' more =
-    by_more (λ b. more_parts m writes b (x ∷ earlier) later tail tail') (commit_after m writes (x ∷ earlier) later tail tail') more
+    by_more (λ b. more_parts m writes b (x ∷ earlier) later tail tail')
+    (commit_after m writes (x ∷ earlier) later tail tail') more
   where
     behind : ℕ
     behind = commit_count (newest_first_onto (x ∷ earlier) later) - m
@@ -177,7 +229,8 @@ more_parts m writes before earlier (x ∷ later) tail tail' more =
     parts : List (ℕ × ℕ) → List Entry → List (List (ℕ × ℕ))
     parts b t = parts_in b (x ∷ earlier) later t
 
-    count : length (parts [] tail) + commit_count (x ∷ earlier) ≡ suc (commit_count (newest_first_onto (x ∷ earlier) later))
+    count : length (parts [] tail) + commit_count (x ∷ earlier)
+        ≡ suc (commit_count (newest_first_onto (x ∷ earlier) later))
     count = parts_count [] (x ∷ earlier) later tail
 
     one : commit_count (x ∷ earlier) ≡ cond (is_commit x.kind) 1 0 + commit_count earlier
@@ -186,19 +239,26 @@ more_parts m writes before earlier (x ∷ later) tail tail' more =
     at : Bool → List (ℕ × ℕ) → List Entry → List (List (ℕ × ℕ))
     at b ws t = cond b ((ws ++ before) ∷ parts [] t) (parts (ws ++ before) t)
 
-    at_here : is_commit x.kind ≡ true → m ≡ commit_count earlier → effects_by tail ≡ [] → effects_by tail' ≡ writes
+    at_here : is_commit x.kind ≡ true → m ≡ commit_count earlier → effects_by tail ≡ []
+        → effects_by tail' ≡ writes
         → SameFrom (x ∷ earlier) later tail tail' → at (is_commit x.kind) (effects_by tail') tail'
         ≡ with_effects behind writes (at (is_commit x.kind) (effects_by tail) tail)
     at_here commits first none all after =
-        let counted : commit_count (x ∷ earlier) ≡ 1 + commit_count earlier = one ∙ ap (λ b. cond b 1 0 + commit_count earlier) commits in
-        let there : (length (parts [] tail) == behind) ≡ true = is_same (length (parts [] tail)) behind (omega (arith, count, counted, first)) in
-        (λ i. at (commits i) (all i) tail') ∙ ap (λ ps. (writes ++ before) ∷ ps) (sym (same_parts [] (x ∷ earlier) later tail tail' after))
-        ∙ ap (λ b. cond b ((writes ++ before) ∷ parts [] tail) (before ∷ with_effects behind writes (parts [] tail))) (sym there)
+        let counted : commit_count (x ∷ earlier) ≡ 1 + commit_count earlier = one
+        ∙ ap (λ b. cond b 1 0 + commit_count earlier) commits in
+        let there : (length (parts [] tail) == behind) ≡ true = is_same (length (parts [] tail))
+        behind (omega (arith, count, counted, first)) in
+        (λ i. at (commits i) (all i) tail') ∙ ap (λ ps. (writes ++ before) ∷ ps)
+        (sym (same_parts [] (x ∷ earlier) later tail tail' after))
+        ∙ ap (λ b. cond b ((writes ++ before) ∷ parts [] tail)
+        (before ∷ with_effects behind writes (parts [] tail))) (sym there)
         ∙ ap (with_effects behind writes) (sym (λ i. at (commits i) (none i) tail))
 
-    at_next : (b : Bool) → (b ≡ true → length (parts [] tail) ≡ behind → ⊥) → effects_by tail ≡ effects_by tail'
+    at_next : (b : Bool) → (b ≡ true → length (parts [] tail) ≡ behind → ⊥) → effects_by tail
+        ≡ effects_by tail'
         → parts [] tail' ≡ with_effects behind writes (parts [] tail)
-        → parts (effects_by tail ++ before) tail' ≡ with_effects behind writes (parts (effects_by tail ++ before) tail)
+        → parts (effects_by tail ++ before) tail' ≡ with_effects behind writes
+        (parts (effects_by tail ++ before) tail)
         → at b (effects_by tail') tail' ≡ with_effects behind writes (at b (effects_by tail) tail)
     at_next true later_on same apart joined =
         ap (λ ws. at true ws tail') (sym same) ∙ ap (λ ps. (effects_by tail ++ before) ∷ ps) apart
@@ -207,19 +267,26 @@ more_parts m writes before earlier (x ∷ later) tail tail' more =
         (sym (isnt_same (length (parts [] tail)) behind (later_on refl)))
     at_next false later_on same apart joined = ap (λ ws. at false ws tail') (sym same) ∙ joined
 
-    by_more : ((b : List (ℕ × ℕ)) → MoreFrom m writes (x ∷ earlier) later tail tail' → parts b tail' ≡ with_effects behind writes (parts b tail))
+    by_more : ((b : List (ℕ × ℕ)) → MoreFrom m writes (x ∷ earlier) later tail tail' → parts b tail'
+        ≡ with_effects behind writes (parts b tail))
         → (MoreFrom m writes (x ∷ earlier) later tail tail' → commit_count (x ∷ earlier) ≤ m)
-        → MoreHere m writes earlier x later tail tail' (MoreFrom m writes (x ∷ earlier) later tail tail')
-        → at (is_commit x.kind) (effects_by tail') tail' ≡ with_effects behind writes (at (is_commit x.kind) (effects_by tail) tail)
+        → MoreHere m writes earlier x later tail tail'
+        (MoreFrom m writes (x ∷ earlier) later tail tail')
+        → at (is_commit x.kind) (effects_by tail') tail' ≡ with_effects behind writes
+        (at (is_commit x.kind) (effects_by tail) tail)
     by_more rest low (here commits first none all after) = at_here commits first none all after
     by_more rest low (next same onward) =
         let after = low onward in
-        at_next (is_commit x.kind) (λ is there. no (omega (arith, count, there, after, some_parts [] (x ∷ earlier) later tail))) same (rest [] onward) (rest (effects_by tail ++ before) onward)
+        at_next (is_commit x.kind)
+        (λ is there. no
+        (omega (arith, count, there, after, some_parts [] (x ∷ earlier) later tail))) same
+        (rest [] onward) (rest (effects_by tail ++ before) onward)
       where
         no : ⊥ → ⊥
         no e = e
 
-well_formed_before : (h : Header) (earlier later : List Entry) → WellFormed h (newest_first_onto earlier later) → WellFormed h earlier
+well_formed_before : (h : Header) (earlier later : List Entry)
+    → WellFormed h (newest_first_onto earlier later) → WellFormed h earlier
 well_formed_before h earlier [] wf = wf
 well_formed_before h earlier (x ∷ later) wf = (well_formed_before h (x ∷ earlier) later wf).1
 
@@ -229,43 +296,64 @@ pub record IsInside (c : ℕ) (kind : Kind) (earlier : List Entry) : Type 0 wher
   pub goes_on : ends_block kind ≡ false
   pub number : (n : ℕ) → number_at kind (commit_count earlier) n ≡ n
 
-is_inside : (h : Header) (c : ℕ) (kind : Kind) (earlier : List Entry) → is_lone_commit kind ≡ false → broken_rule h earlier (entry c kind) ≡ None
+is_inside : (h : Header) (c : ℕ) (kind : Kind) (earlier : List Entry) → is_lone_commit kind ≡ false
+    → broken_rule h earlier (entry c kind) ≡ None
     → has_inner_commit c (entry c kind ∷ earlier) ≡ true → IsInside c kind earlier
 is_inside h c (Call method args) earlier alone kept inner =
-    record { inner = sym (own_inner c (Call method args) earlier) ∙ inner; goes_on = refl; number = λ n. refl }
+    record {
+      inner = sym (own_inner c (Call method args) earlier) ∙ inner;
+      goes_on = refl;
+      number = λ n. refl;
+    }
 is_inside h c (Return reply) earlier alone kept inner =
     never (all_kept (checks_at h earlier (entry c (Return reply))) kept).1.1.0
-    (first_true (has_block c earlier) (committed_since_open c earlier) (sym (own_inner c (Return reply) earlier) ∙ inner))
+    (first_true (has_block c earlier) (committed_since_open c earlier)
+    (sym (own_inner c (Return reply) earlier) ∙ inner))
 is_inside h c (Write word value) earlier alone kept inner =
-    record { inner = sym (own_inner c (Write word value) earlier) ∙ inner; goes_on = refl; number = λ n. refl }
+    record {
+      inner = sym (own_inner c (Write word value) earlier) ∙ inner;
+      goes_on = refl;
+      number = λ n. refl;
+    }
 is_inside h c Commit earlier alone kept inner = never alone refl
 is_inside h c BlockOpen earlier alone kept inner = never (own_inner c BlockOpen earlier) inner
 is_inside h c BlockClose earlier alone kept inner = never (own_inner c BlockClose earlier) inner
 is_inside h c BlockCommit earlier alone kept inner = never (own_inner c BlockCommit earlier) inner
 
 -- the same by the entry's own caller
-inside_of : (h : Header) (c : ℕ) (x : Entry) (earlier : List Entry) → x.caller ≡ c → is_lone_commit x.kind ≡ false → broken_rule h earlier x ≡ None
+inside_of : (h : Header) (c : ℕ) (x : Entry) (earlier : List Entry) → x.caller ≡ c
+    → is_lone_commit x.kind ≡ false → broken_rule h earlier x ≡ None
     → has_inner_commit c (x ∷ earlier) ≡ true → IsInside c x.kind earlier
 inside_of h c x earlier same alone =
-    subst (λ d. broken_rule h earlier (entry d x.kind) ≡ None → has_inner_commit c (entry d x.kind ∷ earlier) ≡ true → IsInside c x.kind earlier)
+    subst (λ d. broken_rule h earlier (entry d x.kind) ≡ None
+    → has_inner_commit c (entry d x.kind ∷ earlier) ≡ true → IsInside c x.kind earlier)
     (sym same) (is_inside h c x.kind earlier alone)
 
--- The caller's lone commit in its open block stands among the entries from a place on, or before it.
+-- The caller's lone commit in its open block stands among the entries from a place on, or before
+-- it.
 data Found (c : ℕ) (writes : List (ℕ × ℕ)) (earlier later tail tail' : List Entry) : Type 0 where
-  from_here : (m : ℕ) → inner_number c (newest_first_onto earlier later) ≡ suc m → MoreFrom m writes earlier later tail tail'
-      → SameEffects earlier (later ++ tail) (later ++ tail') → Found c writes earlier later tail tail'
+  from_here : (m : ℕ) → inner_number c (newest_first_onto earlier later) ≡ suc m
+      → MoreFrom m writes earlier later tail tail'
+      → SameEffects earlier (later ++ tail) (later ++ tail')
+      → Found c writes earlier later tail tail'
   before_here : has_inner_commit c earlier ≡ true → is_ended c later ≡ false
-      → inner_number c (newest_first_onto earlier later) ≡ inner_number c earlier → SameFrom earlier later tail tail'
-      → MoreAtCommit c writes earlier (later ++ tail) (later ++ tail') → Found c writes earlier later tail tail'
+      → inner_number c (newest_first_onto earlier later) ≡ inner_number c earlier
+      → SameFrom earlier later tail tail'
+      → MoreAtCommit c writes earlier (later ++ tail) (later ++ tail')
+      → Found c writes earlier later tail tail'
 
-find_commit : (h : Header) (c : ℕ) (writes : List (ℕ × ℕ)) (earlier later tail tail' : List Entry) → WellFormed h (newest_first_onto earlier later)
-    → has_inner_commit c (newest_first_onto earlier later) ≡ true → MoreAtCommit c writes (newest_first_onto earlier later) tail tail'
+find_commit : (h : Header) (c : ℕ) (writes : List (ℕ × ℕ)) (earlier later tail tail' : List Entry)
+    → WellFormed h (newest_first_onto earlier later)
+    → has_inner_commit c (newest_first_onto earlier later) ≡ true
+    → MoreAtCommit c writes (newest_first_onto earlier later) tail tail'
     → Found c writes earlier later tail tail'
 find_commit h c writes earlier [] tail tail' wf inner more = before_here inner refl refl tt more
 find_commit h c writes earlier (x ∷ later) tail tail' wf inner more =
-    step (well_formed_before h (x ∷ earlier) later wf).0 (find_commit h c writes (x ∷ earlier) later tail tail' wf inner more)
+    step (well_formed_before h (x ∷ earlier) later wf).0
+    (find_commit h c writes (x ∷ earlier) later tail tail' wf inner more)
   where
-    number_here : inner_number c (x ∷ earlier) ≡ cond (x.caller == c) (number_at x.kind (commit_count earlier) (inner_number c earlier)) (inner_number c earlier)
+    number_here : inner_number c (x ∷ earlier) ≡ cond (x.caller == c)
+        (number_at x.kind (commit_count earlier) (inner_number c earlier)) (inner_number c earlier)
     number_here = refl
 
     unended : (a b r : Bool) → b ≡ false → r ≡ false → ((a && b) || r) ≡ false
@@ -275,38 +363,53 @@ find_commit h c writes earlier (x ∷ later) tail tail' wf inner more =
     other_ended : (a b r : Bool) → a ≡ false → r ≡ false → ((a && b) || r) ≡ false
     other_ended a b r e f = (λ i. (e i && b) || r) ∙ f
 
-    at : broken_rule h earlier x ≡ None → has_inner_commit c (x ∷ earlier) ≡ true → is_ended c later ≡ false
-        → inner_number c (newest_first_onto (x ∷ earlier) later) ≡ inner_number c (x ∷ earlier) → SameFrom (x ∷ earlier) later tail tail'
-        → MoreAt c writes x earlier (later ++ tail) (later ++ tail') (MoreAtCommit c writes earlier (x ∷ later ++ tail) (x ∷ later ++ tail'))
+    at : broken_rule h earlier x ≡ None → has_inner_commit c (x ∷ earlier) ≡ true → is_ended c later
+        ≡ false
+        → inner_number c (newest_first_onto (x ∷ earlier) later) ≡ inner_number c (x ∷ earlier)
+        → SameFrom (x ∷ earlier) later tail tail'
+        → MoreAt c writes x earlier (later ++ tail) (later ++ tail')
+        (MoreAtCommit c writes earlier (x ∷ later ++ tail) (x ∷ later ++ tail'))
         → Found c writes earlier (x ∷ later) tail tail'
     at kept inside ended number after (at_commit same alone none all first) =
         from_here (commit_count earlier)
-        (number ∙ (λ i. cond (is_same x.caller c same i) (number_at (alone i) (commit_count earlier) (inner_number c earlier)) (inner_number c earlier)))
+        (number ∙ (λ i. cond (is_same x.caller c same i)
+        (number_at (alone i) (commit_count earlier) (inner_number c earlier))
+        (inner_number c earlier)))
         (here (ap is_commit alone) refl none all after) first
     at kept inside ended number after (own same alone none none' onward) =
         let is = inside_of h c x earlier same alone kept inside in
-        before_here is.inner (unended (x.caller == c) (ends_block x.kind) (is_ended c later) is.goes_on ended)
-        (number ∙ (λ i. cond (is_same x.caller c same i) (number_at x.kind (commit_count earlier) (inner_number c earlier)) (inner_number c earlier))
+        before_here is.inner
+        (unended (x.caller == c) (ends_block x.kind) (is_ended c later) is.goes_on ended)
+        (number ∙ (λ i. cond (is_same x.caller c same i)
+        (number_at x.kind (commit_count earlier) (inner_number c earlier)) (inner_number c earlier))
         ∙ is.number (inner_number c earlier))
         (none ∙ sym none', after) onward
     at kept inside ended number after (other apart same onward) =
         before_here (sym (other_inner c x.caller x.kind earlier apart) ∙ inside)
         (other_ended (x.caller == c) (ends_block x.kind) (is_ended c later) apart ended)
-        (number ∙ (λ i. cond (apart i) (number_at x.kind (commit_count earlier) (inner_number c earlier)) (inner_number c earlier)))
+        (number ∙ (λ i. cond (apart i)
+        (number_at x.kind (commit_count earlier) (inner_number c earlier))
+        (inner_number c earlier)))
         (same, after) onward
 
-    step : broken_rule h earlier x ≡ None → Found c writes (x ∷ earlier) later tail tail' → Found c writes earlier (x ∷ later) tail tail'
+    step : broken_rule h earlier x ≡ None → Found c writes (x ∷ earlier) later tail tail'
+        → Found c writes earlier (x ∷ later) tail tail'
     step kept (from_here m number more' same) = from_here m number (next same.0 more') same.1
-    step kept (before_here inside ended number after onward) = at kept inside ended number after onward
+    step kept (before_here inside ended number after onward) = at kept inside ended number after
+        onward
 
 -- if no lone commit stands since the open, there is no number
-no_number : (c : ℕ) (earlier : List Entry) → committed_since_open c earlier ≡ false → inner_number c earlier ≡ 0
+no_number : (c : ℕ) (earlier : List Entry) → committed_since_open c earlier ≡ false
+    → inner_number c earlier ≡ 0
 no_number c [] none = refl
 no_number c (e ∷ earlier) none = by_test (e.caller == c) e.kind (no_number c earlier) none
   where
-    by_test : (b : Bool) (kind : Kind) → (committed_since_open c earlier ≡ false → inner_number c earlier ≡ 0)
-        → unwrap_or (option_or (cond b (commit_or_open kind) None) (first_answer (by_caller c commit_or_open) earlier)) false ≡ false
-        → cond b (number_at kind (commit_count earlier) (inner_number c earlier)) (inner_number c earlier) ≡ 0
+    by_test : (b : Bool) (kind : Kind)
+        → (committed_since_open c earlier ≡ false → inner_number c earlier ≡ 0)
+        → unwrap_or (option_or (cond b (commit_or_open kind) None)
+        (first_answer (by_caller c commit_or_open) earlier)) false ≡ false
+        → cond b (number_at kind (commit_count earlier) (inner_number c earlier))
+        (inner_number c earlier) ≡ 0
     by_test false kind rest e' = rest e'
     by_test true Commit rest e' = cc
     by_test true BlockOpen rest e' = refl
@@ -321,13 +424,17 @@ with_nothing : (behind : ℕ) (parts : List (List (ℕ × ℕ))) → with_effect
 with_nothing behind [] = refl
 with_nothing behind (part ∷ parts) = by_test (length parts == behind) (with_nothing behind parts)
   where
-    by_test : (b : Bool) → with_effects behind [] parts ≡ parts → cond b (part ∷ parts) (part ∷ with_effects behind [] parts) ≡ part ∷ parts
+    by_test : (b : Bool) → with_effects behind [] parts ≡ parts
+        → cond b (part ∷ parts) (part ∷ with_effects behind [] parts) ≡ part ∷ parts
     by_test true rest = refl
     by_test false rest = ap (λ ps. part ∷ ps) rest
 
--- An entry that ends no block with a lone commit in it: its effects are its own, and those before stay.
-quiet_effects : (h : Header) (earlier : List Entry) (e : Entry) → broken_rule h earlier e ≡ None → ends_committed_block earlier e ≡ false
-    → (effects_at earlier e.caller e.kind [] ≡ old_effects_at earlier e.caller e.kind) × (parts_behind earlier e.caller e.kind ≡ 0)
+-- An entry that ends no block with a lone commit in it: its effects are its own, and those before
+-- stay.
+quiet_effects : (h : Header) (earlier : List Entry) (e : Entry) → broken_rule h earlier e ≡ None
+    → ends_committed_block earlier e ≡ false
+    → (effects_at earlier e.caller e.kind [] ≡ old_effects_at earlier e.caller e.kind)
+    × (parts_behind earlier e.caller e.kind ≡ 0)
 quiet_effects h earlier e kept none = by_kind e.kind kept none
   where
     c : ℕ
@@ -337,46 +444,59 @@ quiet_effects h earlier e kept none = by_kind e.kind kept none
     no_ahead true = refl
     no_ahead false = refl
 
-    by_kind : (kind : Kind) → broken_rule h earlier (entry c kind) ≡ None → ends_committed_block earlier (entry c kind) ≡ false
-        → (effects_at earlier c kind [] ≡ old_effects_at earlier c kind) × (parts_behind earlier c kind ≡ 0)
+    by_kind : (kind : Kind) → broken_rule h earlier (entry c kind) ≡ None
+        → ends_committed_block earlier (entry c kind) ≡ false
+        → (effects_at earlier c kind [] ≡ old_effects_at earlier c kind)
+        × (parts_behind earlier c kind ≡ 0)
     by_kind (Call method args) kept' none' = (refl, refl)
     by_kind (Return reply) kept' none' = (refl, refl)
     by_kind (Write word value) kept' none' = (refl, refl)
     by_kind Commit kept' none' = (no_ahead (has_block c earlier), refl)
     by_kind BlockOpen kept' none' = (refl, refl)
     by_kind BlockClose kept' none' =
-        let inside : has_block c earlier ≡ true = not-false _ (all_kept (checks_at h earlier (entry c BlockClose)) kept').1.1.0 in
-        let apart : committed_since_open c earlier ≡ false = ap (λ b. b && committed_since_open c earlier) (sym inside) ∙ none' in (
+        let inside : has_block c earlier ≡ true = not-false _
+        (all_kept (checks_at h earlier (entry c BlockClose)) kept').1.1.0 in
+        let apart : committed_since_open c earlier
+        ≡ false = ap (λ b. b && committed_since_open c earlier) (sym inside) ∙ none' in (
           ap (λ b. cond b [] (block_writes c earlier)) none',
           ap (parts_since (commit_count earlier)) (no_number c earlier apart),
         )
     by_kind BlockCommit kept' none' = (ap (λ b. cond b [] (block_writes c earlier)) none', refl)
 
 -- the end of a block with a lone commit in it isn't a commit
-ends_alone : (h : Header) (earlier : List Entry) (e : Entry) → WellFormed h earlier → broken_rule h earlier e ≡ None
+ends_alone : (h : Header) (earlier : List Entry) (e : Entry) → WellFormed h earlier
+    → broken_rule h earlier e ≡ None
     → ends_committed_block earlier e ≡ true → e.kind ≡ BlockClose
 ends_alone h earlier e wf kept ends = by_kind e.kind kept ends
   where
-    by_kind : (kind : Kind) → broken_rule h earlier (entry e.caller kind) ≡ None → ends_committed_block earlier (entry e.caller kind) ≡ true → kind ≡ BlockClose
+    by_kind : (kind : Kind) → broken_rule h earlier (entry e.caller kind) ≡ None
+        → ends_committed_block earlier (entry e.caller kind) ≡ true → kind ≡ BlockClose
     by_kind BlockClose kept' ends' = refl
     by_kind BlockCommit kept' ends' =
-        never (all_kept (checks_at h earlier (entry e.caller BlockCommit)) kept').1.1.1.1.0 (inner_is_committed h e.caller earlier wf ends')
+        never (all_kept (checks_at h earlier (entry e.caller BlockCommit)) kept').1.1.1.1.0
+        (inner_is_committed h e.caller earlier wf ends')
     by_kind (Call method args) kept' ends' = cc
     by_kind (Return reply) kept' ends' = cc
     by_kind (Write word value) kept' ends' = cc
     by_kind Commit kept' ends' = cc
     by_kind BlockOpen kept' ends' = cc
 
--- One more entry that keeps the rules. Its effects, as if blocks took effect at their end, come in the part that `parts_behind`
+-- One more entry that keeps the rules. Its effects, as if blocks took effect at their end, come in
+-- the part that `parts_behind`
 -- tells.
-pub parts_more : (h : Header) (before : List (ℕ × ℕ)) (earlier later : List Entry) (e : Entry) → WellFormed h (newest_first_onto earlier later)
-    → broken_rule h (newest_first_onto earlier later) e ≡ None → ((c : ℕ) → has_inner_commit c earlier ≡ true → is_ended c later ≡ true)
+pub parts_more : (h : Header) (before : List (ℕ × ℕ)) (earlier later : List Entry) (e : Entry)
+    → WellFormed h (newest_first_onto earlier later)
+    → broken_rule h (newest_first_onto earlier later) e ≡ None
+    → ((c : ℕ) → has_inner_commit c earlier ≡ true → is_ended c later ≡ true)
     → effect_parts before earlier (later ++ e ∷ [])
-    ≡ cut_if (is_commit e.kind) (with_effects (parts_behind (newest_first_onto earlier later) e.caller e.kind)
-    (old_effects_at (newest_first_onto earlier later) e.caller e.kind) (effect_parts before earlier later))
+    ≡ cut_if (is_commit e.kind)
+    (with_effects (parts_behind (newest_first_onto earlier later) e.caller e.kind)
+    (old_effects_at (newest_first_onto earlier later) e.caller e.kind)
+    (effect_parts before earlier later))
 parts_more h before earlier later e wf kept ended =
     parts_push before earlier later e ∙ by_end (ends_committed_block all e) refl
-    ∙ ap (λ ps. cut_if (is_commit e.kind) (with_effects (parts_behind all e.caller e.kind) (old_effects_at all e.caller e.kind) ps))
+    ∙ ap (λ ps. cut_if (is_commit e.kind)
+    (with_effects (parts_behind all e.caller e.kind) (old_effects_at all e.caller e.kind) ps))
     (sym (parts_alone before earlier later))
   where
     all : List Entry
@@ -388,34 +508,51 @@ parts_more h before earlier later e wf kept ended =
     new : List (List (ℕ × ℕ))
     new = parts_in before earlier later (e ∷ [])
 
-    at_close : (c : ℕ) → has_inner_commit c all ≡ true → MoreAtCommit c (block_writes c all) all [] (entry c BlockClose ∷ [])
+    at_close : (c : ℕ) → has_inner_commit c all ≡ true → MoreAtCommit c (block_writes c all) all []
+        (entry c BlockClose ∷ [])
         → Found c (block_writes c all) earlier later [] (entry c BlockClose ∷ [])
-        → cut_if false (with_effects 0 (effects_at all c BlockClose []) (parts_in before earlier later (entry c BlockClose ∷ [])))
+        → cut_if false
+        (with_effects 0 (effects_at all c BlockClose [])
+        (parts_in before earlier later (entry c BlockClose ∷ [])))
         ≡ cut_if false (with_effects (parts_behind all c BlockClose) (block_writes c all) old)
     at_close c inner more (from_here m number from same) =
-        ap (λ b. with_effects 0 (cond b [] (block_writes c all)) (parts_in before earlier later (entry c BlockClose ∷ []))) inner
+        ap (λ b. with_effects 0 (cond b [] (block_writes c all))
+        (parts_in before earlier later (entry c BlockClose ∷ []))) inner
         ∙ with_nothing 0 (parts_in before earlier later (entry c BlockClose ∷ []))
         ∙ more_parts m (block_writes c all) before earlier later [] (entry c BlockClose ∷ []) from
-        ∙ ap (λ n. with_effects (parts_since (commit_count all) n) (block_writes c all) old) (sym number)
-    at_close c inner more (before_here inside unended number same onward) = never unended (ended c inside)
+        ∙ ap (λ n. with_effects (parts_since (commit_count all) n) (block_writes c all) old)
+        (sym number)
+    at_close c inner more (before_here inside unended number same onward) = never unended
+        (ended c inside)
 
     at_end : e.kind ≡ BlockClose → ends_committed_block all e ≡ true
         → cut_if (is_commit e.kind) (with_effects 0 (effects_at all e.caller e.kind []) new)
-        ≡ cut_if (is_commit e.kind) (with_effects (parts_behind all e.caller e.kind) (old_effects_at all e.caller e.kind) old)
+        ≡ cut_if (is_commit e.kind)
+        (with_effects (parts_behind all e.caller e.kind) (old_effects_at all e.caller e.kind) old)
     at_end closes ends =
         let inner = second_true _ (has_inner_commit e.caller all) ends in
-        let more : MoreAtCommit e.caller (block_writes e.caller all) all [] (entry e.caller BlockClose ∷ []) =
-        subst (λ k. MoreAtCommit e.caller (block_writes e.caller all) all [] (entry e.caller k ∷ [])) closes (more_after h all e wf ends) in
-        subst (λ k. cut_if (is_commit k) (with_effects 0 (effects_at all e.caller k []) (parts_in before earlier later (entry e.caller k ∷ [])))
-        ≡ cut_if (is_commit k) (with_effects (parts_behind all e.caller k) (old_effects_at all e.caller k) old)) (sym closes)
+        let more : MoreAtCommit e.caller (block_writes e.caller all) all []
+        (entry e.caller BlockClose ∷ []) =
+        subst (λ k. MoreAtCommit e.caller (block_writes e.caller all) all []
+        (entry e.caller k ∷ [])) closes (more_after h all e wf ends) in
+        subst (λ k. cut_if (is_commit k)
+        (with_effects 0 (effects_at all e.caller k [])
+        (parts_in before earlier later (entry e.caller k ∷ [])))
+        ≡ cut_if (is_commit k)
+        (with_effects (parts_behind all e.caller k) (old_effects_at all e.caller k) old))
+        (sym closes)
         (at_close e.caller inner more
-        (find_commit h e.caller (block_writes e.caller all) earlier later [] (entry e.caller BlockClose ∷ []) wf inner more))
+        (find_commit h e.caller (block_writes e.caller all) earlier later []
+        (entry e.caller BlockClose ∷ []) wf inner more))
 
     by_end : (b : Bool) → ends_committed_block all e ≡ b
         → cut_if (is_commit e.kind) (with_effects 0 (effects_at all e.caller e.kind []) new)
-        ≡ cut_if (is_commit e.kind) (with_effects (parts_behind all e.caller e.kind) (old_effects_at all e.caller e.kind) old)
+        ≡ cut_if (is_commit e.kind)
+        (with_effects (parts_behind all e.caller e.kind) (old_effects_at all e.caller e.kind) old)
     by_end true ends = at_end (ends_alone h all e wf kept ends) ends
     by_end false none =
         let quiet = quiet_effects h all e kept none in
         let same = same_from earlier later [] (e ∷ []) (same_after h all e wf none) in
-        (λ i. cut_if (is_commit e.kind) (with_effects (sym quiet.1 i) (quiet.0 i) (sym (same_parts before earlier later [] (e ∷ []) same.0) i)))
+        (λ i. cut_if (is_commit e.kind)
+        (with_effects (sym quiet.1 i) (quiet.0 i)
+        (sym (same_parts before earlier later [] (e ∷ []) same.0) i)))

@@ -1,5 +1,8 @@
 -- How the queue goes on with one more entry, and how entries leave it.
-use Rattle.std.proofs.Common.{◌≡◌, ℕ, zero, suc, ◌+◌, ◌-◌, ◌<◌, ◌≤◌, ◌^◌, Bool, true, false, cond, List, [], ◌∷◌, ◌++◌, map, length, set, get_or, ◌&&◌, Option, Some, None, Result, Ok, Err, slice_get, refl, ap, subst, ◌∙◌, sym, arith, length-append, length-set}
+use Rattle.std.proofs.Common.{◌≡◌, ℕ, zero, suc, ◌+◌, ◌-◌, ◌<◌, ◌≤◌, ◌^◌, Bool, true, false, cond}
+use Rattle.std.proofs.Common.{List, [], ◌∷◌, ◌++◌, map, length, set, get_or, ◌&&◌, Option, Some}
+use Rattle.std.proofs.Common.{None, Result, Ok, Err, slice_get, refl, ap, subst, ◌∙◌, sym, arith}
+use Rattle.std.proofs.Common.{length-append, length-set}
 use Rattle.std.specs.Prelude.{◌==◌, ◌≢◌, not, option_map, OnOk, IfOk}
 use Rattle.std.specs.Option.{option_or, option_flatten}
 use Rattle.std.specs.Bool.{then_some}
@@ -13,10 +16,12 @@ use Rattle.vyrd_base.specs.declared.header.Header.{Header}
 use Rattle.vyrd_base.specs.declared.subject.Method.{Method}
 use Rattle.vyrd_base.specs.declared.subject.Args.{Args}
 use Rattle.vyrd_base.specs.declared.log.Kind.{Kind}
-use Rattle.vyrd_base.specs.declared.log.Kind.TheVariants.{Call, Return, Write, Commit, BlockOpen, BlockClose, BlockCommit}
+use Rattle.vyrd_base.specs.declared.log.Kind.TheVariants.{Call, Return, Write, Commit, BlockOpen}
+use Rattle.vyrd_base.specs.declared.log.Kind.TheVariants.{BlockClose, BlockCommit}
 use Rattle.vyrd_base.specs.declared.log.Entry.{Entry}
 use Rattle.vyrd_base.specs.Places.{first_answer}
-use Rattle.vyrd_base.specs.Callers.{Called, by_caller, open_call, call_or_return, has_committed, commit_or_call}
+use Rattle.vyrd_base.specs.Callers.{Called, by_caller, open_call, call_or_return, has_committed}
+use Rattle.vyrd_base.specs.Callers.{commit_or_call}
 use Rattle.vyrd_base.specs.Subjects.{is_observer, must_commit}
 use Rattle.vyrd_base.specs.Shape.{checks_at}
 use Rattle.vyrd_base.specs.Verdicts.{is_return}
@@ -32,11 +37,13 @@ use Rattle.vyrd_judge.specs.declared.waiting.Waiting.{Waiting}
 use Rattle.vyrd_words.specs.HasWords.{Keeps}
 use Rattle.vyrd_judge.proofs.AnswerLaws.{call_is_free}
 use Rattle.vyrd_base.specs.Entries.{place_of}
-use Rattle.vyrd_judge.specs.Queued.{IsCaller, IsPending, IsUnreturned, HasQueued, HasTakenUp, MayQueue, CanLeave, AwaitsReturn}
+use Rattle.vyrd_judge.specs.Queued.{IsCaller, IsPending, IsUnreturned, HasQueued, HasTakenUp}
+use Rattle.vyrd_judge.specs.Queued.{MayQueue, CanLeave, AwaitsReturn}
 use Rattle.vyrd_judge.specs.WaitingView.{is_unreturned}
 use Rattle.vyrd_judge.specs.Waiting.{commit_of, waiting_of, waiting_at, replied_event, replied}
 use Rattle.vyrd_base.proofs.StateLaws.{open_call-other}
-use Rattle.vyrd_base.proofs.CommitLaws.{Commits as Committing, alone, with_block, commits_called, commits_inside, commits_unreturned}
+use Rattle.vyrd_base.proofs.CommitLaws.{Commits as Committing, alone, with_block, commits_called}
+use Rattle.vyrd_base.proofs.CommitLaws.{commits_inside, commits_unreturned}
 use Rattle.vyrd_base.proofs.KeptLaws.{commit_kept, block_commit_runs, return_kept}
 use Rattle.vyrd_base.proofs.CommittedLaws.{committed-other, committed-quiet, committed-own}
 use Rattle.vyrd_base.proofs.ListLaws.{slice_get-set_same, slice_get-set_other, slice_get-last}
@@ -45,24 +52,30 @@ apart : false ≡ true → ⊥
 apart e = cc
 
 -- what the rules say of an entry, by its kind
-commit_is_first : {h : Header} {c : ℕ} {earlier : List Entry} (kind : Kind) → Committing kind → Keeps h earlier (entry c kind) → has_committed c earlier ≡ false
-commit_is_first {h} {c} {earlier} _ alone keeps = (all_kept (checks_at h earlier (entry c Commit)) keeps.rules).1.1.1.0
-commit_is_first {h} {c} {earlier} _ with_block keeps = (all_kept (checks_at h earlier (entry c BlockCommit)) keeps.rules).1.1.1.1.0
+commit_is_first : {h : Header} {c : ℕ} {earlier : List Entry} (kind : Kind) → Committing kind
+    → Keeps h earlier (entry c kind) → has_committed c earlier ≡ false
+commit_is_first {h} {c} {earlier} _ alone keeps =
+    (all_kept (checks_at h earlier (entry c Commit)) keeps.rules).1.1.1.0
+commit_is_first {h} {c} {earlier} _ with_block keeps =
+    (all_kept (checks_at h earlier (entry c BlockCommit)) keeps.rules).1.1.1.1.0
 
-commit_opened : {h : Header} {c : ℕ} {earlier : List Entry} (kind : Kind) → Committing kind → Keeps h earlier (entry c kind)
+commit_opened : {h : Header} {c : ℕ} {earlier : List Entry} (kind : Kind) → Committing kind
+    → Keeps h earlier (entry c kind)
     → (called : Called) × (open_call c earlier ≡ Some called) × (is_observer called.method ≡ false)
 commit_opened {h} {c} {earlier} _ alone keeps = commit_kept h c earlier keeps.rules
 commit_opened {h} {c} {earlier} _ with_block keeps = block_commit_runs h c earlier keeps.rules
 
 -- what is open of a caller after its own call or return
-open_call-own : (c : ℕ) (kind : Kind) (earlier : List Entry) (o : Option Called) → call_or_return kind ≡ Some o → open_call c (entry c kind ∷ earlier) ≡ o
+open_call-own : (c : ℕ) (kind : Kind) (earlier : List Entry) (o : Option Called)
+    → call_or_return kind ≡ Some o → open_call c (entry c kind ∷ earlier) ≡ o
 open_call-own c kind earlier o is = ap option_flatten (own_answer c call_or_return kind earlier
     ∙ ap (λ p. option_or p (first_answer (by_caller c call_or_return) earlier)) is)
 
 -- an entry that isn't a return leaves replies as they are
 unreplied : (e : Entry) → returned e.kind ≡ None → (xs : List Waiting) → map (replied e) xs ≡ xs
 unreplied e none [] = refl
-unreplied e none (x ∷ xs) = ap (λ y. y ∷ map (replied e) xs) (same x.event refl) ∙ ap (λ ys. x ∷ ys) (unreplied e none xs)
+unreplied e none (x ∷ xs) = ap (λ y. y ∷ map (replied e) xs) (same x.event refl)
+    ∙ ap (λ ys. x ∷ ys) (unreplied e none xs)
   where
     no_reply : (c : ℕ) → by_caller c returned e ≡ None
     no_reply c = ap (λ o. cond (e.caller == c) o None) none ∙ either (e.caller == c)
@@ -76,17 +89,42 @@ unreplied e none (x ∷ xs) = ap (λ y. y ∷ map (replied e) xs) (same x.event 
     or_none (Some a) = refl
 
     same : (event : Event) → x.event ≡ event → replied e x ≡ x
-    same (Begins method args) is = ap (λ v. record { caller = x.caller; position = x.position; event = replied_event e x.caller v }) is
+    same (Begins method args) is =
+        ap (λ v. record {
+          caller = x.caller;
+          position = x.position;
+          event = replied_event e x.caller v;
+        }) is
         ∙ ap (λ v. record { caller = x.caller; position = x.position; event = v }) (sym is)
-    same (Returns reply) is = ap (λ v. record { caller = x.caller; position = x.position; event = replied_event e x.caller v }) is
+    same (Returns reply) is =
+        ap (λ v. record {
+          caller = x.caller;
+          position = x.position;
+          event = replied_event e x.caller v;
+        }) is
         ∙ ap (λ v. record { caller = x.caller; position = x.position; event = v }) (sym is)
-    same (Commits method args o) is = ap (λ v. record { caller = x.caller; position = x.position; event = replied_event e x.caller v }) is
-        ∙ ap (λ p. record { caller = x.caller; position = x.position; event = Commits method args (option_or o p) }) (no_reply x.caller)
-        ∙ ap (λ p. record { caller = x.caller; position = x.position; event = Commits method args p }) (or_none o)
+    same (Commits method args o) is =
+        ap (λ v. record {
+          caller = x.caller;
+          position = x.position;
+          event = replied_event e x.caller v;
+        }) is
+        ∙ ap (λ p. record {
+          caller = x.caller;
+          position = x.position;
+          event = Commits method args
+              (option_or o p);
+        }) (no_reply x.caller)
+        ∙ ap (λ p. record {
+          caller = x.caller;
+          position = x.position;
+          event = Commits method args p;
+        }) (or_none o)
         ∙ ap (λ v. record { caller = x.caller; position = x.position; event = v }) (sym is)
 
 -- a return changes no entry but an unreturned commit of its caller
-reply_other : (c reply : ℕ) (x : Waiting) → ((method : Method) (args : Args) → x.event ≡ Commits method args None → x.caller ≢ c)
+reply_other : (c reply : ℕ) (x : Waiting)
+    → ((method : Method) (args : Args) → x.event ≡ Commits method args None → x.caller ≢ c)
     → replied (entry c (Return reply)) x ≡ x
 reply_other c reply x other = by_event x.event refl
   where
@@ -94,14 +132,39 @@ reply_other c reply x other = by_event x.event refl
     e = entry c (Return reply)
 
     by_event : (event : Event) → x.event ≡ event → replied e x ≡ x
-    by_event (Begins method args) is = ap (λ v. record { caller = x.caller; position = x.position; event = replied_event e x.caller v }) is
+    by_event (Begins method args) is =
+        ap (λ v. record {
+          caller = x.caller;
+          position = x.position;
+          event = replied_event e x.caller v;
+        }) is
         ∙ ap (λ v. record { caller = x.caller; position = x.position; event = v }) (sym is)
-    by_event (Returns r) is = ap (λ v. record { caller = x.caller; position = x.position; event = replied_event e x.caller v }) is
+    by_event (Returns r) is =
+        ap (λ v. record {
+          caller = x.caller;
+          position = x.position;
+          event = replied_event e x.caller v;
+        }) is
         ∙ ap (λ v. record { caller = x.caller; position = x.position; event = v }) (sym is)
-    by_event (Commits method args (Some r)) is = ap (λ v. record { caller = x.caller; position = x.position; event = replied_event e x.caller v }) is
+    by_event (Commits method args (Some r)) is =
+        ap (λ v. record {
+          caller = x.caller;
+          position = x.position;
+          event = replied_event e x.caller v;
+        }) is
         ∙ ap (λ v. record { caller = x.caller; position = x.position; event = v }) (sym is)
-    by_event (Commits method args None) is = ap (λ v. record { caller = x.caller; position = x.position; event = replied_event e x.caller v }) is
-        ∙ ap (λ b. record { caller = x.caller; position = x.position; event = Commits method args (cond b (Some reply) None) })
+    by_event (Commits method args None) is =
+        ap (λ v. record {
+          caller = x.caller;
+          position = x.position;
+          event = replied_event e x.caller v;
+        }) is
+        ∙ ap (λ b. record {
+          caller = x.caller;
+          position = x.position;
+          event = Commits method args
+              (cond b (Some reply) None);
+        })
         (not_own (c == x.caller) refl)
         ∙ ap (λ v. record { caller = x.caller; position = x.position; event = v }) (sym is)
       where
@@ -110,41 +173,55 @@ reply_other c reply x other = by_event x.event refl
         not_own true p = absurd (other method args is (sym (same_of c x.caller p)))
 
 -- a map that changes one element alone
-map_one : {A : Type 0} (f : A → A) (xs : List A) (i : ℕ) (y : A) → i < length xs → ((x : A) → slice_get xs i ≡ Some x → f x ≡ y)
+map_one : {A : Type 0} (f : A → A) (xs : List A) (i : ℕ) (y : A) → i < length xs
+    → ((x : A) → slice_get xs i ≡ Some x → f x ≡ y)
     → ((j : ℕ) (x : A) → j ≢ i → slice_get xs j ≡ Some x → f x ≡ x) → map f xs ≡ set xs i y
 map_one f [] i y low here others = absurd (omega (arith, low))
-map_one {A = A} f (x ∷ xs) zero y low here others = ap (λ z. z ∷ map f xs) (here x refl) ∙ ap (λ zs. y ∷ zs) (map_none xs (λ j z at. others (suc j) z (omega arith) at))
+map_one {A = A} f (x ∷ xs) zero y low here others = ap (λ z. z ∷ map f xs) (here x refl)
+    ∙ ap (λ zs. y ∷ zs) (map_none xs (λ j z at. others (suc j) z (omega arith) at))
   where
     map_none : (zs : List A) → ((j : ℕ) (z : A) → slice_get zs j ≡ Some z → f z ≡ z) → map f zs ≡ zs
     map_none [] same = refl
-    map_none (z ∷ zs) same = ap (λ w. w ∷ map f zs) (same 0 z refl) ∙ ap (λ ws. z ∷ ws) (map_none zs (λ j w at. same (suc j) w at))
-map_one f (x ∷ xs) (suc i) y low here others = ap (λ z. z ∷ map f xs) (others 0 x (omega arith) refl)
-    ∙ ap (λ zs. x ∷ zs) (map_one f xs i y (omega (arith, low)) here (λ j z far at. others (suc j) z (λ same. far (omega (arith, same))) at))
+    map_none (z ∷ zs) same = ap (λ w. w ∷ map f zs) (same 0 z refl)
+        ∙ ap (λ ws. z ∷ ws) (map_none zs (λ j w at. same (suc j) w at))
+map_one f (x ∷ xs) (suc i) y low here others = ap (λ z. z ∷ map f xs)
+    (others 0 x (omega arith) refl)
+    ∙ ap (λ zs. x ∷ zs)
+    (map_one f xs i y (omega (arith, low)) here
+    (λ j z far at. others (suc j) z (λ same. far (omega (arith, same))) at))
 
 -- the elements of a list before the last one
-slice_get-front : {A : Type 0} (xs : List A) (x : A) (i : ℕ) → i < length xs → slice_get (xs ++ x ∷ []) i ≡ slice_get xs i
+slice_get-front : {A : Type 0} (xs : List A) (x : A) (i : ℕ) → i < length xs
+    → slice_get (xs ++ x ∷ []) i ≡ slice_get xs i
 slice_get-front [] x i low = absurd (omega (arith, low))
 slice_get-front (y ∷ xs) x zero low = refl
 slice_get-front (y ∷ xs) x (suc i) low = slice_get-front xs x i (omega (arith, low))
 
 -- an element of the longer list is the last or one before it
-by_place : {A P : Type 0} (xs : List A) (x : A) (i : ℕ) (y : A) → slice_get (xs ++ x ∷ []) i ≡ Some y
+by_place : {A P : Type 0} (xs : List A) (x : A) (i : ℕ) (y : A) → slice_get (xs ++ x ∷ []) i
+    ≡ Some y
     → (slice_get xs i ≡ Some y → P) → (i ≡ length xs → x ≡ y → P) → P
 by_place [] x zero y here before last = last refl (same_Some _ _ here)
 by_place [] x (suc i) y here before last = absurd (none-some _ here)
 by_place (z ∷ xs) x zero y here before last = before here
-by_place (z ∷ xs) x (suc i) y here before last = by_place xs x i y here before (λ p q. last (ap suc p) q)
+by_place (z ∷ xs) x (suc i) y here before last = by_place xs x i y here before
+    (λ p q. last (ap suc p) q)
 
 -- what waits goes on with an entry that isn't a return and doesn't wait itself
-quiet_up : {h : Header} {waiting : List Waiting} {taken : ℕ} {callers : List Caller} {earlier : List Entry} (c : ℕ) (kind : Kind)
-    → call_or_return kind ≡ None → commit_or_call kind ≡ None → returned kind ≡ None → waiting_at (place_of (entry c kind) earlier []) ≡ None
-    → HasQueued h waiting taken callers earlier → HasTakenUp h waiting waiting taken callers (entry c kind) earlier
+quiet_up : {h : Header} {waiting : List Waiting} {taken : ℕ} {callers : List Caller}
+    {earlier : List Entry} (c : ℕ) (kind : Kind)
+    → call_or_return kind ≡ None → commit_or_call kind ≡ None → returned kind ≡ None
+    → waiting_at (place_of (entry c kind) earlier []) ≡ None
+    → HasQueued h waiting taken callers earlier → HasTakenUp h waiting waiting taken callers
+    (entry c kind) earlier
 quiet_up {h} {waiting} {taken} {callers} {earlier} c kind inside quiet silent none q = record {
   queued = record {
     called = λ d k low is. q.called d k low (sym (open_call-quiet d c kind earlier inside) ∙ is);
-    pending = λ d k caller low is committed at. q.pending d k caller low (sym (open_call-quiet d c kind earlier inside) ∙ is)
+    pending = λ d k caller low is committed at. q.pending d k caller low
+        (sym (open_call-quiet d c kind earlier inside) ∙ is)
         (sym (committed-quiet d c kind earlier quiet) ∙ committed) at;
-    uncommitted = λ d k caller low is none at. q.uncommitted d k caller low (sym (open_call-quiet d c kind earlier inside) ∙ is)
+    uncommitted = λ d k caller low is none at. q.uncommitted d k caller low
+        (sym (open_call-quiet d c kind earlier inside) ∙ is)
         (sym (committed-quiet d c kind earlier quiet) ∙ none) at;
     unreturned = λ i commit k at event. let u = q.unreturned i commit k at event in record {
       opened = open_call-quiet commit.caller c kind earlier inside ∙ u.opened;
@@ -153,79 +230,110 @@ quiet_up {h} {waiting} {taken} {callers} {earlier} c kind inside quiet silent no
     };
     count = omega (arith, q.count);
   };
-  waiting = sym (unreplied (entry c kind) silent waiting) ∙ sym (append-nil (map (replied (entry c kind)) waiting))
+  waiting = sym (unreplied (entry c kind) silent waiting)
+      ∙ sym (append-nil (map (replied (entry c kind)) waiting))
       ∙ ap (λ o. map (replied (entry c kind)) waiting ++ cons_option o []) (sym none);
 }
 
-pub write_up : {h : Header} {waiting : List Waiting} {taken : ℕ} {callers : List Caller} {earlier : List Entry} (c word value : ℕ)
-    → HasQueued h waiting taken callers earlier → HasTakenUp h waiting waiting taken callers (entry c (Write word value)) earlier
+pub write_up : {h : Header} {waiting : List Waiting} {taken : ℕ} {callers : List Caller}
+    {earlier : List Entry} (c word value : ℕ)
+    → HasQueued h waiting taken callers earlier → HasTakenUp h waiting waiting taken callers
+    (entry c (Write word value)) earlier
 write_up c word value q = quiet_up c (Write word value) refl refl refl refl q
 
-pub open_up : {h : Header} {waiting : List Waiting} {taken : ℕ} {callers : List Caller} {earlier : List Entry} (c : ℕ)
-    → HasQueued h waiting taken callers earlier → HasTakenUp h waiting waiting taken callers (entry c BlockOpen) earlier
+pub open_up : {h : Header} {waiting : List Waiting} {taken : ℕ} {callers : List Caller}
+    {earlier : List Entry} (c : ℕ)
+    → HasQueued h waiting taken callers earlier → HasTakenUp h waiting waiting taken callers
+    (entry c BlockOpen) earlier
 open_up c q = quiet_up c BlockOpen refl refl refl refl q
 
-pub close_up : {h : Header} {waiting : List Waiting} {taken : ℕ} {callers : List Caller} {earlier : List Entry} (c : ℕ)
-    → HasQueued h waiting taken callers earlier → HasTakenUp h waiting waiting taken callers (entry c BlockClose) earlier
+pub close_up : {h : Header} {waiting : List Waiting} {taken : ℕ} {callers : List Caller}
+    {earlier : List Entry} (c : ℕ)
+    → HasQueued h waiting taken callers earlier → HasTakenUp h waiting waiting taken callers
+    (entry c BlockClose) earlier
 close_up c q = quiet_up c BlockClose refl refl refl refl q
 
 -- a call: what was called is known, and nothing of the caller waits unreturned
-call_queued : {h : Header} {waiting : List Waiting} {taken : ℕ} {callers : List Caller} {earlier : List Entry} {c : ℕ} {method : Method} {args : Args}
-    (caller : Caller) → caller.method ≡ method → caller.args ≡ args → caller.commit ≡ 0 → c < length callers → Keeps h earlier (entry c (Call method args))
-    → HasQueued h waiting taken callers earlier → HasQueued h waiting taken (set callers c caller) (entry c (Call method args) ∷ earlier)
-call_queued {h} {waiting} {taken} {callers} {earlier} {c} {method} {args} caller of_method of_args uncommitted low keeps q = record {
-  called = λ d k low_d is. by_same c d
-      (λ same. record {
-        caller = caller;
-        here = subst (λ x. slice_get (set callers c caller) x ≡ Some caller) same (slice_get-set_same callers c caller low);
-        method = of_method ∙ ap (λ x. x.method) (own d k same is);
-        args = of_args ∙ ap (λ x. x.args) (own d k same is);
-      })
-      (λ other. let old = q.called d k low_d (sym (open_call-other d c (Call method args) earlier other) ∙ is) in record {
-        caller = old.caller;
-        here = slice_get-set_other callers c d caller (apart_of c d other) ∙ old.here;
-        method = old.method;
-        args = old.args;
-      });
-  pending = λ d k x low_d is committed at. by_same c d
-      (λ same. absurd (apart (sym (committed-own c (Call method args) earlier false refl)
-      ∙ ap (λ y. has_committed y (entry c (Call method args) ∷ earlier)) same ∙ committed)))
-      (λ other. q.pending d k x low_d (sym (open_call-other d c (Call method args) earlier other) ∙ is)
-      (sym (committed-other d c (Call method args) earlier other) ∙ committed)
-      (sym (slice_get-set_other callers c d caller (apart_of c d other)) ∙ at));
-  uncommitted = λ d k x low_d is none at. by_same c d
-      (λ same. ap (λ y. y.commit) (sym (same_Some _ _ (sym (slice_get-set_same callers c caller low)
-      ∙ ap (slice_get (set callers c caller)) same ∙ at))) ∙ uncommitted)
-      (λ other. q.uncommitted d k x low_d (sym (open_call-other d c (Call method args) earlier other) ∙ is)
-      (sym (committed-other d c (Call method args) earlier other) ∙ none)
-      (sym (slice_get-set_other callers c d caller (apart_of c d other)) ∙ at));
-  unreturned = λ i commit k at event. let u = q.unreturned i commit k at event in by_same c commit.caller
-      (λ same. absurd (none-some _ (sym (call_is_free h c method args earlier keeps.rules) ∙ ap (λ x. open_call x earlier) same ∙ u.opened)))
-      (λ other. record {
-        opened = open_call-other commit.caller c (Call method args) earlier other ∙ u.opened;
-        committed = committed-other commit.caller c (Call method args) earlier other ∙ u.committed;
-        number = λ x is. u.number x (sym (slice_get-set_other callers c commit.caller caller (apart_of c commit.caller other)) ∙ is);
-      });
-  count = omega (arith, q.count);
-}
+call_queued : {h : Header} {waiting : List Waiting} {taken : ℕ} {callers : List Caller}
+    {earlier : List Entry} {c : ℕ} {method : Method} {args : Args}
+    (caller : Caller) → caller.method ≡ method → caller.args ≡ args → caller.commit ≡ 0
+    → c < length callers → Keeps h earlier (entry c (Call method args))
+    → HasQueued h waiting taken callers earlier → HasQueued h waiting taken (set callers c caller)
+    (entry c (Call method args) ∷ earlier)
+call_queued {h} {waiting} {taken} {callers} {earlier} {c} {method} {args} caller of_method of_args
+    uncommitted low keeps q = record {
+      called = λ d k low_d is. by_same c d
+          (λ same. record {
+            caller = caller;
+            here = subst (λ x. slice_get (set callers c caller) x ≡ Some caller) same
+                (slice_get-set_same callers c caller low);
+            method = of_method ∙ ap (λ x. x.method) (own d k same is);
+            args = of_args ∙ ap (λ x. x.args) (own d k same is);
+          })
+          (λ other. let old = q.called d k low_d
+          (sym (open_call-other d c (Call method args) earlier other) ∙ is) in record {
+            caller = old.caller;
+            here = slice_get-set_other callers c d caller (apart_of c d other) ∙ old.here;
+            method = old.method;
+            args = old.args;
+          });
+      pending = λ d k x low_d is committed at. by_same c d
+          (λ same. absurd (apart (sym (committed-own c (Call method args) earlier false refl)
+          ∙ ap (λ y. has_committed y (entry c (Call method args) ∷ earlier)) same ∙ committed)))
+          (λ other. q.pending d k x low_d
+          (sym (open_call-other d c (Call method args) earlier other)
+          ∙ is)
+          (sym (committed-other d c (Call method args) earlier other) ∙ committed)
+          (sym (slice_get-set_other callers c d caller (apart_of c d other)) ∙ at));
+      uncommitted = λ d k x low_d is none at. by_same c d
+          (λ same. ap (λ y. y.commit)
+          (sym (same_Some _ _ (sym (slice_get-set_same callers c caller low)
+          ∙ ap (slice_get (set callers c caller)) same ∙ at))) ∙ uncommitted)
+          (λ other. q.uncommitted d k x low_d
+          (sym (open_call-other d c (Call method args) earlier other) ∙ is)
+          (sym (committed-other d c (Call method args) earlier other) ∙ none)
+          (sym (slice_get-set_other callers c d caller (apart_of c d other)) ∙ at));
+      unreturned = λ i commit k at event. let u = q.unreturned i commit k at event in
+          by_same c commit.caller
+          (λ same. absurd
+          (none-some _ (sym (call_is_free h c method args earlier keeps.rules)
+          ∙ ap (λ x. open_call x earlier) same ∙ u.opened)))
+          (λ other. record {
+            opened = open_call-other commit.caller c (Call method args) earlier other ∙ u.opened;
+            committed = committed-other commit.caller c (Call method args) earlier other
+                ∙ u.committed;
+            number = λ x is. u.number x
+                (sym (slice_get-set_other callers c commit.caller caller
+                (apart_of c commit.caller other)) ∙ is);
+          });
+      count = omega (arith, q.count);
+    }
   where
-    own : (d : ℕ) (k : Called) → c ≡ d → open_call d (entry c (Call method args) ∷ earlier) ≡ Some k → record { method = method; args = args } ≡ k
-    own d k same is = same_Some _ _ (sym (open_call-own c (Call method args) earlier (Some (record { method = method; args = args })) refl)
+    own : (d : ℕ) (k : Called) → c ≡ d → open_call d (entry c (Call method args) ∷ earlier) ≡ Some k
+        → record { method = method; args = args } ≡ k
+    own d k same is = same_Some _ _
+        (sym (open_call-own c (Call method args) earlier
+        (Some (record { method = method; args = args })) refl)
         ∙ ap (λ x. open_call x (entry c (Call method args) ∷ earlier)) same ∙ is)
 
 -- an entry that isn't a commit waits too
-pushed : {h : Header} {waiting : List Waiting} {taken : ℕ} {callers : List Caller} {e : Entry} {earlier : List Entry} (x : Waiting)
-    → ((k : Called) → x.event ≡ Commits k.method k.args None → ⊥) → taken + length waiting ≤ length earlier
-    → HasQueued h waiting taken callers (e ∷ earlier) → HasQueued h (waiting ++ x ∷ []) taken callers (e ∷ earlier)
+pushed : {h : Header} {waiting : List Waiting} {taken : ℕ} {callers : List Caller} {e : Entry}
+    {earlier : List Entry} (x : Waiting)
+    → ((k : Called) → x.event ≡ Commits k.method k.args None → ⊥) → taken + length waiting
+    ≤ length earlier
+    → HasQueued h waiting taken callers (e ∷ earlier)
+    → HasQueued h (waiting ++ x ∷ []) taken callers (e ∷ earlier)
 pushed {h} {waiting} {taken} {callers} {e} {earlier} x isnt few q = record {
   called = q.called;
-  pending = λ d k caller low is committed at. let p = q.pending d k caller low is committed at in record {
-    commit = p.commit;
-    since = p.since;
-    here = slice_get-front waiting x (caller.commit - 1 - taken) (slice_get_within waiting (caller.commit - 1 - taken) p.commit p.here) ∙ p.here;
-    caller_is = p.caller_is;
-    event = p.event;
-  };
+  pending = λ d k caller low is committed at. let p = q.pending d k caller low is committed at in
+      record {
+        commit = p.commit;
+        since = p.since;
+        here = slice_get-front waiting x (caller.commit - 1 - taken)
+            (slice_get_within waiting (caller.commit - 1 - taken) p.commit p.here) ∙ p.here;
+        caller_is = p.caller_is;
+        event = p.event;
+      };
   uncommitted = q.uncommitted;
   unreturned = λ i commit k at event. by_place waiting x i commit at
       (λ before. q.unreturned i commit k before event)
@@ -233,13 +341,18 @@ pushed {h} {waiting} {taken} {callers} {e} {earlier} x isnt few q = record {
   count = omega (arith, few, length-append waiting (x ∷ []));
 }
 
-pub call_up : {h : Header} {old new : List Waiting} {taken taken' : ℕ} {callers callers' : List Caller} {earlier : List Entry} (c position : ℕ) (method : Method)
-    (args : Args) → c < length callers → position ≡ length earlier → Keeps h earlier (entry c (Call method args)) → HasQueued h old taken callers earlier
+pub call_up : {h : Header} {old new : List Waiting} {taken taken' : ℕ}
+    {callers callers' : List Caller} {earlier : List Entry} (c position : ℕ) (method : Method)
+    (args : Args) → c < length callers → position ≡ length earlier
+    → Keeps h earlier (entry c (Call method args)) → HasQueued h old taken callers earlier
     → callers' ≡ set callers c (record { method = method; args = args; commit = 0 })
-    → new ≡ old ++ cons_option (then_some (not (must_commit method)) (record { caller = c; position = position; event = Begins method args })) []
+    → new ≡ old ++ cons_option
+    (then_some (not (must_commit method))
+    (record { caller = c; position = position; event = Begins method args })) []
     → taken' ≡ taken
     → HasTakenUp h old new taken' callers' (entry c (Call method args)) earlier
-call_up {h} {old} {new} {taken} {taken'} {callers} {callers'} {earlier} c position method args low at keeps q callers_are new_is same =
+call_up {h} {old} {new} {taken} {taken'} {callers} {callers'} {earlier} c position method args low
+    at keeps q callers_are new_is same =
     by_method (must_commit method) refl
   where
     x : Waiting
@@ -254,16 +367,24 @@ call_up {h} {old} {new} {taken} {taken'} {callers} {callers'} {earlier} c positi
     queued : HasQueued h old taken (set callers c caller) (e ∷ earlier)
     queued = call_queued caller refl refl refl low keeps q
 
-    as_named : {xs : List Waiting} → new ≡ xs → HasQueued h xs taken (set callers c caller) (e ∷ earlier) → HasQueued h new taken' callers' (e ∷ earlier)
+    as_named : {xs : List Waiting} → new ≡ xs → HasQueued h xs taken (set callers c caller)
+        (e ∷ earlier) → HasQueued h new taken' callers' (e ∷ earlier)
     as_named {xs} is has = subst (λ ws. HasQueued h ws taken' callers' (e ∷ earlier)) (sym is)
-        (subst (λ n. HasQueued h xs n callers' (e ∷ earlier)) (sym same) (subst (λ cs. HasQueued h xs taken cs (e ∷ earlier)) (sym callers_are) has))
+        (subst (λ n. HasQueued h xs n callers' (e ∷ earlier)) (sym same)
+        (subst (λ cs. HasQueued h xs taken cs (e ∷ earlier)) (sym callers_are) has))
 
-    waiting_is : new ≡ map (replied e) old ++ cons_option (option_map (waiting_of (place_of e earlier [])) (then_some (not (must_commit method)) (Begins method args))) []
-    waiting_is = new_is ∙ ap (λ ws. ws ++ cons_option (then_some (not (must_commit method)) x) []) (sym (unreplied e refl old))
+    waiting_is : new ≡ map (replied e) old
+        ++ cons_option
+        (option_map (waiting_of (place_of e earlier []))
+        (then_some (not (must_commit method)) (Begins method args))) []
+    waiting_is = new_is ∙ ap (λ ws. ws ++ cons_option (then_some (not (must_commit method)) x) [])
+        (sym (unreplied e refl old))
         ∙ ap (λ o. map (replied e) old ++ cons_option o []) (either (not (must_commit method)))
       where
-        either : (b : Bool) → then_some b x ≡ option_map (waiting_of (place_of e earlier [])) (then_some b (Begins method args))
-        either true = ap (λ n. Some (record { caller = c; position = n; event = Begins method args })) at
+        either : (b : Bool) → then_some b x ≡ option_map (waiting_of (place_of e earlier []))
+            (then_some b (Begins method args))
+        either true =
+            ap (λ n. Some (record { caller = c; position = n; event = Begins method args })) at
         either false = refl
 
     by_method : (b : Bool) → must_commit method ≡ b → HasTakenUp h old new taken' callers' e earlier
@@ -276,59 +397,92 @@ call_up {h} {old} {new} {taken} {taken'} {callers} {callers'} {earlier} c positi
         begins_isnt : {m : Method} {a : Args} → Begins method args ≡ Commits m a None → ⊥
         begins_isnt p = cc
     by_method true owes = record {
-      queued = as_named (new_is ∙ ap (λ b. old ++ cons_option (then_some (not b) x) []) owes ∙ append-nil old) queued;
+      queued = as_named (new_is ∙ ap (λ b. old ++ cons_option (then_some (not b) x) []) owes
+          ∙ append-nil old) queued;
       waiting = waiting_is;
     }
 
 -- a return: its caller is in no execution then
-return_queued : {h : Header} {waiting : List Waiting} {taken : ℕ} {callers : List Caller} {earlier : List Entry} (c reply : ℕ)
-    → ((i : ℕ) (commit : Waiting) (k : Called) → slice_get waiting i ≡ Some commit → commit.event ≡ Commits k.method k.args None → commit.caller ≢ c)
-    → ((d : ℕ) (k : Called) (caller : Caller) → d < h.callers → (c == d) ≡ false → open_call d earlier ≡ Some k → has_committed d earlier ≡ true
+return_queued : {h : Header} {waiting : List Waiting} {taken : ℕ} {callers : List Caller}
+    {earlier : List Entry} (c reply : ℕ)
+    → ((i : ℕ) (commit : Waiting) (k : Called) → slice_get waiting i ≡ Some commit → commit.event
+    ≡ Commits k.method k.args None → commit.caller ≢ c)
+    → ((d : ℕ) (k : Called) (caller : Caller) → d < h.callers → (c == d) ≡ false
+    → open_call d earlier ≡ Some k → has_committed d earlier ≡ true
     → slice_get callers d ≡ Some caller → IsPending waiting taken d k caller)
-    → ((d : ℕ) (k : Called) (caller : Caller) → d < h.callers → open_call d earlier ≡ Some k → has_committed d earlier ≡ false
+    → ((d : ℕ) (k : Called) (caller : Caller) → d < h.callers → open_call d earlier ≡ Some k
+    → has_committed d earlier ≡ false
     → slice_get callers d ≡ Some caller → caller.commit ≡ 0)
-    → ((i : ℕ) (commit : Waiting) (k : Called) → slice_get waiting i ≡ Some commit → commit.event ≡ Commits k.method k.args None
+    → ((i : ℕ) (commit : Waiting) (k : Called) → slice_get waiting i ≡ Some commit → commit.event
+    ≡ Commits k.method k.args None
     → IsUnreturned callers taken earlier i commit k)
-    → ((d : ℕ) (k : Called) → d < h.callers → open_call d earlier ≡ Some k → IsCaller callers d k) → taken + length waiting ≤ length earlier + 1
+    → ((d : ℕ) (k : Called) → d < h.callers → open_call d earlier ≡ Some k → IsCaller callers d k)
+    → taken + length waiting ≤ length earlier + 1
     → HasQueued h waiting taken callers (entry c (Return reply) ∷ earlier)
-return_queued {h} {waiting} {taken} {callers} {earlier} c reply none pending uncommitted unreturned called few = record {
-  called = λ d k low is. by_same c d
-      (λ same. absurd (none-some _ (sym (open_call-own c (Return reply) earlier None refl) ∙ ap (λ x. open_call x (entry c (Return reply) ∷ earlier)) same ∙ is)))
-      (λ other. called d k low (sym (open_call-other d c (Return reply) earlier other) ∙ is));
-  pending = λ d k caller low is committed at. by_same c d
-      (λ same. absurd (none-some _ (sym (open_call-own c (Return reply) earlier None refl) ∙ ap (λ x. open_call x (entry c (Return reply) ∷ earlier)) same ∙ is)))
-      (λ other. pending d k caller low other (sym (open_call-other d c (Return reply) earlier other) ∙ is)
-      (sym (committed-other d c (Return reply) earlier other) ∙ committed) at);
-  uncommitted = λ d k caller low is no_commit at. by_same c d
-      (λ same. absurd (none-some _ (sym (open_call-own c (Return reply) earlier None refl) ∙ ap (λ x. open_call x (entry c (Return reply) ∷ earlier)) same ∙ is)))
-      (λ other. uncommitted d k caller low (sym (open_call-other d c (Return reply) earlier other) ∙ is)
-      (sym (committed-other d c (Return reply) earlier other) ∙ no_commit) at);
-  unreturned = λ i commit k at event. let u = unreturned i commit k at event in by_same c commit.caller
-      (λ same. absurd (none i commit k at event (sym same)))
-      (λ other. record {
-        opened = open_call-other commit.caller c (Return reply) earlier other ∙ u.opened;
-        committed = committed-other commit.caller c (Return reply) earlier other ∙ u.committed;
-        number = u.number;
-      });
-  count = omega (arith, few);
-}
+return_queued {h} {waiting} {taken} {callers} {earlier} c reply none pending uncommitted unreturned
+    called few = record {
+      called = λ d k low is. by_same c d
+          (λ same. absurd
+          (none-some _ (sym (open_call-own c (Return reply) earlier None refl)
+          ∙ ap (λ x. open_call x (entry c (Return reply) ∷ earlier)) same ∙ is)))
+          (λ other. called d k low (sym (open_call-other d c (Return reply) earlier other) ∙ is));
+      pending = λ d k caller low is committed at. by_same c d
+          (λ same. absurd
+          (none-some _ (sym (open_call-own c (Return reply) earlier None refl)
+          ∙ ap (λ x. open_call x (entry c (Return reply) ∷ earlier)) same ∙ is)))
+          (λ other. pending d k caller low other
+          (sym (open_call-other d c (Return reply) earlier other)
+          ∙ is)
+          (sym (committed-other d c (Return reply) earlier other) ∙ committed) at);
+      uncommitted = λ d k caller low is no_commit at. by_same c d
+          (λ same. absurd
+          (none-some _ (sym (open_call-own c (Return reply) earlier None refl)
+          ∙ ap (λ x. open_call x (entry c (Return reply) ∷ earlier)) same ∙ is)))
+          (λ other. uncommitted d k caller low
+          (sym (open_call-other d c (Return reply) earlier other)
+          ∙ is)
+          (sym (committed-other d c (Return reply) earlier other) ∙ no_commit) at);
+      unreturned = λ i commit k at event. let u = unreturned i commit k at event in
+          by_same c commit.caller
+          (λ same. absurd (none i commit k at event (sym same)))
+          (λ other. record {
+            opened = open_call-other commit.caller c (Return reply) earlier other ∙ u.opened;
+            committed = committed-other commit.caller c (Return reply) earlier other ∙ u.committed;
+            number = u.number;
+          });
+      count = omega (arith, few);
+    }
 
 -- a return without a commit
-pub uncommitted_up : {h : Header} {old new : List Waiting} {taken taken' : ℕ} {callers callers' : List Caller} {earlier : List Entry} (c position reply : ℕ)
+pub uncommitted_up : {h : Header} {old new : List Waiting} {taken taken' : ℕ}
+    {callers callers' : List Caller} {earlier : List Entry} (c position reply : ℕ)
     → has_committed c earlier ≡ false → position ≡ length earlier
-    → HasQueued h old taken callers earlier → callers' ≡ callers → new ≡ old ++ record { caller = c; position = position; event = Returns reply } ∷ []
+    → HasQueued h old taken callers earlier → callers' ≡ callers → new ≡ old
+    ++ record { caller = c; position = position; event = Returns reply } ∷ []
     → taken' ≡ taken → HasTakenUp h old new taken' callers' (entry c (Return reply)) earlier
-uncommitted_up {h} {old} {new} {taken} {taken'} {callers} {callers'} {earlier} c position reply none at q same_callers new_is same = record {
-  queued = subst (λ ws. HasQueued h ws taken' callers' (e ∷ earlier)) (sym new_is)
-      (subst (λ n. HasQueued h (old ++ x ∷ []) n callers' (e ∷ earlier)) (sym same)
-      (subst (λ cs. HasQueued h (old ++ x ∷ []) taken cs (e ∷ earlier)) (sym same_callers)
-      (pushed x (λ k event. returns_isnt event) q.count
-      (return_queued c reply no_own (λ d k caller low other is committed here. q.pending d k caller low is committed here) q.uncommitted q.unreturned q.called
-      (omega (arith, q.count))))));
-  waiting = new_is ∙ ap (λ ws. ws ++ x ∷ []) (sym (all_same old (λ i w here. reply_other c reply w (λ m a event. no_own i w (record { method = m; args = a }) here event))))
-      ∙ ap (λ n. map (replied e) old ++ record { caller = c; position = n; event = Returns reply } ∷ []) at
-      ∙ ap (λ b. map (replied e) old ++ cons_option (option_map (waiting_of (place_of e earlier [])) (then_some b (Returns reply))) []) (sym observing);
-}
+uncommitted_up {h} {old} {new} {taken} {taken'} {callers} {callers'} {earlier} c position reply none
+    at q same_callers new_is same = record {
+      queued = subst (λ ws. HasQueued h ws taken' callers' (e ∷ earlier)) (sym new_is)
+          (subst (λ n. HasQueued h (old ++ x ∷ []) n callers' (e ∷ earlier)) (sym same)
+          (subst (λ cs. HasQueued h (old ++ x ∷ []) taken cs (e ∷ earlier)) (sym same_callers)
+          (pushed x (λ k event. returns_isnt event) q.count
+          (return_queued c reply no_own
+          (λ d k caller low other is committed here. q.pending d k caller low is committed here)
+          q.uncommitted q.unreturned q.called
+          (omega (arith, q.count))))));
+      waiting = new_is
+          ∙ ap (λ ws. ws ++ x ∷ [])
+          (sym (all_same old
+          (λ i w here. reply_other c reply w
+          (λ m a event. no_own i w (record { method = m; args = a }) here event))))
+          ∙ ap (λ n. map (replied e) old
+          ++ record { caller = c; position = n; event = Returns reply }
+          ∷ []) at
+          ∙ ap (λ b. map (replied e) old
+          ++ cons_option
+          (option_map (waiting_of (place_of e earlier [])) (then_some b (Returns reply))) [])
+          (sym observing);
+    }
   where
     e : Entry
     e = entry c (Return reply)
@@ -342,38 +496,62 @@ uncommitted_up {h} {old} {new} {taken} {taken'} {callers} {callers'} {earlier} c
     observing : not (has_committed c earlier) ≡ true
     observing = ap not none
 
-    no_own : (i : ℕ) (commit : Waiting) (k : Called) → slice_get old i ≡ Some commit → commit.event ≡ Commits k.method k.args None → commit.caller ≢ c
+    no_own : (i : ℕ) (commit : Waiting) (k : Called) → slice_get old i ≡ Some commit → commit.event
+        ≡ Commits k.method k.args None → commit.caller ≢ c
     no_own i commit k here event same = let u = q.unreturned i commit k here event in
         apart (sym none ∙ ap (λ d. has_committed d earlier) (sym same) ∙ u.committed)
 
-    all_same : (xs : List Waiting) → ((i : ℕ) (w : Waiting) → slice_get xs i ≡ Some w → replied e w ≡ w) → map (replied e) xs ≡ xs
+    all_same : (xs : List Waiting)
+        → ((i : ℕ) (w : Waiting) → slice_get xs i ≡ Some w → replied e w ≡ w) → map (replied e) xs
+        ≡ xs
     all_same [] so = refl
-    all_same (w ∷ ws) so = ap (λ y. y ∷ map (replied e) ws) (so 0 w refl) ∙ ap (λ ys. w ∷ ys) (all_same ws (λ i y here. so (suc i) y here))
+    all_same (w ∷ ws) so = ap (λ y. y ∷ map (replied e) ws) (so 0 w refl)
+        ∙ ap (λ ys. w ∷ ys) (all_same ws (λ i y here. so (suc i) y here))
 
 -- the return of an execution whose commit waits
-pub found_commit : {h : Header} {waiting : List Waiting} {taken : ℕ} {callers : List Caller} {earlier : List Entry} {c reply : ℕ} {called : Called}
-    (caller : Caller) → slice_get callers c ≡ Some caller → open_call c earlier ≡ Some called → has_committed c earlier ≡ true
-    → Keeps h earlier (entry c (Return reply)) → HasQueued h waiting taken callers earlier → IsPending waiting taken c called caller
+pub found_commit : {h : Header} {waiting : List Waiting} {taken : ℕ} {callers : List Caller}
+    {earlier : List Entry} {c reply : ℕ} {called : Called}
+    (caller : Caller) → slice_get callers c ≡ Some caller → open_call c earlier ≡ Some called
+    → has_committed c earlier ≡ true
+    → Keeps h earlier (entry c (Return reply)) → HasQueued h waiting taken callers earlier
+    → IsPending waiting taken c called caller
 found_commit {h} {earlier = earlier} {c} {reply} {called} caller here opened committed keeps q =
-    q.pending c called caller (caller_kept h earlier (entry c (Return reply)) keeps.rules) opened committed here
+    q.pending c called caller (caller_kept h earlier (entry c (Return reply)) keeps.rules) opened
+    committed here
 
-pub committed_up : {h : Header} {old new : List Waiting} {taken taken' : ℕ} {callers callers' : List Caller} {earlier : List Entry} (c reply : ℕ)
-    (called : Called) (caller : Caller) → slice_get callers c ≡ Some caller → has_committed c earlier ≡ true
-    → HasQueued h old taken callers earlier → caller.method ≡ called.method → caller.args ≡ called.args
+pub committed_up : {h : Header} {old new : List Waiting} {taken taken' : ℕ}
+    {callers callers' : List Caller} {earlier : List Entry} (c reply : ℕ)
+    (called : Called) (caller : Caller) → slice_get callers c ≡ Some caller
+    → has_committed c earlier ≡ true
+    → HasQueued h old taken callers earlier → caller.method ≡ called.method → caller.args
+    ≡ called.args
     → (p : IsPending old taken c called caller)
-    → callers' ≡ callers → new ≡ set old (caller.commit - 1 - taken) (record { caller = p.commit.caller; position = p.commit.position; event = Commits caller.method caller.args (Some reply) })
+    → callers' ≡ callers → new ≡ set old (caller.commit - 1 - taken)
+    (record {
+      caller = p.commit.caller;
+      position = p.commit.position;
+      event = Commits caller.method caller.args (Some reply);
+    })
     → taken' ≡ taken → HasTakenUp h old new taken' callers' (entry c (Return reply)) earlier
-committed_up {h} {old} {new} {taken} {taken'} {callers} {callers'} {earlier} c reply called caller here committed q of_method of_args p same_callers new_is same = record {
-  queued = subst (λ ws. HasQueued h ws taken' callers' (e ∷ earlier)) (sym new_is)
-      (subst (λ n. HasQueued h (set old i x) n callers' (e ∷ earlier)) (sym same)
-      (subst (λ cs. HasQueued h (set old i x) taken cs (e ∷ earlier)) (sym same_callers)
-      (return_queued c reply others_own others_pending q.uncommitted others_unreturned q.called (omega (arith, q.count, length-set old i x)))));
-  waiting = new_is ∙ sym (map_one (replied e) old i x low
-      (λ w at. let it : p.commit ≡ w = same_Some _ _ (sym p.here ∙ at) in ap (replied e) (sym it) ∙ replied_here)
-      (λ j w far at. reply_other c reply w (λ m a event own. far (only j w (record { method = m; args = a }) at event own))))
-      ∙ sym (append-nil (map (replied e) old))
-      ∙ ap (λ b. map (replied e) old ++ cons_option (option_map (waiting_of (place_of e earlier [])) (then_some b (Returns reply))) []) (sym observing);
-}
+committed_up {h} {old} {new} {taken} {taken'} {callers} {callers'} {earlier} c reply called caller
+    here committed q of_method of_args p same_callers new_is same = record {
+      queued = subst (λ ws. HasQueued h ws taken' callers' (e ∷ earlier)) (sym new_is)
+          (subst (λ n. HasQueued h (set old i x) n callers' (e ∷ earlier)) (sym same)
+          (subst (λ cs. HasQueued h (set old i x) taken cs (e ∷ earlier)) (sym same_callers)
+          (return_queued c reply others_own others_pending q.uncommitted others_unreturned q.called
+          (omega (arith, q.count, length-set old i x)))));
+      waiting = new_is ∙ sym (map_one (replied e) old i x low
+          (λ w at. let it : p.commit ≡ w = same_Some _ _ (sym p.here ∙ at) in ap (replied e)
+          (sym it)
+          ∙ replied_here)
+          (λ j w far at. reply_other c reply w
+          (λ m a event own. far (only j w (record { method = m; args = a }) at event own))))
+          ∙ sym (append-nil (map (replied e) old))
+          ∙ ap (λ b. map (replied e) old
+          ++ cons_option
+          (option_map (waiting_of (place_of e earlier [])) (then_some b (Returns reply))) [])
+          (sym observing);
+    }
   where
     e : Entry
     e = entry c (Return reply)
@@ -382,7 +560,11 @@ committed_up {h} {old} {new} {taken} {taken'} {callers} {callers'} {earlier} c r
     i = caller.commit - 1 - taken
 
     x : Waiting
-    x = record { caller = p.commit.caller; position = p.commit.position; event = Commits caller.method caller.args (Some reply) }
+    x = record {
+      caller = p.commit.caller;
+      position = p.commit.position;
+      event = Commits caller.method caller.args (Some reply);
+    }
 
     low : i < length old
     low = slice_get_within old i p.commit p.here
@@ -392,68 +574,114 @@ committed_up {h} {old} {new} {taken} {taken'} {callers} {callers'} {earlier} c r
 
     replied_here : replied e p.commit ≡ x
     replied_here =
-        ap (λ v. record { caller = p.commit.caller; position = p.commit.position; event = replied_event e p.commit.caller v }) p.event
-        ∙ ap (λ b. record { caller = p.commit.caller; position = p.commit.position; event = Commits called.method called.args (cond b (Some reply) None) })
+        ap (λ v. record {
+          caller = p.commit.caller;
+          position = p.commit.position;
+          event = replied_event e p.commit.caller v;
+        }) p.event
+        ∙ ap (λ b. record {
+          caller = p.commit.caller;
+          position = p.commit.position;
+          event = Commits called.method called.args (cond b (Some reply) None);
+        })
         (is_same c p.commit.caller (sym p.caller_is))
-        ∙ ap (λ m. record { caller = p.commit.caller; position = p.commit.position; event = Commits m called.args (Some reply) }) (sym of_method)
-        ∙ ap (λ a. record { caller = p.commit.caller; position = p.commit.position; event = Commits caller.method a (Some reply) }) (sym of_args)
+        ∙ ap (λ m. record {
+          caller = p.commit.caller;
+          position = p.commit.position;
+          event = Commits m called.args (Some reply);
+        }) (sym of_method)
+        ∙ ap (λ a. record {
+          caller = p.commit.caller;
+          position = p.commit.position;
+          event = Commits caller.method a (Some reply);
+        }) (sym of_args)
 
     -- the caller's unreturned commit is there alone
-    only : (j : ℕ) (w : Waiting) (k : Called) → slice_get old j ≡ Some w → w.event ≡ Commits k.method k.args None → w.caller ≡ c → j ≡ i
+    only : (j : ℕ) (w : Waiting) (k : Called) → slice_get old j ≡ Some w → w.event
+        ≡ Commits k.method k.args None → w.caller ≡ c → j ≡ i
     only j w k at event own =
         let u = q.unreturned j w k at event in
-        let number : caller.commit ≡ taken + j + 1 = u.number caller (ap (slice_get callers) own ∙ here) in
+        let number : caller.commit ≡ taken + j + 1 = u.number caller
+        (ap (slice_get callers) own ∙ here) in
         omega (arith, number)
 
-    by_index : {P : Type 0} (j : ℕ) (w : Waiting) → slice_get (set old i x) j ≡ Some w → (slice_get old j ≡ Some w → j ≢ i → P) → (x ≡ w → P) → P
+    by_index : {P : Type 0} (j : ℕ) (w : Waiting) → slice_get (set old i x) j ≡ Some w
+        → (slice_get old j ≡ Some w → j ≢ i → P) → (x ≡ w → P) → P
     by_index j w at other own = by_same i j
-        (λ same_index. own (same_Some _ _ (sym (slice_get-set_same old i x low) ∙ ap (slice_get (set old i x)) same_index ∙ at)))
-        (λ apart_index. other (sym (slice_get-set_other old i j x (apart_of i j apart_index)) ∙ at) (λ same_index. apart_of i j apart_index (sym same_index)))
+        (λ same_index. own
+        (same_Some _ _ (sym (slice_get-set_same old i x low)
+        ∙ ap (slice_get (set old i x)) same_index ∙ at)))
+        (λ apart_index. other (sym (slice_get-set_other old i j x (apart_of i j apart_index)) ∙ at)
+        (λ same_index. apart_of i j apart_index (sym same_index)))
 
     replied_isnt : {m : Method} {a : Args} (w : Waiting) → x ≡ w → w.event ≡ Commits m a None → ⊥
     replied_isnt w is event = isnt (ap (λ y. y.event) is ∙ event)
       where
-        isnt : {n : Method} {b : Args} → Commits caller.method caller.args (Some reply) ≡ Commits n b None → ⊥
+        isnt : {n : Method} {b : Args} → Commits caller.method caller.args (Some reply)
+            ≡ Commits n b None → ⊥
         isnt r = cc
 
-    others_own : (j : ℕ) (w : Waiting) (k : Called) → slice_get (set old i x) j ≡ Some w → w.event ≡ Commits k.method k.args None → w.caller ≢ c
-    others_own j w k at event own = by_index j w at (λ was far. far (only j w k was event own)) (λ is. replied_isnt w is event)
+    others_own : (j : ℕ) (w : Waiting) (k : Called) → slice_get (set old i x) j ≡ Some w
+        → w.event ≡ Commits k.method k.args None → w.caller ≢ c
+    others_own j w k at event own = by_index j w at (λ was far. far (only j w k was event own))
+        (λ is. replied_isnt w is event)
 
-    others_pending : (d : ℕ) (k : Called) (x' : Caller) → d < h.callers → (c == d) ≡ false → open_call d earlier ≡ Some k → has_committed d earlier ≡ true
+    others_pending : (d : ℕ) (k : Called) (x' : Caller) → d < h.callers → (c == d) ≡ false
+        → open_call d earlier ≡ Some k → has_committed d earlier ≡ true
         → slice_get callers d ≡ Some x' → IsPending (set old i x) taken d k x'
     others_pending d k x' low_d other is committed at =
         let r = q.pending d k x' low_d is committed at in record {
           commit = r.commit;
           since = r.since;
           here = slice_get-set_other old i (x'.commit - 1 - taken) x
-              (λ same_index. apart_of c d other (sym p.caller_is ∙ ap (λ w. w.caller) (same_Some _ _ (sym p.here ∙ ap (slice_get old) same_index ∙ r.here)) ∙ r.caller_is))
+              (λ same_index. apart_of c d other
+              (sym p.caller_is
+              ∙ ap (λ w. w.caller)
+              (same_Some _ _ (sym p.here ∙ ap (slice_get old) same_index ∙ r.here)) ∙ r.caller_is))
               ∙ r.here;
           caller_is = r.caller_is;
           event = r.event;
         }
 
-    others_unreturned : (j : ℕ) (w : Waiting) (k : Called) → slice_get (set old i x) j ≡ Some w → w.event ≡ Commits k.method k.args None
+    others_unreturned : (j : ℕ) (w : Waiting) (k : Called) → slice_get (set old i x) j ≡ Some w
+        → w.event ≡ Commits k.method k.args None
         → IsUnreturned callers taken earlier j w k
-    others_unreturned j w k at event = by_index j w at (λ was far. q.unreturned j w k was event) (λ is. absurd (replied_isnt w is event))
+    others_unreturned j w k at event = by_index j w at (λ was far. q.unreturned j w k was event)
+        (λ is. absurd (replied_isnt w is event))
 
 -- a commit waits
-pub commit_up : {h : Header} {old new : List Waiting} {taken taken' : ℕ} {callers callers' : List Caller} {earlier : List Entry} (c position : ℕ) (kind : Kind)
-    (called : Called) (caller : Caller) → Committing kind → slice_get callers c ≡ Some caller → open_call c earlier ≡ Some called
+pub commit_up : {h : Header} {old new : List Waiting} {taken taken' : ℕ}
+    {callers callers' : List Caller} {earlier : List Entry} (c position : ℕ) (kind : Kind)
+    (called : Called) (caller : Caller) → Committing kind → slice_get callers c ≡ Some caller
+    → open_call c earlier ≡ Some called
     → caller.method ≡ called.method → caller.args ≡ called.args → position ≡ length earlier
     → Keeps h earlier (entry c kind) → HasQueued h old taken callers earlier
     → callers' ≡ set callers c (record caller { commit = taken + length old + 1 })
-    → new ≡ old ++ record { caller = c; position = position; event = Commits caller.method caller.args None } ∷ []
+    → new ≡ old ++ record {
+      caller = c;
+      position = position;
+      event = Commits caller.method caller.args None;
+    } ∷ []
     → taken' ≡ taken → HasTakenUp h old new taken' callers' (entry c kind) earlier
-commit_up {h} {old} {new} {taken} {taken'} {callers} {callers'} {earlier} c position kind called caller commits here opened of_method of_args at keeps q callers_are new_is same = record {
-  queued = subst (λ ws. HasQueued h ws taken' callers' (e ∷ earlier)) (sym new_is)
-      (subst (λ n. HasQueued h (old ++ x ∷ []) n callers' (e ∷ earlier)) (sym same)
-      (subst (λ cs. HasQueued h (old ++ x ∷ []) taken cs (e ∷ earlier)) (sym callers_are) queued));
-  waiting = new_is ∙ ap (λ ws. ws ++ x ∷ []) (sym (unreplied e (commits_unreturned kind commits) old))
-      ∙ ap (λ n. map (replied e) old ++ record { caller = c; position = n; event = Commits caller.method caller.args None } ∷ []) at
-      ∙ ap (λ m. map (replied e) old ++ record { caller = c; position = length earlier; event = Commits m caller.args None } ∷ []) of_method
-      ∙ ap (λ a. map (replied e) old ++ record { caller = c; position = length earlier; event = Commits called.method a None } ∷ []) of_args
-      ∙ ap (λ o. map (replied e) old ++ cons_option o []) (sym (waits_here kind commits));
-}
+commit_up {h} {old} {new} {taken} {taken'} {callers} {callers'} {earlier} c position kind called
+    caller commits here opened of_method of_args at keeps q callers_are new_is same = record {
+      queued = subst (λ ws. HasQueued h ws taken' callers' (e ∷ earlier)) (sym new_is)
+          (subst (λ n. HasQueued h (old ++ x ∷ []) n callers' (e ∷ earlier)) (sym same)
+          (subst (λ cs. HasQueued h (old ++ x ∷ []) taken cs (e ∷ earlier))
+          (sym callers_are) queued));
+      waiting = new_is
+          ∙ ap (λ ws. ws ++ x ∷ []) (sym (unreplied e (commits_unreturned kind commits) old))
+          ∙ ap (λ n. map (replied e) old
+          ++ record { caller = c; position = n; event = Commits caller.method caller.args None }
+          ∷ []) at
+          ∙ ap (λ m. map (replied e) old
+          ++ record { caller = c; position = length earlier; event = Commits m caller.args None }
+          ∷ []) of_method
+          ∙ ap (λ a. map (replied e) old
+          ++ record { caller = c; position = length earlier; event = Commits called.method a None }
+          ∷ []) of_args
+          ∙ ap (λ o. map (replied e) old ++ cons_option o []) (sym (waits_here kind commits));
+    }
   where
     e : Entry
     e = entry c kind
@@ -467,13 +695,17 @@ commit_up {h} {old} {new} {taken} {taken'} {callers} {callers'} {earlier} c posi
     low : c < length callers
     low = slice_get_within callers c caller here
 
-    waits_here : (k : Kind) → Committing k → waiting_at (place_of (entry c k) earlier []) ≡ Some (record {
-      caller = c;
-      position = length earlier;
-      event = Commits called.method called.args None;
-    })
-    waits_here _ alone = ap (λ o. option_map (waiting_of (place_of (entry c Commit) earlier [])) (option_map (commit_of None) o)) opened
-    waits_here _ with_block = ap (λ o. option_map (waiting_of (place_of (entry c BlockCommit) earlier [])) (option_map (commit_of None) o)) opened
+    waits_here : (k : Kind) → Committing k → waiting_at (place_of (entry c k) earlier [])
+        ≡ Some (record {
+          caller = c;
+          position = length earlier;
+          event = Commits called.method called.args None;
+        })
+    waits_here _ alone = ap (λ o. option_map (waiting_of (place_of (entry c Commit) earlier []))
+        (option_map (commit_of None) o)) opened
+    waits_here _ with_block =
+        ap (λ o. option_map (waiting_of (place_of (entry c BlockCommit) earlier []))
+        (option_map (commit_of None) o)) opened
 
     inside : (d : ℕ) → open_call d (e ∷ earlier) ≡ open_call d earlier
     inside d = open_call-quiet d c kind earlier (commits_inside kind commits)
@@ -481,9 +713,11 @@ commit_up {h} {old} {new} {taken} {taken'} {callers} {callers'} {earlier} c posi
     queued : HasQueued h (old ++ x ∷ []) taken (set callers c y) (e ∷ earlier)
     queued = record {
       called = λ d k low_d is. let was = q.called d k low_d (sym (inside d) ∙ is) in by_same c d
-          (λ same_caller. let it : caller ≡ was.caller = same_Some _ _ (sym here ∙ ap (slice_get callers) same_caller ∙ was.here) in record {
+          (λ same_caller. let it : caller ≡ was.caller = same_Some _ _
+          (sym here ∙ ap (slice_get callers) same_caller ∙ was.here) in record {
             caller = y;
-            here = subst (λ z. slice_get (set callers c y) z ≡ Some y) same_caller (slice_get-set_same callers c y low);
+            here = subst (λ z. slice_get (set callers c y) z ≡ Some y) same_caller
+                (slice_get-set_same callers c y low);
             method = ap (λ z. z.method) it ∙ was.method;
             args = ap (λ z. z.args) it ∙ was.args;
           })
@@ -495,43 +729,56 @@ commit_up {h} {old} {new} {taken} {taken'} {callers} {callers'} {earlier} c posi
           });
       pending = λ d k z low_d is committed z_at. by_same c d
           (λ same_caller.
-          let it : y ≡ z = same_Some _ _ (sym (slice_get-set_same callers c y low) ∙ ap (slice_get (set callers c y)) same_caller ∙ z_at) in
+          let it : y ≡ z = same_Some _ _ (sym (slice_get-set_same callers c y low)
+          ∙ ap (slice_get (set callers c y)) same_caller ∙ z_at) in
           let number : taken + length old + 1 ≡ z.commit = ap (λ w. w.commit) it in
           let place : z.commit - 1 - taken ≡ length old = omega (arith, number) in
-          let mine : called ≡ k = same_Some _ _ (sym opened ∙ ap (λ w. open_call w earlier) same_caller ∙ sym (inside d) ∙ is) in
+          let mine : called ≡ k = same_Some _ _
+          (sym opened ∙ ap (λ w. open_call w earlier) same_caller ∙ sym (inside d) ∙ is) in
           record {
             commit = x;
             since = omega (arith, number);
             here = ap (slice_get (old ++ x ∷ [])) place ∙ slice_get-last old x;
             caller_is = same_caller;
-            event = ap (λ m. Commits m caller.args None) (of_method ∙ ap (λ w. w.method) mine) ∙ ap (λ a. Commits k.method a None) (of_args ∙ ap (λ w. w.args) mine);
+            event = ap (λ m. Commits m caller.args None) (of_method ∙ ap (λ w. w.method) mine)
+                ∙ ap (λ a. Commits k.method a None) (of_args ∙ ap (λ w. w.args) mine);
           })
-          (λ other. let r = q.pending d k z low_d (sym (inside d) ∙ is) (sym (committed-other d c kind earlier other) ∙ committed)
+          (λ other. let r = q.pending d k z low_d (sym (inside d) ∙ is)
+          (sym (committed-other d c kind earlier other) ∙ committed)
           (sym (slice_get-set_other callers c d y (apart_of c d other)) ∙ z_at) in record {
             commit = r.commit;
             since = r.since;
-            here = slice_get-front old x (z.commit - 1 - taken) (slice_get_within old (z.commit - 1 - taken) r.commit r.here) ∙ r.here;
+            here = slice_get-front old x (z.commit - 1 - taken)
+                (slice_get_within old (z.commit - 1 - taken) r.commit r.here) ∙ r.here;
             caller_is = r.caller_is;
             event = r.event;
           });
       uncommitted = λ d k z low_d is none z_at. by_same c d
-          (λ same_caller. absurd (apart (sym none ∙ ap (λ w. has_committed w (e ∷ earlier)) (sym same_caller)
+          (λ same_caller. absurd
+          (apart (sym none ∙ ap (λ w. has_committed w (e ∷ earlier)) (sym same_caller)
           ∙ committed-own c kind earlier true (commits_called kind commits))))
-          (λ other. q.uncommitted d k z low_d (sym (inside d) ∙ is) (sym (committed-other d c kind earlier other) ∙ none)
+          (λ other. q.uncommitted d k z low_d (sym (inside d) ∙ is)
+          (sym (committed-other d c kind earlier other) ∙ none)
           (sym (slice_get-set_other callers c d y (apart_of c d other)) ∙ z_at));
       unreturned = λ j w k w_at event. by_place old x j w w_at
           (λ before. let u = q.unreturned j w k before event in by_same c w.caller
-          (λ same_caller. absurd (apart (sym (commit_is_first kind commits keeps) ∙ ap (λ d. has_committed d earlier) same_caller ∙ u.committed)))
+          (λ same_caller. absurd
+          (apart (sym (commit_is_first kind commits keeps)
+          ∙ ap (λ d. has_committed d earlier) same_caller ∙ u.committed)))
           (λ other. record {
             opened = inside w.caller ∙ u.opened;
             committed = committed-other w.caller c kind earlier other ∙ u.committed;
-            number = λ z z_at. u.number z (sym (slice_get-set_other callers c w.caller y (apart_of c w.caller other)) ∙ z_at);
+            number = λ z z_at. u.number z
+                (sym (slice_get-set_other callers c w.caller y (apart_of c w.caller other)) ∙ z_at);
           }))
           (λ last is. let own : c ≡ w.caller = ap (λ v. v.caller) is in record {
-            opened = ap (λ d. open_call d (e ∷ earlier)) (sym own) ∙ inside c ∙ opened ∙ ap Some (same_call (sym of_method) (sym of_args) (ap (λ v. v.event) is ∙ event));
-            committed = ap (λ d. has_committed d (e ∷ earlier)) (sym own) ∙ committed-own c kind earlier true (commits_called kind commits);
+            opened = ap (λ d. open_call d (e ∷ earlier)) (sym own) ∙ inside c ∙ opened
+                ∙ ap Some (same_call (sym of_method) (sym of_args) (ap (λ v. v.event) is ∙ event));
+            committed = ap (λ d. has_committed d (e ∷ earlier)) (sym own)
+                ∙ committed-own c kind earlier true (commits_called kind commits);
             number = λ z z_at.
-                let it : y ≡ z = same_Some _ _ (sym (slice_get-set_same callers c y low) ∙ ap (slice_get (set callers c y)) own ∙ z_at) in
+                let it : y ≡ z = same_Some _ _ (sym (slice_get-set_same callers c y low)
+                ∙ ap (slice_get (set callers c y)) own ∙ z_at) in
                 ap (λ v. v.commit) (sym it) ∙ ap (λ n. taken + n + 1) (sym last);
           });
       count = omega (arith, q.count, length-append old (x ∷ []));
@@ -543,127 +790,190 @@ commit_up {h} {old} {new} {taken} {taken'} {callers} {callers'} {earlier} c posi
         same_args : {m n : Method} {a b : Args} → Commits m a None ≡ Commits n b None → a ≡ b
         same_args r = cc
 
-        same_call : {k k' : Called} {m : Method} {a : Args} → k.method ≡ m → k.args ≡ a → Commits m a None ≡ Commits k'.method k'.args None → k ≡ k'
+        same_call : {k k' : Called} {m : Method} {a : Args} → k.method ≡ m → k.args ≡ a
+            → Commits m a None ≡ Commits k'.method k'.args None → k ≡ k'
         same_call {k} {k'} {m} {a} is_m is_a r =
-            ap (λ n. record { method = n; args = k.args }) (is_m ∙ same_method r) ∙ ap (λ b. record { method = k'.method; args = b }) (is_a ∙ same_args r)
+            ap (λ n. record { method = n; args = k.args }) (is_m ∙ same_method r)
+            ∙ ap (λ b. record { method = k'.method; args = b }) (is_a ∙ same_args r)
 
 -- the first entry leaves
-pub queue_left : {h : Header} {waiting : List Waiting} {taken : ℕ} {callers : List Caller} {earlier : List Entry} (x : Waiting) (xs : List Waiting)
-    → waiting ≡ x ∷ xs → CanLeave x → HasQueued h waiting taken callers earlier → HasQueued h xs (taken + 1) callers earlier
+pub queue_left : {h : Header} {waiting : List Waiting} {taken : ℕ} {callers : List Caller}
+    {earlier : List Entry} (x : Waiting) (xs : List Waiting)
+    → waiting ≡ x ∷ xs → CanLeave x → HasQueued h waiting taken callers earlier
+    → HasQueued h xs (taken + 1) callers earlier
 queue_left {h} {waiting} {taken} {callers} {earlier} x xs is can q = record {
   called = q.called;
-  pending = λ d k caller low opened committed at. let p = q.pending d k caller low opened committed at in
+  pending = λ d k caller low opened committed at. let p = q.pending d k caller low opened committed
+      at in
       step k caller p (caller.commit - 1 - taken) refl;
   uncommitted = q.uncommitted;
-  unreturned = λ i commit k at event. let u = q.unreturned (suc i) commit k (ap (λ ws. slice_get ws (suc i)) is ∙ at) event in record {
-    opened = u.opened;
-    committed = u.committed;
-    number = λ caller here. let number : caller.commit ≡ taken + suc i + 1 = u.number caller here in omega (arith, number);
-  };
+  unreturned = λ i commit k at event. let u = q.unreturned (suc i) commit k
+      (ap (λ ws. slice_get ws (suc i)) is ∙ at) event in record {
+        opened = u.opened;
+        committed = u.committed;
+        number = λ caller here. let number : caller.commit ≡ taken + suc i
+            + 1 = u.number caller here in
+            omega (arith, number);
+      };
   count = omega (arith, q.count, ap length is);
 }
   where
-    step : {d : ℕ} (k : Called) (caller : Caller) (p : IsPending waiting taken d k caller) (n : ℕ) → caller.commit - 1 - taken ≡ n → IsPending xs (taken + 1) d k caller
+    step : {d : ℕ} (k : Called) (caller : Caller) (p : IsPending waiting taken d k caller) (n : ℕ)
+        → caller.commit - 1 - taken ≡ n → IsPending xs (taken + 1) d k caller
     step k caller p zero place =
-        absurd (can k.method k.args (ap (λ w. w.event) (same_Some _ _ (sym (ap (λ ws. slice_get ws 0) is) ∙ ap (slice_get waiting) (sym place) ∙ p.here)) ∙ p.event))
+        absurd (can k.method k.args
+        (ap (λ w. w.event)
+        (same_Some _ _ (sym (ap (λ ws. slice_get ws 0) is) ∙ ap (slice_get waiting) (sym place)
+        ∙ p.here)) ∙ p.event))
     step k caller p (suc n) place =
         let next : caller.commit - 1 - (taken + 1) ≡ n = omega (arith, place) in record {
           commit = p.commit;
           since = omega (arith, place);
-          here = ap (slice_get xs) next ∙ sym (ap (λ ws. slice_get ws (suc n)) is) ∙ ap (slice_get waiting) (sym place) ∙ p.here;
+          here = ap (slice_get xs) next ∙ sym (ap (λ ws. slice_get ws (suc n)) is)
+              ∙ ap (slice_get waiting) (sym place) ∙ p.here;
           caller_is = p.caller_is;
           event = p.event;
         }
 
 -- what may follow: its caller, how many entries wait, and where a reply goes
-pub queue_caller : {h : Header} {waiting : List Waiting} {taken : ℕ} {callers : List Caller} {e : Entry} {position : ℕ}
+pub queue_caller : {h : Header} {waiting : List Waiting} {taken : ℕ} {callers : List Caller}
+    {e : Entry} {position : ℕ}
     → MayQueue h waiting taken callers e position → e.caller < h.callers
-queue_caller {h} {e = e} may = below_of _ _ (∥∥₁_elim may (Bool-set _ _) (λ s. is_below _ _ (caller_kept h s.0 e s.2.rules)))
+queue_caller {h} {e = e} may = below_of _ _
+    (∥∥₁_elim may (Bool-set _ _) (λ s. is_below _ _ (caller_kept h s.0 e s.2.rules)))
 
-pub queue_few : {h : Header} {waiting : List Waiting} {taken : ℕ} {callers : List Caller} {e : Entry} {position : ℕ}
-    → position < 2 ^ 62 → MayQueue h waiting taken callers e position → taken + length waiting < 2 ^ 62
-queue_few {h} {waiting} {taken} {callers} {e} {position} few may = below_of _ _ (∥∥₁_elim may (Bool-set _ _) (λ s.
-    let low : taken + length waiting < 2 ^ 62 = omega (arith, few, s.1.count, s.3) in is_below (taken + length waiting) (2 ^ 62) low))
+pub queue_few : {h : Header} {waiting : List Waiting} {taken : ℕ} {callers : List Caller}
+    {e : Entry} {position : ℕ}
+    → position < 2 ^ 62 → MayQueue h waiting taken callers e position
+    → taken + length waiting < 2 ^ 62
+queue_few {h} {waiting} {taken} {callers} {e} {position} few may = below_of _ _
+    (∥∥₁_elim may (Bool-set _ _) (λ s.
+    let low : taken + length waiting < 2 ^ 62 = omega (arith, few, s.1.count, s.3) in is_below
+    (taken + length waiting) (2 ^ 62) low))
 
-pub queue_pending : {h : Header} {waiting : List Waiting} {taken : ℕ} {callers : List Caller} {e : Entry} {position reply : ℕ} (caller : Caller)
+pub queue_pending : {h : Header} {waiting : List Waiting} {taken : ℕ} {callers : List Caller}
+    {e : Entry} {position reply : ℕ} (caller : Caller)
     → e.kind ≡ Return reply → slice_get callers e.caller ≡ Some caller → caller.commit ≢ 0
-    → MayQueue h waiting taken callers e position → (taken < caller.commit) × (caller.commit - 1 - taken < length waiting)
+    → MayQueue h waiting taken callers e position → (taken < caller.commit)
+    × (caller.commit - 1 - taken < length waiting)
 queue_pending {h} {waiting} {taken} {callers} {e} {position} {reply} caller is here has may = (
   below_of _ _ (∥∥₁_elim may (Bool-set _ _) (λ s. is_below _ _ (pending s.0 s.1 s.2).since)),
-  below_of _ _ (∥∥₁_elim may (Bool-set _ _) (λ s. is_below _ _ (slice_get_within waiting _ (pending s.0 s.1 s.2).commit (pending s.0 s.1 s.2).here))),
+  below_of _ _
+      (∥∥₁_elim may (Bool-set _ _)
+      (λ s. is_below _ _
+      (slice_get_within waiting _ (pending s.0 s.1 s.2).commit (pending s.0 s.1 s.2).here))),
 )
   where
-    pending : (earlier : List Entry) → HasQueued h waiting taken callers earlier → (keeps : Keeps h earlier e)
-        → IsPending waiting taken e.caller (return_kept h e.caller reply earlier (keeps_as is keeps).rules).0 caller
+    pending : (earlier : List Entry) → HasQueued h waiting taken callers earlier
+        → (keeps : Keeps h earlier e)
+        → IsPending waiting taken e.caller
+        (return_kept h e.caller reply earlier (keeps_as is keeps).rules).0 caller
     pending earlier q keeps =
         let called = return_kept h e.caller reply earlier (keeps_as is keeps).rules in
         by_commit (has_committed e.caller earlier) refl
-        (λ committed. q.pending e.caller called.0 caller (caller_kept h earlier e keeps.rules) called.1 committed here)
-        (λ none. has (q.uncommitted e.caller called.0 caller (caller_kept h earlier e keeps.rules) called.1 none here))
+        (λ committed. q.pending e.caller called.0 caller (caller_kept h earlier e keeps.rules)
+        called.1 committed here)
+        (λ none. has
+        (q.uncommitted e.caller called.0 caller (caller_kept h earlier e keeps.rules) called.1 none
+        here))
       where
-        by_commit : {P : Type 0} (b : Bool) → has_committed e.caller earlier ≡ b → (has_committed e.caller earlier ≡ true → P)
+        by_commit : {P : Type 0} (b : Bool) → has_committed e.caller earlier ≡ b
+            → (has_committed e.caller earlier ≡ true → P)
             → (has_committed e.caller earlier ≡ false → ⊥) → P
         by_commit true b has_one none = has_one b
         by_commit false b has_one none = absurd (none b)
 
 -- what was called in an execution that returns or commits
-pub returning_called : {h : Header} {earlier : List Entry} {e : Entry} {reply : ℕ} → e.kind ≡ Return reply → Keeps h earlier e
+pub returning_called : {h : Header} {earlier : List Entry} {e : Entry} {reply : ℕ}
+    → e.kind ≡ Return reply → Keeps h earlier e
     → (called : Called) × (open_call e.caller earlier ≡ Some called)
-returning_called {h} {earlier} {e} {reply} is keeps = return_kept h e.caller reply earlier (keeps_as is keeps).rules
+returning_called {h} {earlier} {e} {reply} is keeps = return_kept h e.caller reply earlier
+    (keeps_as is keeps).rules
 
-pub committing_called : {h : Header} {earlier : List Entry} {e : Entry} (kind : Kind) → e.kind ≡ kind → Committing kind → Keeps h earlier e
-    → (called : Called) × (open_call e.caller earlier ≡ Some called) × (is_observer called.method ≡ false)
+pub committing_called : {h : Header} {earlier : List Entry} {e : Entry} (kind : Kind)
+    → e.kind ≡ kind → Committing kind → Keeps h earlier e
+    → (called : Called) × (open_call e.caller earlier ≡ Some called)
+    × (is_observer called.method ≡ false)
 committing_called kind is commits keeps = commit_opened kind commits (keeps_as is keeps)
 
-pub known_caller : {h : Header} {waiting : List Waiting} {taken : ℕ} {callers : List Caller} {earlier : List Entry} {e : Entry} {called : Called}
-    → Keeps h earlier e → open_call e.caller earlier ≡ Some called → HasQueued h waiting taken callers earlier → IsCaller callers e.caller called
-known_caller {h} {earlier = earlier} {e} {called} keeps opened q = q.called e.caller called (caller_kept h earlier e keeps.rules) opened
+pub known_caller : {h : Header} {waiting : List Waiting} {taken : ℕ} {callers : List Caller}
+    {earlier : List Entry} {e : Entry} {called : Called}
+    → Keeps h earlier e → open_call e.caller earlier ≡ Some called
+    → HasQueued h waiting taken callers earlier → IsCaller callers e.caller called
+known_caller {h} {earlier = earlier} {e} {called} keeps opened q = q.called e.caller called
+    (caller_kept h earlier e keeps.rules) opened
 
-pub taken_kind : {h : Header} {old new : List Waiting} {taken : ℕ} {callers : List Caller} {earlier : List Entry} (e : Entry) {kind : Kind} → e.kind ≡ kind
-    → HasTakenUp h old new taken callers (entry e.caller kind) earlier → HasTakenUp h old new taken callers e earlier
-taken_kind {h} {old} {new} {taken} {callers} {earlier} e is up = subst (λ k. HasTakenUp h old new taken callers (entry e.caller k) earlier) (sym is) up
+pub taken_kind : {h : Header} {old new : List Waiting} {taken : ℕ} {callers : List Caller}
+    {earlier : List Entry} (e : Entry) {kind : Kind} → e.kind ≡ kind
+    → HasTakenUp h old new taken callers (entry e.caller kind) earlier
+    → HasTakenUp h old new taken callers e earlier
+taken_kind {h} {old} {new} {taken} {callers} {earlier} e is up =
+    subst (λ k. HasTakenUp h old new taken callers (entry e.caller k) earlier) (sym is) up
 
 -- what an answer that isn't an error gives, by what it hands out
-pub all_ok : {E P R : Type 0} {Q S : Option Waiting → Type 0} (r : Result (Option Waiting) E) → OnOk r P → IfOk r Q → OnOk r R
+pub all_ok : {E P R : Type 0} {Q S : Option Waiting → Type 0} (r : Result (Option Waiting) E)
+    → OnOk r P → IfOk r Q → OnOk r R
     → ((first : Option Waiting) → P → Q first → R → S first) → IfOk r S
 all_ok (Ok first) p q u f = f first p q u
 all_ok (Err e) p q u f = tt
 
 -- a return is taken in, whichever it is
-pub return_up : {E : Type 0} {h : Header} {old : List Waiting} {taken : ℕ} {callers : List Caller} {earlier : List Entry} (r : Result (Option Waiting) E)
-    (new : List Waiting) (taken' : ℕ) (callers' : List Caller) (c position reply : ℕ) → position ≡ length earlier → Keeps h earlier (entry c (Return reply)) → HasQueued h old taken callers earlier
+pub return_up : {E : Type 0} {h : Header} {old : List Waiting} {taken : ℕ} {callers : List Caller}
+    {earlier : List Entry} (r : Result (Option Waiting) E)
+    (new : List Waiting) (taken' : ℕ) (callers' : List Caller) (c position reply : ℕ) → position
+    ≡ length earlier → Keeps h earlier (entry c (Return reply))
+    → HasQueued h old taken callers earlier
     → ((caller : Caller) → slice_get callers c ≡ Some caller → caller.commit ≡ 0
-    → IfOk r (λ first. cons_option first new ≡ old ++ record { caller = c; position = position; event = Returns reply } ∷ []))
-    → ((caller : Caller) → slice_get callers c ≡ Some caller → caller.commit ≢ 0 → (commit : Waiting)
+    → IfOk r (λ first. cons_option first new ≡ old
+    ++ record { caller = c; position = position; event = Returns reply } ∷ []))
+    → ((caller : Caller) → slice_get callers c ≡ Some caller → caller.commit ≢ 0
+    → (commit : Waiting)
     → slice_get old (caller.commit - 1 - taken) ≡ Some commit
     → IfOk r (λ first. cons_option first new
-    ≡ set old (caller.commit - 1 - taken) (record { caller = commit.caller; position = commit.position; event = Commits caller.method caller.args (Some reply) })))
+    ≡ set old (caller.commit - 1 - taken)
+    (record {
+      caller = commit.caller;
+      position = commit.position;
+      event = Commits caller.method caller.args (Some reply);
+    })))
     → OnOk r (callers' ≡ callers) → OnOk r (taken' ≡ taken)
-    → IfOk r (λ first. HasTakenUp h old (cons_option first new) taken' callers' (entry c (Return reply)) earlier)
-return_up {h = h} {old} {taken} {callers} {earlier} r new taken' callers' c position reply at keeps q uncommitted committed same_callers same =
+    → IfOk r (λ first. HasTakenUp h old (cons_option first new) taken' callers'
+    (entry c (Return reply)) earlier)
+return_up {h = h} {old} {taken} {callers} {earlier} r new taken' callers' c position reply at keeps
+    q uncommitted committed same_callers same =
     by_commit (has_committed c earlier) refl
   where
     called : (k : Called) × (open_call c earlier ≡ Some k)
     called = return_kept h c reply earlier keeps.rules
 
     known : IsCaller callers c called.0
-    known = q.called c called.0 (caller_kept h earlier (entry c (Return reply)) keeps.rules) called.1
+    known = q.called c called.0 (caller_kept h earlier (entry c (Return reply)) keeps.rules)
+        called.1
 
-    by_commit : (b : Bool) → has_committed c earlier ≡ b → IfOk r (λ first. HasTakenUp h old (cons_option first new) taken' callers' (entry c (Return reply)) earlier)
+    by_commit : (b : Bool) → has_committed c earlier ≡ b
+        → IfOk r (λ first. HasTakenUp h old (cons_option first new) taken' callers'
+        (entry c (Return reply)) earlier)
     by_commit false none =
-        let zero_there = q.uncommitted c called.0 known.caller (caller_kept h earlier (entry c (Return reply)) keeps.rules) called.1 none known.here in
-        all_ok r same_callers (uncommitted known.caller known.here zero_there) same (λ first of_callers new_is of_taken.
+        let zero_there = q.uncommitted c called.0 known.caller
+        (caller_kept h earlier (entry c (Return reply)) keeps.rules) called.1 none known.here in
+        all_ok r same_callers (uncommitted known.caller known.here zero_there) same
+        (λ first of_callers new_is of_taken.
         uncommitted_up c position reply none at q of_callers new_is of_taken)
     by_commit true has =
         let p = found_commit known.caller known.here called.1 has keeps q in
-        all_ok r same_callers (committed known.caller known.here (λ zero_there. omega (arith, p.since, zero_there)) p.commit p.here) same (λ first of_callers new_is of_taken.
-        committed_up c reply called.0 known.caller known.here has q known.method known.args p of_callers new_is of_taken)
+        all_ok r same_callers
+        (committed known.caller known.here (λ zero_there. omega (arith, p.since, zero_there))
+        p.commit p.here) same (λ first of_callers new_is of_taken.
+        committed_up c reply called.0 known.caller known.here has q known.method known.args p
+        of_callers new_is of_taken)
 
 -- a commit that waits first and hasn't returned
-pub first_awaits : (ws : List Waiting) (x : Waiting) (xs : List Waiting) → ws ≡ x ∷ xs → is_unreturned x.event ≡ true → AwaitsReturn ws
+pub first_awaits : (ws : List Waiting) (x : Waiting) (xs : List Waiting) → ws ≡ x ∷ xs
+    → is_unreturned x.event ≡ true → AwaitsReturn ws
 first_awaits ws x xs is unreturned = subst AwaitsReturn (sym is) (by_event x.event unreturned)
   where
-    by_event : (event : Event) → is_unreturned event ≡ true → (method : Method) × (args : Args) × (event ≡ Commits method args None)
+    by_event : (event : Event) → is_unreturned event ≡ true → (method : Method) × (args : Args)
+        × (event ≡ Commits method args None)
     by_event (Begins method args) e = absurd (apart e)
     by_event (Commits method args None) e = (method, args, refl)
     by_event (Commits method args (Some reply)) e = absurd (apart e)
@@ -677,21 +987,27 @@ awaits_behind (w ∷ ws) zero x later awaits = absurd (omega (arith, later))
 awaits_behind (w ∷ ws) (suc i) x later awaits = awaits
 
 -- an execution without a commit returns exactly when what is known of the caller says so
-pub observer_is : {h : Header} {waiting : List Waiting} {taken : ℕ} {callers : List Caller} {earlier : List Entry} {e : Entry} {reply : ℕ} (caller : Caller)
-    → e.kind ≡ Return reply → caller ≡ get_or callers e.caller caller → Keeps h earlier e → HasQueued h waiting taken callers earlier
+pub observer_is : {h : Header} {waiting : List Waiting} {taken : ℕ} {callers : List Caller}
+    {earlier : List Entry} {e : Entry} {reply : ℕ} (caller : Caller)
+    → e.kind ≡ Return reply → caller ≡ get_or callers e.caller caller → Keeps h earlier e
+    → HasQueued h waiting taken callers earlier
     → (caller.commit == 0) ≡ (is_return e.kind && not (has_committed e.caller earlier))
 observer_is {h} {callers = callers} {earlier} {e} {reply} caller is here keeps q =
     let called = returning_called is keeps in
     let known = known_caller keeps called.1 q in
-    let it : known.caller ≡ caller = sym (get_or_from_slice_get callers e.caller known.caller caller known.here) ∙ sym here in
+    let it : known.caller ≡ caller =
+    sym (get_or_from_slice_get callers e.caller known.caller caller known.here) ∙ sym here in
     let low = caller_kept h earlier e keeps.rules in
     ap (λ z. z.commit == 0) (sym it)
     ∙ by_commit (has_committed e.caller earlier) refl
-    (λ committed. λ zero_there. let p = q.pending e.caller called.0 known.caller low called.1 committed known.here in omega (arith, p.since, zero_there))
+    (λ committed. λ zero_there. let p = q.pending e.caller called.0 known.caller low called.1
+    committed known.here in omega (arith, p.since, zero_there))
     (λ none. q.uncommitted e.caller called.0 known.caller low called.1 none known.here)
     ∙ ap (λ k. is_return k && not (has_committed e.caller earlier)) (sym is)
   where
-    by_commit : {n : ℕ} (b : Bool) → has_committed e.caller earlier ≡ b → (has_committed e.caller earlier ≡ true → n ≢ 0)
-        → (has_committed e.caller earlier ≡ false → n ≡ 0) → (n == 0) ≡ not (has_committed e.caller earlier)
+    by_commit : {n : ℕ} (b : Bool) → has_committed e.caller earlier ≡ b
+        → (has_committed e.caller earlier ≡ true → n ≢ 0)
+        → (has_committed e.caller earlier ≡ false → n ≡ 0) → (n == 0)
+        ≡ not (has_committed e.caller earlier)
     by_commit {n} true b has none = isnt_same n 0 (has b) ∙ ap not (sym b)
     by_commit {n} false b has none = is_same n 0 (none b) ∙ ap not (sym b)

@@ -1,5 +1,6 @@
 -- What is reached at a place is reached at the next one, entry by entry.
-use Rattle.std.proofs.Common.{◌≡◌, ℕ, ◌+◌, Bool, true, false, cond, ◌&&◌, ◌||◌, List, [], ◌∷◌, ◌++◌, drop, Option, Some, None, slice_get, refl, ap, subst, ◌∙◌, sym}
+use Rattle.std.proofs.Common.{◌≡◌, ℕ, ◌+◌, Bool, true, false, cond, ◌&&◌, ◌||◌, List, [], ◌∷◌, ◌++◌}
+use Rattle.std.proofs.Common.{drop, Option, Some, None, slice_get, refl, ap, subst, ◌∙◌, sym}
 use Rattle.std.specs.Prelude.{◌==◌}
 use Rattle.std.specs.Option.{option_flatten}
 use Rattle.std.specs.List.{list_any}
@@ -11,10 +12,12 @@ use Rattle.vyrd_base.specs.declared.subject.Args.{Args}
 use Rattle.vyrd_base.specs.declared.log.Kind.{Kind}
 use Rattle.vyrd_base.specs.declared.log.Kind.TheVariants.{Call, Return}
 use Rattle.vyrd_base.specs.declared.log.Entry.{Entry}
-use Rattle.vyrd_base.specs.Callers.{Called, open_call, call_or_return, commit_or_call, has_committed, is_call, entries_before_call}
+use Rattle.vyrd_base.specs.Callers.{Called, open_call, call_or_return, commit_or_call}
+use Rattle.vyrd_base.specs.Callers.{has_committed, is_call, entries_before_call}
 use Rattle.vyrd_base.specs.Subjects.{must_commit}
 use Rattle.vyrd_base.specs.States.{State}
-use Rattle.vyrd_base.specs.Commits.{is_commit, Committed, committed_at, commits_after, state_after, states_from, commit_count}
+use Rattle.vyrd_base.specs.Commits.{is_commit, Committed, committed_at, commits_after, state_after}
+use Rattle.vyrd_base.specs.Commits.{states_from, commit_count}
 use Rattle.vyrd_base.specs.Faults.{states_since_call}
 use Rattle.vyrd_base.proofs.BlockLaws.{entry, by_same, own_answer, open_call-quiet}
 use Rattle.vyrd_base.proofs.TestLaws.{same_number}
@@ -23,36 +26,49 @@ use Rattle.vyrd_observers.specs.Watching.{Seen, SeesAnswer}
 use Rattle.vyrd_judge.specs.Reached.{IsWatched}
 use Rattle.vyrd_judge.specs.Reached.{Reached}
 use Rattle.vyrd_observers.specs.Watching.{AllSee}
-use Rattle.vyrd_base.proofs.StateLaws.{open_call-other, before_call-other, before_call-quiet, count-commit, window-quiet, window-commit, window-call, state_here, going-quiet, going-commit}
+use Rattle.vyrd_base.proofs.StateLaws.{open_call-other, before_call-other, before_call-quiet}
+use Rattle.vyrd_base.proofs.StateLaws.{count-commit, window-quiet, window-commit, window-call}
+use Rattle.vyrd_base.proofs.StateLaws.{state_here, going-quiet, going-commit}
 use Rattle.vyrd_base.proofs.CommittedLaws.{committed-other, committed-quiet, committed-own}
 use Rattle.vyrd_base.specs.Rules.{Rules}
 
 -- an open execution is watched on where the entry leaves its window
-watched_on : (r : Rules) {states : List State} {c : ℕ} {e : Entry} {earlier : List Entry} {called : Called} {seen : Seen}
-    → states_since_call states c (e ∷ earlier) ≡ states_since_call states c earlier → IsWatched r states c earlier called seen
+watched_on : (r : Rules) {states : List State} {c : ℕ} {e : Entry} {earlier : List Entry}
+    {called : Called} {seen : Seen}
+    → states_since_call states c (e ∷ earlier) ≡ states_since_call states c earlier
+    → IsWatched r states c earlier called seen
     → IsWatched r states c (e ∷ earlier) called seen
 watched_on r {called = called} window is = record {
   is_open = is.is_open;
   method = is.method;
   args = is.args;
-  answers = λ reply. is.answers reply ∙ ap (list_any (λ state. r.answer state called.method called.args == reply)) (sym window);
+  answers = λ reply. is.answers reply
+      ∙ ap (list_any (λ state. r.answer state called.method called.args == reply)) (sym window);
 }
 
 -- an entry that is neither a call nor a return nor a commit
-pub reached_inside : (r : Rules) (states : List State) (c : ℕ) (kind : Kind) (earlier later : List Entry) (state : State)
-    (watches : List Seen) → call_or_return kind ≡ None → is_call kind ≡ false → is_commit kind ≡ false → commit_or_call kind ≡ None
-    → Reached r states earlier (entry c kind ∷ later) state watches → Reached r states (entry c kind ∷ earlier) later state watches
-reached_inside r states c kind earlier later state watches inside uncalled quiet uncommitted val = record {
-  going = going-quiet r states (entry c kind) earlier later state quiet val.going;
-  allowed = λ d called is. val.allowed d called (sym (open_call-quiet d c kind earlier inside) ∙ is);
-  watched = λ d called within is free none.
-      let old = val.watched d called within (sym (open_call-quiet d c kind earlier inside) ∙ is) free
-      (sym (committed-quiet d c kind earlier uncommitted) ∙ none) in (
-        old.0,
-        old.1,
-        watched_on r (window-quiet states d (entry c kind) earlier quiet (before_call-quiet d c kind earlier uncalled)) old.2,
-      );
-}
+pub reached_inside : (r : Rules) (states : List State) (c : ℕ) (kind : Kind)
+    (earlier later : List Entry) (state : State)
+    (watches : List Seen) → call_or_return kind ≡ None → is_call kind ≡ false → is_commit kind
+    ≡ false → commit_or_call kind ≡ None
+    → Reached r states earlier (entry c kind ∷ later) state watches
+    → Reached r states (entry c kind ∷ earlier) later state watches
+reached_inside r states c kind earlier later state watches inside uncalled quiet uncommitted val =
+    record {
+      going = going-quiet r states (entry c kind) earlier later state quiet val.going;
+      allowed = λ d called is. val.allowed d called (sym (open_call-quiet d c kind earlier inside)
+          ∙ is);
+      watched = λ d called within is free none.
+          let old = val.watched d called within (sym (open_call-quiet d c kind earlier inside) ∙ is)
+          free
+          (sym (committed-quiet d c kind earlier uncommitted) ∙ none) in (
+            old.0,
+            old.1,
+            watched_on r
+                (window-quiet states d (entry c kind) earlier quiet
+                (before_call-quiet d c kind earlier uncalled)) old.2,
+          );
+    }
 
 -- another caller's watch is as it was
 abbrev pub OthersStay : ℕ → List Seen → List Seen → Type 0
@@ -62,45 +78,61 @@ OthersStay c old new = (d : ℕ) → (c == d) ≡ false → slice_get new d ≡ 
 abbrev pub opened : ℕ → Kind → List Entry → Option Called
 opened c kind earlier = open_call c (entry c kind ∷ earlier)
 
-reached_changed : (r : Rules) (states : List State) (c : ℕ) (kind : Kind) (earlier later : List Entry) (state : State)
+reached_changed : (r : Rules) (states : List State) (c : ℕ) (kind : Kind)
+    (earlier later : List Entry) (state : State)
     (watches new : List Seen) → is_commit kind ≡ false → OthersStay c watches new
-    → ((called : Called) → opened c kind earlier ≡ Some called → has_method r.header called.method called.args ≡ true)
+    → ((called : Called) → opened c kind earlier ≡ Some called
+    → has_method r.header called.method called.args ≡ true)
     → ((called : Called) → opened c kind earlier ≡ Some called → must_commit called.method ≡ false
-    → (seen : Seen) × (slice_get new c ≡ Some seen) × IsWatched r states c (entry c kind ∷ earlier) called seen)
-    → Reached r states earlier (entry c kind ∷ later) state watches → Reached r states (entry c kind ∷ earlier) later state new
+    → (seen : Seen) × (slice_get new c ≡ Some seen) × IsWatched r states c (entry c kind ∷ earlier)
+    called seen)
+    → Reached r states earlier (entry c kind ∷ later) state watches
+    → Reached r states (entry c kind ∷ earlier) later state new
 reached_changed r states c kind earlier later state watches new quiet others may own val = record {
   going = going-quiet r states (entry c kind) earlier later state quiet val.going;
   allowed = λ d called is. by_same c d
-      (λ same. may called (subst (λ k. open_call k (entry c kind ∷ earlier) ≡ Some called) (sym same) is))
+      (λ same. may called (subst (λ k. open_call k (entry c kind ∷ earlier) ≡ Some called)
+      (sym same) is))
       (λ other. val.allowed d called (sym (open_call-other d c kind earlier other) ∙ is));
   watched = λ d called within is free none. by_same c d
-      (λ same. subst (λ k. (seen : Seen) × (slice_get new k ≡ Some seen) × IsWatched r states k (entry c kind ∷ earlier) called seen) same
-      (own called (subst (λ k. open_call k (entry c kind ∷ earlier) ≡ Some called) (sym same) is) free))
-      (λ other. let old = val.watched d called within (sym (open_call-other d c kind earlier other) ∙ is) free
+      (λ same. subst (λ k. (seen : Seen) × (slice_get new k ≡ Some seen)
+      × IsWatched r states k (entry c kind ∷ earlier) called seen) same
+      (own called (subst (λ k. open_call k (entry c kind ∷ earlier) ≡ Some called) (sym same) is)
+      free))
+      (λ other. let old = val.watched d called within (sym (open_call-other d c kind earlier other)
+      ∙ is) free
       (sym (committed-other d c kind earlier other) ∙ none) in (
         old.0,
         others d other ∙ old.1,
-        watched_on r (window-quiet states d (entry c kind) earlier quiet (before_call-other d c kind earlier other)) old.2,
+        watched_on r
+            (window-quiet states d (entry c kind) earlier quiet
+            (before_call-other d c kind earlier other)) old.2,
       ));
 }
 
 opened_call : (c : ℕ) (method : Method) (args : Args) (earlier : List Entry)
     → opened c (Call method args) earlier ≡ Some (record { method = method; args = args })
-opened_call c method args earlier = ap option_flatten (own_answer c call_or_return (Call method args) earlier)
+opened_call c method args earlier = ap option_flatten
+    (own_answer c call_or_return (Call method args) earlier)
 
 opened_return : (c reply : ℕ) (earlier : List Entry) → opened c (Return reply) earlier ≡ None
-opened_return c reply earlier = ap option_flatten (own_answer c call_or_return (Return reply) earlier)
+opened_return c reply earlier = ap option_flatten
+    (own_answer c call_or_return (Return reply) earlier)
 
 -- a call of a method that has to commit
-pub reached_owes : (r : Rules) (states : List State) (c : ℕ) (method : Method) (args : Args) (earlier later : List Entry) (state : State)
+pub reached_owes : (r : Rules) (states : List State) (c : ℕ) (method : Method) (args : Args)
+    (earlier later : List Entry) (state : State)
     (watches : List Seen) → must_commit method ≡ true → has_method r.header method args ≡ true
     → Reached r states earlier (entry c (Call method args) ∷ later) state watches
     → Reached r states (entry c (Call method args) ∷ earlier) later state watches
 reached_owes r states c method args earlier later state watches owes may val =
-    reached_changed r states c (Call method args) earlier later state watches watches refl (λ d other. refl)
-    (λ called is. let same : record { method = method; args = args } ≡ called = same_Some _ _ (sym (opened_call c method args earlier) ∙ is) in
+    reached_changed r states c (Call method args) earlier later state watches watches refl
+    (λ d other. refl)
+    (λ called is. let same : record { method = method; args = args } ≡ called = same_Some _ _
+    (sym (opened_call c method args earlier) ∙ is) in
     subst (λ k. has_method r.header k.method k.args ≡ true) same may)
-    (λ called is free. let same : record { method = method; args = args } ≡ called = same_Some _ _ (sym (opened_call c method args earlier) ∙ is) in
+    (λ called is free. let same : record { method = method; args = args } ≡ called = same_Some _ _
+    (sym (opened_call c method args earlier) ∙ is) in
     absurd (apart (sym owes ∙ ap (λ k. must_commit k.method) same ∙ free)))
     val
   where
@@ -108,16 +140,25 @@ reached_owes r states c method args earlier later state watches owes may val =
     apart e = cc
 
 -- a call of another method, which the state here answers
-pub reached_begins : (r : Rules) (states : List State) (c : ℕ) (method : Method) (args : Args) (earlier later : List Entry) (state : State)
+pub reached_begins : (r : Rules) (states : List State) (c : ℕ) (method : Method) (args : Args)
+    (earlier later : List Entry) (state : State)
     (watches new : List Seen) → has_method r.header method args ≡ true → OthersStay c watches new
-    → slice_get new c ≡ Some (record { is_open = true; method = method; args = args; answers = r.answer state method args ∷ [] })
+    → slice_get new c
+    ≡ Some (record {
+      is_open = true;
+      method = method;
+      args = args;
+      answers = r.answer state method args ∷ [];
+    })
     → Reached r states earlier (entry c (Call method args) ∷ later) state watches
     → Reached r states (entry c (Call method args) ∷ earlier) later state new
 reached_begins r states c method args earlier later state watches new may others here val =
     reached_changed r states c (Call method args) earlier later state watches new refl others
-    (λ called is. let same : call ≡ called = same_Some _ _ (sym (opened_call c method args earlier) ∙ is) in
+    (λ called is. let same : call ≡ called = same_Some _ _ (sym (opened_call c method args earlier)
+    ∙ is) in
     subst (λ k. has_method r.header k.method k.args ≡ true) same may)
-    (λ called is free. let same : call ≡ called = same_Some _ _ (sym (opened_call c method args earlier) ∙ is) in
+    (λ called is free. let same : call ≡ called = same_Some _ _
+    (sym (opened_call c method args earlier) ∙ is) in
     (seen, here, subst (λ k. IsWatched r states c (e ∷ earlier) k seen) same watched))
     val
   where
@@ -128,14 +169,21 @@ reached_begins r states c method args earlier later state watches new may others
     call = record { method = method; args = args }
 
     seen : Seen
-    seen = record { is_open = true; method = method; args = args; answers = r.answer state method args ∷ [] }
+    seen = record {
+      is_open = true;
+      method = method;
+      args = args;
+      answers = r.answer state method args ∷ [];
+    }
 
     window : states_since_call states c (e ∷ earlier) ≡ state ∷ []
-    window = window-call states c e earlier state (drop 1 (states_from r state (commits_after earlier (e ∷ later)))) refl
+    window = window-call states c e earlier state
+        (drop 1 (states_from r state (commits_after earlier (e ∷ later)))) refl
         (ap (λ b. cond (b && true) earlier (entries_before_call c earlier)) (same_number c))
         (val.going ∙ first_of (commits_after earlier (e ∷ later)))
       where
-        first_of : (xs : List Committed) → states_from r state xs ≡ state ∷ drop 1 (states_from r state xs)
+        first_of : (xs : List Committed) → states_from r state xs ≡ state
+            ∷ drop 1 (states_from r state xs)
         first_of [] = refl
         first_of (y ∷ ys) = refl
 
@@ -148,8 +196,10 @@ reached_begins r states c method args earlier later state watches new may others
     }
 
 -- a return
-pub reached_return : (r : Rules) (states : List State) (c reply : ℕ) (earlier later : List Entry) (state : State)
-    (watches new : List Seen) → OthersStay c watches new → Reached r states earlier (entry c (Return reply) ∷ later) state watches
+pub reached_return : (r : Rules) (states : List State) (c reply : ℕ) (earlier later : List Entry)
+    (state : State)
+    (watches new : List Seen) → OthersStay c watches new → Reached r states earlier
+    (entry c (Return reply) ∷ later) state watches
     → Reached r states (entry c (Return reply) ∷ earlier) later state new
 reached_return r states c reply earlier later state watches new others val =
     reached_changed r states c (Return reply) earlier later state watches new refl others
@@ -160,30 +210,42 @@ reached_return r states c reply earlier later state watches new others val =
     none : {called : Called} → None ≡ Some called → ⊥
     none e = cc
 
--- a commit leads to the next state, which all see that are watched: its own execution isn't any more
-pub reached_commit : (r : Rules) (states : List State) (c : ℕ) (kind : Kind) (earlier later : List Entry) (state next : State)
-    (watches closed new : List Seen) → call_or_return kind ≡ None → is_call kind ≡ false → is_commit kind ≡ true → commit_or_call kind ≡ Some true
-    → state_after r state (committed_at (record { earlier = earlier; here = entry c kind; later = later })) ≡ Some next
+-- a commit leads to the next state, which all see that are watched: its own execution isn't any
+-- more
+pub reached_commit : (r : Rules) (states : List State) (c : ℕ) (kind : Kind)
+    (earlier later : List Entry) (state next : State)
+    (watches closed new : List Seen) → call_or_return kind ≡ None → is_call kind ≡ false
+    → is_commit kind ≡ true → commit_or_call kind ≡ Some true
+    → state_after r state
+    (committed_at (record { earlier = earlier; here = entry c kind; later = later })) ≡ Some next
     → OthersStay c watches closed → AllSee (r.answer next) closed new
-    → Reached r states earlier (entry c kind ∷ later) state watches → Reached r states (entry c kind ∷ earlier) later next new
-reached_commit r states c kind earlier later state next watches closed new inside uncalled commits committed after others see val =
-    let going = going-commit r states (entry c kind) earlier later state next commits after val.going in
+    → Reached r states earlier (entry c kind ∷ later) state watches
+    → Reached r states (entry c kind ∷ earlier) later next new
+reached_commit r states c kind earlier later state next watches closed new inside uncalled commits
+    committed after others see val =
+    let going = going-commit r states (entry c kind) earlier later state next commits after
+    val.going in
     let here : slice_get states (commit_count earlier + 1) ≡ Some next =
     ap (slice_get states) (sym (count-commit (entry c kind) earlier commits))
-    ∙ state_here r states (entry c kind ∷ earlier) next (commits_after (entry c kind ∷ earlier) later) going in
+    ∙ state_here r states (entry c kind ∷ earlier) next
+    (commits_after (entry c kind ∷ earlier) later) going in
     record {
       going = going;
-      allowed = λ d called is. val.allowed d called (sym (open_call-quiet d c kind earlier inside) ∙ is);
+      allowed = λ d called is. val.allowed d called (sym (open_call-quiet d c kind earlier inside)
+          ∙ is);
       watched = λ d called within is free none. by_same c d
           (λ same. absurd (apart (sym (committed-own c kind earlier true committed)
           ∙ ap (λ k. has_committed k (entry c kind ∷ earlier)) same ∙ none)))
           (λ other.
-          let old = val.watched d called within (sym (open_call-quiet d c kind earlier inside) ∙ is) free
+          let old = val.watched d called within (sym (open_call-quiet d c kind earlier inside) ∙ is)
+          free
           (sym (committed-other d c kind earlier other) ∙ none) in
           let more = see d old.0 (others d other ∙ old.1) in (
             more.0,
             more.1,
-            sees (window-commit states d (entry c kind) earlier next commits (before_call-quiet d c kind earlier uncalled) here) old.2 (more.2.answers old.2.is_open),
+            sees (window-commit states d (entry c kind) earlier next commits
+                (before_call-quiet d c kind earlier uncalled) here) old.2
+                (more.2.answers old.2.is_open),
           ));
     }
   where
@@ -191,8 +253,10 @@ reached_commit r states c kind earlier later state next watches closed new insid
     apart e = cc
 
     sees : {d : ℕ} {called : Called} {seen more : Seen}
-        → states_since_call states d (entry c kind ∷ earlier) ≡ states_since_call states d earlier ++ next ∷ []
-        → IsWatched r states d earlier called seen → SeesAnswer (r.answer next seen.method seen.args) seen more
+        → states_since_call states d (entry c kind ∷ earlier) ≡ states_since_call states d earlier
+        ++ next ∷ []
+        → IsWatched r states d earlier called seen
+        → SeesAnswer (r.answer next seen.method seen.args) seen more
         → IsWatched r states d (entry c kind ∷ earlier) called more
     sees {d} {called} {seen} {more} window is one = record {
       is_open = one.is_open ∙ is.is_open;
@@ -202,9 +266,12 @@ reached_commit r states c kind earlier later state next watches closed new insid
           let test : State → Bool = λ s. r.answer s called.method called.args == reply in
           one.answers reply
           ∙ ap (λ b. b || r.answer next seen.method seen.args == reply) (is.answers reply)
-          ∙ ap (λ m. list_any test (states_since_call states d earlier) || r.answer next m seen.args == reply) is.method
-          ∙ ap (λ a. list_any test (states_since_call states d earlier) || r.answer next called.method a == reply) is.args
-          ∙ ap (λ b. list_any test (states_since_call states d earlier) || b) (sym (or-false (test next)))
+          ∙ ap (λ m. list_any test (states_since_call states d earlier)
+          || r.answer next m seen.args == reply) is.method
+          ∙ ap (λ a. list_any test (states_since_call states d earlier)
+          || r.answer next called.method a == reply) is.args
+          ∙ ap (λ b. list_any test (states_since_call states d earlier) || b)
+          (sym (or-false (test next)))
           ∙ sym (list_any-append test (states_since_call states d earlier) (next ∷ []))
           ∙ ap (list_any test) (sym window);
     }

@@ -18,7 +18,8 @@ use Rattle.vyrd_base.specs.declared.log.StartWord.{StartWord}
 use Rattle.vyrd_base.specs.declared.subject.Method.{Method}
 use Rattle.vyrd_base.specs.declared.subject.Args.{Args}
 use Rattle.vyrd_base.specs.declared.subject.Subject.{Subject}
-use Rattle.vyrd_base.specs.declared.subject.Subject.TheVariants.{Multiset, Cache, Tree, Buffers, Own}
+use Rattle.vyrd_base.specs.declared.subject.Subject.TheVariants.{Multiset, Cache, Tree, Buffers}
+use Rattle.vyrd_base.specs.declared.subject.Subject.TheVariants.{Own}
 use Rattle.vyrd_base.specs.Amounts.{Amounts, IsAmounts, amount_of, collected, first_difference}
 use Rattle.vyrd_base.specs.Amounts.{with_amount}
 use Rattle.vyrd_base.specs.Buffers.{Buffer, buffer_at, buffer_parts}
@@ -131,7 +132,8 @@ pub commit_shows : {r : Rules} {starting : List StartWord} {before after : State
     → first ≡ words_with r.header starting writes → r.next method args reply before ≡ Some after
     → first_difference (r.view first) (r.shown after) ≡ None → ShowsFew r starting before
     → ShowsFew r starting after
-commit_shows {r} {starting} {before} {after} first writes method args reply rules are next none shows =
+commit_shows {r} {starting} {before} {after} first writes method args reply rules are next none
+    shows =
     record {
       writes = writes;
       few = let long = ap length (sym same) in
@@ -170,15 +172,24 @@ few_with s k a is = by_zero (a == 0)
 few_collected : (parts : List (ℕ × ℕ)) → length (collected parts) ≤ length parts
 few_collected [] = omega arith
 few_collected (part ∷ parts) =
-    omega (arith, few_collected parts, few_with (collected parts) part.0
-    (amount_of (collected parts) part.0 + part.1) (IsAmounts-collected parts))
+    omega (
+      arith,
+      few_collected parts,
+      few_with (collected parts) part.0
+          (amount_of (collected parts) part.0 + part.1) (IsAmounts-collected parts),
+    )
 
 -- lists of so many elements at most, one after the other
 few_flat : {A : Type 0} (f : ℕ → List A) (most : ℕ) → ((i : ℕ) → length (f i) ≤ most)
     → (k n : ℕ) → length (flat_map f (numbers_from k n)) ≤ n * most
 few_flat f most each k zero = omega arith
-few_flat f most each k (suc n) = omega (arith, length-append (f k)
-    (flat_map f (numbers_from (k + 1) n)), each k, few_flat f most each (k + 1) n)
+few_flat f most each k (suc n) = omega (
+  arith,
+  length-append (f k)
+      (flat_map f (numbers_from (k + 1) n)),
+  each k,
+  few_flat f most each (k + 1) n,
+)
 
 few_slot : (words : List ℕ) (i : ℕ) → length (slot_parts words i) ≤ 1
 few_slot words i = by_test _ _
@@ -215,8 +226,13 @@ few_entry (key, value) = by_test _
 
 few_entries : (entries : List (ℕ × ℕ)) → length (flat_map entry_parts entries) ≤ length entries
 few_entries [] = omega arith
-few_entries (entry ∷ entries) = omega (arith, length-append (entry_parts entry)
-    (flat_map entry_parts entries), few_entry entry, few_entries entries)
+few_entries (entry ∷ entries) = omega (
+  arith,
+  length-append (entry_parts entry)
+      (flat_map entry_parts entries),
+  few_entry entry,
+  few_entries entries,
+)
 
 few_node : (words : List ℕ) (n : ℕ) → length (node_parts words n) ≤ 4
 few_node words n =
@@ -235,29 +251,40 @@ few_chain size words (suc left) seen n =
   where
     by_end : length (chain_parts_from size words left (n ∷ seen) (right_of words n)) ≤ left * 5
         → (ends back : Bool) → length (node_parts words n ++ elim ends [
-      | true ↦ []
-      | false ↦ elim back [
-        | true ↦ damage
-        | false ↦ chain_parts_from size words left (n ∷ seen) (right_of words n)
-      ]
-    ]) ≤ suc left * 5
+          | true ↦ []
+          | false ↦ elim back [
+            | true ↦ damage
+            | false ↦ chain_parts_from size words left (n ∷ seen) (right_of words n)
+          ]
+        ]) ≤ suc left * 5
     by_end rest true back =
         omega (arith, length-append (node_parts words n) [], few_node words n)
     by_end rest false true =
         omega (arith, length-append (node_parts words n) damage, few_node words n)
-    by_end rest false false = omega (arith, length-append (node_parts words n)
-        (chain_parts_from size words left (n ∷ seen) (right_of words n)), few_node words n, rest)
+    by_end rest false false = omega (
+      arith,
+      length-append (node_parts words n)
+          (chain_parts_from size words left (n ∷ seen) (right_of words n)),
+      few_node words n,
+      rest,
+    )
 
 few_parts : (subject : Subject) (size : ℕ) (words : List ℕ)
     → length (parts_of subject size words) ≤ plain_words_of subject size
 few_parts Multiset size words =
     omega (arith, few_flat (slot_parts words) 1 (few_slot words) 0 (4 * size))
-few_parts Cache size words = omega (arith, few_flat (λ h. chunk_parts size h (chunk_at words h)) 2
-    (λ h. few_chunk size h (chunk_at words h)) 0 size)
+few_parts Cache size words = omega (
+  arith,
+  few_flat (λ h. chunk_parts size h (chunk_at words h)) 2
+      (λ h. few_chunk size h (chunk_at words h)) 0 size,
+)
 few_parts Tree size words = omega (arith, few_chain size words size [] 0)
-few_parts Buffers size words = omega (arith, few_flat
-    (λ b. buffer_parts size b (buffer_at words b)) 1
-    (λ b. few_buffer size b (buffer_at words b)) 0 size)
+few_parts Buffers size words = omega (
+  arith,
+  few_flat
+      (λ b. buffer_parts size b (buffer_at words b)) 1
+      (λ b. few_buffer size b (buffer_at words b)) 0 size,
+)
 few_parts Own size words = omega arith
 
 -- a part shows no more keys than there are lines that say what it shows
@@ -307,5 +334,9 @@ few_view (own h lines) words many =
 pub few_shown : (c : Charter) (starting : List StartWord) (state : State)
     → ShowsFew (rules_by c) starting state → length ((rules_by c).shown state) ≤ most_shown c
 few_shown c starting state shows =
-    omega (arith, shows.few, few_view c (words_with (rules_by c).header starting shows.writes)
-    (length-mapped (value_after starting shows.writes) 0 (plain_words (rules_by c).header)))
+    omega (
+      arith,
+      shows.few,
+      few_view c (words_with (rules_by c).header starting shows.writes)
+          (length-mapped (value_after starting shows.writes) 0 (plain_words (rules_by c).header)),
+    )

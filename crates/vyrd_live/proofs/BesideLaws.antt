@@ -1,14 +1,17 @@
 -- What goes on from one moment to the next.
-use Rattle.std.proofs.Common.{◌≡◌, ◌≤◌, List, [], ◌∷◌, ◌++◌, Bool, true, false, refl, sym, ap, ◌∙◌, subst, arith, append-nil, append_assoc}
+use Rattle.std.proofs.Common.{◌≡◌, ◌≤◌, List, [], ◌∷◌, ◌++◌, Bool, true, false, refl, sym, ap, ◌∙◌}
+use Rattle.std.proofs.Common.{subst, arith, append-nil, append_assoc}
 use Rattle.vyrd_base.specs.declared.history.Stamped.{Stamped}
 use Rattle.vyrd_relay.specs.Ends.{ReceiverView, with_popped}
 use Rattle.vyrd_verifier.specs.Taken.{SequencerView, has_failed, HasTakenIn, MayRefuse}
 use Rattle.vyrd_live.specs.declared.watch.Watch.{Watch}
-use Rattle.vyrd_live.specs.Beside.{HasWatched, StaysFixed, TakesIn, GoesOn, HasTakenAll, IsSetAsideFor}
+use Rattle.vyrd_live.specs.Beside.{HasWatched, StaysFixed, TakesIn, GoesOn, HasTakenAll}
+use Rattle.vyrd_live.specs.Beside.{IsSetAsideFor}
 
 module _ {S F : Type 0} (has_taken : S → List Stamped → Type 0) (fixed : S → F) where
   -- nothing came
-  pub goes_on_same : (w after : Watch S) → after.receiver ≡ w.receiver → after.stands ≡ w.stands → after.sequencer ≡ w.sequencer
+  pub goes_on_same : (w after : Watch S) → after.receiver ≡ w.receiver → after.stands ≡ w.stands
+      → after.sequencer ≡ w.sequencer
       → after.callers ≡ w.callers → after.taken ≡ w.taken → GoesOn has_taken fixed w after
   goes_on_same w after receiver stands sequencer callers taken = record {
     same = record {
@@ -19,7 +22,8 @@ module _ {S F : Type 0} (has_taken : S → List Stamped → Type 0) (fixed : S �
     takes_in = record {
       watched = λ before now.
           let b = before (sym stands ∙ now) in
-          subst (λ (x : SequencerView S × List Stamped). (has_failed x.0 ≡ false) × HasTakenIn has_taken x.0 x.1)
+          subst (λ (x : SequencerView S × List Stamped). (has_failed x.0 ≡ false)
+          × HasTakenIn has_taken x.0 x.1)
           (λ i. (sym sequencer i, sym (ap (λ (r : ReceiverView). r.had) receiver) i)) b;
       fixed_is = λ now. (sym stands ∙ now, ap (λ (q : SequencerView S). fixed q.sink) sequencer);
       callers = callers;
@@ -39,22 +43,28 @@ module _ {S F : Type 0} (has_taken : S → List Stamped → Type 0) (fixed : S �
   }
 
   -- after some events one more came
-  pub one_more : (before now after : Watch S) (events : List Stamped) (event : Stamped) → HasTakenAll has_taken fixed before now events
+  pub one_more : (before now after : Watch S) (events : List Stamped) (event : Stamped)
+      → HasTakenAll has_taken fixed before now events
       → after.receiver ≡ now.receiver
-      → ((taken : List Stamped) → HasWatched has_taken now taken → HasWatched has_taken after (taken ++ event ∷ []))
+      → ((taken : List Stamped) → HasWatched has_taken now taken → HasWatched has_taken after
+      (taken ++ event ∷ []))
       → StaysFixed fixed now after
-      → (now.stands ≡ true → after.stands ≡ false → MayRefuse now.sequencer after.sequencer event.number)
+      → (now.stands ≡ true → after.stands ≡ false
+      → MayRefuse now.sequencer after.sequencer event.number)
       → (now.stands ≡ false → after ≡ now) → after.callers ≡ now.callers → now.taken ≤ after.taken
       → HasTakenAll has_taken fixed before after (events ++ event ∷ [])
-  one_more before now after events event all same watched fixed_is may_refuse stays callers counted = record {
-    same = same ∙ all.same;
-    watched = λ taken stood. subst (HasWatched has_taken after) (append_assoc taken events (event ∷ []))
-        (watched (taken ++ events) (all.watched taken stood));
-    fixed_is = λ stands. let y = fixed_is stands in let x = all.fixed_is y.0 in (x.0, y.1 ∙ x.1);
-    callers = callers ∙ all.callers;
-    counted = omega (arith, all.counted, counted);
-    set_aside = λ stood fell. by_now now.stands refl stood fell;
-  }
+  one_more before now after events event all same watched fixed_is may_refuse stays callers
+      counted = record {
+        same = same ∙ all.same;
+        watched = λ taken stood. subst (HasWatched has_taken after)
+            (append_assoc taken events (event ∷ []))
+            (watched (taken ++ events) (all.watched taken stood));
+        fixed_is = λ stands. let y = fixed_is stands in let x = all.fixed_is y.0 in
+            (x.0, y.1 ∙ x.1);
+        callers = callers ∙ all.callers;
+        counted = omega (arith, all.counted, counted);
+        set_aside = λ stood fell. by_now now.stands refl stood fell;
+      }
     where
       by_now : (b : Bool) → now.stands ≡ b → before.stands ≡ true → after.stands ≡ false
           → IsSetAsideFor has_taken before after (events ++ event ∷ [])
@@ -73,17 +83,23 @@ module _ {S F : Type 0} (has_taken : S → List Stamped → Type 0) (fixed : S �
             front = s.front;
             event = s.event;
             behind = s.behind ++ event ∷ [];
-            whole = ap (λ (l : List Stamped). l ++ event ∷ []) s.whole ∙ append_assoc s.front (s.event ∷ s.behind) (event ∷ []);
+            whole = ap (λ (l : List Stamped). l ++ event ∷ []) s.whole
+                ∙ append_assoc s.front (s.event ∷ s.behind) (event ∷ []);
             last = s.last;
             stood = s.stood;
             watched = s.watched;
-            may_refuse = subst (λ (w : Watch S). MayRefuse s.last.sequencer w.sequencer s.event.number) (sym (stays gone)) s.may_refuse;
+            may_refuse =
+                subst (λ (w : Watch S). MayRefuse s.last.sequencer w.sequencer s.event.number)
+                (sym (stays gone)) s.may_refuse;
           }
 
   -- these events came, and were taken in
-  pub goes_on_with : (w after : Watch S) (events : List Stamped) → after.receiver ≡ with_popped w.receiver events
-      → (HasWatched has_taken w w.receiver.had → HasWatched has_taken after (w.receiver.had ++ events))
-      → StaysFixed fixed w after → after.callers ≡ w.callers → w.taken ≤ after.taken → GoesOn has_taken fixed w after
+  pub goes_on_with : (w after : Watch S) (events : List Stamped) → after.receiver
+      ≡ with_popped w.receiver events
+      → (HasWatched has_taken w w.receiver.had → HasWatched has_taken after
+      (w.receiver.had ++ events))
+      → StaysFixed fixed w after → after.callers ≡ w.callers → w.taken ≤ after.taken
+      → GoesOn has_taken fixed w after
   goes_on_with w after events receiver watched fixed_is callers counted = record {
     same = record {
       queue = ap (λ (r : ReceiverView). r.queue) receiver;
@@ -91,7 +107,8 @@ module _ {S F : Type 0} (has_taken : S → List Stamped → Type 0) (fixed : S �
       settled = ap (λ (r : ReceiverView). r.settled) receiver;
     };
     takes_in = record {
-      watched = λ before. subst (HasWatched has_taken after) (sym (ap (λ (r : ReceiverView). r.had) receiver)) (watched before);
+      watched = λ before. subst (HasWatched has_taken after)
+          (sym (ap (λ (r : ReceiverView). r.had) receiver)) (watched before);
       fixed_is = fixed_is;
       callers = callers;
       counted = counted;
@@ -99,7 +116,8 @@ module _ {S F : Type 0} (has_taken : S → List Stamped → Type 0) (fixed : S �
   }
 
   -- one step after another
-  pub takes_in_then : (first next last : Watch S) → TakesIn has_taken fixed first next → TakesIn has_taken fixed next last
+  pub takes_in_then : (first next last : Watch S) → TakesIn has_taken fixed first next
+      → TakesIn has_taken fixed next last
       → TakesIn has_taken fixed first last
   takes_in_then first next last a b = record {
     watched = λ before. b.watched (a.watched before);
@@ -108,7 +126,8 @@ module _ {S F : Type 0} (has_taken : S → List Stamped → Type 0) (fixed : S �
     counted = omega (arith, a.counted, b.counted);
   }
 
-  pub goes_on_then : (first next last : Watch S) → GoesOn has_taken fixed first next → GoesOn has_taken fixed next last
+  pub goes_on_then : (first next last : Watch S) → GoesOn has_taken fixed first next
+      → GoesOn has_taken fixed next last
       → GoesOn has_taken fixed first last
   goes_on_then first next last a b = record {
     same = record {

@@ -1,6 +1,7 @@
 -- A script that is played on a hand: what comes next may be done, and it stays so.
 use Rattle.std.proofs.Common.{◌≡◌, ◌≢◌, ℕ, ◌+◌, ◌<◌, ◌≤◌, ◌^◌, Bool, true, false, not, cond, ◌&&◌}
-use Rattle.std.proofs.Common.{◌||◌, List, [], ◌∷◌, Some, None, refl, ap, ◌∙◌, sym, subst, arith, eq-eqb, ne_eqb}
+use Rattle.std.proofs.Common.{◌||◌, List, [], ◌∷◌, Some, None, refl, ap, ◌∙◌, sym, subst, arith}
+use Rattle.std.proofs.Common.{eq-eqb, ne_eqb}
 use Rattle.std.specs.Prelude.{nat_lt, nat_le, ◌==◌, is_some, is_none, filter}
 use Rattle.std.specs.List.{list_any}
 use Rattle.std.proofs.Math.Logic.{∥∥₁_elim, ∥∥₁_map}
@@ -9,17 +10,21 @@ use mathlib.Core.Logic.{dite}
 use native.Mathlib.Decide.{ℕ_discrete}
 use Rattle.vyrd_base.specs.declared.header.Header.{Header}
 use Rattle.vyrd_base.specs.declared.log.Kind.{Kind}
-use Rattle.vyrd_base.specs.declared.log.Kind.TheVariants.{Call, Return, Write, Commit, BlockOpen, BlockClose, BlockCommit}
+use Rattle.vyrd_base.specs.declared.log.Kind.TheVariants.{Call, Return, Write, Commit, BlockOpen}
+use Rattle.vyrd_base.specs.declared.log.Kind.TheVariants.{BlockClose, BlockCommit}
 use Rattle.vyrd_base.specs.declared.history.Did.{Did}
 use Rattle.vyrd_base.specs.declared.history.Did.TheVariants.{Read, Wrote, Took, Gave, Marked}
 use Rattle.vyrd_base.specs.Layout.{plain_words, lock_words}
 use Rattle.vyrd_base.specs.Histories.{cells_of, is_plain, is_lock, is_write, made_of}
 use Rattle.vyrd_base.specs.Subjects.{same_subject, subject_of, are_args}
-use Rattle.vyrd_base.proofs.TestLaws.{both_true, first_true, second_true, below_of, same_of, at_most_of}
+use Rattle.vyrd_base.proofs.TestLaws.{both_true, first_true, second_true, below_of, same_of}
+use Rattle.vyrd_base.proofs.TestLaws.{at_most_of}
 use Rattle.vyrd_memory.specs.declared.act.Act.{Act}
 use Rattle.vyrd_memory.specs.declared.act.Act.TheVariants.{Load, Store, Take, Give, Mark, Done}
-use Rattle.vyrd_memory.specs.Scripts.{Script, stop, step, next_act, after_answer, event_of, is_stop, is_between}
-use Rattle.vyrd_memory.specs.Soundness.{Situation, IsSound, IsSoundSomewhere, at_rest, holds, is_nil, is_at_rest, may_act, after_act}
+use Rattle.vyrd_memory.specs.Scripts.{Script, stop, step, next_act, after_answer, event_of, is_stop}
+use Rattle.vyrd_memory.specs.Scripts.{is_between}
+use Rattle.vyrd_memory.specs.Soundness.{Situation, IsSound, IsSoundSomewhere, at_rest, holds}
+use Rattle.vyrd_memory.specs.Soundness.{is_nil, is_at_rest, may_act, after_act}
 use Rattle.vyrd_memory.specs.Laws.Underway.{stop_of}
 use Rattle.vyrd_trace.specs.declared.plan.Plan.{Plan}
 use Rattle.vyrd_trace.specs.declared.look.Look.{Look}
@@ -35,11 +40,13 @@ may_test : Plan → HandView → Act → Bool
 may_test plan hand (Load cell) = nat_lt cell plan.plain
 may_test plan hand (Store cell value) = nat_lt cell plan.plain && nat_lt value (2 ^ 63)
 may_test plan hand (Take lock) = nat_le plan.plain lock && nat_lt lock (plan.plain + plan.locks)
-may_test plan hand (Give lock) = (nat_le plan.plain lock && nat_lt lock (plan.plain + plan.locks)) && (last_value hand.lane lock == hand.caller + 1)
+may_test plan hand (Give lock) = (nat_le plan.plain lock && nat_lt lock (plan.plain + plan.locks))
+    && (last_value hand.lane lock == hand.caller + 1)
 may_test plan hand (Mark kind) = not (is_write kind)
 may_test plan hand Done = false
 
-tested : (plan : Plan) (hand : HandView) (act : Act) → may_test plan hand act ≡ true → MayAct plan hand act
+tested : (plan : Plan) (hand : HandView) (act : Act) → may_test plan hand act ≡ true
+    → MayAct plan hand act
 unfolding may_test
 tested plan hand (Load cell) e = below_of cell plan.plain e
 tested plan hand (Store cell value) e = (
@@ -48,16 +55,22 @@ tested plan hand (Store cell value) e = (
       (second_true (nat_lt cell plan.plain) (nat_lt value (2 ^ 63)) e),
 )
 tested plan hand (Take lock) e = (
-  at_most_of plan.plain lock (first_true (nat_le plan.plain lock) (nat_lt lock (plan.plain + plan.locks)) e),
+  at_most_of plan.plain lock
+      (first_true (nat_le plan.plain lock) (nat_lt lock (plan.plain + plan.locks)) e),
   below_of lock (plan.plain + plan.locks)
       (second_true (nat_le plan.plain lock) (nat_lt lock (plan.plain + plan.locks)) e),
 )
 tested plan hand (Give lock) e =
-    let lock_is : (nat_le plan.plain lock && nat_lt lock (plan.plain + plan.locks)) ≡ true = first_true
-    (nat_le plan.plain lock && nat_lt lock (plan.plain + plan.locks)) (last_value hand.lane lock == hand.caller + 1) e in (
-      at_most_of plan.plain lock (first_true (nat_le plan.plain lock) (nat_lt lock (plan.plain + plan.locks)) lock_is),
-      below_of lock (plan.plain + plan.locks) (second_true (nat_le plan.plain lock) (nat_lt lock (plan.plain + plan.locks)) lock_is),
-      same_of (last_value hand.lane lock) (hand.caller + 1) (second_true (nat_le plan.plain lock && nat_lt lock (plan.plain + plan.locks))
+    let lock_is : (nat_le plan.plain lock && nat_lt lock (plan.plain + plan.locks))
+    ≡ true = first_true
+    (nat_le plan.plain lock && nat_lt lock (plan.plain + plan.locks))
+    (last_value hand.lane lock == hand.caller + 1) e in (
+      at_most_of plan.plain lock
+          (first_true (nat_le plan.plain lock) (nat_lt lock (plan.plain + plan.locks)) lock_is),
+      below_of lock (plan.plain + plan.locks)
+          (second_true (nat_le plan.plain lock) (nat_lt lock (plan.plain + plan.locks)) lock_is),
+      same_of (last_value hand.lane lock) (hand.caller + 1)
+          (second_true (nat_le plan.plain lock && nat_lt lock (plan.plain + plan.locks))
           (last_value hand.lane lock == hand.caller + 1) e),
     )
 tested plan hand (Mark kind) e = negated (is_write kind) e
@@ -71,15 +84,18 @@ tested plan hand Done e = cc_of e
     cc_of e = cc
 
 -- an act that a sound script does is within the plan
-plain_of : (h : Header) (plan : Plan) (cell : ℕ) → IsMemoryOf h plan → is_plain (cells_of h) cell ≡ true → nat_lt cell plan.plain ≡ true
+plain_of : (h : Header) (plan : Plan) (cell : ℕ) → IsMemoryOf h plan → is_plain (cells_of h) cell
+    ≡ true → nat_lt cell plan.plain ≡ true
 plain_of h plan cell is e = ap (λ n. nat_lt cell n) is.plain ∙ e
 
-lock_of : (h : Header) (plan : Plan) (lock : ℕ) → IsMemoryOf h plan → is_lock (cells_of h) lock ≡ true
+lock_of : (h : Header) (plan : Plan) (lock : ℕ) → IsMemoryOf h plan → is_lock (cells_of h) lock
+    ≡ true
     → (nat_le plan.plain lock && nat_lt lock (plan.plain + plan.locks)) ≡ true
 lock_of h plan lock is e = ap (λ n. nat_le n lock && nat_lt lock (n + plan.locks)) is.plain ∙ ap
     (λ n. nat_le (plain_words h) lock && nat_lt lock (plain_words h + n)) is.locks ∙ e
 
-no_write : (h : Header) (s : Situation) (kind : Kind) → may_act h s (Mark kind) ≡ true → not (is_write kind) ≡ true
+no_write : (h : Header) (s : Situation) (kind : Kind) → may_act h s (Mark kind) ≡ true
+    → not (is_write kind) ≡ true
 no_write h s (Call method args) may = refl
 no_write h s (Return reply) may = refl
 no_write h s (Write word value) may = cc
@@ -88,43 +104,54 @@ no_write h s BlockOpen may = refl
 no_write h s BlockClose may = refl
 no_write h s BlockCommit may = refl
 
-may_of : (h : Header) (plan : Plan) (hand : HandView) (s : Situation) (act : Act) → IsMemoryOf h plan
+may_of : (h : Header) (plan : Plan) (hand : HandView) (s : Situation) (act : Act)
+    → IsMemoryOf h plan
     → ((lock : ℕ) → holds s lock ≡ true → (plain_words h ≤ lock) × Holds hand lock)
     → may_act h s act ≡ true → may_test plan hand act ≡ true
 unfolding may_test
 may_of h plan hand s (Load cell) is held may = plain_of h plan cell is may
 may_of h plan hand s (Store cell value) is held may =
     let both : (is_plain (cells_of h) cell && nat_lt value (2 ^ 63))
-    ≡ true = first_true (is_plain (cells_of h) cell && nat_lt value (2 ^ 63)) (is_some s.called) may in
+    ≡ true = first_true (is_plain (cells_of h) cell && nat_lt value (2 ^ 63))
+    (is_some s.called) may in
     both_true (nat_lt cell plan.plain) (nat_lt value (2 ^ 63))
     (plain_of h plan cell is (first_true (is_plain (cells_of h) cell) (nat_lt value (2 ^ 63)) both))
     (second_true (is_plain (cells_of h) cell) (nat_lt value (2 ^ 63)) both)
-may_of h plan hand s (Take lock) is held may = lock_of h plan lock is (first_true (is_lock (cells_of h) lock) (not (holds s lock)) may)
+may_of h plan hand s (Take lock) is held may = lock_of h plan lock is
+    (first_true (is_lock (cells_of h) lock) (not (holds s lock)) may)
 may_of h plan hand s (Give lock) is held may =
-    both_true (nat_le plan.plain lock && nat_lt lock (plan.plain + plan.locks)) (last_value hand.lane lock == hand.caller + 1)
+    both_true (nat_le plan.plain lock && nat_lt lock (plan.plain + plan.locks))
+    (last_value hand.lane lock == hand.caller + 1)
     (lock_of h plan lock is (first_true (is_lock (cells_of h) lock) (holds s lock) may))
-    (eq-eqb (last_value hand.lane lock) (hand.caller + 1) (held lock (second_true (is_lock (cells_of h) lock) (holds s lock) may)).1)
+    (eq-eqb (last_value hand.lane lock) (hand.caller + 1)
+    (held lock (second_true (is_lock (cells_of h) lock) (holds s lock) may)).1)
 may_of h plan hand s (Mark kind) is held may = no_write h s kind may
 may_of h plan hand s Done is held may = may
 
-next_test : (h : Header) (plan : Plan) (left : Script) (hand : HandView) → IsMemoryOf h plan → next_act left ≢ Done → FitsHand h left hand
+next_test : (h : Header) (plan : Plan) (left : Script) (hand : HandView) → IsMemoryOf h plan
+    → next_act left ≢ Done → FitsHand h left hand
     → may_test plan hand (next_act left) ≡ true
 next_test h plan stop hand is goes fits = absurd (goes refl)
-next_test h plan (step act rest) hand is goes fits = may_of h plan hand fits.situation act is fits.held fits.sound.0
+next_test h plan (step act rest) hand is goes fits = may_of h plan hand fits.situation act is
+    fits.held fits.sound.0
 
 -- what comes next may be done
-pub next_may : (h : Header) (plan : Plan) (left : Script) (hand : HandView) → IsMemoryOf h plan → next_act left ≢ Done → ∥ FitsHand h left hand ∥₁
+pub next_may : (h : Header) (plan : Plan) (left : Script) (hand : HandView) → IsMemoryOf h plan
+    → next_act left ≢ Done → ∥ FitsHand h left hand ∥₁
     → MayAct plan hand (next_act left)
-next_may h plan left hand is goes fits = tested plan hand (next_act left) (∥∥₁_elim fits (Bool-set _ _) (next_test h plan left hand is goes))
+next_may h plan left hand is goes fits = tested plan hand (next_act left)
+    (∥∥₁_elim fits (Bool-set _ _) (next_test h plan left hand is goes))
 
 -- a lock that is held of those that are left when another one is given back
-other_held : (lock given : ℕ) (locks : List ℕ) → list_any (λ held. held == lock) (filter (λ held. not (held == given)) locks) ≡ true
+other_held : (lock given : ℕ) (locks : List ℕ) → list_any (λ held. held == lock)
+    (filter (λ held. not (held == given)) locks) ≡ true
     → (list_any (λ held. held == lock) locks ≡ true) × (given ≢ lock)
 other_held lock given [] e = absurd (cc_of e)
   where
     cc_of : false ≡ true → ⊥
     cc_of e = cc
-other_held lock given (x ∷ xs) e = by_given (x == given) refl (x == lock) refl (other_held lock given xs)
+other_held lock given (x ∷ xs) e = by_given (x == given) refl (x == lock) refl
+    (other_held lock given xs)
   where
     rest : List ℕ
     rest = filter (λ held. not (held == given)) xs
@@ -134,11 +161,15 @@ other_held lock given (x ∷ xs) e = by_given (x == given) refl (x == lock) refl
         → (list_any (λ held. held == lock) xs ≡ true) × (given ≢ lock))
         → (list_any (λ held. held == lock) (x ∷ xs) ≡ true) × (given ≢ lock)
     by_given true is true here later =
-        let l = later (sym (ap (λ b. list_any (λ held. held == lock) (cond (not b) (x ∷ filter (λ held. not (held == given)) xs)
+        let l = later
+        (sym (ap (λ b. list_any (λ held. held == lock)
+        (cond (not b) (x ∷ filter (λ held. not (held == given)) xs)
         (filter (λ held. not (held == given)) xs))) is) ∙ e) in
         (ap (λ b. b || list_any (λ held. held == lock) xs) here, l.1)
     by_given true is false here later =
-        let l = later (sym (ap (λ b. list_any (λ held. held == lock) (cond (not b) (x ∷ filter (λ held. not (held == given)) xs)
+        let l = later
+        (sym (ap (λ b. list_any (λ held. held == lock)
+        (cond (not b) (x ∷ filter (λ held. not (held == given)) xs)
         (filter (λ held. not (held == given)) xs))) is) ∙ e) in
         (ap (λ b. b || list_any (λ held. held == lock) xs) here ∙ l.0, l.1)
     by_given false is true here later = (
@@ -147,10 +178,14 @@ other_held lock given (x ∷ xs) e = by_given (x == given) refl (x == lock) refl
           (eq-eqb x given (x_is ∙ sym e)) ∙ is in cc,
     )
     by_given false is false here later =
-        let kept : list_any (λ held. held == lock) (x ∷ filter (λ held. not (held == given)) xs) ≡ true =
+        let kept : list_any (λ held. held == lock) (x ∷ filter (λ held. not (held == given)) xs)
+        ≡ true =
         sym (ap (λ b. list_any (λ held. held == lock)
-        (cond (not b) (x ∷ filter (λ held. not (held == given)) xs) (filter (λ held. not (held == given)) xs))) is) ∙ e in
-        let l = later (sym (ap (λ b. b || list_any (λ held. held == lock) (filter (λ held. not (held == given)) xs)) here) ∙ kept) in
+        (cond (not b) (x ∷ filter (λ held. not (held == given)) xs)
+        (filter (λ held. not (held == given)) xs))) is) ∙ e in
+        let l = later
+        (sym (ap (λ b. b || list_any (λ held. held == lock)
+        (filter (λ held. not (held == given)) xs)) here) ∙ kept) in
         (ap (λ b. b || list_any (λ held. held == lock) xs) here ∙ l.0, l.1)
 
 -- the hand holds these locks
@@ -158,8 +193,10 @@ abbrev AreHeld : Header → Situation → HandView → Type 0
 AreHeld h s hand = (lock : ℕ) → holds s lock ≡ true → (plain_words h ≤ lock) × Holds hand lock
 
 still_held : (h : Header) (s : Situation) (hand : HandView) (number : ℕ) (did : Did) (look : Look)
-    → ((lock : ℕ) → plain_words h ≤ lock → made_of lock hand.caller did ≡ None) → AreHeld h s hand → AreHeld h s (with_one_more hand number did look)
-still_held h s hand number did look apart held lock e = let l = held lock e in (l.0, holds-still hand lock number did look (apart lock l.0) l.1)
+    → ((lock : ℕ) → plain_words h ≤ lock → made_of lock hand.caller did ≡ None) → AreHeld h s hand
+    → AreHeld h s (with_one_more hand number did look)
+still_held h s hand number did look apart held lock e = let l = held lock e in
+    (l.0, holds-still hand lock number did look (apart lock l.0) l.1)
 
 no_lock : (h : Header) (hand : HandView) → AreHeld h at_rest hand
 no_lock h hand lock e = absurd (cc_of e)
@@ -167,29 +204,36 @@ no_lock h hand lock e = absurd (cc_of e)
     cc_of : false ≡ true → ⊥
     cc_of e = cc
 
-stored_apart : (h : Header) (cell value lock caller : ℕ) → is_plain (cells_of h) cell ≡ true → plain_words h ≤ lock
+stored_apart : (h : Header) (cell value lock caller : ℕ) → is_plain (cells_of h) cell ≡ true
+    → plain_words h ≤ lock
     → made_of lock caller (Wrote cell value) ≡ None
 stored_apart h cell value lock caller plain le =
     let low : cell < plain_words h = below_of cell (plain_words h) plain in
-    let apart : cell ≢ lock = λ e. omega arith in ap (λ b. cond b (Some value) None) (ne_eqb cell lock apart)
+    let apart : cell ≢ lock = λ e. omega arith in ap (λ b. cond b (Some value) None)
+    (ne_eqb cell lock apart)
 
 -- each act leaves the hand with the locks that it should hold
-held_after : (h : Header) (s : Situation) (act : Act) (answer : ℕ) (did : Did) (number : ℕ) (look : Look) (hand : HandView) → may_act h s act ≡ true
+held_after : (h : Header) (s : Situation) (act : Act) (answer : ℕ) (did : Did) (number : ℕ)
+    (look : Look) (hand : HandView) → may_act h s act ≡ true
     → event_of act answer ≡ Some did
     → AreHeld h s hand → AreHeld h (after_act s act) (with_one_more hand number did look)
 held_after h s (Load cell) answer did number look hand may e held =
     let is : Read cell answer ≡ did = cc in
-    subst (λ did. AreHeld h s (with_one_more hand number did look)) is (still_held h s hand number (Read cell answer) look (λ lock le. refl) held)
+    subst (λ did. AreHeld h s (with_one_more hand number did look)) is
+    (still_held h s hand number (Read cell answer) look (λ lock le. refl) held)
 held_after h s (Store cell value) answer did number look hand may e held =
     let is : Wrote cell value ≡ did = cc in
     let plain = first_true (is_plain (cells_of h) cell) (nat_lt value (2 ^ 63))
     (first_true (is_plain (cells_of h) cell && nat_lt value (2 ^ 63)) (is_some s.called) may) in
-    subst (λ did. AreHeld h s (with_one_more hand number did look)) is (still_held h s hand number (Wrote cell value) look
+    subst (λ did. AreHeld h s (with_one_more hand number did look)) is
+    (still_held h s hand number (Wrote cell value) look
     (λ lock le. stored_apart h cell value lock hand.caller plain le) held)
 held_after h s (Take taken) answer did number look hand may e held =
     let is : Took taken ≡ did = cc in
-    subst (λ did. AreHeld h (after_act s (Take taken)) (with_one_more hand number did look)) is (λ lock some. dite (ℕ_discrete taken lock)
-    (λ here. subst (λ lock. (plain_words h ≤ lock) × Holds (with_one_more hand number (Took taken) look) lock) here (
+    subst (λ did. AreHeld h (after_act s (Take taken)) (with_one_more hand number did look)) is
+    (λ lock some. dite (ℕ_discrete taken lock)
+    (λ here. subst
+    (λ lock. (plain_words h ≤ lock) × Holds (with_one_more hand number (Took taken) look) lock) here (
       is_high,
       holds-taken hand taken number look,
     ))
@@ -197,30 +241,39 @@ held_after h s (Take taken) answer did number look hand may e held =
     (l.0, (holds-beside hand lock taken number look no l.1).0)))
   where
     is_high : plain_words h ≤ taken
-    is_high = at_most_of (plain_words h) taken (first_true (nat_le (plain_words h) taken) (nat_lt taken (plain_words h + lock_words h))
+    is_high = at_most_of (plain_words h) taken
+        (first_true (nat_le (plain_words h) taken) (nat_lt taken (plain_words h + lock_words h))
         (first_true (is_lock (cells_of h) taken) (not (holds s taken)) may))
 held_after h s (Give given) answer did number look hand may e held =
     let is : Gave given ≡ did = cc in
     subst (λ did. AreHeld h (after_act s (Give given)) (with_one_more hand number did look)) is
-    (λ lock some. let o = other_held lock given s.locks some in let l = held lock o.0 in (l.0, (holds-beside hand lock given number look o.1 l.1).1))
-held_after h s (Mark (Call method args)) answer did number look hand may e held = no_lock h (with_one_more hand number did look)
-held_after h s (Mark (Return reply)) answer did number look hand may e held = no_lock h (with_one_more hand number did look)
+    (λ lock some. let o = other_held lock given s.locks some in let l = held lock o.0 in
+    (l.0, (holds-beside hand lock given number look o.1 l.1).1))
+held_after h s (Mark (Call method args)) answer did number look hand may e held = no_lock h
+    (with_one_more hand number did look)
+held_after h s (Mark (Return reply)) answer did number look hand may e held = no_lock h
+    (with_one_more hand number did look)
 held_after h s (Mark (Write word value)) answer did number look hand may e held = cc
 held_after h s (Mark Commit) answer did number look hand may e held =
-    let is : Marked Commit ≡ did = cc in subst (λ did. AreHeld h s (with_one_more hand number did look)) is
+    let is : Marked Commit ≡ did = cc in
+    subst (λ did. AreHeld h s (with_one_more hand number did look)) is
     (still_held h s hand number (Marked Commit) look (λ lock le. refl) held)
 held_after h s (Mark BlockOpen) answer did number look hand may e held =
-    let is : Marked BlockOpen ≡ did = cc in subst (λ did. AreHeld h s (with_one_more hand number did look)) is
+    let is : Marked BlockOpen ≡ did = cc in
+    subst (λ did. AreHeld h s (with_one_more hand number did look)) is
     (still_held h s hand number (Marked BlockOpen) look (λ lock le. refl) held)
 held_after h s (Mark BlockClose) answer did number look hand may e held =
-    let is : Marked BlockClose ≡ did = cc in subst (λ did. AreHeld h s (with_one_more hand number did look)) is
+    let is : Marked BlockClose ≡ did = cc in
+    subst (λ did. AreHeld h s (with_one_more hand number did look)) is
     (still_held h s hand number (Marked BlockClose) look (λ lock le. refl) held)
 held_after h s (Mark BlockCommit) answer did number look hand may e held =
-    let is : Marked BlockCommit ≡ did = cc in subst (λ did. AreHeld h s (with_one_more hand number did look)) is
+    let is : Marked BlockCommit ≡ did = cc in
+    subst (λ did. AreHeld h s (with_one_more hand number did look)) is
     (still_held h s hand number (Marked BlockCommit) look (λ lock le. refl) held)
 held_after h s Done answer did number look hand may e held = cc
 
-fits_after : (h : Header) (left : Script) (hand now : HandView) (answer : ℕ) → HasActed (next_act left) answer hand now → FitsHand h left hand
+fits_after : (h : Header) (left : Script) (hand now : HandView) (answer : ℕ)
+    → HasActed (next_act left) answer hand now → FitsHand h left hand
     → FitsHand h (after_answer left answer) now
 fits_after h stop hand now answer acted fits = none acted.event
   where
@@ -230,28 +283,37 @@ fits_after h (step act rest) hand now answer acted fits = record {
   situation = after_act fits.situation act;
   sound = fits.sound.1 answer acted.answered;
   held = subst (AreHeld h (after_act fits.situation act)) (sym acted.hand)
-      (held_after h fits.situation act answer acted.did acted.number now.look hand fits.sound.0 acted.event fits.held);
+      (held_after h fits.situation act answer acted.did acted.number now.look hand fits.sound.0
+      acted.event fits.held);
 }
 
 -- what is left after the act can be played on
-pub fits_on : (h : Header) (left : Script) (hand now : HandView) (answer : ℕ) → HasActed (next_act left) answer hand now → ∥ FitsHand h left hand ∥₁
+pub fits_on : (h : Header) (left : Script) (hand now : HandView) (answer : ℕ)
+    → HasActed (next_act left) answer hand now → ∥ FitsHand h left hand ∥₁
     → ∥ FitsHand h (after_answer left answer) now ∥₁
 fits_on h left hand now answer acted fits = ∥∥₁_map fits (fits_after h left hand now answer acted)
 
 -- room alone changes nothing
-pub fits_with_room : (h : Header) (left : Script) (hand now : HandView) → now ≡ with_spare hand now.spare
+pub fits_with_room : (h : Header) (left : Script) (hand now : HandView)
+    → now ≡ with_spare hand now.spare
     → ∥ FitsHand h left hand ∥₁ → ∥ FitsHand h left now ∥₁
 fits_with_room h left hand now is fits =
-    ∥∥₁_map fits (λ s. subst (FitsHand h left) (sym is) (record { situation = s.situation; sound = s.sound; held = s.held }))
+    ∥∥₁_map fits
+    (λ s. subst (FitsHand h left) (sym is)
+    (record { situation = s.situation; sound = s.sound; held = s.held }))
 
 -- so does what the hand keeps of its lane
-pub fits_kept : (h : Header) (left : Script) (forgotten : ℕ) (hand now : HandView) → now ≡ with_forgotten hand forgotten
+pub fits_kept : (h : Header) (left : Script) (forgotten : ℕ) (hand now : HandView)
+    → now ≡ with_forgotten hand forgotten
     → ∥ FitsHand h left hand ∥₁ → ∥ FitsHand h left now ∥₁
 fits_kept h left forgotten hand now is fits =
-    ∥∥₁_map fits (λ s. subst (FitsHand h left) (sym is) (record { situation = s.situation; sound = s.sound; held = s.held }))
+    ∥∥₁_map fits
+    (λ s. subst (FitsHand h left) (sym is)
+    (record { situation = s.situation; sound = s.sound; held = s.held }))
 
 -- between operations no lock is held
-none_held : (h : Header) (s : Situation) (left : Script) → is_between left ≡ true → IsSound h s left → is_nil s.locks ≡ true
+none_held : (h : Header) (s : Situation) (left : Script) → is_between left ≡ true → IsSound h s left
+    → is_nil s.locks ≡ true
 none_held h s stop between sound = ap (λ (s : Situation). is_nil s.locks) sound
 none_held h s (step (Load cell) rest) between sound = cc
 none_held h s (step (Store cell value) rest) between sound = cc
@@ -262,9 +324,11 @@ none_held h s (step Done rest) between sound = absurd (cc_of sound.0)
     cc_of : false ≡ true → ⊥
     cc_of e = cc
 none_held h s (step (Mark (Call method args)) rest) between sound =
-    let rests : is_at_rest s ≡ true = second_true (same_subject (subject_of method) h.subject && are_args h.size method args)
+    let rests : is_at_rest s ≡ true = second_true (same_subject (subject_of method) h.subject
+    && are_args h.size method args)
     (is_at_rest s) sound.0 in
-    first_true (is_nil s.locks) (is_none s.called) (first_true (is_nil s.locks && is_none s.called) (not s.committed)
+    first_true (is_nil s.locks) (is_none s.called)
+    (first_true (is_nil s.locks && is_none s.called) (not s.committed)
     (first_true (is_nil s.locks && is_none s.called && not s.committed) (not s.in_block) rests))
 none_held h s (step (Mark (Return reply)) rest) between sound = cc
 none_held h s (step (Mark (Write word value)) rest) between sound = cc
@@ -273,25 +337,33 @@ none_held h s (step (Mark BlockOpen) rest) between sound = cc
 none_held h s (step (Mark BlockClose) rest) between sound = cc
 none_held h s (step (Mark BlockCommit) rest) between sound = cc
 
-fits_first : (h : Header) (left : Script) (hand : HandView) → is_between left ≡ true → (s : Situation) × IsSound h s left → FitsHand h left hand
+fits_first : (h : Header) (left : Script) (hand : HandView) → is_between left ≡ true
+    → (s : Situation) × IsSound h s left → FitsHand h left hand
 fits_first h left hand between sound = record {
   situation = sound.0;
   sound = sound.1;
-  held = λ lock e. absurd (no_locks sound.0.locks lock (none_held h sound.0 left between sound.1) e);
+  held = λ lock e. absurd
+      (no_locks sound.0.locks lock (none_held h sound.0 left between sound.1) e);
 }
   where
-    no_locks : (locks : List ℕ) (lock : ℕ) → is_nil locks ≡ true → list_any (λ held. held == lock) locks ≡ true → ⊥
+    no_locks : (locks : List ℕ) (lock : ℕ) → is_nil locks ≡ true
+        → list_any (λ held. held == lock) locks ≡ true → ⊥
     no_locks [] lock none e = cc
     no_locks (x ∷ xs) lock none e = cc
 
 -- a sound script that hasn't begun can be played
-pub fits_fresh : (h : Header) (left : Script) (hand : HandView) → is_between left ≡ true → IsSoundSomewhere h left → ∥ FitsHand h left hand ∥₁
+pub fits_fresh : (h : Header) (left : Script) (hand : HandView) → is_between left ≡ true
+    → IsSoundSomewhere h left → ∥ FitsHand h left hand ∥₁
 fits_fresh h left hand between sound = ∥∥₁_map sound (fits_first h left hand between)
 
 -- if nothing comes next, nothing is left
-nothing : (h : Header) (left : Script) (hand : HandView) → next_act left ≡ Done → FitsHand h left hand → is_stop left ≡ true
+nothing : (h : Header) (left : Script) (hand : HandView) → next_act left ≡ Done
+    → FitsHand h left hand → is_stop left ≡ true
 nothing h stop hand done fits = refl
-nothing h (step act rest) hand done fits = let no : false ≡ true = sym (ap (may_act h fits.situation) done) ∙ fits.sound.0 in cc
+nothing h (step act rest) hand done fits = let no : false
+    ≡ true = sym (ap (may_act h fits.situation) done) ∙ fits.sound.0 in cc
 
-pub nothing_left : (h : Header) (left : Script) (hand : HandView) → next_act left ≡ Done → ∥ FitsHand h left hand ∥₁ → left ≡ stop
-nothing_left h left hand done fits = stop_of left (∥∥₁_elim fits (Bool-set _ _) (nothing h left hand done))
+pub nothing_left : (h : Header) (left : Script) (hand : HandView) → next_act left ≡ Done
+    → ∥ FitsHand h left hand ∥₁ → left ≡ stop
+nothing_left h left hand done fits = stop_of left
+    (∥∥₁_elim fits (Bool-set _ _) (nothing h left hand done))

@@ -1,6 +1,8 @@
 -- Workers that haven't begun: those of a workload's callers.
-use Rattle.std.proofs.Common.{◌≡◌, ℕ, suc, ◌+◌, ◌<◌, ◌≤◌, List, [], ◌∷◌, map, length, refl, ap, ◌∙◌, sym, subst, arith}
-use Rattle.std.specs.Prelude.{slice_index, slice_index_or, Option, Some, None, Result, Ok, Err, IfOk, IfSome}
+use Rattle.std.proofs.Common.{◌≡◌, ℕ, suc, ◌+◌, ◌<◌, ◌≤◌, List, [], ◌∷◌, map, length, refl, ap, ◌∙◌}
+use Rattle.std.proofs.Common.{sym, subst, arith}
+use Rattle.std.specs.Prelude.{slice_index, slice_index_or, Option, Some, None, Result, Ok, Err}
+use Rattle.std.specs.Prelude.{IfOk, IfSome}
 use Rattle.std.specs.List.{All}
 use Rattle.std.proofs.lemmas.List.{get_or-map, length-map}
 use Rattle.std.proofs.lemmas.List.Elements.{All-map}
@@ -24,46 +26,61 @@ use Rattle.vyrd_live.specs.Working.{IsMemoryOf}
 use Rattle.vyrd_live.proofs.WorkerLists.{first_hands}
 
 -- each worker has the machine of its hand's caller
-abbrev pub AreWorkersOf : {M : Type 0} → (M → Header) → (M → Script) → (M → ℕ) → Workload → List (Worker M) → Type 0
-AreWorkersOf {M} header_of script ahead w workers = All (λ (x : Worker M). IsWorkerOf header_of script ahead w x.machine x.hand) workers
+abbrev pub AreWorkersOf : {M : Type 0} → (M → Header) → (M → Script) → (M → ℕ) → Workload
+    → List (Worker M) → Type 0
+AreWorkersOf {M} header_of script ahead w workers =
+    All (λ (x : Worker M). IsWorkerOf header_of script ahead w x.machine x.hand) workers
 
 -- the hand at a place, by the list of the hands
-hand_at : {M : Type 0} (workers : List (Worker M)) (hands : List HandView) (i : ℕ) (d : Worker M) → first_hands workers ≡ hands → i < length workers
+hand_at : {M : Type 0} (workers : List (Worker M)) (hands : List HandView) (i : ℕ) (d : Worker M)
+    → first_hands workers ≡ hands → i < length workers
     → slice_index_or hands i d.hand ≡ (slice_index_or workers i d).hand
-hand_at workers hands i d same low = ap (λ (hands : List HandView). slice_index_or hands i d.hand) (sym same)
+hand_at workers hands i d same low = ap (λ (hands : List HandView). slice_index_or hands i d.hand)
+    (sym same)
     ∙ get_or-map (λ (x : _). x.hand) workers i d d.hand low
 
-how_many : {M : Type 0} (workers : List (Worker M)) (hands : List HandView) → first_hands workers ≡ hands → length workers ≡ length hands
-how_many workers hands same = sym (length-map workers (λ (x : _). x.hand)) ∙ ap (λ (hands : List HandView). length hands) same
+how_many : {M : Type 0} (workers : List (Worker M)) (hands : List HandView) → first_hands workers
+    ≡ hands → length workers ≡ length hands
+how_many workers hands same = sym (length-map workers (λ (x : _). x.hand))
+    ∙ ap (λ (hands : List HandView). length hands) same
 
 -- none of them has begun
 pub all_fresh : {M : Type 0} (header_of : M → Header) (script : M → Script) (ahead : M
     → ℕ) (traced : TracedView) (w : Workload) (workers : List (Worker M))
     (hands : List HandView)
-    → AreNew traced 0 hands → first_hands workers ≡ hands → AreWorkersOf header_of script ahead w workers → IsMemoryOf w.header traced.plan
+    → AreNew traced 0 hands → first_hands workers ≡ hands
+    → AreWorkersOf header_of script ahead w workers → IsMemoryOf w.header traced.plan
     → All (λ (x : Worker M). IsFresh header_of script traced x.machine x.hand) workers
 all_fresh header_of script ahead traced w workers hands new same made memory = λ i d low.
     let x = slice_index_or workers i d in
     let is = made i d low in
     let fresh = new i d.hand (omega (arith, low, how_many workers hands same)) in
     let hand = hand_at workers hands i d same low in record {
-      hand_of = subst (λ (v : HandView). (v.table ≡ traced.table) × (v.limit ≡ traced.plan.limit)) hand fresh.0;
+      hand_of = subst (λ (v : HandView). (v.table ≡ traced.table) × (v.limit ≡ traced.plan.limit))
+          hand fresh.0;
       empty = ap (λ (v : HandView). v.lane) (sym hand) ∙ fresh.3;
       kept = ap (λ (v : HandView). v.forgotten) (sym hand) ∙ fresh.4;
-      between = ap is_between is.script_is ∙ operations-between (procedure_in w.header.subject w.header w.variant) (ops_of x.hand.caller w.ops);
+      between = ap is_between is.script_is
+          ∙ operations-between (procedure_in w.header.subject w.header w.variant)
+          (ops_of x.hand.caller w.ops);
       memory = subst (λ h. IsMemoryOf h traced.plan) (sym is.header) memory;
     }
 
 -- they have all hands, in the order of their callers
-pub all_callers : {M : Type 0} (traced : TracedView) (workers : List (Worker M)) (hands : List HandView) → AreNew traced 0 hands
+pub all_callers : {M : Type 0} (traced : TracedView) (workers : List (Worker M))
+    (hands : List HandView) → AreNew traced 0 hands
     → length hands ≡ traced.plan.callers
     → first_hands workers ≡ hands
     → AreAll traced (first_hands workers)
-all_callers traced workers hands new count same = subst (AreAll traced) (sym same)
-    (count, λ i d low. let fresh = new i d low in let e : 0 + i ≡ i = omega arith in (fresh.0, fresh.1 ∙ e))
+all_callers traced workers hands new count same = subst (AreAll traced) (sym same) (
+  count,
+  λ i d low. let fresh = new i d low in let e : 0 + i ≡ i = omega arith in
+      (fresh.0, fresh.1 ∙ e),
+)
 
 -- the caller of the worker at a place
-caller_at : {M : Type 0} (traced : TracedView) (workers : List (Worker M)) (hands : List HandView) → AreNew traced 0 hands
+caller_at : {M : Type 0} (traced : TracedView) (workers : List (Worker M)) (hands : List HandView)
+    → AreNew traced 0 hands
     → first_hands workers ≡ hands
     → (i : ℕ) (d : Worker M) → i < length workers → (slice_index_or workers i d).hand.caller ≡ i
 caller_at traced workers hands new same i d low =
@@ -72,13 +89,15 @@ caller_at traced workers hands new same i d low =
     ap (λ (v : HandView). v.caller) (sym (hand_at workers hands i d same low)) ∙ fresh.1 ∙ e
 
 all_from : {M B : Type 0} (of : M → B) (f : ℕ → B) (k : ℕ) (workers : List (Worker M))
-    → ((i : ℕ) (d : Worker M) → i < length workers → of (slice_index_or workers i d).machine ≡ f (k + i))
+    → ((i : ℕ) (d : Worker M) → i < length workers → of (slice_index_or workers i d).machine
+    ≡ f (k + i))
     → map (λ (x : Worker M). of x.machine) workers ≡ map f (numbers_from k (length workers))
 all_from of f k [] each = refl
 all_from of f k (x ∷ workers) each =
     let first : k + 0 ≡ k = omega arith in
     ap (λ y. y ∷ map (λ (x : _). of x.machine) workers) (each 0 x (omega arith) ∙ ap f first)
-    ∙ ap (λ rest. f k ∷ rest) (all_from of f (k + 1) workers (λ i d low. let e : k + suc i ≡ k + 1 + i = omega arith in
+    ∙ ap (λ rest. f k ∷ rest)
+    (all_from of f (k + 1) workers (λ i d low. let e : k + suc i ≡ k + 1 + i = omega arith in
     each (suc i) d (omega (arith, low))
     ∙ ap f e))
 
@@ -86,57 +105,70 @@ all_from of f k (x ∷ workers) each =
 pub scripts_are : {M : Type 0} (header_of : M → Header) (script : M → Script) (ahead : M
     → ℕ) (traced : TracedView) (w : Workload) (workers : List (Worker M))
     (hands : List HandView)
-    → AreNew traced 0 hands → first_hands workers ≡ hands → AreWorkersOf header_of script ahead w workers → length hands ≡ w.header.callers
+    → AreNew traced 0 hands → first_hands workers ≡ hands
+    → AreWorkersOf header_of script ahead w workers → length hands ≡ w.header.callers
     → map (λ (x : Worker M). script x.machine) workers ≡ work_scripts w
 scripts_are header_of script ahead traced w workers hands new same made count =
     all_from script (work_script w) 0 workers (λ i d low.
-    let e : i ≡ 0 + i = omega arith in (made i d low).script_is ∙ ap (work_script w) (caller_at traced workers hands new same i d low ∙ e))
+    let e : i ≡ 0 + i = omega arith in (made i d low).script_is
+    ∙ ap (work_script w) (caller_at traced workers hands new same i d low ∙ e))
     ∙ ap (λ n. map (work_script w) (numbers_below n)) (how_many workers hands same ∙ count)
 
 -- their machines were made for the workload's header
 pub all_made : {M : Type 0} (header_of : M → Header) (script : M → Script) (ahead : M
     → ℕ) (w : Workload) (workers : List (Worker M)) (hands : List HandView)
-    → first_hands workers ≡ hands → AreWorkersOf header_of script ahead w workers → length hands ≡ w.header.callers
+    → first_hands workers ≡ hands → AreWorkersOf header_of script ahead w workers → length hands
+    ≡ w.header.callers
     → AreMadeFor w.header (map (λ (x : Worker M). header_of x.machine) workers)
 all_made header_of script ahead w workers hands same made count = record {
   count = length-map workers (λ (x : _). header_of x.machine) ∙ how_many workers hands same ∙ count;
-  each = All-map (λ (header : Header). header ≡ w.header) (λ (x : _). header_of x.machine) workers (λ i d low. (made i d low).header);
+  each = All-map (λ (header : Header). header ≡ w.header) (λ (x : _). header_of x.machine) workers
+      (λ i d low. (made i d low).header);
 }
 
 -- the bounds of their machines are those of the callers' operations
 pub bounds_are : {M : Type 0} (header_of : M → Header) (script : M → Script) (ahead : M
     → ℕ) (traced : TracedView) (w : Workload) (workers : List (Worker M))
     (hands : List HandView)
-    → AreNew traced 0 hands → first_hands workers ≡ hands → AreWorkersOf header_of script ahead w workers → length hands ≡ w.header.callers
+    → AreNew traced 0 hands → first_hands workers ≡ hands
+    → AreWorkersOf header_of script ahead w workers → length hands ≡ w.header.callers
     → map (λ (x : Worker M). ahead x.machine) workers ≡ work_bounds w
 bounds_are header_of script ahead traced w workers hands new same made count =
     let bound : ℕ → ℕ = λ c. bounds_of w.header (ops_of c w.ops) in
     all_from ahead bound 0 workers (λ i d low.
-    let e : i ≡ 0 + i = omega arith in (made i d low).bound ∙ ap bound (caller_at traced workers hands new same i d low ∙ e))
+    let e : i ≡ 0 + i = omega arith in (made i d low).bound
+    ∙ ap bound (caller_at traced workers hands new same i d low ∙ e))
     ∙ ap (λ n. map bound (numbers_below n)) (how_many workers hands same ∙ count)
 
 -- so the limit is below that of a caller whose machine had no room
-pub too_low_at : (w : Workload) (aheads : List ℕ) (limit own : ℕ) (first : Option ℕ) → own ≡ limit → aheads ≡ work_bounds w
-    → IfSome first (λ caller. own < slice_index aheads caller) → IfSome first (λ caller. caller < w.header.callers)
+pub too_low_at : (w : Workload) (aheads : List ℕ) (limit own : ℕ) (first : Option ℕ) → own ≡ limit
+    → aheads ≡ work_bounds w
+    → IfSome first (λ caller. own < slice_index aheads caller)
+    → IfSome first (λ caller. caller < w.header.callers)
     → IfSome first (λ caller. limit < bounds_of w.header (ops_of caller w.ops))
 too_low_at w aheads limit own None same are long low = tt
 too_low_at w aheads limit own (Some caller) same are long low =
-    let bound = ap (λ xs. slice_index xs caller) are ∙ element_below (λ c. bounds_of w.header (ops_of c w.ops)) w.header.callers caller low in
+    let bound = ap (λ xs. slice_index xs caller) are
+    ∙ element_below (λ c. bounds_of w.header (ops_of c w.ops)) w.header.callers caller low in
     omega (arith, same, long, bound)
 
 -- the caller that ended a run is one of the header's
-pub in_range : (h : Header) (limit : ℕ) (scripts : List Script) (history : List Stamped) (first : Option ℕ) → HavePlayed h limit scripts history first
+pub in_range : (h : Header) (limit : ℕ) (scripts : List Script) (history : List Stamped)
+    (first : Option ℕ) → HavePlayed h limit scripts history first
     → IfSome first (λ caller. caller < h.callers)
 in_range h limit scripts history None is = tt
 in_range h limit scripts history (Some caller) is = is.in_range
 
-pub both_ok : {A E : Type 0} {P Q R : A → Type 0} (r : Result A E) → IfOk r P → IfOk r Q → ((x : A) → P x → Q x → R x) → IfOk r R
+pub both_ok : {A E : Type 0} {P Q R : A → Type 0} (r : Result A E) → IfOk r P → IfOk r Q
+    → ((x : A) → P x → Q x → R x) → IfOk r R
 both_ok (Ok x) first second step = step x first second
 both_ok (Err e) first second step = first
 
 -- where operations have few events no caller is spent
-pub is_unspent : (w : Workload) (limit : ℕ) (spent : Option ℕ) → KeepsLimits w → IsCorrectWithFewEvents w → most_few_events ≤ limit
+pub is_unspent : (w : Workload) (limit : ℕ) (spent : Option ℕ) → KeepsLimits w
+    → IsCorrectWithFewEvents w → most_few_events ≤ limit
     → IfSome spent (λ caller. limit < bounds_of w.header (ops_of caller w.ops)) → spent ≡ None
 is_unspent w limit None limits is enough long = refl
 is_unspent w limit (Some caller) limits is enough long =
-    let few : bounds_of w.header (ops_of caller w.ops) ≤ most_few_events = few_events w caller limits is in absurd (omega (arith, long, few, enough))
+    let few : bounds_of w.header (ops_of caller w.ops) ≤ most_few_events =
+    few_events w caller limits is in absurd (omega (arith, long, few, enough))

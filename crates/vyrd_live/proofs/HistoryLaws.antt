@@ -1,5 +1,7 @@
 -- A sink that was shown in order what came of a history has taken the history.
-use Rattle.std.proofs.Common.{◌≡◌, ◌≢◌, ℕ, zero, suc, ◌<◌, ◌≤◌, List, [], ◌∷◌, ◌++◌, length, take, Bool, true, false, cond, Option, Some, None, refl, sym, ap, ◌∙◌, subst, arith, eq-eqb}
+use Rattle.std.proofs.Common.{◌≡◌, ◌≢◌, ℕ, zero, suc, ◌<◌, ◌≤◌, List, [], ◌∷◌, ◌++◌, length, take}
+use Rattle.std.proofs.Common.{Bool, true, false, cond, Option, Some, None, refl, sym, ap, ◌∙◌}
+use Rattle.std.proofs.Common.{subst, arith, eq-eqb}
 use Rattle.std.specs.Prelude.{◌==◌, is_some, slice_get, slice_index_or}
 use Rattle.std.specs.Option.{option_to_list}
 use Rattle.std.specs.List.{All}
@@ -15,24 +17,33 @@ use Rattle.vyrd_verifier.specs.Taken.{numbered, in_order_below}
 use Rattle.vyrd_live.specs.Beside.{HasShownInOrder}
 
 -- what is found stands in the list, with its number
-found_at : (n : ℕ) (taken : List Stamped) (e : Stamped) → numbered n taken ≡ Some e → (k : ℕ) × (slice_get taken k ≡ Some e) × (e.number ≡ n)
+found_at : (n : ℕ) (taken : List Stamped) (e : Stamped) → numbered n taken ≡ Some e → (k : ℕ)
+    × (slice_get taken k ≡ Some e) × (e.number ≡ n)
 found_at n [] e is = absurd (cc)
 found_at n (x ∷ xs) e is = at (x.number == n) refl is (λ q. found_at n xs e q)
   where
     at : (b : Bool) → (x.number == n) ≡ b → cond b (Some x) (numbered n xs) ≡ Some e
         → (numbered n xs ≡ Some e → (k : ℕ) × (slice_get xs k ≡ Some e) × (e.number ≡ n))
         → (k : ℕ) × (slice_get (x ∷ xs) k ≡ Some e) × (e.number ≡ n)
-    at true b q more = let same : x ≡ e = cc in (0, q, ap (λ (s : Stamped). s.number) (sym same) ∙ same_of x.number n b)
+    at true b q more = let same : x ≡ e = cc in (
+      0,
+      q,
+      ap (λ (s : Stamped). s.number) (sym same)
+          ∙ same_of x.number n b,
+    )
     at false b q more = let f = more q in (suc f.0, f.1, f.2)
 
 -- what stands in the list is found by its number
-found : (taken : List Stamped) (k : ℕ) (e : Stamped) → slice_get taken k ≡ Some e → is_some (numbered e.number taken) ≡ true
+found : (taken : List Stamped) (k : ℕ) (e : Stamped) → slice_get taken k ≡ Some e
+    → is_some (numbered e.number taken) ≡ true
 found [] k e is = absurd (cc)
 found (x ∷ xs) zero e is = let same : x ≡ e = cc in
-    ap (λ (b : Bool). is_some (cond b (Some x) (numbered e.number xs))) (eq-eqb x.number e.number (ap (λ (s : Stamped). s.number) same))
+    ap (λ (b : Bool). is_some (cond b (Some x) (numbered e.number xs)))
+    (eq-eqb x.number e.number (ap (λ (s : Stamped). s.number) same))
 found (x ∷ xs) (suc k) e is = at (x.number == e.number) (found xs k e is)
   where
-    at : (b : Bool) → is_some (numbered e.number xs) ≡ true → is_some (cond b (Some x) (numbered e.number xs)) ≡ true
+    at : (b : Bool) → is_some (numbered e.number xs) ≡ true
+        → is_some (cond b (Some x) (numbered e.number xs)) ≡ true
     at true q = refl
     at false q = q
 
@@ -42,9 +53,11 @@ take_get [] (suc n) = refl
 take_get (x ∷ xs) zero = refl
 take_get (x ∷ xs) (suc n) = ap (λ (l : List Stamped). x ∷ l) (take_get xs n)
 
-in_order : (h taken : List Stamped) → ((n : ℕ) → numbered n taken ≡ slice_get h n) → (n : ℕ) → in_order_below n taken ≡ take n h
+in_order : (h taken : List Stamped) → ((n : ℕ) → numbered n taken ≡ slice_get h n) → (n : ℕ)
+    → in_order_below n taken ≡ take n h
 in_order h taken same zero = refl
-in_order h taken same (suc n) = ap (λ (l : List Stamped). l ++ option_to_list (numbered n taken)) (in_order h taken same n)
+in_order h taken same (suc n) = ap (λ (l : List Stamped). l ++ option_to_list (numbered n taken))
+    (in_order h taken same n)
     ∙ ap (λ (o : Option Stamped). take n h ++ option_to_list o) (same n) ∙ take_get h n
 
 past_end : (h : List Stamped) (n : ℕ) → slice_get h n ≡ None → length h ≤ n
@@ -56,38 +69,50 @@ past_end (x ∷ xs) (suc n) e = let r = past_end xs n e in omega (arith, r)
 abbrev StandIn : List Stamped → List Stamped → Type 0
 StandIn h xs = (k : ℕ) (e : Stamped) → slice_get xs k ≡ Some e → slice_get h e.number ≡ Some e
 
-module _ (h taken : List Stamped) (inside : StandIn h taken) (whole : (i : ℕ) (e : Stamped) → slice_get h i ≡ Some e → is_some (numbered i taken) ≡ true) where
-  at_number : (n : ℕ) → numbered n taken ≡ slice_get h n
-  at_number n = by_case (numbered n taken) refl (slice_get h n) refl
-    where
-      by_case : (o : Option Stamped) → numbered n taken ≡ o → (p : Option Stamped) → slice_get h n ≡ p → o ≡ p
-      by_case (Some e) is p here = let f = found_at n taken e is in
-          sym (ap (slice_get h) (sym f.2) ∙ inside f.0 e f.1) ∙ here
-      by_case None is None here = refl
-      by_case None is (Some e) here = let w : is_some (numbered n taken) ≡ true = whole n e here in absurd (no (sym (ap is_some is) ∙ w))
-        where
-          no : false ≢ true
-          no e = cc
+module _ (h taken : List Stamped) (inside : StandIn h taken)
+    (whole : (i : ℕ) (e : Stamped) → slice_get h i ≡ Some e → is_some (numbered i taken) ≡ true)
+  where
+    at_number : (n : ℕ) → numbered n taken ≡ slice_get h n
+    at_number n = by_case (numbered n taken) refl (slice_get h n) refl
+      where
+        by_case : (o : Option Stamped) → numbered n taken ≡ o → (p : Option Stamped) → slice_get h n
+            ≡ p → o ≡ p
+        by_case (Some e) is p here = let f = found_at n taken e is in
+            sym (ap (slice_get h) (sym f.2) ∙ inside f.0 e f.1) ∙ here
+        by_case None is None here = refl
+        by_case None is (Some e) here = let w : is_some (numbered n taken)
+            ≡ true = whole n e here in
+            absurd (no (sym (ap is_some is) ∙ w))
+          where
+            no : false ≢ true
+            no e = cc
 
-  -- all events that were taken in, in the order of their numbers, are the history
-  history_is : (m : ℕ) → numbered m taken ≡ None → in_order_below m taken ≡ h
-  history_is m missing =
-      let over = past_end h m (sym (at_number m) ∙ missing) in
-      in_order h taken at_number m ∙ take_all m h over
+    -- all events that were taken in, in the order of their numbers, are the history
+    history_is : (m : ℕ) → numbered m taken ≡ None → in_order_below m taken ≡ h
+    history_is m missing =
+        let over = past_end h m (sym (at_number m) ∙ missing) in
+        in_order h taken at_number m ∙ take_all m h over
 
 -- of two lists that have the same part of a caller, each has the other's events of that caller
-in_other : (c : ℕ) (xs ys : List Stamped) → part c xs ≡ part c ys → (k : ℕ) (e : Stamped) → slice_get xs k ≡ Some e → e.caller ≡ c
+in_other : (c : ℕ) (xs ys : List Stamped) → part c xs ≡ part c ys → (k : ℕ) (e : Stamped)
+    → slice_get xs k ≡ Some e → e.caller ≡ c
     → (i : ℕ) × (slice_get ys i ≡ Some e)
 in_other c xs ys same k e at own =
     let mine = in_part c xs k e at own in
-    let there = part_in c ys mine.0 e (subst (λ (p : List Stamped). mine.0 < length p) same mine.1) in
-    (there.0, there.1 ∙ ap Some (ap (λ (p : List Stamped). slice_index_or p mine.0 e) (sym same) ∙ mine.2 e))
+    let there = part_in c ys mine.0 e
+    (subst (λ (p : List Stamped). mine.0 < length p) same mine.1) in (
+      there.0,
+      there.1 ∙ ap Some (ap (λ (p : List Stamped). slice_index_or p mine.0 e) (sym same)
+          ∙ mine.2 e),
+    )
 
-module _ (z : Cells) (had h : List Stamped) (legal : is_legal z h ≡ true) (parts : (c : ℕ) → c < z.callers → part c had ≡ part c h) where
+module _ (z : Cells) (had h : List Stamped) (legal : is_legal z h ≡ true)
+    (parts : (c : ℕ) → c < z.callers → part c had ≡ part c h) where
   -- each event that was had stands in the history at its number
   had_stands : All (λ (e : Stamped). e.caller < z.callers) had → StandIn h had
   had_stands senders k e at =
-      let low : e.caller < z.callers = subst (λ (x : Stamped). x.caller < z.callers) (get_or_from_slice_get had k e e at)
+      let low : e.caller < z.callers = subst (λ (x : Stamped). x.caller < z.callers)
+      (get_or_from_slice_get had k e e at)
       (senders k e (slice_get_within had k e at)) in
       let there = in_other e.caller had h (parts e.caller low) k e at refl in
       ap (slice_get h) (number_at z h legal there.0 e there.1).0 ∙ there.1
@@ -99,9 +124,14 @@ module _ (z : Cells) (had h : List Stamped) (legal : is_legal z h ≡ true) (par
       let there = in_other e.caller h had (sym (parts e.caller is.1)) i e at refl in
       subst (λ (n : ℕ). is_some (numbered n had) ≡ true) is.0 (found had there.0 e there.1)
 
--- a sink that was shown in order what came has taken the history, if of each caller the events came that are its part
-pub all_shown : {S : Type 0} (has_taken : S → List Stamped → Type 0) (z : Cells) (sink : S) (had h : List Stamped) → is_legal z h ≡ true
-    → ((c : ℕ) → c < z.callers → part c had ≡ part c h) → All (λ (e : Stamped). e.caller < z.callers) had
+-- a sink that was shown in order what came has taken the history, if of each caller the events came
+-- that are its part
+pub all_shown : {S : Type 0} (has_taken : S → List Stamped → Type 0) (z : Cells) (sink : S)
+    (had h : List Stamped) → is_legal z h ≡ true
+    → ((c : ℕ) → c < z.callers → part c had ≡ part c h)
+    → All (λ (e : Stamped). e.caller < z.callers) had
     → HasShownInOrder has_taken sink had → has_taken sink h
 all_shown has_taken z sink had h legal parts senders shown =
-    subst (has_taken sink) (history_is h had (had_stands z had h legal parts senders) (all_had z had h legal parts) shown.next shown.missing) shown.shown
+    subst (has_taken sink)
+    (history_is h had (had_stands z had h legal parts senders) (all_had z had h legal parts)
+    shown.next shown.missing) shown.shown

@@ -8,8 +8,10 @@ use Rattle.vyrd_trace.proofs.HistoryGrows.{length-newest_first}
 use Rattle.vyrd_live.specs.Working.{dids_of}
 
 -- the newest event comes first
-pub dids_of-snoc : (lane : List Stamped) (e : Stamped) → dids_of (lane ++ e ∷ []) ≡ e.did ∷ dids_of lane
+pub dids_of-snoc : (lane : List Stamped) (e : Stamped) → dids_of (lane ++ e ∷ []) ≡ e.did
+    ∷ dids_of lane
 dids_of-snoc lane e = ap (map (λ (e : Stamped). e.did)) (newest_first-push lane e)
 
 pub length-dids : (lane : List Stamped) → length (dids_of lane) ≡ length lane
-length-dids lane = length-map (newest_first lane) (λ (e : Stamped). e.did) ∙ length-newest_first lane
+length-dids lane = length-map (newest_first lane) (λ (e : Stamped). e.did)
+    ∙ length-newest_first lane

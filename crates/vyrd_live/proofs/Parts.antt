@@ -1,5 +1,6 @@
 -- What each caller did in a history that was put together from lanes.
-use Rattle.std.proofs.Common.{◌≡◌, ◌≢◌, ℕ, suc, ◌≤◌, Bool, true, false, cond, List, [], ◌∷◌, map, Some, None, refl, ap, ◌∙◌, arith, eq-eqb, ne_eqb}
+use Rattle.std.proofs.Common.{◌≡◌, ◌≢◌, ℕ, suc, ◌≤◌, Bool, true, false, cond, List, [], ◌∷◌, map}
+use Rattle.std.proofs.Common.{Some, None, refl, ap, ◌∙◌, arith, eq-eqb, ne_eqb}
 use Rattle.std.specs.Prelude.{◌==◌, slice_get}
 use Rattle.std.specs.List.{All, cons_option}
 use Rattle.vyrd_base.specs.declared.history.Stamped.{Stamped}
@@ -17,37 +18,46 @@ of_part c [] = refl
 of_part c (e ∷ es) = by_caller (e.caller == c) (of_part c es)
   where
     by_caller : (b : Bool) → part_of c es ≡ map (λ (e : Stamped). e.did) (part c es)
-        → cons_option (cond b (Some e.did) None) (part_of c es) ≡ map (λ (e : Stamped). e.did) (cond b (e ∷ part c es) (part c es))
+        → cons_option (cond b (Some e.did) None) (part_of c es) ≡ map (λ (e : Stamped). e.did)
+        (cond b (e ∷ part c es) (part c es))
     by_caller true rest = ap (λ xs. e.did ∷ xs) rest
     by_caller false rest = rest
 
 -- one caller's part of the list the other way round
-part_onto : (c : ℕ) (earlier es : List Stamped) → part c (newest_first_onto earlier es) ≡ newest_first_onto (part c earlier) (part c es)
+part_onto : (c : ℕ) (earlier es : List Stamped) → part c (newest_first_onto earlier es)
+    ≡ newest_first_onto (part c earlier) (part c es)
 part_onto c earlier [] = refl
 part_onto c earlier (e ∷ es) = part_onto c (e ∷ earlier) es ∙ by_caller (e.caller == c)
   where
-    by_caller : (b : Bool) → newest_first_onto (cond b (e ∷ part c earlier) (part c earlier)) (part c es) ≡ newest_first_onto (part c earlier)
+    by_caller : (b : Bool) → newest_first_onto (cond b (e ∷ part c earlier) (part c earlier))
+        (part c es) ≡ newest_first_onto (part c earlier)
         (cond b (e ∷ part c es) (part c es))
     by_caller true = refl
     by_caller false = refl
 
 -- what a caller did is what the events of its part did
 pub done_by-part : (c : ℕ) (history : List Stamped) → done_by c history ≡ dids_of (part c history)
-done_by-part c history = of_part c (newest_first history) ∙ ap (map (λ (e : Stamped). e.did)) (part_onto c [] history)
+done_by-part c history = of_part c (newest_first history) ∙ ap (map (λ (e : Stamped). e.did))
+    (part_onto c [] history)
 
 -- a caller that no event has did nothing
-pub no_part : (c : ℕ) (es : List Stamped) → ((i : ℕ) (e : Stamped) → slice_get es i ≡ Some e → e.caller ≢ c) → part c es ≡ []
+pub no_part : (c : ℕ) (es : List Stamped)
+    → ((i : ℕ) (e : Stamped) → slice_get es i ≡ Some e → e.caller ≢ c) → part c es ≡ []
 no_part c [] apart = refl
-no_part c (e ∷ es) apart = ap (λ b. cond b (e ∷ part c es) (part c es)) (ne_eqb e.caller c (apart 0 e refl))
+no_part c (e ∷ es) apart = ap (λ b. cond b (e ∷ part c es) (part c es))
+    (ne_eqb e.caller c (apart 0 e refl))
     ∙ no_part c es (λ i x is. apart (suc i) x is)
 
-pub nothing_done : (z : Cells) (c : ℕ) (history : List Stamped) → is_legal z history ≡ true → z.callers ≤ c → done_by c history ≡ []
+pub nothing_done : (z : Cells) (c : ℕ) (history : List Stamped) → is_legal z history ≡ true
+    → z.callers ≤ c → done_by c history ≡ []
 nothing_done z c history legal out =
-    done_by-part c history ∙ ap dids_of (no_part c history (λ i e is same. let low = (numbered z history legal i e is).1 in
+    done_by-part c history
+    ∙ ap dids_of (no_part c history (λ i e is same. let low = (numbered z history legal i e is).1 in
     absurd (omega (arith, low))))
 
 -- events that are all of this caller
 pub part_all : (c : ℕ) (xs : List Stamped) → All (λ (e : Stamped). e.caller ≡ c) xs → part c xs ≡ xs
 part_all c [] own = refl
-part_all c (x ∷ xs) own = ap (λ (b : Bool). cond b (x ∷ part c xs) (part c xs)) (eq-eqb x.caller c (own 0 x (omega arith)))
+part_all c (x ∷ xs) own = ap (λ (b : Bool). cond b (x ∷ part c xs) (part c xs))
+    (eq-eqb x.caller c (own 0 x (omega arith)))
     ∙ ap (λ (l : List Stamped). x ∷ l) (part_all c xs (λ k d l. own (suc k) d (omega arith)))

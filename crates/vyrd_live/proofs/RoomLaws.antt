@@ -1,5 +1,6 @@
 -- What it says that there is room for an operation.
-use Rattle.std.proofs.Common.{◌≡◌, ℕ, ◌+◌, ◌-◌, ◌<◌, ◌≤◌, max, length, true, false, Some, refl, ap, ◌∙◌, sym, subst, arith}
+use Rattle.std.proofs.Common.{◌≡◌, ℕ, ◌+◌, ◌-◌, ◌<◌, ◌≤◌, max, length, true, false, Some, refl, ap}
+use Rattle.std.proofs.Common.{◌∙◌, sym, subst, arith}
 use Rattle.std.specs.Prelude.{◌≢◌, nat_le}
 use Rattle.std.proofs.lemmas.Bool.Decides.{nat_tests}
 use Rattle.std.proofs.Math.Logic.{∥∥₁_elim, ∥∥₁_map}
@@ -7,14 +8,16 @@ use Rattle.std.proofs.Math.Bool.{Bool-set}
 use mathlib.Core.Logic.{dite}
 use native.Mathlib.Decide.{dec_lt}
 use Rattle.vyrd_base.specs.declared.header.Header.{Header}
-use Rattle.vyrd_base.specs.declared.log.Kind.TheVariants.{Call, Return, Write, Commit, BlockOpen, BlockClose, BlockCommit}
+use Rattle.vyrd_base.specs.declared.log.Kind.TheVariants.{Call, Return, Write, Commit, BlockOpen}
+use Rattle.vyrd_base.specs.declared.log.Kind.TheVariants.{BlockClose, BlockCommit}
 use Rattle.vyrd_base.specs.declared.subject.Method.{Method}
 use Rattle.vyrd_base.specs.declared.subject.Args.{Args}
 use Rattle.vyrd_base.specs.declared.history.Did.{Did}
 use Rattle.vyrd_base.specs.declared.history.Did.TheVariants.{Read, Wrote, Took, Gave, Marked}
 use Rattle.vyrd_memory.specs.declared.act.Act.{Act}
 use Rattle.vyrd_memory.specs.declared.act.Act.TheVariants.{Load, Store, Take, Give, Mark, Done}
-use Rattle.vyrd_memory.specs.Scripts.{Script, stop, step, next_act, after_answer, event_of, is_between, IsAnswer}
+use Rattle.vyrd_memory.specs.Scripts.{Script, stop, step, next_act, after_answer, event_of}
+use Rattle.vyrd_memory.specs.Scripts.{is_between, IsAnswer}
 use Rattle.vyrd_memory.specs.Bounds.{bound_of, is_return, EndsWithin}
 use Rattle.vyrd_memory.specs.Laws.Player.{return_zero}
 use Rattle.vyrd_trace.specs.Hands.{HandView, with_spare}
@@ -23,7 +26,8 @@ use Rattle.vyrd_live.specs.Working.{HasRoom, HasRoomAhead}
 
 -- the number is the bound of the operation that the act begins
 abbrev pub IsNextBound : Header → Act → ℕ → Type 0
-IsNextBound h act n = (method : Method) (args : Args) → act ≡ Mark (Call method args) → n ≡ bound_of h method
+IsNextBound h act n = (method : Method) (args : Args) → act ≡ Mark (Call method args)
+    → n ≡ bound_of h method
 
 -- what ends within n acts ends within more
 more_time : (n m : ℕ) → n ≤ m → (script : Script) → EndsWithin n script → EndsWithin m script
@@ -33,13 +37,15 @@ more_time n m le (step act rest) ends = (
   λ goes answer is. more_time (n - 1) (m - 1) (omega arith) (rest answer) (ends.1 goes answer is),
 )
 
-has_room : (h : Header) (limit before n : ℕ) (act : Act) → IsNextBound h act n → before + n ≤ limit → HasRoom h limit before act
+has_room : (h : Header) (limit before n : ℕ) (act : Act) → IsNextBound h act n → before + n ≤ limit
+    → HasRoom h limit before act
 has_room h limit before n (Load cell) next room = tt
 has_room h limit before n (Store cell value) next room = tt
 has_room h limit before n (Take lock) next room = tt
 has_room h limit before n (Give lock) next room = tt
 has_room h limit before n Done next room = tt
-has_room h limit before n (Mark (Call method args)) next room = let e = next method args refl in omega arith
+has_room h limit before n (Mark (Call method args)) next room = let e = next method args refl in
+    omega arith
 has_room h limit before n (Mark (Return reply)) next room = tt
 has_room h limit before n (Mark (Write word value)) next room = tt
 has_room h limit before n (Mark Commit) next room = tt
@@ -48,18 +54,22 @@ has_room h limit before n (Mark BlockClose) next room = tt
 has_room h limit before n (Mark BlockCommit) next room = tt
 
 -- room that was made, by a number that is the bound of the next operation
-pub room_made : (h : Header) (left : Script) (hand now : HandView) (n : ℕ) → ∥ EndsWithin n left ∥₁ → IsNextBound h (next_act left) n
-    → now ≡ with_spare hand (max hand.spare n) → (hand.limit < length hand.lane + n → ⊥) → HasRoomAhead h left now
+pub room_made : (h : Header) (left : Script) (hand now : HandView) (n : ℕ) → ∥ EndsWithin n left ∥₁
+    → IsNextBound h (next_act left) n
+    → now ≡ with_spare hand (max hand.spare n) → (hand.limit < length hand.lane + n → ⊥)
+    → HasRoomAhead h left now
 room_made h left hand now n in_time next is fits = subst (HasRoomAhead h left) (sym is) (record {
   spare = ∥∥₁_map in_time (more_time n (max hand.spare n) (omega arith) left);
-  room = has_room h hand.limit (length hand.lane) n (next_act left) next (within hand.limit (length hand.lane + n) fits);
+  room = has_room h hand.limit (length hand.lane) n (next_act left) next
+      (within hand.limit (length hand.lane + n) fits);
 })
   where
     within : (a b : ℕ) → (a < b → ⊥) → b ≤ a
     within a b fits = dite (dec_lt a b) (λ l. absurd (fits l)) (λ l. omega arith)
 
 -- an act that has room, once it is done
-pub began_with_room : (h : Header) (limit before : ℕ) (act : Act) (answer : ℕ) (did : Did) → event_of act answer ≡ Some did
+pub began_with_room : (h : Header) (limit before : ℕ) (act : Act) (answer : ℕ) (did : Did)
+    → event_of act answer ≡ Some did
     → HasRoom h limit before act
     → BeginsWithRoom h limit before did
 began_with_room h limit before act answer did e room = elim_did act answer did e room
@@ -67,21 +77,33 @@ began_with_room h limit before act answer did e room = elim_did act answer did e
     is_did : Act → ℕ → Did → Type 0
     is_did act answer did = HasRoom h limit before act → BeginsWithRoom h limit before did
 
-    elim_did : (act : Act) (answer : ℕ) (did : Did) → event_of act answer ≡ Some did → HasRoom h limit before act → BeginsWithRoom h limit before did
-    elim_did (Load cell) answer did e room = let is : Read cell answer ≡ did = cc in subst (BeginsWithRoom h limit before) is tt
-    elim_did (Store cell value) answer did e room = let is : Wrote cell value ≡ did = cc in subst (BeginsWithRoom h limit before) is tt
-    elim_did (Take lock) answer did e room = let is : Took lock ≡ did = cc in subst (BeginsWithRoom h limit before) is tt
-    elim_did (Give lock) answer did e room = let is : Gave lock ≡ did = cc in subst (BeginsWithRoom h limit before) is tt
-    elim_did Done answer did e room = cc
-    elim_did (Mark (Call method args)) answer did e room = let is : Marked (Call method args) ≡ did = cc in
-        subst (BeginsWithRoom h limit before) is room
-    elim_did (Mark (Return reply)) answer did e room = let is : Marked (Return reply) ≡ did = cc in subst (BeginsWithRoom h limit before) is tt
-    elim_did (Mark (Write word value)) answer did e room = let is : Marked (Write word value) ≡ did = cc in
+    elim_did : (act : Act) (answer : ℕ) (did : Did) → event_of act answer ≡ Some did
+        → HasRoom h limit before act → BeginsWithRoom h limit before did
+    elim_did (Load cell) answer did e room = let is : Read cell answer ≡ did = cc in
         subst (BeginsWithRoom h limit before) is tt
-    elim_did (Mark Commit) answer did e room = let is : Marked Commit ≡ did = cc in subst (BeginsWithRoom h limit before) is tt
-    elim_did (Mark BlockOpen) answer did e room = let is : Marked BlockOpen ≡ did = cc in subst (BeginsWithRoom h limit before) is tt
-    elim_did (Mark BlockClose) answer did e room = let is : Marked BlockClose ≡ did = cc in subst (BeginsWithRoom h limit before) is tt
-    elim_did (Mark BlockCommit) answer did e room = let is : Marked BlockCommit ≡ did = cc in subst (BeginsWithRoom h limit before) is tt
+    elim_did (Store cell value) answer did e room = let is : Wrote cell value ≡ did = cc in
+        subst (BeginsWithRoom h limit before) is tt
+    elim_did (Take lock) answer did e room = let is : Took lock ≡ did = cc in
+        subst (BeginsWithRoom h limit before) is tt
+    elim_did (Give lock) answer did e room = let is : Gave lock ≡ did = cc in
+        subst (BeginsWithRoom h limit before) is tt
+    elim_did Done answer did e room = cc
+    elim_did (Mark (Call method args)) answer did e room = let is : Marked (Call method args)
+        ≡ did = cc in
+        subst (BeginsWithRoom h limit before) is room
+    elim_did (Mark (Return reply)) answer did e room = let is : Marked (Return reply) ≡ did = cc in
+        subst (BeginsWithRoom h limit before) is tt
+    elim_did (Mark (Write word value)) answer did e room = let is : Marked (Write word value)
+        ≡ did = cc in
+        subst (BeginsWithRoom h limit before) is tt
+    elim_did (Mark Commit) answer did e room = let is : Marked Commit ≡ did = cc in
+        subst (BeginsWithRoom h limit before) is tt
+    elim_did (Mark BlockOpen) answer did e room = let is : Marked BlockOpen ≡ did = cc in
+        subst (BeginsWithRoom h limit before) is tt
+    elim_did (Mark BlockClose) answer did e room = let is : Marked BlockClose ≡ did = cc in
+        subst (BeginsWithRoom h limit before) is tt
+    elim_did (Mark BlockCommit) answer did e room = let is : Marked BlockCommit ≡ did = cc in
+        subst (BeginsWithRoom h limit before) is tt
 
 -- if an act is to come, there is room for one event
 some_room : (n : ℕ) (left : Script) → next_act left ≢ Done → EndsWithin n left → nat_le 1 n ≡ true
@@ -89,22 +111,29 @@ some_room n stop goes ends = absurd (goes refl)
 some_room n (step act rest) goes ends = let low : 1 ≤ n = ends.0 in grind (arith, nat_tests)
 
 pub room_for_one : (n : ℕ) (left : Script) → next_act left ≢ Done → ∥ EndsWithin n left ∥₁ → 0 < n
-room_for_one n left goes ends = let e : nat_le 1 n ≡ true = ∥∥₁_elim ends (Bool-set _ _) (some_room n left goes) in grind (arith, nat_tests)
+room_for_one n left goes ends = let e : nat_le 1 n ≡ true = ∥∥₁_elim ends (Bool-set _ _)
+    (some_room n left goes) in grind (arith, nat_tests)
 
 -- after an act that isn't a return one event less is to come
-next_in_time : (n : ℕ) (left : Script) (answer : ℕ) → is_return (next_act left) ≡ false → IsAnswer (next_act left) answer → EndsWithin n left
+next_in_time : (n : ℕ) (left : Script) (answer : ℕ) → is_return (next_act left) ≡ false
+    → IsAnswer (next_act left) answer → EndsWithin n left
     → EndsWithin (n - 1) (after_answer left answer)
 next_in_time n stop answer goes is ends = tt
 next_in_time n (step act rest) answer goes is ends = ends.1 goes answer is
 
--- So an operation that goes on still ends in time. `rests` says that none is under way after a return.
+-- So an operation that goes on still ends in time. `rests` says that none is under way after a
+-- return.
 pub still_in_time : (n : ℕ) (left : Script) (answer : ℕ)
-    → (is_return (next_act left) ≡ true → is_between (after_answer left 0) ≡ true) → IsAnswer (next_act left) answer
-    → ∥ EndsWithin n left ∥₁ → is_between (after_answer left answer) ≡ false → ∥ EndsWithin (n - 1) (after_answer left answer) ∥₁
-still_in_time n left answer rests is in_time goes = ∥∥₁_map in_time (next_in_time n left answer (no_return (is_return (next_act left)) refl) is)
+    → (is_return (next_act left) ≡ true → is_between (after_answer left 0) ≡ true)
+    → IsAnswer (next_act left) answer
+    → ∥ EndsWithin n left ∥₁ → is_between (after_answer left answer) ≡ false
+    → ∥ EndsWithin (n - 1) (after_answer left answer) ∥₁
+still_in_time n left answer rests is in_time goes = ∥∥₁_map in_time
+    (next_in_time n left answer (no_return (is_return (next_act left)) refl) is)
   where
     no_return : (b : _) → is_return (next_act left) ≡ b → is_return (next_act left) ≡ false
     no_return false e = e
     no_return true e =
         let zero = return_zero (next_act left) answer e is in
-        let b : true ≡ false = sym (ap (λ a. is_between (after_answer left a)) zero ∙ rests e) ∙ goes in cc
+        let b : true ≡ false = sym (ap (λ a. is_between (after_answer left a)) zero ∙ rests e)
+        ∙ goes in cc

@@ -22,15 +22,19 @@ use Rattle.vyrd_live.specs.TurnRuns.{IsRunByTurns}
 
 -- a recording that was shown the run by turns has what its run is made of
 pub run_recorded : (w : Workload) (r : Recording) (words : List ℕ) (run : Run)
-    → HasRun (work_scripts w) w.turns w.header HasRecorded r words → r.judge.judge.kept.charter ≡ built_in w.header
+    → HasRun (work_scripts w) w.turns w.header HasRecorded r words → r.judge.judge.kept.charter
+    ≡ built_in w.header
     → run.history.items ≡ r.history.items → run.words.items ≡ words
-    → ((history : List Stamped) → HasRecorded r history → run.verdict ≡ verdict (rules_by r.judge.judge.kept.charter) [] (log_of history))
+    → ((history : List Stamped) → HasRecorded r history → run.verdict
+    ≡ verdict (rules_by r.judge.judge.kept.charter) [] (log_of history))
     → IsRunByTurns w run
 run_recorded w r words run has_run charter history_is words_is judged =
     let same : run.history.items ≡ has_run.history = history_is ∙ has_run.taken.kept in record {
       history = subst (RunsTo (work_scripts w) w.turns) (sym same) has_run.runs;
-      words = words_is ∙ has_run.words_are ∙ ap (λ (h : List Stamped). memory_after w.header (newest_first h)) (sym same);
-      verdict_is = judged has_run.history has_run.taken ∙ ap (λ (k : Charter). verdict (rules_by k) [] (log_of has_run.history)) charter
+      words = words_is ∙ has_run.words_are
+          ∙ ap (λ (h : List Stamped). memory_after w.header (newest_first h)) (sym same);
+      verdict_is = judged has_run.history has_run.taken
+          ∙ ap (λ (k : Charter). verdict (rules_by k) [] (log_of has_run.history)) charter
           ∙ ap (λ (h : List Stamped). verdict (rules_of w.header) [] (log_of h)) (sym same);
     }
 
@@ -38,7 +42,8 @@ pub turns_accepted : (w : Workload) (run : Run) → KeepsLimits w → IsCorrect 
     → run.verdict ≡ accepted (log_of run.history.items)
 turns_accepted w run limits is by_turns =
     by_turns.verdict_is ∙ schedule_accepted w run.history.items limits is (record {
-      legal = run_is_legal w.header (work_scripts w) w.turns run.history.items (scripts_sound w limits)
+      legal = run_is_legal w.header (work_scripts w) w.turns run.history.items
+          (scripts_sound w limits)
           by_turns.history;
       parts = run_plays w.header (work_scripts w) w.turns run.history.items (scripts_sound w limits)
           by_turns.history;

@@ -1,5 +1,6 @@
 -- What all workers together leave.
-use Rattle.std.proofs.Common.{◌≡◌, ℕ, ◌<◌, List, [], ◌∷◌, map, length, true, Option, Some, None, ap, ◌∙◌, sym, subst, arith}
+use Rattle.std.proofs.Common.{◌≡◌, ℕ, ◌<◌, List, [], ◌∷◌, map, length, true, Option, Some, None, ap}
+use Rattle.std.proofs.Common.{◌∙◌, sym, subst, arith}
 use Rattle.std.specs.Prelude.{slice_index, slice_index_or, IfSome}
 use Rattle.std.specs.List.{All}
 use Rattle.std.proofs.lemmas.List.{get_or-map, length-map, get_or_past}
@@ -39,24 +40,31 @@ abbrev pub first_hands : {M : Type 0} → List (Worker M) → List HandView
 first_hands workers = map (λ w. w.hand) workers
 
 -- each worker has worked, and left what stands at its place
-abbrev pub HaveWorked : {M : Type 0} → (M → Header) → (M → Script) → (M → ℕ) → TracedView → List (Worker M) → List Stopped → Type 0
-HaveWorked {M} header_of script ahead traced workers stopped = (i : ℕ) (w : Worker M) (s : Stopped) → i < length workers
-    → HasWorked header_of script ahead traced (slice_index_or workers i w).machine (slice_index_or workers i w).hand (slice_index_or stopped i s).hand
+abbrev pub HaveWorked : {M : Type 0} → (M → Header) → (M → Script) → (M → ℕ) → TracedView
+    → List (Worker M) → List Stopped → Type 0
+HaveWorked {M} header_of script ahead traced workers stopped = (i : ℕ) (w : Worker M) (s : Stopped)
+    → i < length workers
+    → HasWorked header_of script ahead traced (slice_index_or workers i w).machine
+    (slice_index_or workers i w).hand (slice_index_or stopped i s).hand
     (slice_index_or stopped i s).ending
 
 -- what is left of each worker's hand
 hand_left : {M : Type 0} (header_of : M → Header) (script : M → Script) (ahead : M
     → ℕ) (traced : TracedView) (workers : List (Worker M)) (stopped : List Stopped)
-    → HaveWorked header_of script ahead traced workers stopped → length stopped ≡ length workers → AreAll traced (first_hands workers)
+    → HaveWorked header_of script ahead traced workers stopped → length stopped ≡ length workers
+    → AreAll traced (first_hands workers)
     → (i : ℕ) (d : HandView) → i < length workers
-    → IsOf traced (slice_index_or (hands stopped) i d) × ((slice_index_or (hands stopped) i d).caller ≡ i)
+    → IsOf traced (slice_index_or (hands stopped) i d)
+    × ((slice_index_or (hands stopped) i d).caller ≡ i)
 hand_left header_of script ahead traced workers stopped worked count all i d low =
     let w = element_of workers i low in
     let s : Stopped = record { hand = d; ending = Finished } in
     let here = worked i w s low in
     let now : slice_index_or (hands stopped) i d
-    ≡ (slice_index_or stopped i s).hand = get_or-map (λ (s : Stopped). s.hand) stopped i s d (omega (arith, low, count)) in
-    let before : slice_index_or (first_hands workers) i d ≡ (slice_index_or workers i w).hand = get_or-map (λ (w : _). w.hand) workers i w d low in
+    ≡ (slice_index_or stopped i s).hand = get_or-map (λ (s : Stopped). s.hand) stopped i s d
+    (omega (arith, low, count)) in
+    let before : slice_index_or (first_hands workers) i d ≡ (slice_index_or workers i w).hand =
+    get_or-map (λ (w : _). w.hand) workers i w d low in
     let was = (all.1 i d (omega (arith, low, length-map workers (λ (w : _). w.hand)))).1 in
     subst (λ (v : HandView). IsOf traced v × (v.caller ≡ i)) (sym now) (
       here.hand_of,
@@ -78,10 +86,13 @@ all_hands header_of script ahead traced workers stopped worked count all =
     )
 
 -- how the worker of a caller ended, by what the history has of the caller
-ended_at : {M : Type 0} (header_of : M → Header) (script : M → Script) (ahead : M → ℕ) (traced : TracedView) (h : Header) (workers : List (Worker M))
+ended_at : {M : Type 0} (header_of : M → Header) (script : M → Script) (ahead : M → ℕ)
+    (traced : TracedView) (h : Header) (workers : List (Worker M))
     (stopped : List Stopped) (history : List Stamped)
-    → HaveWorked header_of script ahead traced workers stopped → length stopped ≡ length workers → AreAll traced (first_hands workers)
-    → All (λ (hand : HandView). part hand.caller history ≡ hand.lane) (hands stopped) → AreMadeFor h (map (λ w. header_of w.machine) workers)
+    → HaveWorked header_of script ahead traced workers stopped → length stopped ≡ length workers
+    → AreAll traced (first_hands workers)
+    → All (λ (hand : HandView). part hand.caller history ≡ hand.lane) (hands stopped)
+    → AreMadeFor h (map (λ w. header_of w.machine) workers)
     → (c : ℕ) → c < length workers
     → HasEnded h traced.plan.limit (script_of (map (λ w. script w.machine) workers) c)
     (slice_index_or (endings stopped) c Finished) (done_by c history)
@@ -91,20 +102,25 @@ ended_at header_of script ahead traced h workers stopped history worked count al
     let s : Stopped = record { hand = d; ending = Finished } in
     let here = worked c w s low in
     let now : slice_index_or (hands stopped) c d
-    ≡ (slice_index_or stopped c s).hand = get_or-map (λ (s : Stopped). s.hand) stopped c s d (omega (arith, low, count)) in
+    ≡ (slice_index_or stopped c s).hand = get_or-map (λ (s : Stopped). s.hand) stopped c s d
+    (omega (arith, low, count)) in
     let ending : slice_index_or (endings stopped) c Finished ≡ (slice_index_or stopped c s).ending =
     get_or-map (λ (s : Stopped). s.ending) stopped c s Finished
     (omega (arith, low, count)) in
-    let own : script_of (map (λ w. script w.machine) workers) c ≡ script (slice_index_or workers c w).machine = get_or-map
+    let own : script_of (map (λ w. script w.machine) workers) c
+    ≡ script (slice_index_or workers c w).machine = get_or-map
     (λ (w : _). script w.machine) workers c w stop low in
     let header : header_of (slice_index_or workers c w).machine ≡ h =
     sym (get_or-map (λ (w : _). header_of w.machine) workers c w h low)
     ∙ made.each c h (omega (arith, low, length-map workers (λ (w : _). header_of w.machine))) in
-    let caller = (hand_left header_of script ahead traced workers stopped worked count all c d low).1 in
-    let part_is = parts c d (omega (arith, low, count, length-map stopped (λ (s : Stopped). s.hand))) in
+    let caller =
+    (hand_left header_of script ahead traced workers stopped worked count all c d low).1 in
+    let part_is = parts c d
+    (omega (arith, low, count, length-map stopped (λ (s : Stopped). s.hand))) in
     let lane : part c history ≡ (slice_index_or stopped c s).hand.lane =
     ap (λ c. part c history) (sym caller) ∙ part_is ∙ ap (λ (v : HandView). v.lane) now in
-    let done : done_by c history ≡ dids_of (slice_index_or stopped c s).hand.lane = done_by-part c history ∙ ap dids_of lane in
+    let done : done_by c history ≡ dids_of (slice_index_or stopped c s).hand.lane =
+    done_by-part c history ∙ ap dids_of lane in
     subst (λ (x : Header × Script × Ending × List Did). HasEnded x.0 traced.plan.limit x.1 x.2 x.3)
     (λ i. (header i, sym own i, sym ending i, sym done i)) here.ended
 
@@ -112,35 +128,47 @@ ended_at header_of script ahead traced h workers stopped history worked count al
 pub all_played : {M : Type 0} (header_of : M → Header) (script : M → Script) (ahead : M
     → ℕ) (traced : TracedView) (h : Header) (workers : List (Worker M))
     (stopped : List Stopped) (history : List Stamped) (first : Option ℕ)
-    → HaveWorked header_of script ahead traced workers stopped → length stopped ≡ length workers → AreAll traced (first_hands workers)
+    → HaveWorked header_of script ahead traced workers stopped → length stopped ≡ length workers
+    → AreAll traced (first_hands workers)
     → is_legal (cells_in traced.plan) history ≡ true
-    → All (λ (hand : HandView). part hand.caller history ≡ hand.lane) (hands stopped) → AreMadeFor h (map (λ w. header_of w.machine) workers)
+    → All (λ (hand : HandView). part hand.caller history ≡ hand.lane) (hands stopped)
+    → AreMadeFor h (map (λ w. header_of w.machine) workers)
     → IsFirstSpent (endings stopped) (length stopped) first
     → HavePlayed h traced.plan.limit (map (λ w. script w.machine) workers) history first
-all_played header_of script ahead traced h workers stopped history first worked count all legal parts made is =
+all_played header_of script ahead traced h workers stopped history first worked count all legal
+    parts made is =
     let scripts = map (λ w. script w.machine) workers in
-    let callers : length workers ≡ h.callers = sym (length-map workers (λ (w : _). header_of w.machine)) ∙ made.count in
-    let plan : traced.plan.callers ≡ length workers = sym all.0 ∙ length-map workers (λ (w : _). w.hand) in
+    let callers : length workers ≡ h.callers =
+    sym (length-map workers (λ (w : _). header_of w.machine)) ∙ made.count in
+    let plan : traced.plan.callers ≡ length workers = sym all.0
+    ∙ length-map workers (λ (w : _). w.hand) in
     played h traced.plan.limit scripts history (endings stopped) first
     (record {
-      each = λ c low. ended_at header_of script ahead traced h workers stopped history worked count all parts made c (omega (arith, low, callers));
+      each = λ c low. ended_at header_of script ahead traced h workers stopped history worked count
+          all parts made c (omega (arith, low, callers));
       others = λ c out. (
-        get_or_past scripts c stop (omega (arith, out, callers, length-map workers (λ (w : _). script w.machine))),
+        get_or_past scripts c stop
+            (omega (arith, out, callers, length-map workers (λ (w : _). script w.machine))),
         nothing_done (cells_in traced.plan) c history legal (omega (arith, out, callers, plan)),
       );
     })
     (subst (λ n. IsFirstSpent (endings stopped) n first) (count ∙ callers) is)
 
 -- the machine of the first that was spent had more events before it than the limit allows
-pub first_is_long : {M : Type 0} (header_of : M → Header) (script : M → Script) (ahead : M → ℕ) (traced : TracedView) (workers : List (Worker M))
+pub first_is_long : {M : Type 0} (header_of : M → Header) (script : M → Script) (ahead : M → ℕ)
+    (traced : TracedView) (workers : List (Worker M))
     (stopped : List Stopped) (first : Option ℕ)
     → HaveWorked header_of script ahead traced workers stopped → length stopped ≡ length workers
     → IsFirstSpent (endings stopped) (length stopped) first
-    → IfSome first (λ caller. traced.plan.limit < slice_index (map (λ (w : Worker M). ahead w.machine) workers) caller)
+    → IfSome first
+    (λ caller. traced.plan.limit < slice_index (map (λ (w : Worker M). ahead w.machine) workers)
+    caller)
 first_is_long header_of script ahead traced workers stopped None worked count is = tt
 first_is_long header_of script ahead traced workers stopped (Some first) worked count is =
     let here : first < length workers = let low = is.0 in omega (arith, low, count) in
     let w = element_of workers first here in
     let s : Stopped = record { hand = w.hand; ending = Finished } in
-    subst (λ n. traced.plan.limit < n) (sym (get_or-map (λ (w : _). ahead w.machine) workers first w 0 here))
-    ((worked first w s here).long (sym (get_or-map (λ (s : Stopped). s.ending) stopped first s Finished is.0) ∙ is.1))
+    subst (λ n. traced.plan.limit < n)
+    (sym (get_or-map (λ (w : _). ahead w.machine) workers first w 0 here))
+    ((worked first w s here).long
+    (sym (get_or-map (λ (s : Stopped). s.ending) stopped first s Finished is.0) ∙ is.1))

@@ -1,12 +1,15 @@
 -- Bytes that begin as a log with a specification in front does, and bytes that don't.
-use Rattle.std.proofs.Common.{◌≡◌, ℕ, ◌+◌, ◌-◌, ◌<◌, ◌≤◌, min, Bool, true, false, List, [], ◌++◌, length, take, drop, Option, Some, None, refl, ap, ◌∙◌, sym, arith, append_assoc, append-nil, take-append-drop}
+use Rattle.std.proofs.Common.{◌≡◌, ℕ, ◌+◌, ◌-◌, ◌<◌, ◌≤◌, min, Bool, true, false, List, [], ◌++◌}
+use Rattle.std.proofs.Common.{length, take, drop, Option, Some, None, refl, ap, ◌∙◌, sym, arith}
+use Rattle.std.proofs.Common.{append_assoc, append-nil, take-append-drop}
 use Rattle.std.specs.Prelude.{◌≢◌, ◌==◌, nat_le}
 use Rattle.std.specs.Option.{option_eq}
 use Rattle.std.specs.Bool.{then_some}
 use Rattle.std.specs.Str.{bytes_eq}
 use Rattle.std.proofs.lemmas.Bool.Decides.{nat_tests}
 use Rattle.std.proofs.lemmas.Slice.Eq.{bytes_eq-Decides}
-use Rattle.std.proofs.lemmas.List.{length-take, length-take-le, take_all, take-take, take_at, take-append-le, drop_at, drop-take}
+use Rattle.std.proofs.lemmas.List.{length-take, length-take-le, take_all, take-take, take_at}
+use Rattle.std.proofs.lemmas.List.{take-append-le, drop_at, drop-take}
 use Rattle.std.proofs.Math.Seq.{take-add}
 use Rattle.vyrd_base.specs.LogVerdicts.{own_beginning, is_own_text}
 use Rattle.vyrd_log_check.specs.Beginnings.{Matches, matched_with}
@@ -74,7 +77,8 @@ module _ (n : ℕ) (bytes piece : List ℕ) (few : n < 11) (is : bytes ≡ take 
 
   goes_on : (m : ℕ) → matched_with n piece ≡ Some m
       → (m ≡ n + part) × (bytes ++ take part piece ≡ take m own_beginning)
-  goes_on m found = by_test (bytes_eq (take part piece) (take part (drop n own_beginning))) refl found
+  goes_on m found = by_test (bytes_eq (take part piece) (take part (drop n own_beginning))) refl
+      found
     where
       by_test : (b : Bool) → bytes_eq (take part piece) (take part (drop n own_beginning)) ≡ b
           → then_some b (n + part) ≡ Some m
@@ -121,7 +125,8 @@ module _ (n : ℕ) (bytes piece : List ℕ) (few : n < 11) (is : bytes ≡ take 
           sym (take-append-le part piece more (omega arith))
           ∙ sym (take-take part (11 - n) (piece ++ more) (omega arith))
           ∙ ap (λ xs. take part (take (11 - n) xs))
-          (sym (drop_at bytes (piece ++ more) n count) ∙ ap (drop n) (sym (append_assoc bytes piece more)))
+          (sym (drop_at bytes (piece ++ more) n count)
+          ∙ ap (drop n) (sym (append_assoc bytes piece more)))
           ∙ ap (take part) (sym (drop-take n (11 - n) all))
           ∙ ap (λ k. take part (drop n (take k all))) room
           ∙ ap (λ xs. take part (drop n xs)) (begun all so)
@@ -138,11 +143,13 @@ pub matches_isnt : (matched : Option ℕ) (bytes : List ℕ) → Matches matched
 matches_isnt None bytes m = ap is_own_text (sym (append-nil bytes)) ∙ m []
 matches_isnt (Some n) bytes m =
     let eleven : length own_beginning ≡ 11 = refl in
-    short_isnt bytes (omega (arith, ap length m.1, length-take-le n own_beginning (omega (arith, m.0, eleven)), m.0))
+    short_isnt bytes
+    (omega (arith, ap length m.1, length-take-le n own_beginning (omega (arith, m.0, eleven)), m.0))
 
 -- longer ones
 pub other_longer : (bytes more : List ℕ) → Matches None bytes → Matches None (bytes ++ more)
-other_longer bytes more never = λ rest. ap is_own_text (append_assoc bytes more rest) ∙ never (more ++ rest)
+other_longer bytes more never = λ rest. ap is_own_text (append_assoc bytes more rest)
+    ∙ never (more ++ rest)
 
 -- how far bytes match with a piece behind them, if the beginning hasn't come as a whole
 pub matches_on : (n : ℕ) (bytes piece : List ℕ) (now : Option ℕ) → Matches (Some n) bytes
@@ -152,12 +159,15 @@ matches_on n bytes piece (Some k) m is other =
     more_comes n bytes piece m.0 m.1 k (sym is) (λ e. other (ap Some e))
 
 -- no more has come than there is
-pub within : (n : ℕ) (piece : List ℕ) (m : ℕ) → n < 11 → matched_with n piece ≡ Some m → m ≢ 11 → m < 11
+pub within : (n : ℕ) (piece : List ℕ) (m : ℕ) → n < 11 → matched_with n piece ≡ Some m → m ≢ 11
+    → m < 11
 within n piece m few found other =
-    by_test (bytes_eq (take (min (length piece) (11 - n)) piece) (take (min (length piece) (11 - n)) (drop n own_beginning))) found
+    by_test (bytes_eq (take (min (length piece) (11 - n)) piece)
+    (take (min (length piece) (11 - n)) (drop n own_beginning))) found
   where
     by_test : (b : Bool) → then_some b (n + min (length piece) (11 - n)) ≡ Some m → m < 11
-    by_test true f = let place : m ≡ n + min (length piece) (11 - n) = cc in omega (arith, place, few, other)
+    by_test true f = let place : m ≡ n + min (length piece) (11 - n) = cc in
+        omega (arith, place, few, other)
     by_test false f = cc
 
 -- what a test of a place tells
@@ -165,6 +175,7 @@ pub is_place : (o : Option ℕ) (n : ℕ) → true ≡ option_eq (λ x y. x == y
 is_place None n e = cc
 is_place (Some k) n e = let same : k ≡ n = grind (arith, nat_tests) in ap Some same
 
-pub isnt_place : (o : Option ℕ) (n : ℕ) → false ≡ option_eq (λ x y. x == y) o (Some n) → o ≡ Some n → ⊥
+pub isnt_place : (o : Option ℕ) (n : ℕ) → false ≡ option_eq (λ x y. x == y) o (Some n) → o ≡ Some n
+    → ⊥
 isnt_place None n e f = cc
 isnt_place (Some k) n e f = let same : k ≡ n = cc in grind (arith, nat_tests)

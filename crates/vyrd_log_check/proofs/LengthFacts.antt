@@ -1,6 +1,7 @@
 -- Bytes of a log of versions 1 and 2 without a fault of text are at most 65 for each line that
 -- there may be.
-use Rattle.std.proofs.Common.{◌≡◌, ℕ, ◌+◌, ◌*◌, ◌<◌, ◌≤◌, Bool, true, false, cond, List, [], ◌∷◌, length, Option, Some, None, Result, Ok, Err, refl, arith}
+use Rattle.std.proofs.Common.{◌≡◌, ℕ, ◌+◌, ◌*◌, ◌<◌, ◌≤◌, Bool, true, false, cond, List, [], ◌∷◌}
+use Rattle.std.proofs.Common.{length, Option, Some, None, Result, Ok, Err, refl, arith}
 use Rattle.std.specs.Prelude.{◌==◌, nat_lt}
 use Rattle.std.specs.List.{slice_split}
 use Rattle.std.specs.Str.{bytes_eq}
@@ -13,13 +14,16 @@ use Rattle.vyrd_base.specs.declared.verdict.Rule.TheVariants.{TooManyLines, BadH
 use Rattle.vyrd_base.specs.Spelling.{end_line}
 use Rattle.vyrd_base.specs.Starts.{start_rule}
 use Rattle.vyrd_base.specs.Lines.{start_in, entry_in, header_in}
-use Rattle.vyrd_base.specs.Reading.{Reading, stopped, ended, after_end_rule, entry_before, lines_read, start_before, starts_read, body_read, header_before, text_read, reading}
+use Rattle.vyrd_base.specs.Reading.{Reading, stopped, ended, after_end_rule, entry_before}
+use Rattle.vyrd_base.specs.Reading.{lines_read, start_before, starts_read, body_read, header_before}
+use Rattle.vyrd_base.specs.Reading.{text_read, reading}
 use Rattle.vyrd_base.proofs.ReadingGrows.{so_far, some_parts}
 use Rattle.vyrd_base.proofs.LongLines.{long_entry, long_start, long_isnt_end, long_header}
 use Rattle.vyrd_base.proofs.TestLaws.{not_below_of}
 use Rattle.vyrd_text.proofs.ReadLaws.{no_fault}
 use Rattle.vyrd_check.specs.LogReadings.{read_so_far}
-use Rattle.vyrd_log_check.proofs.LineSizes.{no_longer, nothing_after, AreShort, one_line, one_more, last_short, all_short}
+use Rattle.vyrd_log_check.proofs.LineSizes.{no_longer, nothing_after, AreShort, one_line, one_more}
+use Rattle.vyrd_log_check.proofs.LineSizes.{last_short, all_short}
 
 -- a line that spells something is short
 entry_short : (subject : Subject) (line : List ℕ) (e : Entry) → entry_in subject line ≡ Some e

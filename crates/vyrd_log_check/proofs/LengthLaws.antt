@@ -1,5 +1,6 @@
 -- Bytes without a verdict are at most 201 for each line that there may be.
-use Rattle.std.proofs.Common.{◌≡◌, ℕ, ◌*◌, ◌≤◌, Bool, true, false, List, length, Option, Some, None, refl, ◌∙◌, sym, arith}
+use Rattle.std.proofs.Common.{◌≡◌, ℕ, ◌*◌, ◌≤◌, Bool, true, false, List, length, Option, Some, None}
+use Rattle.std.proofs.Common.{refl, ◌∙◌, sym, arith}
 use Rattle.std.specs.Prelude.{option_map}
 use Rattle.vyrd_base.specs.declared.verdict.Verdict.TheVariants.{Malformed}
 use Rattle.vyrd_base.specs.Reading.{TextFault}

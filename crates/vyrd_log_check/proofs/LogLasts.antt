@@ -1,11 +1,13 @@
 -- A verdict about the bytes of a log of any version that stands stands for all longer bytes.
-use Rattle.std.proofs.Common.{◌≡◌, ℕ, zero, suc, ◌<◌, ◌≤◌, Bool, true, false, cond, ◌&&◌, List, [], ◌∷◌, ◌++◌, length, take, Some, None, refl, ap, ◌∙◌, sym, arith}
+use Rattle.std.proofs.Common.{◌≡◌, ℕ, zero, suc, ◌<◌, ◌≤◌, Bool, true, false, cond, ◌&&◌, List, []}
+use Rattle.std.proofs.Common.{◌∷◌, ◌++◌, length, take, Some, None, refl, ap, ◌∙◌, sym, arith}
 use Rattle.std.specs.Prelude.{◌==◌, nat_lt, not}
 use Rattle.std.proofs.lemmas.Bool.Decides.{nat_tests}
 use Rattle.std.proofs.lemmas.List.{length-take-le}
 use Rattle.std.proofs.Math.Bool.{and-false}
 use Rattle.vyrd_base.specs.declared.verdict.Verdict.{Verdict}
-use Rattle.vyrd_base.specs.declared.verdict.Rule.TheVariants.{TooManyLines, BadHeader, NoLineFeed, NoEnd}
+use Rattle.vyrd_base.specs.declared.verdict.Rule.TheVariants.{TooManyLines, BadHeader, NoLineFeed}
+use Rattle.vyrd_base.specs.declared.verdict.Rule.TheVariants.{NoEnd}
 use Rattle.vyrd_base.specs.Shape.{◌breaks◌, first_broken}
 use Rattle.vyrd_base.specs.Reading.{has_any, stopped, text_read, reading}
 use Rattle.vyrd_base.specs.TextVerdicts.{known_verdict, text_verdict, text_verdict_so_far}
@@ -59,7 +61,8 @@ unfinished max bytes low one few =
     ∷ (short i breaks BadHeader) ∷ (has_any bytes && false breaks NoLineFeed)
     ∷ (false breaks NoEnd) ∷ []))))
     ∙ ap (λ b. known_verdict (stopped 1 (first_broken ((b breaks TooManyLines)
-    ∷ (false breaks BadHeader) ∷ (b breaks NoLineFeed) ∷ (false breaks NoEnd) ∷ [])))) (and-false (has_any bytes))
+    ∷ (false breaks BadHeader) ∷ (b breaks NoLineFeed) ∷ (false breaks NoEnd)
+    ∷ [])))) (and-false (has_any bytes))
 
 pub lacks_take : (b n : ℕ) (xs : List ℕ) → lacks b xs ≡ true → lacks b (take n xs) ≡ true
 lacks_take b zero xs e = refl

@@ -9,5 +9,6 @@ use Rattle.vyrd_base.proofs.Opened.{opened_text}
 use Rattle.vyrd_base.proofs.OpenedOwn.{opened_reading}
 
 unfoldable pub opened_log : ℕ
-unfolding opened_text opened_reading own_header_in own_reading own_entry_in own_text_verdict own_text_verdict_so_far log_verdict log_verdict_so_far
+unfolding opened_text opened_reading own_header_in own_reading own_entry_in own_text_verdict
+    own_text_verdict_so_far log_verdict log_verdict_so_far
 opened_log = 0

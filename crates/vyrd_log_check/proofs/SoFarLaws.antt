@@ -1,5 +1,6 @@
 -- A verdict that stands before the end is never acceptance.
-use Rattle.std.proofs.Common.{◌≡◌, ℕ, Bool, true, false, cond, List, [], ◌∷◌, Option, Some, None, subst}
+use Rattle.std.proofs.Common.{◌≡◌, ℕ, Bool, true, false, cond, List, [], ◌∷◌, Option, Some, None}
+use Rattle.std.proofs.Common.{subst}
 use Rattle.std.specs.Prelude.{is_none, option_map, option_and_then}
 use Rattle.std.specs.Option.{option_or}
 use Rattle.std.specs.Bool.{then_some}
@@ -17,10 +18,13 @@ use Rattle.vyrd_base.specs.Starts.{state_at_start}
 use Rattle.vyrd_base.specs.Faults.{fault_at}
 use Rattle.vyrd_base.specs.Front.{front, first_break}
 use Rattle.vyrd_base.specs.Reading.{Reading, TextFault, reading}
-use Rattle.vyrd_base.specs.Verdicts.{line_of, violation_at, states_along, first_fault, shape_verdict, begun_verdict, start_verdict, verdict_so_far, is_call_open, end_verdict}
+use Rattle.vyrd_base.specs.Verdicts.{line_of, violation_at, states_along, first_fault}
+use Rattle.vyrd_base.specs.Verdicts.{shape_verdict, begun_verdict, start_verdict, verdict_so_far}
+use Rattle.vyrd_base.specs.Verdicts.{is_call_open, end_verdict}
 use Rattle.vyrd_base.specs.TextVerdicts.{entries_verdict, known_verdict, text_verdict_so_far}
 use Rattle.vyrd_base.specs.Own.Log.{OwnReading, own_reading}
-use Rattle.vyrd_base.specs.Own.LogVerdicts.{told_in_text, own_entries_verdict, known_own_verdict, own_text_verdict_so_far}
+use Rattle.vyrd_base.specs.Own.LogVerdicts.{told_in_text, own_entries_verdict, known_own_verdict}
+use Rattle.vyrd_base.specs.Own.LogVerdicts.{own_text_verdict_so_far}
 use Rattle.vyrd_base.specs.LogVerdicts.{is_own_text, log_verdict_so_far}
 
 -- no acceptance
@@ -87,13 +91,16 @@ module _ (r : Rules) (starting : List StartWord) where
       (open_bad (line_of starting _) (is_call_open r.header (newest_first entries)))
 
   parts_bad : (entries : List Entry) (ended : Bool)
-      → IsBad (option_or (verdict_so_far r starting entries) (cond ended (end_verdict r starting entries) None))
-  parts_bad entries true = or_bad (verdict_so_far r starting entries) _ (log_bad entries) (end_bad entries)
+      → IsBad (option_or (verdict_so_far r starting entries)
+      (cond ended (end_verdict r starting entries) None))
+  parts_bad entries true = or_bad (verdict_so_far r starting entries) _ (log_bad entries)
+      (end_bad entries)
   parts_bad entries false = or_bad (verdict_so_far r starting entries) _ (log_bad entries) tt
 
 -- about a log without a specification in front
 known_bad : (read : Reading) → IsBad (known_verdict read)
-known_bad read = or_bad (option_and_then (entries_verdict read) read.header) _ (by_header read.header)
+known_bad read = or_bad (option_and_then (entries_verdict read) read.header) _
+    (by_header read.header)
     (fault_bad read.fault)
   where
     by_header : (o : Option Header) → IsBad (option_and_then (entries_verdict read) o)
@@ -105,7 +112,8 @@ unfolding text_verdict_so_far
 text_bad max bytes = known_bad (reading (record { max_lines = max; is_whole = false }) bytes)
 
 -- about one with it
-told_bad : (numbers : List ℕ) (o : Option Verdict) → IsBad o → IsBad (option_map (told_in_text numbers) o)
+told_bad : (numbers : List ℕ) (o : Option Verdict) → IsBad o
+    → IsBad (option_map (told_in_text numbers) o)
 told_bad numbers None bad = tt
 told_bad numbers (Some (Accepted entries commits observers)) bad = bad
 told_bad numbers (Some (Violation line why)) bad = tt
@@ -132,7 +140,8 @@ pub so_far_bad : (max : ℕ) (bytes : List ℕ) → IsBad (log_verdict_so_far ma
 unfolding log_verdict_so_far
 so_far_bad max bytes = by_kind (is_own_text bytes)
   where
-    by_kind : (b : Bool) → IsBad (cond b (own_text_verdict_so_far max bytes) (text_verdict_so_far max bytes))
+    by_kind : (b : Bool)
+        → IsBad (cond b (own_text_verdict_so_far max bytes) (text_verdict_so_far max bytes))
     by_kind true = own_bad max bytes
     by_kind false = text_bad max bytes
 

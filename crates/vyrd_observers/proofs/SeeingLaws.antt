@@ -1,5 +1,6 @@
 -- Watches that see a state one after the other.
-use Rattle.std.proofs.Common.{◌≡◌, ℕ, zero, suc, ◌<◌, ◌≤◌, Bool, true, false, ◌||◌, List, [], ◌∷◌, length, Some, slice_get, refl, ap, ◌∙◌, sym, arith}
+use Rattle.std.proofs.Common.{◌≡◌, ℕ, zero, suc, ◌<◌, ◌≤◌, Bool, true, false, ◌||◌, List, [], ◌∷◌}
+use Rattle.std.proofs.Common.{length, Some, slice_get, refl, ap, ◌∙◌, sym, arith}
 use Rattle.std.specs.Prelude.{◌==◌}
 use Rattle.std.proofs.lemmas.Option.{slice_get_within}
 use Rattle.std.proofs.lemmas.Option.{same_Some}
@@ -12,16 +13,19 @@ use Rattle.vyrd_observers.specs.Watching.{AreCurrent, AllSee}
 
 -- the watches before this place have seen the state, and those from it on are as they were
 pub record SeenBelow (told : Method → Args → ℕ) (i : ℕ) (old new : List Seen) : Type 0 where
-  pub below : (k : ℕ) (seen : Seen) → k < i → slice_get old k ≡ Some seen → (next : Seen) × (slice_get new k ≡ Some next) × SeesState told seen next
+  pub below : (k : ℕ) (seen : Seen) → k < i → slice_get old k ≡ Some seen → (next : Seen)
+      × (slice_get new k ≡ Some next) × SeesState told seen next
   pub above : (k : ℕ) → i ≤ k → slice_get new k ≡ slice_get old k
 
 -- all have seen it
-pub seen_all : (told : Method → Args → ℕ) (i : ℕ) (old new : List Seen) → length old ≤ i → SeenBelow told i old new → AllSee told old new
+pub seen_all : (told : Method → Args → ℕ) (i : ℕ) (old new : List Seen) → length old ≤ i
+    → SeenBelow told i old new → AllSee told old new
 seen_all told i old new past so = λ c seen here.
     so.below c seen (omega (arith, past, slice_get_within old c seen here)) here
 
 -- and know its answer
-pub seen_current : (told : Method → Args → ℕ) (i : ℕ) (old new : List Seen) → length old ≤ i → length new ≡ length old
+pub seen_current : (told : Method → Args → ℕ) (i : ℕ) (old new : List Seen) → length old ≤ i
+    → length new ≡ length old
     → SeenBelow told i old new → AreCurrent told new
 seen_current told i old new past long so = λ c seen here open_now.
     let was = there old c (omega (arith, long, slice_get_within new c seen here)) in
@@ -32,7 +36,8 @@ seen_current told i old new past long so = λ c seen here open_now.
     ∙ ap (λ m. has_answer more.0.answers (told m more.0.args)) more.2.method
     ∙ ap (λ a. has_answer more.0.answers (told was.0.method a)) more.2.args
     ∙ sees.answers (told was.0.method was.0.args)
-    ∙ ap (λ b. has_answer was.0.answers (told was.0.method was.0.args) || b) (same_number (told was.0.method was.0.args))
+    ∙ ap (λ b. has_answer was.0.answers (told was.0.method was.0.args) || b)
+    (same_number (told was.0.method was.0.args))
     ∙ or-true (has_answer was.0.answers (told was.0.method was.0.args))
   where
     there : (xs : List Seen) (c : ℕ) → c < length xs → (seen : Seen) × (slice_get xs c ≡ Some seen)
@@ -41,7 +46,8 @@ seen_current told i old new past long so = λ c seen here open_now.
     there (x ∷ xs) (suc c) low = there xs c (omega (arith, low))
 
 -- a watch that knows the answer already needn't be told
-pub knows_already : (answer : ℕ) (seen : Seen) → has_answer seen.answers answer ≡ true → SeesAnswer answer seen seen
+pub knows_already : (answer : ℕ) (seen : Seen) → has_answer seen.answers answer ≡ true
+    → SeesAnswer answer seen seen
 knows_already answer seen knows = record {
   is_open = refl;
   method = refl;
@@ -49,16 +55,22 @@ knows_already answer seen knows = record {
   answers = λ reply. by_reply reply (answer == reply) refl;
 }
   where
-    by_reply : (reply : ℕ) (b : Bool) → (answer == reply) ≡ b → has_answer seen.answers reply ≡ (has_answer seen.answers reply || answer == reply)
+    by_reply : (reply : ℕ) (b : Bool) → (answer == reply) ≡ b → has_answer seen.answers reply
+        ≡ (has_answer seen.answers reply || answer == reply)
     by_reply reply true e =
-        let it : has_answer seen.answers reply ≡ true = ap (has_answer seen.answers) (sym (same_of answer reply e)) ∙ knows in
+        let it : has_answer seen.answers reply ≡ true = ap (has_answer seen.answers)
+        (sym (same_of answer reply e)) ∙ knows in
         it ∙ sym (ap (λ b. b || answer == reply) it)
-    by_reply reply false e = sym (or-false (has_answer seen.answers reply)) ∙ ap (λ b. has_answer seen.answers reply || b) (sym e)
+    by_reply reply false e = sym (or-false (has_answer seen.answers reply))
+        ∙ ap (λ b. has_answer seen.answers reply || b) (sym e)
 
 -- after a step that doesn't affect its answer an observer knows the answer already
-pub still_current : (before after : Method → Args → ℕ) (watches : List Seen) (affects : Method → Args → Bool)
+pub still_current : (before after : Method → Args → ℕ) (watches : List Seen)
+    (affects : Method → Args → Bool)
     → ((m : Method) (a : Args) → affects m a ≡ false → after m a ≡ before m a)
-    → AreCurrent before watches → (c : ℕ) (seen : Seen) → slice_get watches c ≡ Some seen → seen.is_open ≡ true
-    → affects seen.method seen.args ≡ false → has_answer seen.answers (after seen.method seen.args) ≡ true
+    → AreCurrent before watches → (c : ℕ) (seen : Seen) → slice_get watches c ≡ Some seen
+    → seen.is_open ≡ true
+    → affects seen.method seen.args ≡ false → has_answer seen.answers (after seen.method seen.args)
+    ≡ true
 still_current before after watches affects same current c seen here is_open none =
     ap (has_answer seen.answers) (same seen.method seen.args none) ∙ current c seen here is_open

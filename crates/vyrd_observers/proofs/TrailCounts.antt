@@ -1,5 +1,7 @@
 -- How many trails there are, and how many answers they keep.
-use Rattle.std.proofs.Common.{◌≡◌, ℕ, zero, suc, ◌+◌, ◌*◌, ◌^◌, ◌<◌, ◌≤◌, Bool, true, false, cond, ◌⊎◌, inl, inr, ⊎_elim, List, [], ◌∷◌, length, drop, map, set, Option, Some, None, slice_get, refl, ap, subst, ◌∙◌, sym, arith, length-drop}
+use Rattle.std.proofs.Common.{◌≡◌, ℕ, zero, suc, ◌+◌, ◌*◌, ◌^◌, ◌<◌, ◌≤◌, Bool, true, false, cond}
+use Rattle.std.proofs.Common.{◌⊎◌, inl, inr, ⊎_elim, List, [], ◌∷◌, length, drop, map, set, Option}
+use Rattle.std.proofs.Common.{Some, None, slice_get, refl, ap, subst, ◌∙◌, sym, arith, length-drop}
 use Rattle.std.specs.Prelude.{sum_by, sum, option_map}
 use Rattle.std.proofs.lemmas.List.Sums.{sum_by-cons, sum-map, count_by-le-length}
 use Rattle.std.proofs.lemmas.List.{length-map, length-set}
@@ -8,68 +10,89 @@ use Rattle.vyrd_base.specs.declared.header.Header.{Header}
 use Rattle.vyrd_base.proofs.HeaderLaws.{few_callers}
 use Rattle.vyrd_base.proofs.ListLaws.{slice_get-set_other}
 use Rattle.vyrd_observers.specs.declared.watch.Watch.{Watch}
-use Rattle.vyrd_observers.specs.Trails.{Asked, seen_from, seen_by, IsOn, AreAsking, KeepsAsked, AreUsed, AreOldExcept, asked_count, kept_by, kept_count, with_asker}
+use Rattle.vyrd_observers.specs.Trails.{Asked, seen_from, seen_by, IsOn, AreAsking, KeepsAsked}
+use Rattle.vyrd_observers.specs.Trails.{AreUsed, AreOldExcept, asked_count, kept_by, kept_count}
+use Rattle.vyrd_observers.specs.Trails.{with_asker}
 use Rattle.vyrd_observers.specs.Order.{AreInOrder, Closes}
 use Rattle.vyrd_observers.specs.Watching.{Seen, KeepsFew, unwatched, open_count, answer_count}
-use Rattle.vyrd_observers.proofs.TrailLaws.{some_some, map_after, asking_set, on_set, on_kept, on_recounted, used_begun, used_recounted}
-use Rattle.vyrd_observers.proofs.AskerLaws.{sum_set, count_low, counted_asked, counted_begun, free_begun}
+use Rattle.vyrd_observers.proofs.TrailLaws.{some_some, map_after, asking_set, on_set, on_kept}
+use Rattle.vyrd_observers.proofs.TrailLaws.{on_recounted, used_begun, used_recounted}
+use Rattle.vyrd_observers.proofs.AskerLaws.{sum_set, count_low, counted_asked, counted_begun}
+use Rattle.vyrd_observers.proofs.AskerLaws.{free_begun}
 
--- Numbers at places in a row, where for each that isn't 0 some watch is on that place and has as much:
+-- Numbers at places in a row, where for each that isn't 0 some watch is on that place and has as
+-- much:
 -- together they are at most what all watches have.
-pub matched : {X : Type 0} (f : X → ℕ) (g : Option Watch → ℕ) → g None ≡ 0 → (k : ℕ) (xs : List X) (watches : List (Option Watch))
+pub matched : {X : Type 0} (f : X → ℕ) (g : Option Watch → ℕ) → g None ≡ 0
+    → (k : ℕ) (xs : List X) (watches : List (Option Watch))
     → ((i : ℕ) (x : X) → slice_get xs i ≡ Some x → 1 ≤ f x
-    → (c : ℕ) × (w : Watch) × (slice_get watches c ≡ Some (Some w)) × (w.trail ≡ k + i) × (f x ≤ g (Some w)))
+    → (c : ℕ) × (w : Watch) × (slice_get watches c ≡ Some (Some w)) × (w.trail ≡ k + i)
+    × (f x ≤ g (Some w)))
     → sum_by f xs ≤ sum_by g watches
 matched f g none k [] watches all = omega arith
 matched {X} f g none k (x ∷ xs) watches all =
-    subst (λ n. n ≤ sum_by g watches) (sym (sum_by-cons f x xs)) (by_size (f x) refl (matched f g none (suc k) xs))
+    subst (λ n. n ≤ sum_by g watches) (sym (sum_by-cons f x xs))
+    (by_size (f x) refl (matched f g none (suc k) xs))
   where
     by_size : (n : ℕ) → f x ≡ n
         → ((others : List (Option Watch)) → ((i : ℕ) (y : X) → slice_get xs i ≡ Some y → 1 ≤ f y
-        → (c : ℕ) × (w : Watch) × (slice_get others c ≡ Some (Some w)) × (w.trail ≡ suc k + i) × (f y ≤ g (Some w)))
+        → (c : ℕ) × (w : Watch) × (slice_get others c ≡ Some (Some w)) × (w.trail ≡ suc k + i)
+        × (f y ≤ g (Some w)))
         → sum_by f xs ≤ sum_by g others)
         → f x + sum_by f xs ≤ sum_by g watches
     by_size zero e rest =
-        let more : sum_by f xs ≤ sum_by g watches = rest watches (λ i y here some. let one = all (suc i) y here some in
-        let there : one.1.trail ≡ suc k + i = omega (arith, one.3) in (one.0, one.1, one.2, there, one.4)) in
+        let more : sum_by f xs ≤ sum_by g watches = rest watches
+        (λ i y here some. let one = all (suc i) y here some in
+        let there : one.1.trail ≡ suc k + i = omega (arith, one.3) in
+        (one.0, one.1, one.2, there, one.4)) in
         omega (arith, e, more)
     by_size (suc n) e rest =
         let own = all 0 x refl (omega (arith, e)) in
-        let more : sum_by f xs ≤ sum_by g (set watches own.0 None) = rest (set watches own.0 None) (λ i y here some.
+        let more : sum_by f xs ≤ sum_by g (set watches own.0 None) = rest (set watches own.0 None)
+        (λ i y here some.
         let one = all (suc i) y here some in
         let there : one.1.trail ≡ suc k + i = omega (arith, one.3) in (
           one.0,
           one.1,
-          slice_get-set_other watches own.0 one.0 None (λ same. let apart : own.1.trail ≡ one.1.trail = ap (λ v. v.trail)
-              (some_some (sym own.2 ∙ ap (slice_get watches) same ∙ one.2)) in omega (arith, apart, own.3, one.3)) ∙ one.2,
+          slice_get-set_other watches own.0 one.0 None
+              (λ same. let apart : own.1.trail ≡ one.1.trail = ap (λ v. v.trail)
+              (some_some (sym own.2 ∙ ap (slice_get watches) same ∙ one.2)) in
+              omega (arith, apart, own.3, one.3)) ∙ one.2,
           there,
           one.4,
         )) in
-        let out : sum_by g (set watches own.0 None) + g (Some own.1) ≡ sum_by g watches + g None = sum_set g watches own.0 (Some own.1) None own.2 in
+        let out : sum_by g (set watches own.0 None) + g (Some own.1) ≡ sum_by g watches + g None =
+        sum_set g watches own.0 (Some own.1) None own.2 in
         omega (arith, more, out, none, own.4)
 
-sum_mapped : {A B : Type 0} (f : B → ℕ) (h : A → B) (xs : List A) → sum_by f (map h xs) ≡ sum_by (λ x. f (h x)) xs
-sum_mapped f h xs = sym (sum-map f (map h xs)) ∙ ap sum (map_after f h xs) ∙ sum-map (λ x. f (h x)) xs
+sum_mapped : {A B : Type 0} (f : B → ℕ) (h : A → B) (xs : List A) → sum_by f (map h xs)
+    ≡ sum_by (λ x. f (h x)) xs
+sum_mapped f h xs = sym (sum-map f (map h xs)) ∙ ap sum (map_after f h xs)
+    ∙ sum-map (λ x. f (h x)) xs
 
 sum_doubled : {A : Type 0} (f : A → ℕ) (xs : List A) → sum_by (λ x. 2 * f x) xs ≡ 2 * sum_by f xs
 sum_doubled f [] = refl
 sum_doubled f (x ∷ xs) =
     let rest : sum_by (λ y. 2 * f y) xs ≡ 2 * sum_by f xs = sum_doubled f xs in
-    let twice : sum_by (λ y. 2 * f y) (x ∷ xs) ≡ 2 * f x + sum_by (λ y. 2 * f y) xs = sum_by-cons (λ y. 2 * f y) x xs in
+    let twice : sum_by (λ y. 2 * f y) (x ∷ xs) ≡ 2 * f x + sum_by (λ y. 2 * f y) xs = sum_by-cons
+    (λ y. 2 * f y) x xs in
     let once : sum_by f (x ∷ xs) ≡ f x + sum_by f xs = sum_by-cons f x xs in
     omega (arith, rest, twice, once)
 
 -- the trail of an open observer
-seen_on : (trails : List Asked) (w : Watch) (t : Asked) (i : ℕ) → slice_get trails i ≡ Some t → w.trail ≡ i
+seen_on : (trails : List Asked) (w : Watch) (t : Asked) (i : ℕ) → slice_get trails i ≡ Some t
+    → w.trail ≡ i
     → seen_by trails (Some w) ≡ seen_from w.since (Some t)
-seen_on trails w t i there same = ap (λ k. seen_from w.since (slice_get trails k)) same ∙ ap (seen_from w.since) there
+seen_on trails w t i there same = ap (λ k. seen_from w.since (slice_get trails k)) same
+    ∙ ap (seen_from w.since) there
 
 -- no more trails are asked than there are open observers
 pub asked_few : (trails : List Asked) (watches : List (Option Watch)) → AreUsed trails watches
     → asked_count trails ≤ open_count (map (seen_by trails) watches)
 asked_few trails watches used =
     let few : asked_count trails ≤ sum_by (λ o. cond (seen_by trails o).is_open 1 0) watches =
-    matched (λ t. cond t.is_asked 1 0) (λ o. cond (seen_by trails o).is_open 1 0) refl 0 trails watches (λ i t there some.
+    matched (λ t. cond t.is_asked 1 0) (λ o. cond (seen_by trails o).is_open 1 0) refl 0 trails
+    watches (λ i t there some.
     let one = (used i t there).by (is_asked t.is_asked some) in
     let there_now : one.1.trail ≡ 0 + i = omega (arith, one.3) in (
       one.0,
@@ -79,7 +102,8 @@ asked_few trails watches used =
       small t.is_asked (cond (seen_by trails (Some one.1)).is_open 1 0)
           (ap (λ (s : Seen). cond s.is_open 1 0) (seen_on trails one.1 t i there one.3)),
     )) in
-    subst (λ n. asked_count trails ≤ n) (sym (sum_mapped (λ (s : Seen). cond s.is_open 1 0) (seen_by trails) watches)) few
+    subst (λ n. asked_count trails ≤ n)
+    (sym (sum_mapped (λ (s : Seen). cond s.is_open 1 0) (seen_by trails) watches)) few
   where
     is_asked : (b : Bool) → 1 ≤ cond b 1 0 → b ≡ true
     is_asked true some = refl
@@ -94,20 +118,26 @@ pub kept_few : (trails : List Asked) (watches : List (Option Watch)) → AreUsed
     → kept_count trails ≤ 2 * answer_count (map (seen_by trails) watches)
 kept_few trails watches used =
     let few : kept_count trails ≤ sum_by (λ o. 2 * length (seen_by trails o).answers) watches =
-    matched kept_by (λ o. 2 * length (seen_by trails o).answers) refl 0 trails watches (λ i t there some.
+    matched kept_by (λ o. 2 * length (seen_by trails o).answers) refl 0 trails watches
+    (λ i t there some.
     by_asked i t there t.is_asked refl some) in
     subst (λ n. kept_count trails ≤ n)
     (sum_doubled (λ o. length (seen_by trails o).answers) watches
-    ∙ ap (λ n. 2 * n) (sym (sum_mapped (λ (s : Seen). length s.answers) (seen_by trails) watches))) few
+    ∙ ap (λ n. 2 * n) (sym (sum_mapped (λ (s : Seen). length s.answers) (seen_by trails) watches)))
+    few
   where
-    by_asked : (i : ℕ) (t : Asked) → slice_get trails i ≡ Some t → (b : Bool) → t.is_asked ≡ b → 1 ≤ kept_by t
-        → (c : ℕ) × (w : Watch) × (slice_get watches c ≡ Some (Some w)) × (w.trail ≡ 0 + i) × (kept_by t ≤ 2 * length (seen_by trails (Some w)).answers)
+    by_asked : (i : ℕ) (t : Asked) → slice_get trails i ≡ Some t → (b : Bool) → t.is_asked ≡ b
+        → 1 ≤ kept_by t
+        → (c : ℕ) × (w : Watch) × (slice_get watches c ≡ Some (Some w)) × (w.trail ≡ 0 + i)
+        × (kept_by t ≤ 2 * length (seen_by trails (Some w)).answers)
     by_asked i t there true is some =
         let one = (used i t there).by is in
-        let own : length (seen_by trails (Some one.1)).answers ≡ suc (length (drop one.1.since t.others))
+        let own : length (seen_by trails (Some one.1)).answers
+        ≡ suc (length (drop one.1.since t.others))
         = ap (λ (s : Seen). length s.answers) (seen_on trails one.1 t i there one.3) in
         let kept : kept_by t ≡ length t.others + 1 = ap (λ b. length t.others + cond b 1 0) is in
-        let low : kept_by t ≤ 2 * length (seen_by trails (Some one.1)).answers = omega (arith, own, kept, length-drop one.1.since t.others, one.4) in
+        let low : kept_by t ≤ 2 * length (seen_by trails (Some one.1)).answers =
+        omega (arith, own, kept, length-drop one.1.since t.others, one.4) in
         let there_now : one.1.trail ≡ 0 + i = omega (arith, one.3) in
         (one.0, one.1, one.2, there_now, low)
     by_asked i t there false is some =
@@ -115,7 +145,8 @@ kept_few trails watches used =
         absurd (omega (arith, kept, some, ap length ((used i t there).nothing is)))
 
 -- all in order
-pub keeps_few : (h : Header) (reach : ℕ) (trails : List Asked) (watches : List (Option Watch)) → AreInOrder h reach trails watches
+pub keeps_few : (h : Header) (reach : ℕ) (trails : List Asked) (watches : List (Option Watch))
+    → AreInOrder h reach trails watches
     → KeepsFew (record {
       header = h;
       by_caller = map (seen_by trails) watches;
@@ -145,18 +176,22 @@ order_closed h caller old new watches closed far reach so was = record {
 }
   where
     long : length closed ≡ length watches
-    long = sym (length-map closed (seen_by new)) ∙ ap length so.seen ∙ length-set (map (seen_by old) watches) caller unwatched
+    long = sym (length-map closed (seen_by new)) ∙ ap length so.seen
+        ∙ length-set (map (seen_by old) watches) caller unwatched
         ∙ length-map watches (seen_by old)
 
 -- some trail is free, or all are asked
 pub free_or_full : (trails : List Asked)
-    → ((i : ℕ) × (t : Asked) × (slice_get trails i ≡ Some t) × (t.is_asked ≡ false)) ⊎ (asked_count trails ≡ length trails)
+    → ((i : ℕ) × (t : Asked) × (slice_get trails i ≡ Some t) × (t.is_asked ≡ false))
+    ⊎ (asked_count trails ≡ length trails)
 free_or_full [] = inr refl
 free_or_full (t ∷ ts) = by_asked t.is_asked refl (free_or_full ts)
   where
     by_asked : (b : Bool) → t.is_asked ≡ b
-        → ((i : ℕ) × (u : Asked) × (slice_get ts i ≡ Some u) × (u.is_asked ≡ false)) ⊎ (asked_count ts ≡ length ts)
-        → ((i : ℕ) × (u : Asked) × (slice_get (t ∷ ts) i ≡ Some u) × (u.is_asked ≡ false)) ⊎ (asked_count (t ∷ ts) ≡ length (t ∷ ts))
+        → ((i : ℕ) × (u : Asked) × (slice_get ts i ≡ Some u) × (u.is_asked ≡ false))
+        ⊎ (asked_count ts ≡ length ts)
+        → ((i : ℕ) × (u : Asked) × (slice_get (t ∷ ts) i ≡ Some u) × (u.is_asked ≡ false))
+        ⊎ (asked_count (t ∷ ts) ≡ length (t ∷ ts))
     by_asked false e rest = inl (0, t, refl, e)
     by_asked true e rest = ⊎_elim
         (λ free. inl (suc free.0, free.1, free.2, free.3))
@@ -167,7 +202,8 @@ free_or_full (t ∷ ts) = by_asked t.is_asked refl (free_or_full ts)
         rest
 
 -- an observer begins where there was none: there is one more
-pub one_more_open : (watches : List Seen) (c : ℕ) (seen : Seen) → slice_get watches c ≡ Some unwatched → seen.is_open ≡ true
+pub one_more_open : (watches : List Seen) (c : ℕ) (seen : Seen) → slice_get watches c
+    ≡ Some unwatched → seen.is_open ≡ true
     → open_count (set watches c seen) ≡ open_count watches + 1
 one_more_open watches c seen closed is_open =
     let out : open_count (set watches c seen) + 0 ≡ open_count watches + cond seen.is_open 1 0
@@ -175,31 +211,40 @@ one_more_open watches c seen closed is_open =
     let one : ◌≡◌ {A = ℕ} (cond seen.is_open 1 0) 1 = ap (λ b. cond b 1 0) is_open in
     omega (arith, out, one)
 
--- If one more trail is made only where all are asked, there are no more than before, or no more than
+-- If one more trail is made only where all are asked, there are no more than before, or no more
+-- than
 -- open observers.
-pub made_few : (old new : List Asked) (watches : List (Option Watch)) (c : ℕ) (seen : Seen) → slice_get watches c ≡ Some None → seen.is_open ≡ true
+pub made_few : (old new : List Asked) (watches : List (Option Watch)) (c : ℕ) (seen : Seen)
+    → slice_get watches c ≡ Some None → seen.is_open ≡ true
     → AreUsed old watches
-    → ((i : ℕ) (t : Asked) → slice_get old i ≡ Some t → t.is_asked ≡ false → length new ≡ length old)
+    → ((i : ℕ) (t : Asked) → slice_get old i ≡ Some t → t.is_asked ≡ false → length new
+    ≡ length old)
     → length new ≤ length old + 1
-    → (length new ≡ length old) ⊎ (length old + 1 ≤ open_count (set (map (seen_by old) watches) c seen))
+    → (length new ≡ length old)
+    ⊎ (length old + 1 ≤ open_count (set (map (seen_by old) watches) c seen))
 made_few old new watches c seen closed is_open used reused one = ⊎_elim
     (λ free. inl (reused free.0 free.1 free.2 free.3))
     (λ full.
-    let more : open_count (set (map (seen_by old) watches) c seen) ≡ open_count (map (seen_by old) watches) + 1
-    = one_more_open (map (seen_by old) watches) c seen (slice_get-map (seen_by old) watches c ∙ ap (option_map (seen_by old)) closed) is_open in
+    let more : open_count (set (map (seen_by old) watches) c seen)
+    ≡ open_count (map (seen_by old) watches) + 1
+    = one_more_open (map (seen_by old) watches) c seen (slice_get-map (seen_by old) watches c
+    ∙ ap (option_map (seen_by old)) closed) is_open in
     inr (omega (arith, full, more, asked_few old watches used)))
     (free_or_full old)
 
 -- so there are no more than callers
-pub still_few : (n m : ℕ) (watches : List Seen) → (n ≡ m) ⊎ (m + 1 ≤ open_count watches) → n ≤ m + 1 → m ≤ length watches → n ≤ length watches
+pub still_few : (n m : ℕ) (watches : List Seen) → (n ≡ m) ⊎ (m + 1 ≤ open_count watches) → n ≤ m + 1
+    → m ≤ length watches → n ≤ length watches
 still_few n m watches made one few = ⊎_elim
     (λ same. omega (arith, same, few))
     (λ more. omega (arith, more, one, count_by-le-length (λ (s : Seen). s.is_open) watches))
     made
 
-pub few_begun : (h : Header) (reach : ℕ) (old new : List Asked) (watches : List (Option Watch)) (c : ℕ) (seen : Seen) → AreInOrder h reach old watches
+pub few_begun : (h : Header) (reach : ℕ) (old new : List Asked) (watches : List (Option Watch))
+    (c : ℕ) (seen : Seen) → AreInOrder h reach old watches
     → slice_get watches c ≡ Some None → seen.is_open ≡ true
-    → ((i : ℕ) (t : Asked) → slice_get old i ≡ Some t → t.is_asked ≡ false → length new ≡ length old)
+    → ((i : ℕ) (t : Asked) → slice_get old i ≡ Some t → t.is_asked ≡ false → length new
+    ≡ length old)
     → length new ≤ length old + 1
     → length new ≤ length watches
 few_begun h reach old new watches c seen was closed is_open reused one =
@@ -207,7 +252,8 @@ few_begun h reach old new watches c seen was closed is_open reused one =
     = length-set (map (seen_by old) watches) c seen ∙ length-map watches (seen_by old) in
     let few : length new ≤ length (set (map (seen_by old) watches) c seen)
     = still_few (length new) (length old) (set (map (seen_by old) watches) c seen)
-    (made_few old new watches c seen closed is_open was.used reused one) one (omega (arith, long, was.few)) in
+    (made_few old new watches c seen closed is_open was.used reused one) one
+    (omega (arith, long, was.few)) in
     omega (arith, few, long)
 
 -- a trail has room for one more to count
@@ -222,7 +268,8 @@ few_askers h reach old new watches c i t was closed keeps only begun there =
     omega (arith, counted, count_low i c watches closed, was.callers, few_callers h)
 
 -- an observer begins, and its trail counts it
-pub order_begun : (h : Header) (reach far : ℕ) (old new : List Asked) (watches : List (Option Watch))
+pub order_begun : (h : Header) (reach far : ℕ) (old new : List Asked)
+    (watches : List (Option Watch))
     → (c i since : ℕ) (t : Asked) → AreInOrder h reach old watches
     → slice_get watches c ≡ Some None → KeepsAsked old new → AreAsking h new
     → AreOldExcept old new i → slice_get new i ≡ Some t → t.is_asked ≡ true
@@ -236,7 +283,8 @@ order_begun h reach far old new watches c i since t was closed keeps asking only
     at_end begun few more before within = record {
       on = on_recounted new (set watches c own) i (t.askers + 1) t there
           (on_set new watches c own (slice_get_within watches c None closed)
-          (λ w same. subst (IsOn new) (same_Some _ _ same) on) (on_kept old new watches keeps was.on));
+          (λ w same. subst (IsOn new) (same_Some _ _ same) on)
+          (on_kept old new watches keeps was.on));
       asking = asking_set h new i (with_asker t) (slice_get_within new i t there)
           (λ asked. asking i t there asked) asking;
       used = used_recounted new (set watches c own) i (t.askers + 1) t there

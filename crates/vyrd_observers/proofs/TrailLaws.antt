@@ -1,10 +1,14 @@
 -- Trails of answers that open observers share.
-use Rattle.std.proofs.Common.{◌≡◌, ℕ, zero, suc, ◌+◌, ◌-◌, ◌*◌, ◌<◌, ◌≤◌, Bool, true, false, cond, ◌&&◌, ◌||◌, ◌≢◌, ◌⊎◌, inl, inr, ⊎_elim, List, [], ◌∷◌, ◌++◌, length, drop, map, set, get_or, Option, Some, None, slice_get, refl, ap, subst, ◌∙◌, sym, arith, length-drop, length-append}
+use Rattle.std.proofs.Common.{◌≡◌, ℕ, zero, suc, ◌+◌, ◌-◌, ◌*◌, ◌<◌, ◌≤◌, Bool, true, false, cond}
+use Rattle.std.proofs.Common.{◌&&◌, ◌||◌, ◌≢◌, ◌⊎◌, inl, inr, ⊎_elim, List, [], ◌∷◌, ◌++◌, length}
+use Rattle.std.proofs.Common.{drop, map, set, get_or, Option, Some, None, slice_get, refl, ap}
+use Rattle.std.proofs.Common.{subst, ◌∙◌, sym, arith, length-drop, length-append}
 use Rattle.std.specs.Prelude.{◌==◌, option_map, unwrap_or, replicate}
 use Rattle.std.specs.List.{list_any}
 use Rattle.std.proofs.lemmas.List.{drop-append-le, drop-drop, length-map, map-set, set-get_or}
 use Rattle.std.proofs.lemmas.List.Folds.{list_any-append}
-use Rattle.std.proofs.lemmas.Option.{slice_get_within, slice_get_past, slice_get-map, unwrap_or-slice_get, none-some}
+use Rattle.std.proofs.lemmas.Option.{slice_get_within, slice_get_past, slice_get-map}
+use Rattle.std.proofs.lemmas.Option.{unwrap_or-slice_get, none-some}
 use Rattle.std.proofs.lemmas.Option.{same_Some}
 use Rattle.std.proofs.Math.Seq.{drop-length}
 use Rattle.vyrd_base.specs.declared.header.Header.{Header}
@@ -15,7 +19,9 @@ use Rattle.vyrd_base.proofs.BlockLaws.{by_same}
 use Rattle.vyrd_base.proofs.TestLaws.{same_number, same_of, apart_of, isnt_same}
 use Rattle.vyrd_observers.specs.declared.watch.Watch.{Watch}
 use Rattle.vyrd_base.specs.Entries.{has_method}
-use Rattle.vyrd_observers.specs.Trails.{Asked, with_answer, after_state, seen_from, seen_by, IsOn, AreOn, AreAsking, KeepsAsked, IsTrailOf, IsUsed, AreUsed, OthersAreUsed, AreOldExcept, StaysOrEnds, StayOrEnd, moved}
+use Rattle.vyrd_observers.specs.Trails.{Asked, with_answer, after_state, seen_from, seen_by, IsOn}
+use Rattle.vyrd_observers.specs.Trails.{AreOn, AreAsking, KeepsAsked, IsTrailOf, IsUsed, AreUsed}
+use Rattle.vyrd_observers.specs.Trails.{OthersAreUsed, AreOldExcept, StaysOrEnds, StayOrEnd, moved}
 use Rattle.vyrd_observers.specs.Order.{AreCounted, AreFreeFrom, AreInOrder}
 use Rattle.vyrd_observers.specs.Watching.{Seen, unwatched, has_answer, SeesAnswer, SeesState}
 use Rattle.vyrd_base.proofs.ChangedLists.{changed_below}
@@ -32,19 +38,23 @@ pub some_some : {A : Type 0} {x y : A} → Some (Some x) ≡ Some (Some y) → x
 some_some e = cc
 
 -- one more element at the end
-pub before_pushed : {A : Type 0} (xs : List A) (y : A) (i : ℕ) (x : A) → slice_get xs i ≡ Some x → slice_get (xs ++ y ∷ []) i ≡ Some x
+pub before_pushed : {A : Type 0} (xs : List A) (y : A) (i : ℕ) (x : A) → slice_get xs i ≡ Some x
+    → slice_get (xs ++ y ∷ []) i ≡ Some x
 before_pushed [] y i x is = absurd (none-some _ is)
 before_pushed (z ∷ xs) y zero x is = is
 before_pushed (z ∷ xs) y (suc i) x is = before_pushed xs y i x is
 
-pub pushed_only : {A : Type 0} (xs : List A) (y : A) (i : ℕ) (x : A) → slice_get (xs ++ y ∷ []) i ≡ Some x
+pub pushed_only : {A : Type 0} (xs : List A) (y : A) (i : ℕ) (x : A) → slice_get (xs ++ y ∷ []) i
+    ≡ Some x
     → (slice_get xs i ≡ Some x) ⊎ (i ≡ length xs)
 pushed_only [] y zero x is = inr refl
 pushed_only [] y (suc i) x is = absurd (none-some _ is)
 pushed_only (z ∷ xs) y zero x is = inl is
-pushed_only (z ∷ xs) y (suc i) x is = ⊎_elim (λ was. inl was) (λ last. inr (ap suc last)) (pushed_only xs y i x is)
+pushed_only (z ∷ xs) y (suc i) x is = ⊎_elim (λ was. inl was) (λ last. inr (ap suc last))
+    (pushed_only xs y i x is)
 
-pub all_pushed : {A : Type 0} (P : A → Type 0) (xs : List A) (y : A) → P y → ((i : ℕ) (x : A) → slice_get xs i ≡ Some x → P x)
+pub all_pushed : {A : Type 0} (P : A → Type 0) (xs : List A) (y : A) → P y
+    → ((i : ℕ) (x : A) → slice_get xs i ≡ Some x → P x)
     → (i : ℕ) (x : A) → slice_get (xs ++ y ∷ []) i ≡ Some x → P x
 all_pushed P [] y own all zero x is = subst P (same_Some _ _ is) own
 all_pushed P [] y own all (suc i) x is = absurd (none-some _ is)
@@ -52,56 +62,75 @@ all_pushed P (z ∷ xs) y own all zero x is = all 0 x is
 all_pushed P (z ∷ xs) y own all (suc i) x is = all_pushed P xs y own (λ j w. all (suc j) w) i x is
 
 -- lists in which some elements are changed
-pub all_changed : {A : Type 0} (P : A → Type 0) (f : A → A) → ((x : A) → P x → P (f x)) → (n : ℕ) (xs : List A)
-    → ((i : ℕ) (x : A) → slice_get xs i ≡ Some x → P x) → (i : ℕ) (y : A) → slice_get (changed_below f n xs) i ≡ Some y → P y
+pub all_changed : {A : Type 0} (P : A → Type 0) (f : A → A) → ((x : A) → P x → P (f x))
+    → (n : ℕ) (xs : List A)
+    → ((i : ℕ) (x : A) → slice_get xs i ≡ Some x → P x) → (i : ℕ) (y : A)
+    → slice_get (changed_below f n xs) i ≡ Some y → P y
 all_changed P f step zero xs all i y is = all i y is
 all_changed P f step (suc n) [] all i y is = all i y is
-all_changed P f step (suc n) (x ∷ xs) all zero y is = subst P (same_Some _ _ is) (step x (all 0 x refl))
-all_changed P f step (suc n) (x ∷ xs) all (suc i) y is = all_changed P f step n xs (λ j w. all (suc j) w) i y is
+all_changed P f step (suc n) (x ∷ xs) all zero y is = subst P (same_Some _ _ is)
+    (step x (all 0 x refl))
+all_changed P f step (suc n) (x ∷ xs) all (suc i) y is = all_changed P f step n xs
+    (λ j w. all (suc j) w) i y is
 
-pub changed_there : {A : Type 0} (Q : A → A → Type 0) (f : A → A) → ((x : A) → Q x x) → ((x : A) → Q x (f x)) → (n : ℕ) (xs : List A) (i : ℕ) (x : A)
+pub changed_there : {A : Type 0} (Q : A → A → Type 0) (f : A → A) → ((x : A) → Q x x)
+    → ((x : A) → Q x (f x)) → (n : ℕ) (xs : List A) (i : ℕ) (x : A)
     → slice_get xs i ≡ Some x → (y : A) × (slice_get (changed_below f n xs) i ≡ Some y) × Q x y
 changed_there Q f stays steps zero xs i x is = (x, is, stays x)
 changed_there Q f stays steps (suc n) [] i x is = absurd (none-some _ is)
-changed_there Q f stays steps (suc n) (z ∷ xs) zero x is = (f x, ap (λ o. option_map f o) is, steps x)
-changed_there Q f stays steps (suc n) (z ∷ xs) (suc i) x is = changed_there Q f stays steps n xs i x is
+changed_there Q f stays steps (suc n) (z ∷ xs) zero x is =
+    (f x, ap (λ o. option_map f o) is, steps x)
+changed_there Q f stays steps (suc n) (z ∷ xs) (suc i) x is = changed_there Q f stays steps n xs i x
+    is
 
-pub changed_from : {A : Type 0} (Q : A → A → Type 0) (f : A → A) → ((x : A) → Q x x) → ((x : A) → Q x (f x)) → (n : ℕ) (xs : List A) (i : ℕ) (y : A)
+pub changed_from : {A : Type 0} (Q : A → A → Type 0) (f : A → A) → ((x : A) → Q x x)
+    → ((x : A) → Q x (f x)) → (n : ℕ) (xs : List A) (i : ℕ) (y : A)
     → slice_get (changed_below f n xs) i ≡ Some y → (x : A) × (slice_get xs i ≡ Some x) × Q x y
 changed_from Q f stays steps zero xs i y is = (y, is, stays y)
 changed_from Q f stays steps (suc n) [] i y is = absurd (none-some _ is)
-changed_from Q f stays steps (suc n) (z ∷ xs) zero y is = (z, refl, subst (Q z) (same_Some _ _ is) (steps z))
-changed_from Q f stays steps (suc n) (z ∷ xs) (suc i) y is = changed_from Q f stays steps n xs i y is
+changed_from Q f stays steps (suc n) (z ∷ xs) zero y is =
+    (z, refl, subst (Q z) (same_Some _ _ is) (steps z))
+changed_from Q f stays steps (suc n) (z ∷ xs) (suc i) y is = changed_from Q f stays steps n xs i y
+    is
 
-pub map_alike : {A B : Type 0} (f g : A → B) (xs : List A) → ((i : ℕ) (x : A) → slice_get xs i ≡ Some x → f x ≡ g x) → map f xs ≡ map g xs
+pub map_alike : {A B : Type 0} (f g : A → B) (xs : List A)
+    → ((i : ℕ) (x : A) → slice_get xs i ≡ Some x → f x ≡ g x) → map f xs ≡ map g xs
 map_alike f g [] same = refl
 map_alike f g (x ∷ xs) same = (λ i. same 0 x refl i ∷ map_alike f g xs (λ j y. same (suc j) y) i)
 
-pub map_after : {A B C : Type 0} (f : B → C) (g : A → B) (xs : List A) → map f (map g xs) ≡ map (λ x. f (g x)) xs
+pub map_after : {A B C : Type 0} (f : B → C) (g : A → B) (xs : List A) → map f (map g xs)
+    ≡ map (λ x. f (g x)) xs
 map_after f g [] = refl
 map_after f g (x ∷ xs) = ap (λ ys. f (g x) ∷ ys) (map_after f g xs)
 
 -- a trail that nobody asks is added
-pub asking_pushed : (h : Header) (trails : List Asked) (t : Asked) → t.is_asked ≡ false → AreAsking h trails → AreAsking h (trails ++ t ∷ [])
+pub asking_pushed : (h : Header) (trails : List Asked) (t : Asked) → t.is_asked ≡ false
+    → AreAsking h trails → AreAsking h (trails ++ t ∷ [])
 asking_pushed h trails t free all =
-    all_pushed (λ u. u.is_asked ≡ true → (has_method h u.method u.args ≡ true) × (must_commit u.method ≡ false)) trails t (λ is. absurd (false_true free is)) all
+    all_pushed (λ u. u.is_asked ≡ true → (has_method h u.method u.args ≡ true)
+    × (must_commit u.method ≡ false)) trails t (λ is. absurd (false_true free is)) all
 
 -- a trail is changed
 pub asking_set : (h : Header) (trails : List Asked) (i : ℕ) (t : Asked) → i < length trails
-    → (t.is_asked ≡ true → (has_method h t.method t.args ≡ true) × (must_commit t.method ≡ false)) → AreAsking h trails → AreAsking h (set trails i t)
+    → (t.is_asked ≡ true → (has_method h t.method t.args ≡ true) × (must_commit t.method ≡ false))
+    → AreAsking h trails → AreAsking h (set trails i t)
 asking_set h trails i t within own all = λ j u there. by_same i j
-    (λ same. let it : t ≡ u = same_Some _ _ (sym (slice_get-set_same trails i t within) ∙ ap (slice_get (set trails i t)) same ∙ there) in
-    subst (λ v. v.is_asked ≡ true → (has_method h v.method v.args ≡ true) × (must_commit v.method ≡ false)) it own)
+    (λ same. let it : t ≡ u = same_Some _ _ (sym (slice_get-set_same trails i t within)
+    ∙ ap (slice_get (set trails i t)) same ∙ there) in
+    subst (λ v. v.is_asked ≡ true → (has_method h v.method v.args ≡ true)
+    × (must_commit v.method ≡ false)) it own)
     (λ other. all j u (sym (slice_get-set_other trails i j t (apart_of i j other)) ∙ there))
 
-pub keeps_set : (trails : List Asked) (i : ℕ) (t new : Asked) → slice_get trails i ≡ Some t → t.is_asked ≡ false → KeepsAsked trails (set trails i new)
+pub keeps_set : (trails : List Asked) (i : ℕ) (t new : Asked) → slice_get trails i ≡ Some t
+    → t.is_asked ≡ false → KeepsAsked trails (set trails i new)
 keeps_set trails i t new here free = λ j u there is_asked. by_same i j
     (λ same. let it : t ≡ u = same_Some _ _ (sym here ∙ ap (slice_get trails) same ∙ there) in
     absurd (false_true free (ap (λ v. v.is_asked) it ∙ is_asked)))
     (λ other. slice_get-set_other trails i j new (apart_of i j other) ∙ there)
 
 -- what is asked stays, and so do the observers and what they have seen
-pub on_kept : (old new : List Asked) (watches : List (Option Watch)) → KeepsAsked old new → AreOn old watches → AreOn new watches
+pub on_kept : (old new : List Asked) (watches : List (Option Watch)) → KeepsAsked old new
+    → AreOn old watches → AreOn new watches
 on_kept old new watches keeps on = λ c w here. let was = on c w here in record {
   asked = was.asked;
   there = keeps w.trail was.asked was.there was.is_asked;
@@ -109,25 +138,35 @@ on_kept old new watches keeps on = λ c w here. let was = on c w here in record 
   within = was.within;
 }
 
-pub seen_kept : (old new : List Asked) (watches : List (Option Watch)) → KeepsAsked old new → AreOn old watches
+pub seen_kept : (old new : List Asked) (watches : List (Option Watch)) → KeepsAsked old new
+    → AreOn old watches
     → map (seen_by new) watches ≡ map (seen_by old) watches
-seen_kept old new watches keeps on = map_alike (seen_by new) (seen_by old) watches (λ c o here. by_watch c o here)
+seen_kept old new watches keeps on = map_alike (seen_by new) (seen_by old) watches
+    (λ c o here. by_watch c o here)
   where
-    by_watch : (c : ℕ) (o : Option Watch) → slice_get watches c ≡ Some o → seen_by new o ≡ seen_by old o
+    by_watch : (c : ℕ) (o : Option Watch) → slice_get watches c ≡ Some o → seen_by new o
+        ≡ seen_by old o
     by_watch c None here = refl
     by_watch c (Some w) here = let was = on c w here in
         ap (seen_from w.since) (keeps w.trail was.asked was.there was.is_asked ∙ sym was.there)
 
 -- an observer is on a trail, or on none
-pub on_set : (trails : List Asked) (watches : List (Option Watch)) (c : ℕ) (o : Option Watch) → c < length watches
-    → ((w : Watch) → o ≡ Some w → IsOn trails w) → AreOn trails watches → AreOn trails (set watches c o)
+pub on_set : (trails : List Asked) (watches : List (Option Watch)) (c : ℕ) (o : Option Watch)
+    → c < length watches
+    → ((w : Watch) → o ≡ Some w → IsOn trails w) → AreOn trails watches
+    → AreOn trails (set watches c o)
 on_set trails watches c o within own on = λ d w here. by_same c d
-    (λ same. own w (same_Some _ _ (sym (slice_get-set_same watches c o within) ∙ ap (slice_get (set watches c o)) same ∙ here)))
+    (λ same. own w
+    (same_Some _ _ (sym (slice_get-set_same watches c o within)
+    ∙ ap (slice_get (set watches c o)) same ∙ here)))
     (λ other. on d w (sym (slice_get-set_other watches c d o (apart_of c d other)) ∙ here))
 
 -- what an observer has seen that begins now
-pub seen_at_end : (t : Asked) → seen_from (length t.others) (Some t) ≡ record { is_open = true; method = t.method; args = t.args; answers = t.latest ∷ [] }
-seen_at_end t = ap (λ xs. record { is_open = true; method = t.method; args = t.args; answers = t.latest ∷ xs }) (drop-length t.others)
+pub seen_at_end : (t : Asked) → seen_from (length t.others) (Some t)
+    ≡ record { is_open = true; method = t.method; args = t.args; answers = t.latest ∷ [] }
+seen_at_end t =
+    ap (λ xs. record { is_open = true; method = t.method; args = t.args; answers = t.latest ∷ xs })
+    (drop-length t.others)
 
 -- the same question, which as many ask, and which has as many answers or more
 pub record SameQuestion (t new : Asked) : Type 0 where
@@ -148,15 +187,19 @@ question_stays t = record {
 
 length-pushed : {A : Type 0} (xs : List A) (y : A) → length (xs ++ y ∷ []) ≡ length xs + 1
 length-pushed [] y = refl
-length-pushed (x ∷ xs) y = let rest : length (xs ++ y ∷ []) ≡ length xs + 1 = length-pushed xs y in omega (arith, rest)
+length-pushed (x ∷ xs) y = let rest : length (xs ++ y ∷ []) ≡ length xs + 1 = length-pushed xs y in
+    omega (arith, rest)
 
-question_after : (affects : Method → Args → Bool) (told : Method → Args → ℕ) (t : Asked) → SameQuestion t (after_state affects told t)
+question_after : (affects : Method → Args → Bool) (told : Method → Args → ℕ) (t : Asked)
+    → SameQuestion t (after_state affects told t)
 question_after affects told t = by_touched (t.is_asked && affects t.method t.args)
   where
     answer : ℕ
     answer = told t.method t.args
 
-    by_answer : (b : Bool) → SameQuestion t (cond b t (record t { latest = answer; others = t.others ++ t.latest ∷ [] }))
+    by_answer : (b : Bool)
+        → SameQuestion t
+        (cond b t (record t { latest = answer; others = t.others ++ t.latest ∷ [] }))
     by_answer true = question_stays t
     by_answer false = record {
       is_asked = refl;
@@ -185,31 +228,40 @@ as_many t = record {
   grown = omega arith;
 }
 
-as_many_after : (affects : Method → Args → Bool) (told : Method → Args → ℕ) (t : Asked) → UsesAsMany t (after_state affects told t)
+as_many_after : (affects : Method → Args → Bool) (told : Method → Args → ℕ) (t : Asked)
+    → UsesAsMany t (after_state affects told t)
 as_many_after affects told t = let same = question_after affects told t in record {
   is_asked = same.is_asked;
   askers = same.askers;
   nothing = λ not_asked empty.
-      ap (λ b. (cond (b && affects t.method t.args) (with_answer (told t.method t.args) t) t).others) (sym same.is_asked ∙ not_asked) ∙ empty;
+      ap (λ b. (cond (b && affects t.method t.args) (with_answer (told t.method t.args) t)
+      t).others) (sym same.is_asked ∙ not_asked) ∙ empty;
   grown = same.grown;
 }
 
 -- some trails have the next state's answer
-pub asking_after : (h : Header) (affects : Method → Args → Bool) (told : Method → Args → ℕ) (n : ℕ) (trails : List Asked) → AreAsking h trails
+pub asking_after : (h : Header) (affects : Method → Args → Bool) (told : Method → Args → ℕ) (n : ℕ)
+    (trails : List Asked) → AreAsking h trails
     → AreAsking h (changed_below (after_state affects told) n trails)
-asking_after h affects told n trails all = all_changed (λ u. u.is_asked ≡ true → (has_method h u.method u.args ≡ true) × (must_commit u.method ≡ false))
+asking_after h affects told n trails all = all_changed
+    (λ u. u.is_asked ≡ true → (has_method h u.method u.args ≡ true)
+    × (must_commit u.method ≡ false))
     (after_state affects told)
-    (λ t was is_asked. let same = question_after affects told t in let own = was (sym same.is_asked ∙ is_asked) in (
-      ap (λ m. has_method h m (after_state affects told t).args) same.method ∙ ap (has_method h t.method) same.args ∙ own.0,
+    (λ t was is_asked. let same = question_after affects told t in let own =
+    was (sym same.is_asked ∙ is_asked) in (
+      ap (λ m. has_method h m (after_state affects told t).args) same.method
+          ∙ ap (has_method h t.method) same.args ∙ own.0,
       ap must_commit same.method ∙ own.1,
     ))
     n trails all
 
-pub on_after : (affects : Method → Args → Bool) (told : Method → Args → ℕ) (n : ℕ) (trails : List Asked) (watches : List (Option Watch)) → AreOn trails watches
+pub on_after : (affects : Method → Args → Bool) (told : Method → Args → ℕ) (n : ℕ)
+    (trails : List Asked) (watches : List (Option Watch)) → AreOn trails watches
     → AreOn (changed_below (after_state affects told) n trails) watches
 on_after affects told n trails watches on = λ c w here.
     let was = on c w here in
-    let now = changed_there SameQuestion (after_state affects told) question_stays (question_after affects told) n trails w.trail was.asked was.there in
+    let now = changed_there SameQuestion (after_state affects told) question_stays
+    (question_after affects told) n trails w.trail was.asked was.there in
     record {
       asked = now.0;
       there = now.1;
@@ -217,12 +269,14 @@ on_after affects told n trails watches on = λ c w here.
       within = omega (arith, was.within, now.2.grown);
     }
 
-pub length-changed : {A : Type 0} (f : A → A) (n : ℕ) (xs : List A) → length (changed_below f n xs) ≡ length xs
+pub length-changed : {A : Type 0} (f : A → A) (n : ℕ) (xs : List A) → length (changed_below f n xs)
+    ≡ length xs
 length-changed f zero xs = refl
 length-changed f (suc n) [] = refl
 length-changed f (suc n) (x ∷ xs) = ap suc (length-changed f n xs)
 
-pub all_mapped : {A B : Type 0} (P : B → Type 0) (f : A → B) (xs : List A) → ((i : ℕ) (x : A) → slice_get xs i ≡ Some x → P (f x))
+pub all_mapped : {A B : Type 0} (P : B → Type 0) (f : A → B) (xs : List A)
+    → ((i : ℕ) (x : A) → slice_get xs i ≡ Some x → P (f x))
     → (i : ℕ) (y : B) → slice_get (map f xs) i ≡ Some y → P y
 all_mapped P f [] all i y is = absurd (none-some _ is)
 all_mapped P f (x ∷ xs) all zero y is = subst P (same_Some _ _ is) (all 0 x refl)
@@ -232,15 +286,20 @@ all_mapped P f (x ∷ xs) all (suc i) y is = all_mapped P f xs (λ j z. all (suc
 abbrev pub NoneOn : ℕ → List (Option Watch) → Type 0
 NoneOn i watches = (c : ℕ) (w : Watch) → slice_get watches c ≡ Some (Some w) → w.trail ≡ i → ⊥
 
-pub seen_without : (trails : List Asked) (watches : List (Option Watch)) (i : ℕ) (t : Asked) → NoneOn i watches
+pub seen_without : (trails : List Asked) (watches : List (Option Watch)) (i : ℕ) (t : Asked)
+    → NoneOn i watches
     → map (seen_by (set trails i t)) watches ≡ map (seen_by trails) watches
-seen_without trails watches i t none = map_alike (seen_by (set trails i t)) (seen_by trails) watches by_watch
+seen_without trails watches i t none = map_alike (seen_by (set trails i t)) (seen_by trails) watches
+    by_watch
   where
-    by_watch : (c : ℕ) (o : Option Watch) → slice_get watches c ≡ Some o → seen_by (set trails i t) o ≡ seen_by trails o
+    by_watch : (c : ℕ) (o : Option Watch) → slice_get watches c ≡ Some o
+        → seen_by (set trails i t) o ≡ seen_by trails o
     by_watch c None here = refl
-    by_watch c (Some w) here = ap (seen_from w.since) (slice_get-set_other trails i w.trail t (λ same. none c w here (sym same)))
+    by_watch c (Some w) here = ap (seen_from w.since)
+        (slice_get-set_other trails i w.trail t (λ same. none c w here (sym same)))
 
-pub on_without : (trails : List Asked) (watches : List (Option Watch)) (i : ℕ) (t : Asked) → NoneOn i watches → AreOn trails watches
+pub on_without : (trails : List Asked) (watches : List (Option Watch)) (i : ℕ) (t : Asked)
+    → NoneOn i watches → AreOn trails watches
     → AreOn (set trails i t) watches
 on_without trails watches i t none on = λ c w here. let was = on c w here in record {
   asked = was.asked;
@@ -297,7 +356,8 @@ pub used_recounted : (trails : List Asked) (watches : List (Option Watch)) (i n 
     → AreUsed (set trails i (record t { askers = n })) watches
 used_recounted trails watches i n t here used = λ j u there. by_same i j
     (λ same. let it : new ≡ u = same_Some _ _
-    (sym (slice_get-set_same trails i new (slice_get_within trails i t here)) ∙ ap (slice_get (set trails i new)) same ∙ there) in
+    (sym (slice_get-set_same trails i new (slice_get_within trails i t here))
+    ∙ ap (slice_get (set trails i new)) same ∙ there) in
     let was = used j t (ap (slice_get trails) (sym same) ∙ here) in
     subst (λ v. IsUsed v j watches) it (record { nothing = was.nothing; by = was.by }))
     (λ other. used j u (sym (slice_get-set_other trails i j new (apart_of i j other)) ∙ there))
@@ -307,16 +367,21 @@ used_recounted trails watches i n t here used = λ j u there. by_same i j
 
 -- the first answers of a trail are dropped, which count for no observer
 abbrev pub Uncounted : ℕ → ℕ → List (Option Watch) → Type 0
-Uncounted i n watches = (c : ℕ) (w : Watch) → slice_get watches c ≡ Some (Some w) → w.trail ≡ i → n ≤ w.since
+Uncounted i n watches = (c : ℕ) (w : Watch) → slice_get watches c ≡ Some (Some w) → w.trail ≡ i
+    → n ≤ w.since
 
-seen_shorter : (n since : ℕ) (t : Asked) → n ≤ since → seen_from (since - n) (Some (record t { others = drop n t.others })) ≡ seen_from since (Some t)
+seen_shorter : (n since : ℕ) (t : Asked) → n ≤ since
+    → seen_from (since - n) (Some (record t { others = drop n t.others })) ≡ seen_from since
+    (Some t)
 seen_shorter n since t low =
     let count : n + (since - n) ≡ since = omega (arith, low) in
     ap (λ xs. record { is_open = true; method = t.method; args = t.args; answers = t.latest ∷ xs })
     (drop-drop (since - n) n t.others ∙ ap (λ k. drop k t.others) count)
 
-pub seen_moved : (trails : List Asked) (watches : List (Option Watch)) (i n : ℕ) (t : Asked) → slice_get trails i ≡ Some t → Uncounted i n watches
-    → map (seen_by (set trails i (record t { others = drop n t.others }))) (map (moved i n) watches) ≡ map (seen_by trails) watches
+pub seen_moved : (trails : List Asked) (watches : List (Option Watch)) (i n : ℕ) (t : Asked)
+    → slice_get trails i ≡ Some t → Uncounted i n watches
+    → map (seen_by (set trails i (record t { others = drop n t.others }))) (map (moved i n) watches)
+    ≡ map (seen_by trails) watches
 seen_moved trails watches i n t here low =
     map_after (seen_by (set trails i new)) (moved i n) watches
     ∙ map_alike (λ o. seen_by (set trails i new) (moved i n o)) (seen_by trails) watches by_watch
@@ -325,68 +390,97 @@ seen_moved trails watches i n t here low =
     new = record t { others = drop n t.others }
 
     by_test : (w : Watch) (b : Bool) → (w.trail == i) ≡ b → (w.trail ≡ i → n ≤ w.since)
-        → seen_by (set trails i new) (Some (cond b (record { trail = w.trail; since = w.since - n }) w)) ≡ seen_by trails (Some w)
+        → seen_by (set trails i new)
+        (Some (cond b (record { trail = w.trail; since = w.since - n }) w)) ≡ seen_by trails
+        (Some w)
     by_test w true e counts = let same : w.trail ≡ i = same_of w.trail i e in
         ap (λ k. seen_from (w.since - n) (slice_get (set trails i new) k)) same
-        ∙ ap (seen_from (w.since - n)) (slice_get-set_same trails i new (slice_get_within trails i t here))
+        ∙ ap (seen_from (w.since - n))
+        (slice_get-set_same trails i new (slice_get_within trails i t here))
         ∙ seen_shorter n w.since t (counts same)
         ∙ ap (seen_from w.since) (sym here)
         ∙ ap (λ k. seen_from w.since (slice_get trails k)) (sym same)
     by_test w false e counts =
-        ap (seen_from w.since) (slice_get-set_other trails i w.trail new (λ same. apart_of w.trail i e (sym same)))
+        ap (seen_from w.since)
+        (slice_get-set_other trails i w.trail new (λ same. apart_of w.trail i e (sym same)))
 
-    by_watch : (c : ℕ) (o : Option Watch) → slice_get watches c ≡ Some o → seen_by (set trails i new) (moved i n o) ≡ seen_by trails o
+    by_watch : (c : ℕ) (o : Option Watch) → slice_get watches c ≡ Some o
+        → seen_by (set trails i new) (moved i n o) ≡ seen_by trails o
     by_watch c None there = refl
     by_watch c (Some w) there = by_test w (w.trail == i) refl (low c w there)
 
-pub on_moved : (trails : List Asked) (watches : List (Option Watch)) (i n : ℕ) (t : Asked) → slice_get trails i ≡ Some t → Uncounted i n watches
-    → AreOn trails watches → AreOn (set trails i (record t { others = drop n t.others })) (map (moved i n) watches)
+pub on_moved : (trails : List Asked) (watches : List (Option Watch)) (i n : ℕ) (t : Asked)
+    → slice_get trails i ≡ Some t → Uncounted i n watches
+    → AreOn trails watches → AreOn (set trails i (record t { others = drop n t.others }))
+    (map (moved i n) watches)
 on_moved trails watches i n t here low on = λ c w there.
-    all_mapped (λ o. (v : Watch) → o ≡ Some v → IsOn (set trails i new) v) (moved i n) watches by_watch c (Some w) there w refl
+    all_mapped (λ o. (v : Watch) → o ≡ Some v → IsOn (set trails i new) v)
+    (moved i n) watches by_watch c (Some w) there w refl
   where
     new : Asked
     new = record t { others = drop n t.others }
 
-    by_test : (w : Watch) (b : Bool) → (w.trail == i) ≡ b → (w.trail ≡ i → n ≤ w.since) → IsOn trails w
+    by_test : (w : Watch) (b : Bool) → (w.trail == i) ≡ b → (w.trail ≡ i → n ≤ w.since)
+        → IsOn trails w
         → IsOn (set trails i new) (cond b (record { trail = w.trail; since = w.since - n }) w)
     by_test w true e counts was =
         let same : w.trail ≡ i = same_of w.trail i e in
-        let it : t ≡ was.asked = same_Some _ _ (sym here ∙ ap (slice_get trails) (sym same) ∙ was.there) in
+        let it : t ≡ was.asked = same_Some _ _ (sym here ∙ ap (slice_get trails) (sym same)
+        ∙ was.there) in
         record {
           asked = new;
-          there = ap (slice_get (set trails i new)) same ∙ slice_get-set_same trails i new (slice_get_within trails i t here);
+          there = ap (slice_get (set trails i new)) same ∙ slice_get-set_same trails i new
+              (slice_get_within trails i t here);
           is_asked = ap (λ u. u.is_asked) it ∙ was.is_asked;
-          within = omega (arith, was.within, counts same, ap (λ u. length u.others) it, length-drop n t.others);
+          within = omega (
+            arith,
+            was.within,
+            counts same,
+            ap (λ u. length u.others) it,
+            length-drop n
+                t.others,
+          );
         }
     by_test w false e counts was = record {
       asked = was.asked;
-      there = slice_get-set_other trails i w.trail new (λ same. apart_of w.trail i e (sym same)) ∙ was.there;
+      there = slice_get-set_other trails i w.trail new (λ same. apart_of w.trail i e (sym same))
+          ∙ was.there;
       is_asked = was.is_asked;
       within = was.within;
     }
 
-    by_watch : (c : ℕ) (o : Option Watch) → slice_get watches c ≡ Some o → (v : Watch) → moved i n o ≡ Some v → IsOn (set trails i new) v
+    by_watch : (c : ℕ) (o : Option Watch) → slice_get watches c ≡ Some o → (v : Watch) → moved i n o
+        ≡ Some v → IsOn (set trails i new) v
     by_watch c None there v is = absurd (none-some _ is)
-    by_watch c (Some w) there v is = subst (IsOn (set trails i new)) (same_Some _ _ is) (by_test w (w.trail == i) refl (low c w there) (on c w there))
+    by_watch c (Some w) there v is = subst (IsOn (set trails i new)) (same_Some _ _ is)
+        (by_test w (w.trail == i) refl (low c w there) (on c w there))
 
--- an open observer that asks this question, and of which the last state that it saw answers this, is
+-- an open observer that asks this question, and of which the last state that it saw answers this,
+-- is
 -- on a trail of it
 first_same : {a b : ℕ} {xs ys : List ℕ} → a ∷ xs ≡ b ∷ ys → a ≡ b
 first_same e = cc
 
-pub trail_of_seen : (trails : List Asked) (watches : List (Option Watch)) (c : ℕ) (seen : Seen) (before : List ℕ) (method : Method) (args : Args) (answer : ℕ)
-    → AreOn trails watches → slice_get (map (seen_by trails) watches) c ≡ Some seen → seen.is_open ≡ true → seen.method ≡ method → seen.args ≡ args
-    → seen.answers ≡ answer ∷ before → (i : ℕ) × (t : Asked) × (slice_get trails i ≡ Some t) × IsTrailOf method args answer t
-trail_of_seen trails watches c seen before method args answer on here is_open same_method same_args same_answers =
+pub trail_of_seen : (trails : List Asked) (watches : List (Option Watch)) (c : ℕ) (seen : Seen)
+    (before : List ℕ) (method : Method) (args : Args) (answer : ℕ)
+    → AreOn trails watches → slice_get (map (seen_by trails) watches) c ≡ Some seen → seen.is_open
+    ≡ true → seen.method ≡ method → seen.args ≡ args
+    → seen.answers ≡ answer ∷ before → (i : ℕ) × (t : Asked) × (slice_get trails i ≡ Some t)
+    × IsTrailOf method args answer t
+trail_of_seen trails watches c seen before method args answer on here is_open same_method same_args
+    same_answers =
     by_place (slice_get watches c) refl (sym (slice_get-map (seen_by trails) watches c) ∙ here)
   where
-    by_place : (o : Option (Option Watch)) → slice_get watches c ≡ o → option_map (seen_by trails) o ≡ Some seen
+    by_place : (o : Option (Option Watch)) → slice_get watches c ≡ o → option_map (seen_by trails) o
+        ≡ Some seen
         → (i : ℕ) × (t : Asked) × (slice_get trails i ≡ Some t) × IsTrailOf method args answer t
     by_place None place is = absurd (none-some _ is)
-    by_place (Some None) place is = absurd (false_true (sym (ap (λ (s : Seen). s.is_open) (same_Some _ _ is))) is_open)
+    by_place (Some None) place is = absurd
+        (false_true (sym (ap (λ (s : Seen). s.is_open) (same_Some _ _ is))) is_open)
     by_place (Some (Some w)) place is =
         let was = on c w place in
-        let same : seen_from w.since (Some was.asked) ≡ seen = ap (seen_from w.since) (sym was.there) ∙ same_Some _ _ is in (
+        let same : seen_from w.since (Some was.asked) ≡ seen = ap (seen_from w.since)
+        (sym was.there) ∙ same_Some _ _ is in (
           w.trail,
           was.asked,
           was.there,
@@ -399,7 +493,8 @@ trail_of_seen trails watches c seen before method args answer on here is_open sa
         )
 
 -- an observer is closed, and all trails except its own are used by others
-pub used_without : (trails : List Asked) (watches : List (Option Watch)) (c : ℕ) (w : Watch) → slice_get watches c ≡ Some (Some w)
+pub used_without : (trails : List Asked) (watches : List (Option Watch)) (c : ℕ) (w : Watch)
+    → slice_get watches c ≡ Some (Some w)
     → AreUsed trails watches → OthersAreUsed trails (set watches c None) w.trail
 used_without trails watches c w here used = λ i t there other. let was = used i t there in record {
   nothing = was.nothing;
@@ -407,17 +502,21 @@ used_without trails watches c w here used = λ i t there other. let was = used i
     one.0,
     one.1,
     slice_get-set_other watches c one.0 None
-        (λ same. other (sym one.3 ∙ ap (λ v. v.trail) (some_some (sym one.2 ∙ ap (slice_get watches) (sym same) ∙ here)))) ∙ one.2,
+        (λ same. other
+        (sym one.3 ∙ ap (λ v. v.trail)
+        (some_some (sym one.2 ∙ ap (slice_get watches) (sym same) ∙ here)))) ∙ one.2,
     one.3,
     one.4,
   );
 }
 
 -- one trail is changed, and is used then
-pub used_except : (old new : List Asked) (watches : List (Option Watch)) (i : ℕ) → AreOldExcept old new i → OthersAreUsed old watches i
+pub used_except : (old new : List Asked) (watches : List (Option Watch)) (i : ℕ)
+    → AreOldExcept old new i → OthersAreUsed old watches i
     → ((t : Asked) → slice_get new i ≡ Some t → IsUsed t i watches) → AreUsed new watches
 used_except old new watches i only others own = λ j t there. by_same j i
-    (λ same. subst (λ k. IsUsed t k watches) (sym same) (own t (ap (slice_get new) (sym same) ∙ there)))
+    (λ same. subst (λ k. IsUsed t k watches) (sym same)
+    (own t (ap (slice_get new) (sym same) ∙ there)))
     (λ apart. ⊎_elim
     (λ was. others j t was (apart_of j i apart))
     (λ same. absurd (apart_of j i apart same))
@@ -428,15 +527,20 @@ pub others_set : (trails : List Asked) (watches : List (Option Watch)) (i : ℕ)
 others_set trails watches i t others = λ j u there other.
     others j u (sym (slice_get-set_other trails i j t (λ same. other (sym same))) ∙ there) other
 
-pub old_except_set : (trails : List Asked) (i : ℕ) (t : Asked) → AreOldExcept trails (set trails i t) i
+pub old_except_set : (trails : List Asked) (i : ℕ) (t : Asked)
+    → AreOldExcept trails (set trails i t) i
 old_except_set trails i t = λ j u there. by_same j i
     (λ same. inr same)
-    (λ apart. inl (sym (slice_get-set_other trails i j t (λ same. apart_of j i apart (sym same))) ∙ there))
+    (λ apart. inl (sym (slice_get-set_other trails i j t (λ same. apart_of j i apart (sym same)))
+    ∙ there))
 
-pub old_except_then : (old trails : List Asked) (i : ℕ) → AreOldExcept old trails i → (t : Asked) → AreOldExcept old (set trails i t) i
-old_except_then old trails i only t = λ j u there. ⊎_elim (λ was. only j u was) (λ same. inr same) (old_except_set trails i t j u there)
+pub old_except_then : (old trails : List Asked) (i : ℕ) → AreOldExcept old trails i → (t : Asked)
+    → AreOldExcept old (set trails i t) i
+old_except_then old trails i only t = λ j u there. ⊎_elim (λ was. only j u was) (λ same. inr same)
+    (old_except_set trails i t j u there)
 
-pub used_freed : (trails : List Asked) (watches : List (Option Watch)) (i : ℕ) (t : Asked) → i < length trails → t.is_asked ≡ false → t.others ≡ []
+pub used_freed : (trails : List Asked) (watches : List (Option Watch)) (i : ℕ) (t : Asked)
+    → i < length trails → t.is_asked ≡ false → t.others ≡ []
     → OthersAreUsed trails watches i → AreUsed (set trails i t) watches
 used_freed trails watches i t within free nothing others =
     used_except trails (set trails i t) watches i (old_except_set trails i t) others (λ u there.
@@ -447,53 +551,71 @@ used_freed trails watches i t within free nothing others =
 
 -- a trail that an observer is on is asked
 asked_on : (trails : List Asked) (watches : List (Option Watch)) (i n c : ℕ) (t : Asked)
-    → slice_get watches c ≡ Some (Some (record { trail = i; since = n })) → AreOn trails watches → slice_get trails i ≡ Some t → t.is_asked ≡ true
+    → slice_get watches c ≡ Some (Some (record { trail = i; since = n })) → AreOn trails watches
+    → slice_get trails i ≡ Some t → t.is_asked ≡ true
 asked_on trails watches i n c t here on there =
     let was = on c (record { trail = i; since = n }) here in
     ap (λ u. u.is_asked) (same_Some _ _ (sym there ∙ was.there)) ∙ was.is_asked
 
 moved_other : (i n : ℕ) (w : Watch) → w.trail ≢ i → moved i n (Some w) ≡ Some w
-moved_other i n w other = ap (λ b. Some (cond b (record { trail = w.trail; since = w.since - n }) w)) (isnt_same w.trail i other)
+moved_other i n w other =
+    ap (λ b. Some (cond b (record { trail = w.trail; since = w.since - n }) w))
+    (isnt_same w.trail i other)
 
 pub used_moved : (old new : List Asked) (watches : List (Option Watch)) (i n c : ℕ)
-    → slice_get watches c ≡ Some (Some (record { trail = i; since = n })) → AreOldExcept old new i → AreOn new (map (moved i n) watches)
+    → slice_get watches c ≡ Some (Some (record { trail = i; since = n })) → AreOldExcept old new i
+    → AreOn new (map (moved i n) watches)
     → OthersAreUsed old watches i → AreUsed new (map (moved i n) watches)
-used_moved old new watches i n c here only on others = used_except old new (map (moved i n) watches) i only
+used_moved old new watches i n c here only on others = used_except old new (map (moved i n) watches)
+    i only
     (λ j t there other. let was = others j t there other in record {
       nothing = was.nothing;
       by = λ is_asked. let one = was.by is_asked in (
         one.0,
         one.1,
-        slice_get-map (moved i n) watches one.0 ∙ ap (option_map (moved i n)) one.2 ∙ ap Some (moved_other i n one.1 (λ same. other (sym one.3 ∙ same))),
+        slice_get-map (moved i n) watches one.0 ∙ ap (option_map (moved i n)) one.2
+            ∙ ap Some (moved_other i n one.1 (λ same. other (sym one.3 ∙ same))),
         one.3,
         one.4,
       );
     })
     (λ t there. record {
-      nothing = λ not_asked. absurd (false_true not_asked (asked_on new (map (moved i n) watches) i (n - n) c t now on there));
+      nothing = λ not_asked. absurd
+          (false_true not_asked
+          (asked_on new (map (moved i n) watches) i (n - n) c t now on there));
       by = λ is_asked. (c, record { trail = i; since = n - n }, now, refl, omega arith);
     })
   where
     now : slice_get (map (moved i n) watches) c ≡ Some (Some (record { trail = i; since = n - n }))
     now = slice_get-map (moved i n) watches c ∙ ap (option_map (moved i n)) here
-        ∙ ap (λ b. Some (Some (cond b (record { trail = i; since = n - n }) (record { trail = i; since = n })))) (same_number i)
+        ∙ ap (λ b. Some
+        (Some (cond b (record { trail = i; since = n - n }) (record { trail = i; since = n }))))
+        (same_number i)
 
 pub used_still : (trails : List Asked) (watches : List (Option Watch)) (i n c : ℕ)
     → slice_get watches c ≡ Some (Some (record { trail = i; since = n }))
-    → ((t : Asked) → slice_get trails i ≡ Some t → 2 * n ≤ length t.others) → AreOn trails watches → OthersAreUsed trails watches i
+    → ((t : Asked) → slice_get trails i ≡ Some t → 2 * n ≤ length t.others) → AreOn trails watches
+    → OthersAreUsed trails watches i
     → AreUsed trails watches
-used_still trails watches i n c here low on others = used_except trails trails watches i (λ j t there. inl there) others (λ t there. record {
-  nothing = λ not_asked. absurd (false_true not_asked (asked_on trails watches i n c t here on there));
-  by = λ is_asked. (c, record { trail = i; since = n }, here, refl, low t there);
-})
+used_still trails watches i n c here low on others = used_except trails trails watches i
+    (λ j t there. inl there) others (λ t there. record {
+      nothing = λ not_asked. absurd
+          (false_true not_asked (asked_on trails watches i n c t here on there));
+      by = λ is_asked. (c, record { trail = i; since = n }, here, refl, low t there);
+    })
 
--- an observer begins on a trail that is asked already, or that keeps nothing before the latest answer
-pub used_begun : (old new : List Asked) (watches : List (Option Watch)) (c i since : ℕ) (t : Asked) → slice_get watches c ≡ Some None
-    → AreUsed old watches → AreOldExcept old new i → slice_get new i ≡ Some t → t.is_asked ≡ true → since ≡ length t.others
-    → ((u : Asked) → slice_get new i ≡ Some u → (slice_get old i ≡ Some u) ⊎ ((u.askers ≡ 0) × (u.others ≡ [])))
+-- an observer begins on a trail that is asked already, or that keeps nothing before the latest
+-- answer
+pub used_begun : (old new : List Asked) (watches : List (Option Watch)) (c i since : ℕ) (t : Asked)
+    → slice_get watches c ≡ Some None
+    → AreUsed old watches → AreOldExcept old new i → slice_get new i ≡ Some t → t.is_asked ≡ true
+    → since ≡ length t.others
+    → ((u : Asked) → slice_get new i ≡ Some u → (slice_get old i ≡ Some u)
+    ⊎ ((u.askers ≡ 0) × (u.others ≡ [])))
     → AreUsed new (set watches c (Some (record { trail = i; since = since })))
 used_begun old new watches c i since t closed used only there is_asked at_end begun =
-    used_except old new (set watches c own) i only (λ j u was other. stays j u (used j u was)) (λ u here. ⊎_elim
+    used_except old new (set watches c own) i only (λ j u was other. stays j u (used j u was))
+    (λ u here. ⊎_elim
     (λ was. stays i u (used i u was))
     (λ fresh. let it : t ≡ u = same_Some _ _ (sym there ∙ here) in record {
       nothing = λ not_asked. fresh.1;
@@ -516,38 +638,47 @@ used_begun old new watches c i since t closed used only there is_asked at_end be
       by = λ asked. let one = was.by asked in (
         one.0,
         one.1,
-        slice_get-set_other watches c one.0 own (λ same. none_some (same_Some _ _ (sym closed ∙ ap (slice_get watches) same ∙ one.2))) ∙ one.2,
+        slice_get-set_other watches c one.0 own
+            (λ same. none_some (same_Some _ _ (sym closed ∙ ap (slice_get watches) same ∙ one.2)))
+            ∙ one.2,
         one.3,
         one.4,
       );
     }
 
 -- some trails have the next state's answer
-pub used_after : (affects : Method → Args → Bool) (told : Method → Args → ℕ) (n : ℕ) (trails : List Asked) (watches : List (Option Watch))
+pub used_after : (affects : Method → Args → Bool) (told : Method → Args → ℕ) (n : ℕ)
+    (trails : List Asked) (watches : List (Option Watch))
     → AreUsed trails watches → AreUsed (changed_below (after_state affects told) n trails) watches
 used_after affects told n trails watches used = λ i u there.
-    let was = changed_from UsesAsMany (after_state affects told) as_many (as_many_after affects told) n trails i u there in
+    let was = changed_from UsesAsMany (after_state affects told) as_many
+    (as_many_after affects told) n trails i u there in
     let one = used i was.0 was.1 in record {
       nothing = λ not_asked. was.2.nothing not_asked (one.nothing (sym was.2.is_asked ∙ not_asked));
-      by = λ is_asked. let by = one.by (sym was.2.is_asked ∙ is_asked) in (by.0, by.1, by.2, by.3, omega (arith, by.4, was.2.grown));
+      by = λ is_asked. let by = one.by (sym was.2.is_asked ∙ is_asked) in
+          (by.0, by.1, by.2, by.3, omega (arith, by.4, was.2.grown));
     }
 
 counted_after : (affects : Method → Args → Bool) (told : Method → Args → ℕ) (n : ℕ)
     → (trails : List Asked) (watches : List (Option Watch)) → AreCounted trails watches
     → AreCounted (changed_below (after_state affects told) n trails) watches
 counted_after affects told n trails watches counted = λ i u there.
-    let was = changed_from UsesAsMany (after_state affects told) as_many (as_many_after affects told) n trails i u there in
+    let was = changed_from UsesAsMany (after_state affects told) as_many
+    (as_many_after affects told) n trails i u there in
     was.2.askers ∙ counted i was.0 was.1
 
 free_after : (affects : Method → Args → Bool) (told : Method → Args → ℕ) (n reach : ℕ)
     → (trails : List Asked) → AreFreeFrom reach trails
     → AreFreeFrom reach (changed_below (after_state affects told) n trails)
 free_after affects told n reach trails free = λ i u high there.
-    let was = changed_from UsesAsMany (after_state affects told) as_many (as_many_after affects told) n trails i u there in
+    let was = changed_from UsesAsMany (after_state affects told) as_many
+    (as_many_after affects told) n trails i u there in
     was.2.is_asked ∙ free i was.0 high was.1
 
-pub order_after : (h : Header) (reach : ℕ) (affects : Method → Args → Bool) (told : Method → Args → ℕ) (n : ℕ) (trails : List Asked)
-    (watches : List (Option Watch)) → AreInOrder h reach trails watches → AreInOrder h reach (changed_below (after_state affects told) n trails) watches
+pub order_after : (h : Header) (reach : ℕ) (affects : Method → Args → Bool)
+    (told : Method → Args → ℕ) (n : ℕ) (trails : List Asked)
+    (watches : List (Option Watch)) → AreInOrder h reach trails watches
+    → AreInOrder h reach (changed_below (after_state affects told) n trails) watches
 order_after h reach affects told n trails watches so = record {
   on = on_after affects told n trails watches so.on;
   asking = asking_after h affects told n trails so.asking;
@@ -615,27 +746,43 @@ stay_then old now new first second = λ i t there.
           (sooner.0, later.1 ∙ sooner.1, later.2 ∙ sooner.2, later.3 ∙ sooner.3),
     )
 
-pub stay_set : (trails : List Asked) (i : ℕ) (t new : Asked) → slice_get trails i ≡ Some t → StaysOrEnds t new → StayOrEnd trails (set trails i new)
+pub stay_set : (trails : List Asked) (i : ℕ) (t new : Asked) → slice_get trails i ≡ Some t
+    → StaysOrEnds t new → StayOrEnd trails (set trails i new)
 stay_set trails i t new here own = λ j u there. by_same i j
     (λ same. let it : t ≡ u = same_Some _ _ (sym here ∙ ap (slice_get trails) same ∙ there) in (
       new,
-      ap (slice_get (set trails i new)) (sym same) ∙ slice_get-set_same trails i new (slice_get_within trails i t here),
+      ap (slice_get (set trails i new)) (sym same) ∙ slice_get-set_same trails i new
+          (slice_get_within trails i t here),
       subst (λ v. StaysOrEnds v new) it own,
     ))
-    (λ other. (u, slice_get-set_other trails i j new (apart_of i j other) ∙ there, λ is_asked. (is_asked, refl, refl, refl)))
+    (λ other. (
+      u,
+      slice_get-set_other trails i j new (apart_of i j other)
+          ∙ there,
+      λ is_asked. (is_asked, refl, refl, refl),
+    ))
 
 -- a question that stays has its trail, or some trail is free
-pub trail_stays : (old new : List Asked) (i : ℕ) (t : Asked) (method : Method) (args : Args) (answer : ℕ) → StayOrEnd old new → slice_get old i ≡ Some t
+pub trail_stays : (old new : List Asked) (i : ℕ) (t : Asked) (method : Method) (args : Args)
+    (answer : ℕ) → StayOrEnd old new → slice_get old i ≡ Some t
     → IsTrailOf method args answer t
-    → (u : Asked) × (slice_get new i ≡ Some u) × ((u.is_asked ≡ false) ⊎ IsTrailOf method args answer u)
+    → (u : Asked) × (slice_get new i ≡ Some u)
+    × ((u.is_asked ≡ false) ⊎ IsTrailOf method args answer u)
 trail_stays old new i t method args answer stay here is = let now = stay i t here in (
   now.0,
   now.1,
   by_asked now.0 now.0.is_asked refl now.2,
 )
   where
-    by_asked : (u : Asked) (b : Bool) → u.is_asked ≡ b → StaysOrEnds t u → (u.is_asked ≡ false) ⊎ IsTrailOf method args answer u
-    by_asked u true e same = let more = same e in inr (e, more.1 ∙ is.1, more.2 ∙ is.2, more.3 ∙ is.3)
+    by_asked : (u : Asked) (b : Bool) → u.is_asked ≡ b → StaysOrEnds t u → (u.is_asked ≡ false)
+        ⊎ IsTrailOf method args answer u
+    by_asked u true e same = let more = same e in inr (
+      e,
+      more.1 ∙ is.1,
+      more.2 ∙ is.2,
+      more.3
+          ∙ is.3,
+    )
     by_asked u false e same = inl e
 
 pub counted_within : (trails : List Asked) (watches : List (Option Watch)) (i n c : ℕ)
@@ -662,7 +809,9 @@ sees_answer : (answer since : ℕ) (t : Asked) → since ≤ length t.others
 sees_answer answer since t within = by_answer (answer == t.latest) refl
   where
     by_answer : (b : Bool) → (answer == t.latest) ≡ b
-        → SeesAnswer answer (seen_from since (Some t)) (seen_from since (Some (cond b t (record t { latest = answer; others = t.others ++ t.latest ∷ [] }))))
+        → SeesAnswer answer (seen_from since (Some t))
+        (seen_from since
+        (Some (cond b t (record t { latest = answer; others = t.others ++ t.latest ∷ [] }))))
     by_answer true e = knows_already answer (seen_from since (Some t))
         (ap (λ k. has_answer (t.latest ∷ drop since t.others) k) (same_of answer t.latest e)
         ∙ ap (λ b. b || list_any (λ x. x == t.latest) (drop since t.others)) (same_number t.latest))
@@ -671,16 +820,24 @@ sees_answer answer since t within = by_answer (answer == t.latest) refl
       method = refl;
       args = refl;
       answers = λ reply.
-          ap (λ xs. answer == reply || list_any (λ x. x == reply) xs) (drop-append-le since t.others (t.latest ∷ []) within)
-          ∙ ap (λ b. answer == reply || b) (list_any-append (λ x. x == reply) (drop since t.others) (t.latest ∷ []))
-          ∙ or_last (answer == reply) (list_any (λ x. x == reply) (drop since t.others)) (t.latest == reply);
+          ap (λ xs. answer == reply || list_any (λ x. x == reply) xs)
+          (drop-append-le since t.others (t.latest ∷ []) within)
+          ∙ ap (λ b. answer == reply || b)
+          (list_any-append (λ x. x == reply) (drop since t.others) (t.latest ∷ []))
+          ∙ or_last (answer == reply) (list_any (λ x. x == reply) (drop since t.others))
+          (t.latest == reply);
     }
 
-sees_state : (affects : Method → Args → Bool) (told : Method → Args → ℕ) (since : ℕ) (t : Asked) → t.is_asked ≡ true → since ≤ length t.others
-    → (affects t.method t.args ≡ false → has_answer (t.latest ∷ drop since t.others) (told t.method t.args) ≡ true)
-    → SeesState told (seen_from since (Some t)) (seen_from since (Some (after_state affects told t)))
+sees_state : (affects : Method → Args → Bool) (told : Method → Args → ℕ) (since : ℕ) (t : Asked)
+    → t.is_asked ≡ true → since ≤ length t.others
+    → (affects t.method t.args ≡ false → has_answer (t.latest ∷ drop since t.others)
+    (told t.method t.args) ≡ true)
+    → SeesState told (seen_from since (Some t))
+    (seen_from since (Some (after_state affects told t)))
 sees_state affects told since t is_asked within current =
-    subst (λ b. SeesState told (seen_from since (Some t)) (seen_from since (Some (cond (b && affects t.method t.args) (with_answer answer t) t)))) (sym is_asked)
+    subst (λ b. SeesState told (seen_from since (Some t))
+    (seen_from since (Some (cond (b && affects t.method t.args) (with_answer answer t) t))))
+    (sym is_asked)
     (by_touched (affects t.method t.args) refl)
   where
     answer : ℕ
@@ -698,7 +855,8 @@ sees_state affects told since t is_asked within current =
     )
 
     by_touched : (b : Bool) → affects t.method t.args ≡ b
-        → SeesState told (seen_from since (Some t)) (seen_from since (Some (cond b (with_answer answer t) t)))
+        → SeesState told (seen_from since (Some t))
+        (seen_from since (Some (cond b (with_answer answer t) t)))
     by_touched true e = let sees = sees_answer answer since t within in
         record {
           is_open = sees.is_open;
@@ -717,15 +875,22 @@ sees_state affects told since t is_asked within current =
         }
 
 -- all callers see the state that all trails have the answer of
-pub callers_see : (affects : Method → Args → Bool) (told : Method → Args → ℕ) (trails : List Asked) (watches : List (Option Watch)) → AreOn trails watches
-    → ((c : ℕ) (seen : Seen) → slice_get (map (seen_by trails) watches) c ≡ Some seen → seen.is_open ≡ true
-    → affects seen.method seen.args ≡ false → has_answer seen.answers (told seen.method seen.args) ≡ true)
-    → SeenBelow told (length watches) (map (seen_by trails) watches) (map (seen_by (map (after_state affects told) trails)) watches)
+pub callers_see : (affects : Method → Args → Bool) (told : Method → Args → ℕ) (trails : List Asked)
+    (watches : List (Option Watch)) → AreOn trails watches
+    → ((c : ℕ) (seen : Seen) → slice_get (map (seen_by trails) watches) c ≡ Some seen → seen.is_open
+    ≡ true
+    → affects seen.method seen.args ≡ false → has_answer seen.answers (told seen.method seen.args)
+    ≡ true)
+    → SeenBelow told (length watches) (map (seen_by trails) watches)
+    (map (seen_by (map (after_state affects told) trails)) watches)
 callers_see affects told trails watches on current = record {
-  below = λ k seen low here. by_place k seen (slice_get watches k) refl (sym (slice_get-map (seen_by trails) watches k) ∙ here);
+  below = λ k seen low here. by_place k seen (slice_get watches k) refl
+      (sym (slice_get-map (seen_by trails) watches k) ∙ here);
   above = λ k high.
-      slice_get_past (map (seen_by now) watches) k (omega (arith, high, length-map watches (seen_by now)))
-      ∙ sym (slice_get_past (map (seen_by trails) watches) k (omega (arith, high, length-map watches (seen_by trails))));
+      slice_get_past (map (seen_by now) watches) k
+      (omega (arith, high, length-map watches (seen_by now)))
+      ∙ sym (slice_get_past (map (seen_by trails) watches) k
+      (omega (arith, high, length-map watches (seen_by trails))));
 }
   where
     now : List Asked
@@ -740,8 +905,10 @@ callers_see affects told trails watches on current = record {
       few = omega arith;
     }
 
-    by_place : (k : ℕ) (seen : Seen) (o : Option (Option Watch)) → slice_get watches k ≡ o → option_map (seen_by trails) o ≡ Some seen
-        → (next : Seen) × (slice_get (map (seen_by now) watches) k ≡ Some next) × SeesState told seen next
+    by_place : (k : ℕ) (seen : Seen) (o : Option (Option Watch)) → slice_get watches k ≡ o
+        → option_map (seen_by trails) o ≡ Some seen
+        → (next : Seen) × (slice_get (map (seen_by now) watches) k ≡ Some next)
+        × SeesState told seen next
     by_place k seen None place is = absurd (none-some _ is)
     by_place k seen (Some None) place is = (
       unwatched,
@@ -751,45 +918,67 @@ callers_see affects told trails watches on current = record {
     by_place k seen (Some (Some w)) place is =
         let was = on k w place in
         let there : slice_get now w.trail ≡ Some (after_state affects told was.asked) =
-        slice_get-map (after_state affects told) trails w.trail ∙ ap (option_map (after_state affects told)) was.there in
-        let here : slice_get (map (seen_by trails) watches) k ≡ Some (seen_from w.since (Some was.asked)) =
-        slice_get-map (seen_by trails) watches k ∙ ap (option_map (seen_by trails)) place ∙ ap (λ o. Some (seen_from w.since o)) was.there in (
+        slice_get-map (after_state affects told) trails w.trail
+        ∙ ap (option_map (after_state affects told)) was.there in
+        let here : slice_get (map (seen_by trails) watches) k
+        ≡ Some (seen_from w.since (Some was.asked)) =
+        slice_get-map (seen_by trails) watches k ∙ ap (option_map (seen_by trails)) place
+        ∙ ap (λ o. Some (seen_from w.since o)) was.there in (
           seen_from w.since (Some (after_state affects told was.asked)),
-          slice_get-map (seen_by now) watches k ∙ ap (option_map (seen_by now)) place ∙ ap (λ o. Some (seen_from w.since o)) there,
-          subst (λ s. SeesState told s (seen_from w.since (Some (after_state affects told was.asked))))
+          slice_get-map (seen_by now) watches k ∙ ap (option_map (seen_by now)) place
+              ∙ ap (λ o. Some (seen_from w.since o)) there,
+          subst (λ s. SeesState told s
+              (seen_from w.since (Some (after_state affects told was.asked))))
               (ap (seen_from w.since) (sym was.there) ∙ same_Some _ _ is)
               (sees_state affects told w.since was.asked was.is_asked was.within
               (λ untouched. current k (seen_from w.since (Some was.asked)) here refl untouched)),
         )
 
 -- what is read at a place
-pub read_is : {A : Type 0} (xs : List A) (i : ℕ) (x d : A) → slice_get xs i ≡ Some x → d ≡ get_or xs i d → x ≡ d
+pub read_is : {A : Type 0} (xs : List A) (i : ℕ) (x d : A) → slice_get xs i ≡ Some x
+    → d ≡ get_or xs i d → x ≡ d
 read_is xs i x d here is = sym (ap (λ o. unwrap_or o d) here) ∙ unwrap_or-slice_get xs i d ∙ sym is
 
 -- the watch that is read of a caller
-pub watch_read : (trails : List Asked) (watches : List (Option Watch)) (seen : List Seen) (c : ℕ) (o p : Option Watch) → map (seen_by trails) watches ≡ seen
+pub watch_read : (trails : List Asked) (watches : List (Option Watch)) (seen : List Seen) (c : ℕ)
+    (o p : Option Watch) → map (seen_by trails) watches ≡ seen
     → c < length seen → o ≡ get_or watches c o → o ≡ p → slice_get watches c ≡ Some p
 watch_read trails watches seen c o p is low read same =
-    let within : c < length watches = omega (arith, low, ap length is, length-map watches (seen_by trails)) in
+    let within : c < length watches =
+    omega (arith, low, ap length is, length-map watches (seen_by trails)) in
     slice_get-is watches c o within read ∙ ap Some same
 
 -- what a caller has seen
-pub seen_there : (trails : List Asked) (watches : List (Option Watch)) (c : ℕ) (o : Option Watch) → slice_get watches c ≡ Some o
+pub seen_there : (trails : List Asked) (watches : List (Option Watch)) (c : ℕ) (o : Option Watch)
+    → slice_get watches c ≡ Some o
     → slice_get (map (seen_by trails) watches) c ≡ Some (seen_by trails o)
-seen_there trails watches c o here = slice_get-map (seen_by trails) watches c ∙ ap (option_map (seen_by trails)) here
+seen_there trails watches c o here = slice_get-map (seen_by trails) watches c
+    ∙ ap (option_map (seen_by trails)) here
 
 -- an observer begins, on a trail whose latest answer is this
-pub begins_seen : (old new : List Asked) (watches : List (Option Watch)) (c i since : ℕ) (t : Asked) (method : Method) (args : Args) (answer : ℕ)
-    → KeepsAsked old new → AreOn old watches → slice_get new i ≡ Some t → t.method ≡ method → t.args ≡ args → t.latest ≡ answer → since ≡ length t.others
+pub begins_seen : (old new : List Asked) (watches : List (Option Watch)) (c i since : ℕ) (t : Asked)
+    (method : Method) (args : Args) (answer : ℕ)
+    → KeepsAsked old new → AreOn old watches → slice_get new i ≡ Some t → t.method ≡ method
+    → t.args ≡ args → t.latest ≡ answer → since ≡ length t.others
     → map (seen_by new) (set watches c (Some (record { trail = i; since = since })))
-    ≡ set (map (seen_by old) watches) c (record { is_open = true; method = method; args = args; answers = answer ∷ [] })
-begins_seen old new watches c i since t method args answer keeps on there same_method same_args same_answer at_end =
+    ≡ set (map (seen_by old) watches) c
+    (record { is_open = true; method = method; args = args; answers = answer ∷ [] })
+begins_seen old new watches c i since t method args answer keeps on there same_method same_args
+    same_answer at_end =
     map-set (seen_by new) watches c (Some (record { trail = i; since = since }))
-    ∙ ap (λ seen. set seen c (seen_from since (slice_get new i))) (seen_kept old new watches keeps on)
+    ∙ ap (λ seen. set seen c (seen_from since (slice_get new i)))
+    (seen_kept old new watches keeps on)
     ∙ ap (λ o. set (map (seen_by old) watches) c (seen_from since o)) there
     ∙ ap (λ k. set (map (seen_by old) watches) c (seen_from k (Some t))) at_end
     ∙ ap (set (map (seen_by old) watches) c) (seen_at_end t)
-    ∙ (λ j. set (map (seen_by old) watches) c (record { is_open = true; method = same_method j; args = same_args j; answers = same_answer j ∷ [] }))
+    ∙ (λ j. set (map (seen_by old) watches) c
+    (record {
+      is_open = true;
+      method = same_method j;
+      args = same_args j;
+      answers = same_answer j
+          ∷ [];
+    }))
 
 -- no caller has an open observer
 pub none_watched : (trails : List Asked) (watches : List (Option Watch)) (n : ℕ)
@@ -801,10 +990,12 @@ none_watched trails watches n none = ap (map (seen_by trails)) none ∙ mapped n
     mapped (suc n) = ap (λ seen. unwatched ∷ seen) (mapped n)
 
 -- a caller that has none is as after its return
-pub closed_stays : (trails : List Asked) (watches : List (Option Watch)) (c : ℕ) → slice_get watches c ≡ Some None
+pub closed_stays : (trails : List Asked) (watches : List (Option Watch)) (c : ℕ)
+    → slice_get watches c ≡ Some None
     → map (seen_by trails) watches ≡ set (map (seen_by trails) watches) c unwatched
 closed_stays trails watches c here =
     let seen = map (seen_by trails) watches in
     let there : unwatched ≡ get_or seen c unwatched =
-    sym (ap (λ o. unwrap_or o unwatched) (seen_there trails watches c None here)) ∙ unwrap_or-slice_get seen c unwatched in
+    sym (ap (λ o. unwrap_or o unwatched) (seen_there trails watches c None here))
+    ∙ unwrap_or-slice_get seen c unwatched in
     sym (set-get_or seen c unwatched) ∙ ap (set seen c) (sym there)

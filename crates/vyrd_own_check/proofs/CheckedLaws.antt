@@ -1,5 +1,6 @@
 -- What a checker answers, by what it keeps.
-use Rattle.std.proofs.Common.{◌≡◌, ℕ, true, List, [], ◌∷◌, ◌++◌, length, append_assoc, Option, Some, None, refl, ap, subst, ◌∙◌, sym, append-nil, arith}
+use Rattle.std.proofs.Common.{◌≡◌, ℕ, true, List, [], ◌∷◌, ◌++◌, length, append_assoc, Option, Some}
+use Rattle.std.proofs.Common.{None, refl, ap, subst, ◌∙◌, sym, append-nil, arith}
 use Rattle.std.specs.Prelude.{◌==◌, is_some}
 use Rattle.std.proofs.lemmas.Bool.Decides.{nat_tests}
 use Rattle.vyrd_base.specs.declared.verdict.Verdict.{Verdict}
@@ -8,29 +9,37 @@ use Rattle.vyrd_own_check.proofs.LastLaws.{own_verdict_lasts, own_verdict_stands
 use Rattle.vyrd_own_check.specs.Checking.{IsLimit, limit_of, CheckerState, FollowsBy, HasChecked}
 
 -- the verdict that is kept is that of the bytes so far
-pub so_far_is : (c : CheckerState) (bytes : List ℕ) → HasChecked c bytes → c.so_far ≡ own_text_verdict_so_far (limit_of c.kept) bytes
+pub so_far_is : (c : CheckerState) (bytes : List ℕ) → HasChecked c bytes → c.so_far
+    ≡ own_text_verdict_so_far (limit_of c.kept) bytes
 so_far_is c bytes checked = by_verdict c.so_far checked.follows
   where
-    by_verdict : (o : Option Verdict) → FollowsBy c.kept bytes o → o ≡ own_text_verdict_so_far (limit_of c.kept) bytes
+    by_verdict : (o : Option Verdict) → FollowsBy c.kept bytes o → o ≡ own_text_verdict_so_far
+        (limit_of c.kept) bytes
     by_verdict None f = sym f.nothing
     by_verdict (Some v) f = sym f
 
 -- a verdict that stands is that of all longer bytes
-pub checked_longer : (c : CheckerState) (bytes more : List ℕ) → IsLimit (limit_of c.kept) → is_some c.so_far ≡ true
+pub checked_longer : (c : CheckerState) (bytes more : List ℕ) → IsLimit (limit_of c.kept)
+    → is_some c.so_far ≡ true
     → HasChecked c bytes → HasChecked c (bytes ++ more)
-checked_longer c bytes more limit there checked = record { follows = by_verdict c.so_far there checked.follows }
+checked_longer c bytes more limit there checked =
+    record { follows = by_verdict c.so_far there checked.follows }
   where
-    by_verdict : (o : Option Verdict) → is_some o ≡ true → FollowsBy c.kept bytes o → FollowsBy c.kept (bytes ++ more) o
+    by_verdict : (o : Option Verdict) → is_some o ≡ true → FollowsBy c.kept bytes o
+        → FollowsBy c.kept (bytes ++ more) o
     by_verdict None there f = cc
     by_verdict (Some v) there f = own_verdict_lasts (limit_of c.kept) bytes more v limit f
 
 -- and of the whole input
-pub checked_whole : (c : CheckerState) (bytes : List ℕ) (v : Verdict) → IsLimit (limit_of c.kept) → c.so_far ≡ Some v
+pub checked_whole : (c : CheckerState) (bytes : List ℕ) (v : Verdict) → IsLimit (limit_of c.kept)
+    → c.so_far ≡ Some v
     → HasChecked c bytes → v ≡ own_text_verdict (limit_of c.kept) bytes
 checked_whole c bytes v limit there checked =
     let max = (limit_of c.kept) in
-    let here : own_text_verdict_so_far max bytes ≡ Some v = subst (FollowsBy c.kept bytes) there checked.follows in
-    sym (ap (own_text_verdict max) (sym (append-nil bytes)) ∙ own_verdict_stands max bytes [] v limit here)
+    let here : own_text_verdict_so_far max bytes ≡ Some v = subst (FollowsBy c.kept bytes) there
+    checked.follows in
+    sym (ap (own_text_verdict max) (sym (append-nil bytes)) ∙ own_verdict_stands max bytes
+    [] v limit here)
 
 pub empty_of : (xs : List ℕ) → true ≡ (length xs == 0) → xs ≡ []
 empty_of xs e = let none : length xs ≡ 0 = grind (arith, nat_tests) in by_length xs none
@@ -40,14 +49,17 @@ empty_of xs e = let none : length xs ≡ 0 = grind (arith, nat_tests) in by_leng
     by_length (y ∷ ys) none = absurd (omega arith)
 
 -- all parts of a piece were followed
-pub checked_all : (c : CheckerState) (bytes piece read rest : List ℕ) → piece ≡ read ++ rest → true ≡ (length rest == 0)
+pub checked_all : (c : CheckerState) (bytes piece read rest : List ℕ) → piece ≡ read ++ rest
+    → true ≡ (length rest == 0)
     → HasChecked c (bytes ++ read) → HasChecked c (bytes ++ piece)
 checked_all c bytes piece read rest parted none checked =
-    let same : read ≡ piece = sym (parted ∙ ap (λ xs. read ++ xs) (empty_of rest none) ∙ append-nil read) in
+    let same : read ≡ piece = sym (parted ∙ ap (λ xs. read ++ xs) (empty_of rest none)
+    ∙ append-nil read) in
     subst (λ xs. HasChecked c (bytes ++ xs)) same checked
 
 -- a verdict stands before the last part
-pub checked_stands : (c : CheckerState) (bytes piece read rest : List ℕ) (v : Verdict) → IsLimit (limit_of c.kept) → c.so_far ≡ Some v
+pub checked_stands : (c : CheckerState) (bytes piece read rest : List ℕ) (v : Verdict)
+    → IsLimit (limit_of c.kept) → c.so_far ≡ Some v
     → piece ≡ read ++ rest → HasChecked c (bytes ++ read) → HasChecked c (bytes ++ piece)
 checked_stands c bytes piece read rest v limit there parted checked =
     subst (HasChecked c) (append_assoc bytes read rest ∙ ap (λ xs. bytes ++ xs) (sym parted))

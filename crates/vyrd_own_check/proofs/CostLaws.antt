@@ -105,7 +105,8 @@ cost_grows old new g = by_begun (has_begun old) refl
 
 pub bytes_more : (max : ℕ) (bytes more : List ℕ) → IsLimit max
     → bytes_cost max bytes ≤ bytes_cost max (bytes ++ more)
-bytes_more max bytes more limit = cost_grows (read_so_far max bytes) (read_so_far max (bytes ++ more))
+bytes_more max bytes more limit = cost_grows (read_so_far max bytes)
+    (read_so_far max (bytes ++ more))
     (reading_grown max false bytes more limit.low limit.high)
 
 -- the header by which a charter goes

@@ -20,7 +20,8 @@ use Rattle.vyrd_judge.specs.Following.{JudgeView, HasFollowed}
 use Rattle.vyrd_own_check.specs.LogReadings.{read_so_far}
 use Rattle.vyrd_own_check.specs.Costs.{bytes_cost}
 use Rattle.vyrd_own_check.specs.Owed.{judge_owes, kept_debt}
-use Rattle.vyrd_own_check.specs.Checking.{IsLimit, limit_of, IsJudging, Kept, IsUndecided, untold_in}
+use Rattle.vyrd_own_check.specs.Checking.{IsLimit, limit_of, IsJudging, Kept, IsUndecided}
+use Rattle.vyrd_own_check.specs.Checking.{untold_in}
 use Rattle.vyrd_own_check.proofs.ReadingFacts.{known_so_far, untold_right}
 use Rattle.vyrd_own_check.proofs.CostLaws.{bytes_more}
 

@@ -1,12 +1,14 @@
 -- What a piece that was read and judged makes of what is kept.
-use Rattle.std.proofs.Common.{◌≡◌, ℕ, ◌+◌, ◌≤◌, ◌^◌, true, false, ◌||◌, List, [], ◌++◌, length, length-append, Option, Some, None, refl, ap, subst, ◌∙◌, sym, arith}
+use Rattle.std.proofs.Common.{◌≡◌, ℕ, ◌+◌, ◌≤◌, ◌^◌, true, false, ◌||◌, List, [], ◌++◌, length}
+use Rattle.std.proofs.Common.{length-append, Option, Some, None, refl, ap, subst, ◌∙◌, sym, arith}
 use Rattle.std.specs.Prelude.{option_map}
 use Rattle.std.specs.Option.{option_or}
 use Rattle.std.proofs.Math.Logic.{∥∥₁_elim}
 use Rattle.std.proofs.Math.Bool.{Bool-set}
 use Rattle.vyrd_base.specs.declared.header.Header.{Header}
 use Rattle.vyrd_base.specs.declared.subject.Subject.{Subject}
-use Rattle.vyrd_base.specs.declared.subject.Subject.TheVariants.{Multiset, Cache, Tree, Buffers, Own}
+use Rattle.vyrd_base.specs.declared.subject.Subject.TheVariants.{Multiset, Cache, Tree, Buffers}
+use Rattle.vyrd_base.specs.declared.subject.Subject.TheVariants.{Own}
 use Rattle.vyrd_base.specs.declared.log.Entry.{Entry}
 use Rattle.vyrd_base.specs.declared.verdict.Verdict.{Verdict}
 use Rattle.vyrd_base.specs.declared.verdict.Verdict.TheVariants.{Malformed}
@@ -20,7 +22,8 @@ use Rattle.vyrd_own_log.specs.Readers.{ReaderState, HasRead, IsGrownBy}
 use Rattle.vyrd_own_log.proofs.GrownLaws.{reading_grown, reading_formed}
 use Rattle.vyrd_judge.specs.Following.{JudgeView}
 use Rattle.vyrd_own_check.specs.LogReadings.{read_so_far}
-use Rattle.vyrd_own_check.specs.Checking.{IsLimit, IsJudging, IsReady, IsBegun, HasRoom, Kept, limit_of, IsUndecided, IsSomewhere, untold_in}
+use Rattle.vyrd_own_check.specs.Checking.{IsLimit, IsJudging, IsReady, IsBegun, HasRoom, Kept}
+use Rattle.vyrd_own_check.specs.Checking.{limit_of, IsUndecided, IsSomewhere, untold_in}
 use Rattle.vyrd_own_check.specs.Costs.{bytes_cost}
 use Rattle.vyrd_own_check.specs.Owed.{judge_owes, following_cost, kept_debt}
 use Rattle.vyrd_own_check.proofs.ReadingFacts.{known_so_far}
@@ -28,30 +31,38 @@ use Rattle.vyrd_own_check.proofs.PieceLaws.{judge_before, has_room}
 use Rattle.vyrd_own_check.proofs.CostLaws.{piece_paid}
 
 -- a piece was read, and the judge is there if it may be
-pub record Fed (old : Kept) (reader : ReaderState) (begun : Option JudgeView) (piece : List ℕ) (entries : List Entry) (numbers : List ℕ)
+pub record Fed (old : Kept) (reader : ReaderState) (begun : Option JudgeView) (piece : List ℕ)
+    (entries : List Entry) (numbers : List ℕ)
     (fault : Option Verdict) : Type 0 where
   pub limit : reader.kept.lines.max_lines ≡ limit_of old
   pub read : (bytes : List ℕ) → HasRead old.reader bytes → HasRead reader (bytes ++ piece)
   pub grown : (bytes : List ℕ) → HasRead old.reader bytes
-      → IsGrownBy [] (read_so_far (limit_of old) bytes).entries entries (read_so_far (limit_of old) (bytes ++ piece)).entries
+      → IsGrownBy [] (read_so_far (limit_of old) bytes).entries entries
+      (read_so_far (limit_of old) (bytes ++ piece)).entries
   pub counted : (bytes : List ℕ) → HasRead old.reader bytes
-      → IsGrownBy old.numbers (read_so_far (limit_of old) bytes).numbers numbers (read_so_far (limit_of old) (bytes ++ piece)).numbers
+      → IsGrownBy old.numbers (read_so_far (limit_of old) bytes).numbers numbers
+      (read_so_far (limit_of old) (bytes ++ piece)).numbers
   pub faulty : (bytes : List ℕ) → HasRead old.reader bytes
-      → fault ≡ option_map (λ fault. Malformed fault.line fault.rule) (read_so_far (limit_of old) (bytes ++ piece)).fault
-  pub judge : IsBegun (has_any entries || has_ended reader.kept.lines.stage) (header_at reader.kept.lines.stage) reader.kept.specified
+      → fault ≡ option_map (λ fault. Malformed fault.line fault.rule)
+      (read_so_far (limit_of old) (bytes ++ piece)).fault
+  pub judge : IsBegun (has_any entries || has_ended reader.kept.lines.stage)
+      (header_at reader.kept.lines.stage) reader.kept.specified
       reader.kept.start old.judge begun
 
 -- what grew from nothing, behind what was there
-pub grown_on : {A : Type 0} (old brought all : List A) {x y : List A} → all ≡ old ++ brought → IsGrownBy [] x brought y → IsGrownBy old x all y
+pub grown_on : {A : Type 0} (old brought all : List A) {x y : List A} → all ≡ old ++ brought
+    → IsGrownBy [] x brought y → IsGrownBy old x all y
 grown_on old brought all is grown =
     record { more = grown.more; one = is ∙ ap (λ xs. old ++ xs) grown.one; other = grown.other }
 
 -- there is room for the numbers of lines that the piece brings
 pub numbers_room : (old : Kept) (piece brought : List ℕ) → IsLimit (limit_of old)
     → ((bytes : List ℕ) → HasRead old.reader bytes
-    → IsGrownBy [] (read_so_far (limit_of old) bytes).numbers brought (read_so_far (limit_of old) (bytes ++ piece)).numbers)
+    → IsGrownBy [] (read_so_far (limit_of old) bytes).numbers brought
+    (read_so_far (limit_of old) (bytes ++ piece)).numbers)
     → IsSomewhere old → length old.numbers + length brought ≤ 2 ^ 62
-numbers_room old piece brought limit grows somewhere = at_most_of _ _ (∥∥₁_elim somewhere (Bool-set _ _) (λ s.
+numbers_room old piece brought limit grows somewhere = at_most_of _ _
+    (∥∥₁_elim somewhere (Bool-set _ _) (λ s.
     is_at_most _ _ (few s.0 s.1)))
   where
     few : (bytes : List ℕ) → IsUndecided old bytes → length old.numbers + length brought ≤ 2 ^ 62
@@ -76,23 +87,28 @@ own_of Tree e = cc
 own_of Buffers e = cc
 own_of Own e = refl
 
-module _ (old : Kept) (reader : ReaderState) (piece : List ℕ) (limit : IsLimit (limit_of old)) (within : reader.kept.lines.max_lines ≡ limit_of old)
-    (reads : (bytes : List ℕ) → HasRead old.reader bytes → HasRead reader (bytes ++ piece)) (somewhere : IsSomewhere old) where
+module _ (old : Kept) (reader : ReaderState) (piece : List ℕ) (limit : IsLimit (limit_of old))
+    (within : reader.kept.lines.max_lines ≡ limit_of old)
+    (reads : (bytes : List ℕ) → HasRead old.reader bytes → HasRead reader (bytes ++ piece))
+    (somewhere : IsSomewhere old) where
   bounds : IsLimit reader.kept.lines.max_lines
   bounds = subst IsLimit (sym within) limit
 
   -- the header that the reader keeps is that of a subject of the user's own
   pub fed_own : (h : Header) → header_at reader.kept.lines.stage ≡ Some h → h.subject ≡ Own
   fed_own h has = own_of h.subject (∥∥₁_elim somewhere (Bool-set _ _) (λ s.
-      ap is_built_in ((reading_formed reader.kept.lines.max_lines (s.0 ++ piece) bounds.low bounds.high).header h
+      ap is_built_in
+      ((reading_formed reader.kept.lines.max_lines (s.0 ++ piece) bounds.low bounds.high).header h
       (sym (reads s.0 s.1.read).header ∙ has)).0))
 
   -- the starting words that the reader keeps are in the header's ranges, and rise
-  pub fed_follows : (h : Header) → header_at reader.kept.lines.stage ≡ Some h → do_follow h None reader.kept.start ≡ true
+  pub fed_follows : (h : Header) → header_at reader.kept.lines.stage ≡ Some h
+      → do_follow h None reader.kept.start ≡ true
   fed_follows h has = ∥∥₁_elim somewhere (Bool-set _ _) (λ s.
       let read = reads s.0 s.1.read in
       ap (do_follow h None) read.start
-      ∙ ((reading_formed reader.kept.lines.max_lines (s.0 ++ piece) bounds.low bounds.high).header h (sym read.header ∙ has)).1)
+      ∙ ((reading_formed reader.kept.lines.max_lines (s.0 ++ piece) bounds.low bounds.high).header h
+      (sym read.header ∙ has)).1)
 
 -- what the reader keeps is what the bytes with the piece say, up to the old limit
 record IsReadTo (reader : ReaderState) (bytes : List ℕ) (max : ℕ) : Type 0 where
@@ -113,7 +129,8 @@ paid_then : (owes begun moves before was now n m later : ℕ) → later ≡ owes
 paid_then owes begun moves before was now n m later same paid taken =
     omega (arith, same, paid, taken)
 
-module _ (old : Kept) (reader : ReaderState) (begun : Option JudgeView) (piece : List ℕ) (entries : List Entry) (numbers : List ℕ)
+module _ (old : Kept) (reader : ReaderState) (begun : Option JudgeView) (piece : List ℕ)
+    (entries : List Entry) (numbers : List ℕ)
     (fault : Option Verdict) (fed : Fed old reader begun piece entries numbers fault) where
   -- the judge is ready for the entries of the piece
   pub fed_ready : IsLimit (limit_of old) → (bytes : List ℕ) → IsUndecided old bytes
@@ -127,10 +144,12 @@ module _ (old : Kept) (reader : ReaderState) (begun : Option JudgeView) (piece :
       let grown = fed.grown bytes u.read in
       let all : is.entries ≡ was.entries ++ entries =
       grown.other ∙ ap (λ more. was.entries ++ more) (sym grown.one) in
-      let judge : IsBegun (has_any entries || is.ended) is.header is.lines is.starting old.judge begun =
+      let judge : IsBegun (has_any entries || is.ended) is.header is.lines is.starting old.judge
+      begun =
       rw (← read.ended, ← read.header, ← read.lines, ← read.start) fed.judge in
       record {
-        before = judge_before old.judge begun was is entries u.judging (reading_grown max false bytes piece limit.low limit.high)
+        before = judge_before old.judge begun was is entries u.judging
+            (reading_grown max false bytes piece limit.low limit.high)
             (reading_formed max (bytes ++ piece) limit.low limit.high).headless all judge;
         entries = all;
         ended = sym read.ended;
@@ -157,7 +176,8 @@ module _ (old : Kept) (reader : ReaderState) (begun : Option JudgeView) (piece :
           is_at_most _ _ (subst (λ o. HasRoom o entries) is (room s.0 s.1))))
 
   -- the numbers of lines are those of the bytes with the piece
-  fed_numbers : (bytes : List ℕ) → IsUndecided old bytes → numbers ≡ (read_so_far (limit_of old) (bytes ++ piece)).numbers
+  fed_numbers : (bytes : List ℕ) → IsUndecided old bytes
+      → numbers ≡ (read_so_far (limit_of old) (bytes ++ piece)).numbers
   fed_numbers bytes u =
       let counted = fed.counted bytes u.read in
       counted.one ∙ ap (λ ns. ns ++ counted.more) u.numbers ∙ sym counted.other
@@ -165,9 +185,11 @@ module _ (old : Kept) (reader : ReaderState) (begun : Option JudgeView) (piece :
   -- the answer is the verdict so far
   pub fed_answer : (wrong : Option Verdict) (bytes : List ℕ) → IsUndecided old bytes
       → wrong ≡ untold_in (read_so_far (limit_of old) (bytes ++ piece))
-      → option_or (option_map (told_in_text numbers) wrong) fault ≡ own_text_verdict_so_far (limit_of old) (bytes ++ piece)
+      → option_or (option_map (told_in_text numbers) wrong) fault ≡ own_text_verdict_so_far
+      (limit_of old) (bytes ++ piece)
   fed_answer wrong bytes u wrong_is =
-      known_so_far (limit_of old) (bytes ++ piece) numbers wrong fault (fed_numbers bytes u) wrong_is (fed.faulty bytes u.read)
+      known_so_far (limit_of old) (bytes ++ piece) numbers wrong fault (fed_numbers bytes u)
+      wrong_is (fed.faulty bytes u.read)
 
   -- without a verdict what is kept goes on
   pub fed_undecided : (after : Option JudgeView) (bytes : List ℕ) → IsUndecided old bytes
@@ -177,7 +199,8 @@ module _ (old : Kept) (reader : ReaderState) (begun : Option JudgeView) (piece :
   fed_undecided after bytes u judging nothing = record {
     read = fed.read bytes u.read;
     judging = subst (λ m. IsJudging after (read_so_far m (bytes ++ piece))) (sym fed.limit) judging;
-    numbers = fed_numbers bytes u ∙ ap (λ m. (read_so_far m (bytes ++ piece)).numbers) (sym fed.limit);
+    numbers = fed_numbers bytes u ∙ ap (λ m. (read_so_far m (bytes ++ piece)).numbers)
+        (sym fed.limit);
     nothing = ap (λ m. own_text_verdict_so_far m (bytes ++ piece)) fed.limit ∙ nothing;
   }
 

@@ -1,5 +1,6 @@
 -- A verdict about bytes that stands stands for all longer bytes.
-use Rattle.std.proofs.Common.{◌≡◌, ℕ, ◌+◌, Bool, true, false, cond, ◌||◌, List, [], ◌∷◌, ◌++◌, length, Option, Some, None, refl, ap, ◌∙◌, sym, subst, arith}
+use Rattle.std.proofs.Common.{◌≡◌, ℕ, ◌+◌, Bool, true, false, cond, ◌||◌, List, [], ◌∷◌, ◌++◌}
+use Rattle.std.proofs.Common.{length, Option, Some, None, refl, ap, ◌∙◌, sym, subst, arith}
 use Rattle.std.specs.Prelude.{unwrap_or, option_map, option_and_then}
 use Rattle.std.specs.Option.{option_or}
 use Rattle.vyrd_base.specs.declared.header.Header.{Header}
@@ -10,33 +11,43 @@ use Rattle.vyrd_base.specs.Reading.{TextFault, has_any}
 use Rattle.vyrd_base.specs.Rules.{Charter, own, Rules, rules_by}
 use Rattle.vyrd_base.specs.Verdicts.{verdict_so_far, end_verdict, accepted}
 use Rattle.vyrd_base.specs.Own.Log.{OwnReading, own_reading}
-use Rattle.vyrd_base.specs.Own.LogVerdicts.{told_in_text, own_entries_verdict, known_own_verdict, own_text_verdict, own_text_verdict_so_far}
+use Rattle.vyrd_base.specs.Own.LogVerdicts.{told_in_text, own_entries_verdict, known_own_verdict}
+use Rattle.vyrd_base.specs.Own.LogVerdicts.{own_text_verdict, own_text_verdict_so_far}
 use Rattle.vyrd_base.proofs.VerdictLaws.{verdict_lasts}
 use Rattle.vyrd_own_log.specs.Grown.{to_go_on, input_of, has_begun, IsGrown, ends, IsFormed}
 use Rattle.vyrd_own_log.proofs.GrownLaws.{reading_grown, reading_formed}
 use Rattle.vyrd_own_check.specs.Checking.{IsLimit, charter_in, untold_by, untold_in}
-use Rattle.vyrd_own_check.proofs.PlaceLaws.{IsWithin, within_more, told_stays, nothing_so_far, so_far_within, end_within}
+use Rattle.vyrd_own_check.proofs.PlaceLaws.{IsWithin, within_more, told_stays, nothing_so_far}
+use Rattle.vyrd_own_check.proofs.PlaceLaws.{so_far_within, end_within}
 
 -- what is wrong with what was read is told by the lines of the text
-pub told_is : (read : OwnReading) → option_and_then (own_entries_verdict read) read.header ≡ option_map (told_in_text read.numbers) (untold_in read)
+pub told_is : (read : OwnReading) → option_and_then (own_entries_verdict read) read.header
+    ≡ option_map (told_in_text read.numbers) (untold_in read)
 told_is read = by_header read.header
   where
     by_header : (o : Option Header) → option_and_then (own_entries_verdict read) o
-        ≡ option_map (told_in_text read.numbers) (option_and_then (untold_by read) (option_map (λ h. own h read.lines) o))
+        ≡ option_map (told_in_text read.numbers)
+        (option_and_then (untold_by read) (option_map (λ h. own h read.lines) o))
     by_header None = refl
     by_header (Some h) = refl
 
 pub known_is : (read : OwnReading) → known_own_verdict read
-    ≡ option_or (option_map (told_in_text read.numbers) (untold_in read)) (option_map (λ fault. Malformed fault.line fault.rule) read.fault)
-known_is read = ap (λ o. option_or o (option_map (λ fault. Malformed fault.line fault.rule) read.fault)) (told_is read)
+    ≡ option_or (option_map (told_in_text read.numbers) (untold_in read))
+    (option_map (λ fault. Malformed fault.line fault.rule) read.fault)
+known_is read =
+    ap (λ o. option_or o (option_map (λ fault. Malformed fault.line fault.rule) read.fault))
+    (told_is read)
 
 -- a charter that is known stays
-pub charter_stays : (old new : OwnReading) (l : Charter) → IsGrown old new → has_begun old ≡ true → charter_in old ≡ Some l → charter_in new ≡ Some l
+pub charter_stays : (old new : OwnReading) (l : Charter) → IsGrown old new → has_begun old ≡ true
+    → charter_in old ≡ Some l → charter_in new ≡ Some l
 charter_stays old new l g begun is = by_header old.header refl is
   where
-    by_header : (o : Option Header) → old.header ≡ o → option_map (λ h. own h old.lines) o ≡ Some l → charter_in new ≡ Some l
+    by_header : (o : Option Header) → old.header ≡ o → option_map (λ h. own h old.lines) o ≡ Some l
+        → charter_in new ≡ Some l
     by_header None has e = cc
-    by_header (Some h) has e = (λ i. option_map (λ k. own k ((g.begun begun).0 i)) (g.header h has i)) ∙ e
+    by_header (Some h) has e =
+        (λ i. option_map (λ k. own k ((g.begun begun).0 i)) (g.header h has i)) ∙ e
 
 -- something wrong was read
 module _ (old : OwnReading) (l : Charter) (w : Verdict) (wrong : untold_by old l ≡ Some w) where
@@ -47,9 +58,11 @@ module _ (old : OwnReading) (l : Charter) (w : Verdict) (wrong : untold_by old l
   some_begun = by_parts old.entries old.ended wrong
     where
       by_parts : (es : List Entry) (b : Bool)
-          → option_or (verdict_so_far r old.starting es) (cond b (end_verdict r old.starting es) None) ≡ Some w → (has_any es || b) ≡ true
+          → option_or (verdict_so_far r old.starting es)
+          (cond b (end_verdict r old.starting es) None) ≡ Some w → (has_any es || b) ≡ true
       by_parts [] true e = refl
-      by_parts [] false e = let none : verdict_so_far r old.starting [] ≡ None = nothing_so_far r old.starting in
+      by_parts [] false e = let none : verdict_so_far r old.starting []
+          ≡ None = nothing_so_far r old.starting in
           absurd (never (sym (ap (λ o. option_or o None) none) ∙ e))
         where
           never : None ≡ Some w → ⊥
@@ -57,16 +70,22 @@ module _ (old : OwnReading) (l : Charter) (w : Verdict) (wrong : untold_by old l
       by_parts (x ∷ es) b e = refl
 
   wrong_within : (max : ℕ) → IsFormed max old → IsWithin (length old.numbers) w
-  wrong_within max formed = by_parts (verdict_so_far r old.starting old.entries) old.ended refl refl wrong
+  wrong_within max formed = by_parts (verdict_so_far r old.starting old.entries) old.ended refl refl
+      wrong
     where
-      by_parts : (o : Option Verdict) (b : Bool) → verdict_so_far r old.starting old.entries ≡ o → old.ended ≡ b
-          → option_or o (cond b (end_verdict r old.starting old.entries) None) ≡ Some w → IsWithin (length old.numbers) w
+      by_parts : (o : Option Verdict) (b : Bool) → verdict_so_far r old.starting old.entries ≡ o
+          → old.ended ≡ b
+          → option_or o (cond b (end_verdict r old.starting old.entries) None) ≡ Some w
+          → IsWithin (length old.numbers) w
       by_parts (Some x) b is done e =
           let same : x ≡ w = cc in
-          within_more (length old.starting + length old.entries) (length old.numbers) w (omega (arith, formed.numbered))
-          (subst (IsWithin (length old.starting + length old.entries)) same (so_far_within r old.starting old.entries x is))
+          within_more (length old.starting + length old.entries) (length old.numbers) w
+          (omega (arith, formed.numbered))
+          (subst (IsWithin (length old.starting + length old.entries)) same
+          (so_far_within r old.starting old.entries x is))
       by_parts None true is done e =
-          within_more (length old.starting + length old.entries + 1) (length old.numbers) w (omega (arith, formed.numbered, ap ends done))
+          within_more (length old.starting + length old.entries + 1) (length old.numbers) w
+          (omega (arith, formed.numbered, ap ends done))
           (end_within r old.starting old.entries w e)
       by_parts None false is done e = cc
 
@@ -77,43 +96,54 @@ module _ (old : OwnReading) (l : Charter) (w : Verdict) (wrong : untold_by old l
     wrong_stays : untold_by new l ≡ Some w
     wrong_stays = by_parts (verdict_so_far r old.starting old.entries) old.ended refl refl wrong
       where
-        by_parts : (o : Option Verdict) (b : Bool) → verdict_so_far r old.starting old.entries ≡ o → old.ended ≡ b
-            → option_or o (cond b (end_verdict r old.starting old.entries) None) ≡ Some w → untold_by new l ≡ Some w
+        by_parts : (o : Option Verdict) (b : Bool) → verdict_so_far r old.starting old.entries ≡ o
+            → old.ended ≡ b
+            → option_or o (cond b (end_verdict r old.starting old.entries) None) ≡ Some w
+            → untold_by new l ≡ Some w
         by_parts (Some x) b is done e =
             ap (λ o. option_or o (cond new.ended (end_verdict r new.starting new.entries) None))
-            ((λ i. verdict_so_far r (starts i) (g.entries.1 i)) ∙ verdict_lasts r old.starting old.entries g.entries.0 x is) ∙ e
+            ((λ i. verdict_so_far r (starts i) (g.entries.1 i))
+            ∙ verdict_lasts r old.starting old.entries g.entries.0 x is) ∙ e
         by_parts None true is done e =
             let over = g.ended done in
-            (λ i. option_or (verdict_so_far r (starts i) (over.1 i)) (cond (over.0 i) (end_verdict r (starts i) (over.1 i)) None))
+            (λ i. option_or (verdict_so_far r (starts i) (over.1 i))
+            (cond (over.0 i) (end_verdict r (starts i) (over.1 i)) None))
             ∙ ap (λ o. option_or o (end_verdict r old.starting old.entries)) is ∙ e
         by_parts None false is done e = cc
 
 -- what is wrong already stays wrong, and is told the same
-known_stays : (max : ℕ) (old new : OwnReading) (v : Verdict) → IsFormed max old → IsGrown old new → known_own_verdict old ≡ Some v
+known_stays : (max : ℕ) (old new : OwnReading) (v : Verdict) → IsFormed max old → IsGrown old new
+    → known_own_verdict old ≡ Some v
     → known_own_verdict new ≡ Some v
 known_stays max old new v formed g found = by_fault old.fault refl
   where
-    by_wrong : (o : Option Charter) → charter_in old ≡ o → option_map (told_in_text old.numbers) (option_and_then (untold_by old) o) ≡ Some v
+    by_wrong : (o : Option Charter) → charter_in old ≡ o → option_map (told_in_text old.numbers)
+        (option_and_then (untold_by old) o) ≡ Some v
         → known_own_verdict new ≡ Some v
     by_wrong None is e = cc
     by_wrong (Some l) is e = by_verdict (untold_by old l) refl e
       where
-        by_verdict : (o : Option Verdict) → untold_by old l ≡ o → option_map (told_in_text old.numbers) o ≡ Some v → known_own_verdict new ≡ Some v
+        by_verdict : (o : Option Verdict) → untold_by old l ≡ o
+            → option_map (told_in_text old.numbers) o ≡ Some v → known_own_verdict new ≡ Some v
         by_verdict None wrong f = cc
         by_verdict (Some w) wrong f =
             let begun = some_begun old l w wrong in
             let named = charter_stays old new l g begun is in
-            let now : untold_in new ≡ Some w = ap (option_and_then (untold_by new)) named ∙ wrong_stays old l w wrong new g in
+            let now : untold_in new ≡ Some w = ap (option_and_then (untold_by new)) named
+            ∙ wrong_stays old l w wrong new g in
             known_is new
-            ∙ ap (λ o. option_or (option_map (told_in_text new.numbers) o) (option_map (λ fault. Malformed fault.line fault.rule) new.fault)) now
+            ∙ ap (λ o. option_or (option_map (told_in_text new.numbers) o)
+            (option_map (λ fault. Malformed fault.line fault.rule) new.fault)) now
             ∙ ap (λ ns. Some (told_in_text ns w)) g.numbers.1
-            ∙ ap Some (told_stays old.numbers g.numbers.0 w (wrong_within old l w wrong max formed)) ∙ f
+            ∙ ap Some (told_stays old.numbers g.numbers.0 w (wrong_within old l w wrong max formed))
+            ∙ f
 
     by_fault : (o : Option TextFault) → old.fault ≡ o → known_own_verdict new ≡ Some v
     by_fault (Some f) e = ap known_own_verdict (g.fault f e) ∙ found
     by_fault None e = by_wrong (charter_in old) refl
         (or_known (option_map (told_in_text old.numbers) (untold_in old)) v
-        (sym (known_is old ∙ ap (λ o. option_or (option_map (told_in_text old.numbers) (untold_in old))
+        (sym (known_is old
+        ∙ ap (λ o. option_or (option_map (told_in_text old.numbers) (untold_in old))
         (option_map (λ fault. Malformed fault.line fault.rule) o)) e) ∙ found))
       where
         or_known : (o : Option Verdict) (a : Verdict) → option_or o None ≡ Some a → o ≡ Some a
@@ -121,17 +151,23 @@ known_stays max old new v formed g found = by_fault old.fault refl
         or_known (Some x) a f = f
 
 -- a verdict about bytes that stands stands for all longer bytes
-pub own_verdict_lasts : (max : ℕ) (bytes more : List ℕ) (v : Verdict) → IsLimit max → own_text_verdict_so_far max bytes ≡ Some v
+pub own_verdict_lasts : (max : ℕ) (bytes more : List ℕ) (v : Verdict) → IsLimit max
+    → own_text_verdict_so_far max bytes ≡ Some v
     → own_text_verdict_so_far max (bytes ++ more) ≡ Some v
 unfolding own_text_verdict_so_far
 own_verdict_lasts max bytes more v limit found =
-    known_stays max (own_reading (to_go_on max) bytes) (own_reading (to_go_on max) (bytes ++ more)) v
-    (reading_formed max bytes limit.low limit.high) (reading_grown max false bytes more limit.low limit.high) found
+    known_stays max (own_reading (to_go_on max) bytes) (own_reading (to_go_on max) (bytes ++ more))
+    v
+    (reading_formed max bytes limit.low limit.high)
+    (reading_grown max false bytes more limit.low limit.high) found
 
-pub own_verdict_stands : (max : ℕ) (bytes more : List ℕ) (v : Verdict) → IsLimit max → own_text_verdict_so_far max bytes ≡ Some v
+pub own_verdict_stands : (max : ℕ) (bytes more : List ℕ) (v : Verdict) → IsLimit max
+    → own_text_verdict_so_far max bytes ≡ Some v
     → own_text_verdict max (bytes ++ more) ≡ v
 unfolding own_text_verdict_so_far own_text_verdict
 own_verdict_stands max bytes more v limit found =
     ap (λ o. unwrap_or o (accepted (own_reading (input_of max true) (bytes ++ more)).entries))
-    (known_stays max (own_reading (to_go_on max) bytes) (own_reading (input_of max true) (bytes ++ more)) v
-    (reading_formed max bytes limit.low limit.high) (reading_grown max true bytes more limit.low limit.high) found)
+    (known_stays max (own_reading (to_go_on max) bytes)
+    (own_reading (input_of max true) (bytes ++ more)) v
+    (reading_formed max bytes limit.low limit.high)
+    (reading_grown max true bytes more limit.low limit.high) found)

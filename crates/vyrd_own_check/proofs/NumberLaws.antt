@@ -1,5 +1,7 @@
 -- Numbers of lines, one after the other.
-use Rattle.std.proofs.Common.{◌≡◌, ℕ, zero, suc, ◌+◌, ◌-◌, ◌<◌, ◌≤◌, ◌^◌, Bool, true, false, cond, List, [], ◌∷◌, ◌++◌, map, length, get_or, refl, ap, sym, ◌∙◌, subst, arith}
+use Rattle.std.proofs.Common.{◌≡◌, ℕ, zero, suc, ◌+◌, ◌-◌, ◌<◌, ◌≤◌, ◌^◌, Bool, true, false, cond}
+use Rattle.std.proofs.Common.{List, [], ◌∷◌, ◌++◌, map, length, get_or, refl, ap, sym, ◌∙◌, subst}
+use Rattle.std.proofs.Common.{arith}
 use Rattle.std.specs.Prelude.{nat_le, nat_lt}
 use Rattle.std.proofs.lemmas.List.{map-append, get_or_past}
 use Rattle.vyrd_base.specs.Places.{numbers_below}
@@ -9,7 +11,8 @@ use Rattle.vyrd_own_check.specs.declared.run.Run.{Run}
 use Rattle.vyrd_own_check.specs.Numbers.{number_in, number_from, numbers_by, AreNumbers}
 
 -- the last run, where it begins up to the place
-pub number_last : (found place : ℕ) (runs : List Run) (i : ℕ) (d : Run) → i + 1 ≡ length runs → (get_or runs i d).place ≤ place
+pub number_last : (found place : ℕ) (runs : List Run) (i : ℕ) (d : Run) → i + 1 ≡ length runs
+    → (get_or runs i d).place ≤ place
     → number_from found runs place ≡ number_in (get_or runs i d) place
 number_last found place [] i d last low = absurd (omega (arith, last))
 number_last found place (run ∷ []) zero d last low =
@@ -17,26 +20,34 @@ number_last found place (run ∷ []) zero d last low =
 number_last found place (run ∷ []) (suc i) d last low = absurd (omega (arith, last))
 number_last found place (run ∷ next ∷ runs) zero d last low = absurd (omega (arith, last))
 number_last found place (run ∷ next ∷ runs) (suc i) d last low =
-    number_last (cond (nat_le run.place place) (number_in run place) found) place (next ∷ runs) i d (omega (arith, last)) low
+    number_last (cond (nat_le run.place place) (number_in run place) found) place (next ∷ runs) i d
+    (omega (arith, last)) low
 
 -- one run more
 number_push : (found place : ℕ) (runs : List Run) (run : Run)
-    → number_from found (runs ++ run ∷ []) place ≡ cond (nat_le run.place place) (number_in run place) (number_from found runs place)
+    → number_from found (runs ++ run ∷ []) place ≡ cond (nat_le run.place place)
+    (number_in run place) (number_from found runs place)
 number_push found place [] run = refl
-number_push found place (x ∷ runs) run = number_push (cond (nat_le x.place place) (number_in x place) found) place runs run
+number_push found place (x ∷ runs) run = number_push
+    (cond (nat_le x.place place) (number_in x place) found) place runs run
 
-pub number_before : (place : ℕ) (runs : List Run) (run : Run) → place < run.place → number_from 0 (runs ++ run ∷ []) place ≡ number_from 0 runs place
+pub number_before : (place : ℕ) (runs : List Run) (run : Run) → place < run.place
+    → number_from 0 (runs ++ run ∷ []) place ≡ number_from 0 runs place
 number_before place runs run low =
-    number_push 0 place runs run ∙ ap (λ b. cond b (number_in run place) (number_from 0 runs place)) (isnt_at_most run.place place low)
+    number_push 0 place runs run ∙ ap (λ b. cond b (number_in run place) (number_from 0 runs place))
+    (isnt_at_most run.place place low)
 
-pub number_begun : (runs : List Run) (place line : ℕ) → number_from 0 (runs ++ record { place = place; line = line } ∷ []) place ≡ line
+pub number_begun : (runs : List Run) (place line : ℕ)
+    → number_from 0 (runs ++ record { place = place; line = line } ∷ []) place ≡ line
 number_begun runs place line =
     number_push 0 place runs (record { place = place; line = line })
-    ∙ ap (λ b. cond b (line + (place - place)) (number_from 0 runs place)) (is_at_most place place (omega arith))
+    ∙ ap (λ b. cond b (line + (place - place)) (number_from 0 runs place))
+    (is_at_most place place (omega arith))
     ∙ omega arith
 
 -- one number more
-module _ (runs after : List Run) (count line : ℕ) (before : (place : ℕ) → place < count → number_from 0 after place ≡ number_from 0 runs place)
+module _ (runs after : List Run) (count line : ℕ) (before : (place : ℕ) → place < count
+    → number_from 0 after place ≡ number_from 0 runs place)
     (here : number_from 0 after count ≡ line) where
   pub numbers_more : numbers_by after (count + 1) ≡ numbers_by runs count ++ line ∷ []
   numbers_more =
@@ -48,16 +59,21 @@ module _ (runs after : List Run) (count line : ℕ) (before : (place : ℕ) → 
   are_more low all place within = by_test (nat_lt place count) refl
     where
       by_test : (b : Bool) → nat_lt place count ≡ b → number_from 0 after place < 2 ^ 64
-      by_test true e = subst (λ n. n < 2 ^ 64) (sym (before place (below_of place count e))) (all place (below_of place count e))
+      by_test true e = subst (λ n. n < 2 ^ 64) (sym (before place (below_of place count e)))
+          (all place (below_of place count e))
       by_test false e =
-          let same : count ≡ place = let h = not_below_of place count e in omega (arith, h, within) in
+          let same : count ≡ place = let h = not_below_of place count e in
+          omega (arith, h, within) in
           subst (λ n. n < 2 ^ 64) (sym here ∙ ap (number_from 0 after) same) low
 
 -- the number at a place
-pub number_there : (runs : List Run) (count place other : ℕ) → place < count → number_from 0 runs place ≡ get_or (numbers_by runs count) place other
-number_there runs count place other low = sym (element_below (number_from 0 runs) count place other low)
+pub number_there : (runs : List Run) (count place other : ℕ) → place < count
+    → number_from 0 runs place ≡ get_or (numbers_by runs count) place other
+number_there runs count place other low =
+    sym (element_below (number_from 0 runs) count place other low)
 
-pub number_past : (runs : List Run) (count place other : ℕ) → count ≤ place → other ≡ get_or (numbers_by runs count) place other
+pub number_past : (runs : List Run) (count place other : ℕ) → count ≤ place
+    → other ≡ get_or (numbers_by runs count) place other
 number_past runs count place other high =
     let all = length_below (number_from 0 runs) count in
     sym (get_or_past (numbers_by runs count) place other (omega (arith, all, high)))

@@ -1,5 +1,7 @@
 -- How what is kept goes on with a piece of the text.
-use Rattle.std.proofs.Common.{◌≡◌, ℕ, ◌≤◌, Bool, true, false, cond, ◌||◌, List, [], ◌∷◌, ◌++◌, length, Option, Some, None, refl, ap, subst, ◌∙◌, sym, arith, length-append, option_map}
+use Rattle.std.proofs.Common.{◌≡◌, ℕ, ◌≤◌, Bool, true, false, cond, ◌||◌, List, [], ◌∷◌, ◌++◌}
+use Rattle.std.proofs.Common.{length, Option, Some, None, refl, ap, subst, ◌∙◌, sym, arith}
+use Rattle.std.proofs.Common.{length-append, option_map}
 use Rattle.std.specs.Prelude.{option_and_then, is_none}
 use Rattle.std.specs.Bool.{then_some}
 use Rattle.std.specs.Option.{option_or}
@@ -14,14 +16,16 @@ use Rattle.vyrd_base.specs.Places.{newest_first}
 use Rattle.vyrd_base.specs.Front.{front}
 use Rattle.vyrd_base.specs.Starts.{state_at_start}
 use Rattle.vyrd_base.specs.Reading.{has_any}
-use Rattle.vyrd_base.specs.Verdicts.{line_of, first_fault, shape_verdict, verdict_so_far, is_call_open, end_verdict}
+use Rattle.vyrd_base.specs.Verdicts.{line_of, first_fault, shape_verdict, verdict_so_far}
+use Rattle.vyrd_base.specs.Verdicts.{is_call_open, end_verdict}
 use Rattle.vyrd_base.specs.Own.Log.{OwnReading, own_reading}
 use Rattle.vyrd_base.specs.Own.LogVerdicts.{own_text_verdict_so_far}
 use Rattle.vyrd_own_log.specs.Grown.{has_begun, IsGrown}
 use Rattle.vyrd_own_log.specs.Readers.{ReaderState, HasRead}
 use Rattle.vyrd_judge.specs.Following.{JudgeView, HasFollowed}
 use Rattle.vyrd_judge.proofs.OnlineLaws.{faultless_of}
-use Rattle.vyrd_own_check.specs.Checking.{charter_in, untold_by, untold_in, IsJudging, IsBefore, IsReady, HasRoom, IsMade, IsBegun, IsUndecided}
+use Rattle.vyrd_own_check.specs.Checking.{charter_in, untold_by, untold_in, IsJudging, IsBefore}
+use Rattle.vyrd_own_check.specs.Checking.{IsReady, HasRoom, IsMade, IsBegun, IsUndecided}
 use Rattle.vyrd_own_check.proofs.PlaceLaws.{nothing_so_far}
 use Rattle.vyrd_own_check.proofs.LastLaws.{charter_stays}
 
@@ -37,7 +41,8 @@ any_more [] more e = cc
 any_more (x ∷ xs) more e = refl
 
 -- what has begun goes on
-pub begun_on : (old new : OwnReading) → IsGrown old new → has_begun old ≡ true → has_begun new ≡ true
+pub begun_on : (old new : OwnReading) → IsGrown old new → has_begun old ≡ true → has_begun new
+    ≡ true
 begun_on old new g begun = by_end old.ended refl begun
   where
     by_end : (b : Bool) → old.ended ≡ b → (has_any old.entries || b) ≡ true → has_begun new ≡ true
@@ -60,7 +65,8 @@ pub judge_before : (before after : Option JudgeView) (old new : OwnReading) (mor
 judge_before (Some j) after old new more judging g headed all begun =
     subst (λ o. IsBefore o new old.entries) (sym begun) (record {
       charter = charter_stays old new j.kept.charter g judging.begun judging.charter;
-      followed = subst (λ ss. HasFollowed j ss old.entries) (sym (g.begun judging.begun).1) judging.followed;
+      followed = subst (λ ss. HasFollowed j ss old.entries) (sym (g.begun judging.begun).1)
+          judging.followed;
       so_far = judging.so_far;
       begun = begun_on old new g judging.begun;
     })
@@ -72,7 +78,8 @@ judge_before None after old new more judging g headed all begun =
 
     by_made : (h : Header) (o : Option JudgeView) → new.header ≡ Some h → has_begun new ≡ true
         → IsMade h new.lines new.starting o → IsBefore o new old.entries
-    by_made h None has now made = (judging.0, λ f. (own h new.lines, ap (option_map (λ k. own k new.lines)) has, made))
+    by_made h None has now made =
+        (judging.0, λ f. (own h new.lines, ap (option_map (λ k. own k new.lines)) has, made))
     by_made h (Some j) has now made = record {
       charter = ap (option_map (λ k. own k new.lines)) has ∙ ap Some (sym made.0);
       followed = subst (HasFollowed j new.starting) (sym judging.0) made.1;
@@ -90,7 +97,8 @@ judge_before None after old new more judging g headed all begun =
 
     by_test : (b : Bool) → (has_any more || new.ended) ≡ b
         → IsBegun b new.header new.lines new.starting None after → IsBefore after new old.entries
-    by_test false e b = subst (λ o. IsBefore o new old.entries) (sym b) (judging.0, λ f. absurd (never (sym (same ∙ e) ∙ f)))
+    by_test false e b = subst (λ o. IsBefore o new old.entries) (sym b)
+        (judging.0, λ f. absurd (never (sym (same ∙ e) ∙ f)))
       where
         never : false ≡ true → ⊥
         never x = cc
@@ -108,12 +116,14 @@ has_room (Some j) read log entries before few =
 -- what is wrong with what was read, by the judge's charter
 pub wrong_by : (j : JudgeView) (read : OwnReading) (log more : List Entry) (done : Bool)
     → IsReady (Some j) read log more done
-    → untold_in read ≡ option_or (verdict_so_far (rules_by j.kept.charter) read.starting (log ++ more))
+    → untold_in read
+    ≡ option_or (verdict_so_far (rules_by j.kept.charter) read.starting (log ++ more))
     (cond done (end_verdict (rules_by j.kept.charter) read.starting (log ++ more)) None)
 wrong_by j read log more done ready =
     ap (option_and_then (untold_by read)) ready.before.charter
     ∙ (λ i. option_or (verdict_so_far (rules_by j.kept.charter) read.starting (ready.entries i))
-    (cond (ready.ended i) (end_verdict (rules_by j.kept.charter) read.starting (ready.entries i)) None))
+    (cond (ready.ended i) (end_verdict (rules_by j.kept.charter) read.starting (ready.entries i))
+    None))
 
 -- a judge that has followed the last entries, with no verdict
 pub judging_on : (old new : JudgeView) (read : OwnReading) (log more : List Entry) (done : Bool)
@@ -131,7 +141,8 @@ judging_on old new read log more done ready same followed none = record {
 start_wrong : (r : Rules) (starting : List StartWord) (entries : List Entry) (done : Bool)
     → is_none (state_at_start r starting) ≡ true
     → (has_any entries || done) ≡ true
-    → option_or (verdict_so_far r starting entries) (cond done (end_verdict r starting entries) None)
+    → option_or (verdict_so_far r starting entries)
+    (cond done (end_verdict r starting entries) None)
     ≡ Some (Malformed 2 StartState)
 unfolding verdict_so_far end_verdict
 start_wrong r starting [] false stands begun = cc
@@ -153,7 +164,8 @@ unread [] done e = (refl, e)
 unread (x ∷ entries) done e = cc
 
 -- without a judge all that was read since is the last entries
-only_last : (read : OwnReading) (log more : List Entry) (done : Bool) → IsReady None read log more done
+only_last : (read : OwnReading) (log more : List Entry) (done : Bool)
+    → IsReady None read log more done
     → has_begun read ≡ (has_any more || done)
 only_last read log more done ready =
     λ i. has_any ((ready.entries ∙ ap (λ es. es ++ more) ready.before.0) i) || ready.ended i
@@ -168,7 +180,8 @@ nothing_wrong read e =
     ∙ by_charter (charter_in read)
   where
     by_charter : (o : Option Charter)
-        → option_and_then (λ l. option_or (verdict_so_far (rules_by l) read.starting []) None) o ≡ None
+        → option_and_then (λ l. option_or (verdict_so_far (rules_by l) read.starting []) None) o
+        ≡ None
     by_charter None = refl
     by_charter (Some l) = ap (λ o. option_or o None) (nothing_so_far (rules_by l) read.starting)
 
@@ -204,4 +217,5 @@ still_without read log more done ready none = by_test (has_any more || done) ref
 pub undecided_first : (reader : ReaderState) (numbers : List ℕ) → HasRead reader [] → numbers ≡ []
     → IsUndecided (record { reader = reader; judge = None; numbers = numbers }) []
 unfolding own_reading own_text_verdict_so_far
-undecided_first reader numbers read none = record { read = read; judging = (refl, refl); numbers = none; nothing = refl }
+undecided_first reader numbers read none =
+    record { read = read; judging = (refl, refl); numbers = none; nothing = refl }

@@ -1,6 +1,8 @@
--- A verdict names the line of a starting word, an entry or `end` that was read, and so does each that is
+-- A verdict names the line of a starting word, an entry or `end` that was read, and so does each
+-- that is
 -- told by the lines of the text.
-use Rattle.std.proofs.Common.{◌≡◌, ℕ, suc, ◌+◌, ◌-◌, ◌<◌, ◌≤◌, Bool, true, false, List, [], ◌∷◌, ◌++◌, length, Option, Some, None, refl, ap, ◌∙◌, sym, subst, arith}
+use Rattle.std.proofs.Common.{◌≡◌, ℕ, suc, ◌+◌, ◌-◌, ◌<◌, ◌≤◌, Bool, true, false, List, [], ◌∷◌}
+use Rattle.std.proofs.Common.{◌++◌, length, Option, Some, None, refl, ap, ◌∙◌, sym, subst, arith}
 use Rattle.std.specs.Prelude.{is_none}
 use Rattle.std.specs.Option.{option_or, option_map}
 use Rattle.std.specs.Bool.{then_some}
@@ -20,7 +22,8 @@ use Rattle.vyrd_base.specs.Front.{front, front_after, first_break}
 use Rattle.vyrd_base.specs.Starts.{state_at_start}
 use Rattle.vyrd_base.specs.Faults.{fault_at}
 use Rattle.vyrd_base.specs.Rules.{Rules}
-use Rattle.vyrd_base.specs.Verdicts.{line_of, violation_at, states_along, first_fault, shape_verdict, verdict_so_far, is_call_open, end_verdict}
+use Rattle.vyrd_base.specs.Verdicts.{line_of, violation_at, states_along, first_fault}
+use Rattle.vyrd_base.specs.Verdicts.{shape_verdict, verdict_so_far, is_call_open, end_verdict}
 use Rattle.vyrd_base.specs.Own.LogVerdicts.{told_in_text}
 use Rattle.vyrd_base.proofs.Fronts.{break_after}
 
@@ -39,14 +42,17 @@ within_more m n (Malformed line rule) low is = omega (arith, low, is)
 pub told_stays : (numbers more : List ℕ) (v : Verdict) → IsWithin (length numbers) v
     → told_in_text (numbers ++ more) v ≡ told_in_text numbers v
 told_stays numbers more (Accepted entries commits observers) is = refl
-told_stays numbers more (Violation line why) is = ap (λ n. Violation n why) (get_or_append_left numbers more line (line - 2) is)
-told_stays numbers more (Malformed line rule) is = ap (λ n. Malformed n rule) (get_or_append_left numbers more line (line - 2) is)
+told_stays numbers more (Violation line why) is = ap (λ n. Violation n why)
+    (get_or_append_left numbers more line (line - 2) is)
+told_stays numbers more (Malformed line rule) is = ap (λ n. Malformed n rule)
+    (get_or_append_left numbers more line (line - 2) is)
 
 -- what was found is this verdict
 found_within : (n : ℕ) (v w : Verdict) → Some v ≡ Some w → IsWithin n v → IsWithin n w
 found_within n v w e is = let same : v ≡ w = cc in subst (IsWithin n) same is
 
-fault_within : (r : Rules) (starting : List StartWord) (states : List State) (earlier xs : List Entry) (v : Verdict)
+fault_within : (r : Rules) (starting : List StartWord) (states : List State)
+    (earlier xs : List Entry) (v : Verdict)
     → first_answer (violation_at r starting states) (places_after earlier xs) ≡ Some v
     → IsWithin (length starting + length earlier + length xs) v
 fault_within r starting states earlier [] v found = cc
@@ -60,29 +66,46 @@ fault_within r starting states earlier (e ∷ later) v found =
     rest : Option Verdict
     rest = first_answer (violation_at r starting states) (places_after (e ∷ earlier) later)
 
-    by_fault : (rest ≡ Some v → IsWithin (length starting + suc (length earlier) + length later) v) → (o : Option Why)
-        → option_or (option_map (Violation (length starting + length earlier + 2)) o) rest ≡ Some v → IsWithin n v
-    by_fault on (Some why) f = found_within n (Violation (length starting + length earlier + 2) why) v f (omega arith)
-    by_fault on None f = within_more (length starting + suc (length earlier) + length later) n v (omega arith) (on f)
+    by_fault : (rest ≡ Some v → IsWithin (length starting + suc (length earlier) + length later) v)
+        → (o : Option Why)
+        → option_or (option_map (Violation (length starting + length earlier + 2)) o) rest ≡ Some v
+        → IsWithin n v
+    by_fault on (Some why) f = found_within n (Violation (length starting + length earlier + 2) why)
+        v f (omega arith)
+    by_fault on None f = within_more (length starting + suc (length earlier) + length later) n v
+        (omega arith) (on f)
 
 -- a front is no longer than its log, and shorter where the log breaks a rule
 front_short : (h : Header) (earlier xs : List Entry) → length (front_after h earlier xs) ≤ length xs
 front_short h earlier [] = omega arith
-front_short h earlier (e ∷ later) = by_rule (broken_rule h earlier e) (front_short h (e ∷ earlier) later)
+front_short h earlier (e ∷ later) = by_rule (broken_rule h earlier e)
+    (front_short h (e ∷ earlier) later)
   where
     by_rule : (o : Option Rule) → length (front_after h (e ∷ earlier) later) ≤ length later
-        → length (elim o as (λ _. List Entry) [ None ↦ e ∷ front_after h (e ∷ earlier) later | Some rule ↦ [] ]) ≤ suc (length later)
+        → length (elim o as (λ _. List Entry) [
+          | None ↦ e ∷ front_after h (e ∷ earlier) later
+          | Some
+              rule ↦ []
+        ]) ≤ suc (length later)
     by_rule None short = omega (arith, short)
     by_rule (Some rule) short = omega arith
 
-break_short : (h : Header) (earlier xs : List Entry) (rule : Rule) → break_after h earlier xs ≡ Some rule
+break_short : (h : Header) (earlier xs : List Entry) (rule : Rule) → break_after h earlier xs
+    ≡ Some rule
     → length (front_after h earlier xs) < length xs
 break_short h earlier [] rule found = cc
-break_short h earlier (e ∷ later) rule found = by_rule (broken_rule h earlier e) (break_short h (e ∷ earlier) later rule) found
+break_short h earlier (e ∷ later) rule found = by_rule (broken_rule h earlier e)
+    (break_short h (e ∷ earlier) later rule) found
   where
-    by_rule : (o : Option Rule) → (break_after h (e ∷ earlier) later ≡ Some rule → length (front_after h (e ∷ earlier) later) < length later)
+    by_rule : (o : Option Rule)
+        → (break_after h (e ∷ earlier) later ≡ Some rule
+        → length (front_after h (e ∷ earlier) later) < length later)
         → option_or o (break_after h (e ∷ earlier) later) ≡ Some rule
-        → length (elim o as (λ _. List Entry) [ None ↦ e ∷ front_after h (e ∷ earlier) later | Some rule ↦ [] ]) < suc (length later)
+        → length (elim o as (λ _. List Entry) [
+          | None ↦ e ∷ front_after h (e ∷ earlier) later
+          | Some
+              rule ↦ []
+        ]) < suc (length later)
     by_rule None on f = omega (arith, on f)
     by_rule (Some x) on f = omega arith
 
@@ -90,35 +113,41 @@ front_few : (h : Header) (es : List Entry) → length (front h es) ≤ length es
 unfolding front
 front_few h es = front_short h [] es
 
-break_few : (h : Header) (es : List Entry) (rule : Rule) → first_break h es ≡ Some rule → length (front h es) < length es
+break_few : (h : Header) (es : List Entry) (rule : Rule) → first_break h es ≡ Some rule
+    → length (front h es) < length es
 unfolding front first_break
 break_few h es rule found = break_short h [] es rule found
 
-first_within : (r : Rules) (starting : List StartWord) (xs : List Entry) (v : Verdict) → first_fault r starting xs ≡ Some v
+first_within : (r : Rules) (starting : List StartWord) (xs : List Entry) (v : Verdict)
+    → first_fault r starting xs ≡ Some v
     → IsWithin (length starting + length xs) v
 unfolding first_fault
 first_within r starting xs v found =
     within_more (length starting + 0 + length xs) (length starting + length xs) v (omega arith)
     (fault_within r starting (states_along r starting xs) [] xs v found)
 
-shape_within : (h : Header) (starting : List StartWord) (es : List Entry) (v : Verdict) → shape_verdict h starting es ≡ Some v
+shape_within : (h : Header) (starting : List StartWord) (es : List Entry) (v : Verdict)
+    → shape_verdict h starting es ≡ Some v
     → IsWithin (length starting + length es) v
 unfolding shape_verdict
 shape_within h starting es v found = by_break (first_break h es) refl found
   where
-    by_break : (o : Option Rule) → first_break h es ≡ o → option_map (Malformed (line_of starting (length (front h es)))) o ≡ Some v
+    by_break : (o : Option Rule) → first_break h es ≡ o
+        → option_map (Malformed (line_of starting (length (front h es)))) o ≡ Some v
         → IsWithin (length starting + length es) v
     by_break None is f = cc
     by_break (Some rule) is f =
         let few = break_few h es rule is in
-        found_within (length starting + length es) (Malformed (line_of starting (length (front h es))) rule) v f (omega (arith, few))
+        found_within (length starting + length es)
+        (Malformed (line_of starting (length (front h es))) rule) v f (omega (arith, few))
 
 -- no verdict stands before the first entry
 pub nothing_so_far : (r : Rules) (starting : List StartWord) → verdict_so_far r starting [] ≡ None
 unfolding verdict_so_far first_fault shape_verdict front first_break
 nothing_so_far r starting = refl
 
-pub so_far_within : (r : Rules) (starting : List StartWord) (es : List Entry) (v : Verdict) → verdict_so_far r starting es ≡ Some v
+pub so_far_within : (r : Rules) (starting : List StartWord) (es : List Entry) (v : Verdict)
+    → verdict_so_far r starting es ≡ Some v
     → IsWithin (length starting + length es) v
 unfolding verdict_so_far
 so_far_within r starting [] v found = absurd (never (sym (nothing_so_far r starting) ∙ found))
@@ -133,31 +162,39 @@ so_far_within r starting (e ∷ es) v found = by_start (is_none (state_at_start 
     n : ℕ
     n = length starting + suc (length es)
 
-    by_fault : (o : Option Verdict) → first_fault r starting (front r.header all) ≡ o → option_or o (shape_verdict r.header starting all) ≡ Some v
+    by_fault : (o : Option Verdict) → first_fault r starting (front r.header all) ≡ o
+        → option_or o (shape_verdict r.header starting all) ≡ Some v
         → IsWithin n v
     by_fault None is f = shape_within r.header starting all v f
     by_fault (Some w) is f =
         let few = front_few r.header all in
-        found_within n w v f (within_more (length starting + length (front r.header all)) n w (omega (arith, few))
+        found_within n w v f (within_more (length starting + length (front r.header all)) n w
+        (omega (arith, few))
         (first_within r starting (front r.header all) w is))
 
     by_start : (b : Bool)
-        → option_or (then_some b (Malformed 2 StartState)) (option_or (first_fault r starting (front r.header all)) (shape_verdict r.header starting all)) ≡ Some v
+        → option_or (then_some b (Malformed 2 StartState))
+        (option_or (first_fault r starting (front r.header all))
+        (shape_verdict r.header starting all)) ≡ Some v
         → IsWithin n v
     by_start true f = found_within n (Malformed 2 StartState) v f (omega arith)
     by_start false f = by_fault (first_fault r starting (front r.header all)) refl f
 
-pub end_within : (r : Rules) (starting : List StartWord) (es : List Entry) (v : Verdict) → end_verdict r starting es ≡ Some v
+pub end_within : (r : Rules) (starting : List StartWord) (es : List Entry) (v : Verdict)
+    → end_verdict r starting es ≡ Some v
     → IsWithin (length starting + length es + 1) v
 unfolding end_verdict
-end_within r starting es v found = by_start (is_none (state_at_start r starting)) (is_call_open r.header (newest_first es)) found
+end_within r starting es v found = by_start (is_none (state_at_start r starting))
+    (is_call_open r.header (newest_first es)) found
   where
     n : ℕ
     n = length starting + length es + 1
 
     by_start : (b open_call : Bool)
-        → option_or (then_some b (Malformed 2 StartState)) (then_some open_call (Malformed (line_of starting (length es)) CallOpen)) ≡ Some v
+        → option_or (then_some b (Malformed 2 StartState))
+        (then_some open_call (Malformed (line_of starting (length es)) CallOpen)) ≡ Some v
         → IsWithin n v
     by_start true open_call f = found_within n (Malformed 2 StartState) v f (omega arith)
-    by_start false true f = found_within n (Malformed (line_of starting (length es)) CallOpen) v f (omega arith)
+    by_start false true f = found_within n (Malformed (line_of starting (length es)) CallOpen) v f
+        (omega arith)
     by_start false false f = cc

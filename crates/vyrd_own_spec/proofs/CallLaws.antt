@@ -1,7 +1,9 @@
 -- What is said of a call by its number.
-use Rattle.std.proofs.Common.{◌≡◌, ℕ, zero, suc, ◌<◌, ◌≤◌, List, [], ◌∷◌, Option, Some, None, refl, ap, ◌∙◌}
+use Rattle.std.proofs.Common.{◌≡◌, ℕ, zero, suc, ◌<◌, ◌≤◌, List, [], ◌∷◌, Option, Some, None, refl}
+use Rattle.std.proofs.Common.{ap, ◌∙◌}
 use Rattle.std.proofs.Common.{sym, arith, length, take, Bool, true, false}
-use Rattle.std.specs.Prelude.{map, option_map, option_and_then, slice_get, slice_index_or, if◌then◌else◌}
+use Rattle.std.specs.Prelude.{map, option_map, option_and_then, slice_get, slice_index_or}
+use Rattle.std.specs.Prelude.{if◌then◌else◌}
 use Rattle.std.specs.Option.{option_map_or, is_some}
 use Rattle.std.proofs.lemmas.List.{length-take}
 use Rattle.vyrd_base.specs.States.{State}
@@ -20,7 +22,8 @@ use Rattle.vyrd_own_spec.specs.Touched.{own_effects, effects_by, next_by, answer
 module _ (w : Written) (args : Args) (reply : ℕ) (s : State) where
   next_of_method : (i : ℕ) (o : Option Method)
       → option_and_then (λ m. next_of w m (given w i args) reply s) o
-      ≡ option_map (with_effects s) (option_and_then (λ m. effects_of w m s (given w i args) reply) o)
+      ≡ option_map (with_effects s)
+      (option_and_then (λ m. effects_of w m s (given w i args) reply) o)
   unfolding next_of
   next_of_method i None = refl
   next_of_method i (Some m) = refl
@@ -31,8 +34,10 @@ module _ (w : Written) (args : Args) (reply : ℕ) (s : State) where
   next_of_number (Some i) = next_of_method i (own_method w i)
 
 -- the state after a call, by what it does
-pub next_of_effects : (w : Written) (method : declared.Method) (args : Args) (reply : ℕ) (s : State) (o : Option (List Effect))
-    → effects_by w method args reply s ≡ o → next_by w method args reply s ≡ option_map (with_effects s) o
+pub next_of_effects : (w : Written) (method : declared.Method) (args : Args) (reply : ℕ) (s : State)
+    (o : Option (List Effect))
+    → effects_by w method args reply s ≡ o → next_by w method args reply s
+    ≡ option_map (with_effects s) o
 next_of_effects w method args reply s o e =
     next_of_number w args reply s (own_number method) ∙ ap (option_map (with_effects s)) e
 
@@ -57,15 +62,19 @@ method_found (x ∷ methods) zero m low is = ap (λ y. Some (method_of y)) (sym 
 method_found (x ∷ methods) (suc i) m low is = method_found methods i m (omega arith) is
 
 -- what it answers
-pub answer_found : (w : Written) (method : declared.Method) (args : Args) (s : State) (i : ℕ) (m : Method) (given_args : List ℕ) (o : Option ℕ)
+pub answer_found : (w : Written) (method : declared.Method) (args : Args) (s : State) (i : ℕ)
+    (m : Method) (given_args : List ℕ) (o : Option ℕ)
     → own_number method ≡ Some i → own_method w i ≡ Some m
-    → given_args ≡ take m.arity (args.a ∷ args.b ∷ args.c ∷ []) → o ≡ answer_of w m given_args s → o ≡ answer_by w method args s
+    → given_args ≡ take m.arity (args.a ∷ args.b ∷ args.c ∷ []) → o ≡ answer_of w m given_args s
+    → o ≡ answer_by w method args s
 answer_found w method args s i m given_args o number found is answer =
     answer
     ∙ ap (λ as'. answer_of w m as' s)
-    (is ∙ sym (ap (λ found'. take (option_map_or (λ x. x.arity) found' 0) (args.a ∷ args.b ∷ args.c ∷ [])) found))
+    (is ∙ sym (ap
+    (λ found'. take (option_map_or (λ x. x.arity) found' 0) (args.a ∷ args.b ∷ args.c ∷ [])) found))
     ∙ sym (ap (option_and_then (λ m'. answer_of w m' (given w i args) s)) found)
-    ∙ sym (ap (option_and_then (λ i'. option_and_then (λ m'. answer_of w m' (given w i' args) s) (own_method w i'))) number)
+    ∙ sym (ap (option_and_then (λ i'. option_and_then (λ m'. answer_of w m' (given w i' args) s)
+    (own_method w i'))) number)
 
 -- there are three arguments at most
 pub few_given : (n a b c : ℕ) (xs : List ℕ) → xs ≡ take n (a ∷ b ∷ c ∷ []) → length xs ≤ 3

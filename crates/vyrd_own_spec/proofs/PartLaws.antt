@@ -12,7 +12,8 @@ narrow_by : (b : Bool) (words : ℕ) → words ≤ 16 → cond b 1 words ≤ 16
 narrow_by true words low = omega arith
 narrow_by false words low = low
 
-pub are_few : (h : Header) (w : Written) (width places count : ℕ) → IsSmall w → width ≡ width_of w → 1 ≤ width
+pub are_few : (h : Header) (w : Written) (width places count : ℕ) → IsSmall w → width ≡ width_of w
+    → 1 ≤ width
     → count ≡ length w.shows → places ≡ max count 1 → AreFew w width places (h.size / width)
 are_few h w width places count small is wide many most = record {
   wide = wide;

@@ -1,22 +1,33 @@
 -- What the lines of a specification spell is within its limits.
-use Rattle.std.proofs.Common.{◌≡◌, ℕ, zero, suc, ◌+◌, ◌-◌, ◌<◌, ◌≤◌, Bool, true, false, cond, ◌&&◌, List, [], ◌∷◌, ◌++◌}
-use Rattle.std.proofs.Common.{Option, Some, None, Ok, Err, refl, ap, ◌∙◌, sym, subst, arith, length, length-append}
+use Rattle.std.proofs.Common.{◌≡◌, ℕ, zero, suc, ◌+◌, ◌-◌, ◌<◌, ◌≤◌, Bool, true, false, cond, ◌&&◌}
+use Rattle.std.proofs.Common.{List, [], ◌∷◌, ◌++◌}
+use Rattle.std.proofs.Common.{Option, Some, None, Ok, Err, refl, ap, ◌∙◌, sym, subst, arith, length}
+use Rattle.std.proofs.Common.{length-append}
 use Rattle.std.specs.Prelude.{nat_le, nat_lt, codes, slice_get, not, ◌==◌, ◌||◌}
 use Rattle.std.specs.Str.{bytes_eq}
 use Rattle.vyrd_base.proofs.TestLaws.{at_most_of, second_true}
 use Rattle.vyrd_base.specs.Own.Programs.{Method, Written}
-use Rattle.vyrd_base.specs.Own.Lines.{Inner, naming, answering, allowing, changing, Line, remark, constant, register, list, holds, hidden, part, shows, method, inner}
+use Rattle.vyrd_base.specs.Own.Lines.{Inner, naming, answering, allowing, changing, Line, remark}
+use Rattle.vyrd_base.specs.Own.Lines.{constant, register, list, holds, hidden, part, shows, method}
+use Rattle.vyrd_base.specs.Own.Lines.{inner}
 use Rattle.vyrd_base.specs.Own.Lines.{with_inner, change_last, with_line, has_any}
 use Rattle.vyrd_base.specs.Own.Reading.{Taken, and_then, after, if_after, word_of}
 use Rattle.vyrd_base.specs.Own.Reading.{number_in}
-use Rattle.vyrd_base.specs.Own.Pieces.{taken_with, ended, named_number, last_number, two_numbers, two_read, last_read}
+use Rattle.vyrd_base.specs.Own.Pieces.{taken_with, ended, named_number, last_number, two_numbers}
+use Rattle.vyrd_base.specs.Own.Pieces.{two_read, last_read}
 use Rattle.vyrd_base.specs.Own.Names.{is_known, is_among, new_name}
-use Rattle.vyrd_base.specs.Own.Outer.{is_past_constants, constant_read, register_read, list_line_read, holds_read, is_list, hidden_read}
-use Rattle.vyrd_base.specs.Own.Outer.{part_of, part_read, is_part, part_scope, shows_read, outer_read}
-use Rattle.vyrd_base.specs.Own.Methods.{last_in, is_closed, is_unfinished, is_method, parameters_read, named_method, method_read}
-use Rattle.vyrd_base.specs.Own.Methods.{method_scope, named_expr, naming_read, answer_read, allow_read, inner_read}
-use Rattle.vyrd_base.specs.Own.Changes.{changes_in, change_read, case_line_read, if_line, within_read}
-use Rattle.vyrd_base.specs.Own.Reader.{is_remark, of_method, method_line_read, or_method, line_read, SoFar, nothing_read, unfinished}
+use Rattle.vyrd_base.specs.Own.Outer.{is_past_constants, constant_read, register_read}
+use Rattle.vyrd_base.specs.Own.Outer.{list_line_read, holds_read, is_list, hidden_read}
+use Rattle.vyrd_base.specs.Own.Outer.{part_of, part_read, is_part, part_scope, shows_read}
+use Rattle.vyrd_base.specs.Own.Outer.{outer_read}
+use Rattle.vyrd_base.specs.Own.Methods.{last_in, is_closed, is_unfinished, is_method}
+use Rattle.vyrd_base.specs.Own.Methods.{parameters_read, named_method, method_read}
+use Rattle.vyrd_base.specs.Own.Methods.{method_scope, named_expr, naming_read, answer_read}
+use Rattle.vyrd_base.specs.Own.Methods.{allow_read, inner_read}
+use Rattle.vyrd_base.specs.Own.Changes.{changes_in, change_read, case_line_read, if_line}
+use Rattle.vyrd_base.specs.Own.Changes.{within_read}
+use Rattle.vyrd_base.specs.Own.Reader.{is_remark, of_method, method_line_read, or_method, line_read}
+use Rattle.vyrd_base.specs.Own.Reader.{SoFar, nothing_read, unfinished}
 use Rattle.vyrd_base.specs.Own.Reader.{ended_with, told, read_next, read_lines, written_in}
 use Rattle.vyrd_base.specs.declared.own.last.Last.{Last}
 use Rattle.vyrd_base.specs.declared.own.line.SpecificationLine.{SpecificationLine}
@@ -65,8 +76,11 @@ LineFits w (method name parameters) = length parameters ≤ 3
 LineFits w (inner i) = LastFits w.methods i
 
 inner_kept : (m : Method) (i : Inner) → MethodFits m → InnerFits m i → MethodFits (with_inner m i)
-inner_kept m (naming name e) fits more =
-    (omega (arith, more, length-append m.names (name ∷ [])), omega (arith, fits.1, length-append m.names (name ∷ []), length-append m.lets (e ∷ [])))
+inner_kept m (naming name e) fits more = (
+  omega (arith, more, length-append m.names (name ∷ [])),
+  omega
+      (arith, fits.1, length-append m.names (name ∷ []), length-append m.lets (e ∷ [])),
+)
 inner_kept m (answering e) fits more = fits
 inner_kept m (allowing e) fits more = fits
 inner_kept m (changing c) fits more = fits
@@ -75,9 +89,11 @@ methods_kept : (methods : List Method) (i : Inner) → MethodsFit methods → La
     → MethodsFit (change_last (λ m. with_inner m i) methods)
 methods_kept [] i fits more = tt
 methods_kept (m ∷ []) i fits more = (inner_kept m i fits.0 more, tt)
-methods_kept (m ∷ next ∷ methods) i fits more = (fits.0, methods_kept (next ∷ methods) i fits.1 more)
+methods_kept (m ∷ next ∷ methods) i fits more =
+    (fits.0, methods_kept (next ∷ methods) i fits.1 more)
 
-one_more : (methods : List Method) (m : Method) → MethodsFit methods → MethodFits m → MethodsFit (methods ++ m ∷ [])
+one_more : (methods : List Method) (m : Method) → MethodsFit methods → MethodFits m
+    → MethodsFit (methods ++ m ∷ [])
 one_more [] m fits here = (here, tt)
 one_more (x ∷ methods) m fits here = (fits.0, one_more methods m fits.1 here)
 
@@ -97,10 +113,36 @@ line_kept w (register name n) is fits = record {
   shown = is.shown;
   methods = is.methods;
 }
-line_kept w (list name) is fits = record { constants = is.constants; registers = is.registers; words = is.words; shown = is.shown; methods = is.methods }
-line_kept w (holds n) is fits = record { constants = is.constants; registers = is.registers; words = is.words; shown = is.shown; methods = is.methods }
-line_kept w (hidden key most) is fits = record { constants = is.constants; registers = is.registers; words = is.words; shown = is.shown; methods = is.methods }
-line_kept w (part k) is fits = record { constants = is.constants; registers = is.registers; words = fits; shown = is.shown; methods = is.methods }
+line_kept w (list name) is fits =
+    record {
+      constants = is.constants;
+      registers = is.registers;
+      words = is.words;
+      shown = is.shown;
+      methods = is.methods;
+    }
+line_kept w (holds n) is fits = record {
+  constants = is.constants;
+  registers = is.registers;
+  words = is.words;
+  shown = is.shown;
+  methods = is.methods;
+}
+line_kept w (hidden key most) is fits =
+    record {
+      constants = is.constants;
+      registers = is.registers;
+      words = is.words;
+      shown = is.shown;
+      methods = is.methods;
+    }
+line_kept w (part k) is fits = record {
+  constants = is.constants;
+  registers = is.registers;
+  words = fits;
+  shown = is.shown;
+  methods = is.methods;
+}
 line_kept w (shows key most) is fits = record {
   constants = is.constants;
   registers = is.registers;
@@ -129,21 +171,25 @@ abbrev FitsIf : {A : Type 0} → (A → Type 0) → Taken A → Type 0
 FitsIf P (Ok x) = P x
 FitsIf P (Err stop) = Unit {0}
 
-after_fits : {A : Type 0} (P : A → Type 0) (o : Option (List ℕ)) (there : List ℕ → A) (otherwise : A)
+after_fits : {A : Type 0} (P : A → Type 0) (o : Option (List ℕ)) (there : List ℕ → A)
+    (otherwise : A)
     → ((rest : List ℕ) → P (there rest)) → P otherwise → P (if_after o there otherwise)
 after_fits P (Some rest) there otherwise a b = a rest
 after_fits P None there otherwise a b = b
 
-cond_fits : {A : Type 0} (P : A → Type 0) (b : Bool) (x y : A) → (b ≡ true → P x) → (b ≡ false → P y) → P (cond b x y)
+cond_fits : {A : Type 0} (P : A → Type 0) (b : Bool) (x y : A) → (b ≡ true → P x)
+    → (b ≡ false → P y) → P (cond b x y)
 cond_fits P true x y a b = a refl
 cond_fits P false x y a b = b refl
 
-with_fits : {A B : Type 0} (P : A → Type 0) (Q : B → Type 0) (make : A → B) (r : Taken A) → FitsIf P r
+with_fits : {A B : Type 0} (P : A → Type 0) (Q : B → Type 0) (make : A → B) (r : Taken A)
+    → FitsIf P r
     → ((x : A) → P x → Q (make x)) → FitsIf Q (taken_with make r)
 with_fits P Q make (Ok x) is each = each x is
 with_fits P Q make (Err stop) is each = tt
 
-any_fits : {A B : Type 0} (Q : B → Type 0) (make : A → B) (r : Taken A) → ((x : A) → Q (make x)) → FitsIf Q (taken_with make r)
+any_fits : {A B : Type 0} (Q : B → Type 0) (make : A → B) (r : Taken A) → ((x : A) → Q (make x))
+    → FitsIf Q (taken_with make r)
 any_fits Q make (Ok x) each = each x
 any_fits Q make (Err stop) each = tt
 
@@ -168,24 +214,28 @@ module _ (w : Written) where
   constant_fits text =
       cond_fits (FitsIf (LineFits w)) (is_past_constants w) _ _ (λ _. tt)
       (λ _. cond_fits (FitsIf (LineFits w)) (nat_le 64 (length w.constants)) _ _ (λ _. tt)
-      (λ e. any_fits (LineFits w) (λ r. constant r.0 r.1) (named_number (is_known w (word_of text)) text) (λ r. few (length w.constants) 64 e)))
+      (λ e. any_fits (LineFits w) (λ r. constant r.0 r.1)
+      (named_number (is_known w (word_of text)) text) (λ r. few (length w.constants) 64 e)))
 
   register_fits : (text : List ℕ) → FitsIf (LineFits w) (register_read w text)
   register_fits text =
       cond_fits (FitsIf (LineFits w)) (has_any w.methods) _ _ (λ _. tt)
       (λ _. cond_fits (FitsIf (LineFits w)) (nat_le 16 (length w.registers)) _ _ (λ _. tt)
-      (λ e. any_fits (LineFits w) (λ r. register r.0 r.1) (named_number (is_known w (word_of text)) text) (λ r. few (length w.registers) 16 e)))
+      (λ e. any_fits (LineFits w) (λ r. register r.0 r.1)
+      (named_number (is_known w (word_of text)) text) (λ r. few (length w.registers) 16 e)))
 
   list_fits : (text : List ℕ) → FitsIf (LineFits w) (list_line_read w text)
   list_fits text =
       cond_fits (FitsIf (LineFits w)) (has_any w.methods) _ _ (λ _. tt)
       (λ _. cond_fits (FitsIf (LineFits w)) (nat_le 16 (length w.lists)) _ _ (λ _. tt)
-      (λ e. then_fits (LineFits w) (λ name rest. ended (list name) rest) (new_name (is_known w (word_of text)) text)
+      (λ e. then_fits (LineFits w) (λ name rest. ended (list name) rest)
+      (new_name (is_known w (word_of text)) text)
       (λ name rest. ended_fits (LineFits w) (list name) rest tt)))
 
   holds_fits : (below : Last) (text : List ℕ) → FitsIf (LineFits w) (holds_read below text)
   holds_fits below text =
-      cond_fits (FitsIf (LineFits w)) (is_list below) _ _ (λ _. any_fits (LineFits w) holds (last_number text) (λ n. tt)) (λ _. tt)
+      cond_fits (FitsIf (LineFits w)) (is_list below) _ _
+      (λ _. any_fits (LineFits w) holds (last_number text) (λ n. tt)) (λ _. tt)
 
   hidden_fits : (text : List ℕ) → FitsIf (LineFits w) (hidden_read w text)
   hidden_fits text =
@@ -195,17 +245,20 @@ module _ (w : Written) where
   part_of_fits : (text : List ℕ) (n : Option ℕ) → FitsIf (LineFits w) (part_of text n)
   part_of_fits text None = tt
   part_of_fits text (Some k) =
-      cond_fits (FitsIf (LineFits w)) (nat_le 1 k && nat_le k 16) _ _ (λ e. at_most_of k 16 (second_true (nat_le 1 k) (nat_le k 16) e)) (λ _. tt)
+      cond_fits (FitsIf (LineFits w)) (nat_le 1 k && nat_le k 16) _ _
+      (λ e. at_most_of k 16 (second_true (nat_le 1 k) (nat_le k 16) e)) (λ _. tt)
 
   part_fits : (text : List ℕ) → FitsIf (LineFits w) (part_read w text)
   part_fits text =
-      cond_fits (FitsIf (LineFits w)) (not (w.words == 0) || has_any w.methods) _ _ (λ _. tt) (λ _. part_of_fits text (number_in text))
+      cond_fits (FitsIf (LineFits w)) (not (w.words == 0) || has_any w.methods) _ _ (λ _. tt)
+      (λ _. part_of_fits text (number_in text))
 
   shows_fits : (below : Last) (text : List ℕ) → FitsIf (LineFits w) (shows_read w below text)
   shows_fits below text =
       cond_fits (FitsIf (LineFits w)) (not (is_part below)) _ _ (λ _. tt)
       (λ _. cond_fits (FitsIf (LineFits w)) (nat_le 4 (length w.shows)) _ _ (λ _. tt)
-      (λ e. any_fits (LineFits w) (λ r. shows r.0 r.1) (two_read (part_scope w) (codes " ") text) (λ r. few (length w.shows) 4 e)))
+      (λ e. any_fits (LineFits w) (λ r. shows r.0 r.1) (two_read (part_scope w) (codes " ") text)
+      (λ r. few (length w.shows) 4 e)))
 
   outer_fits : (below : Last) (line : List ℕ) → MaybeFits (LineFits w) (outer_read w below line)
   unfolding outer_read
@@ -216,20 +269,25 @@ module _ (w : Written) where
       (after_fits (MaybeFits (LineFits w)) (after (codes "  holds ") line) _ _ (holds_fits below)
       (after_fits (MaybeFits (LineFits w)) (after (codes "hidden ") line) _ _ hidden_fits
       (after_fits (MaybeFits (LineFits w)) (after (codes "part ") line) _ _ part_fits
-      (after_fits (MaybeFits (LineFits w)) (after (codes "  shows ") line) _ _ (shows_fits below) tt))))))
+      (after_fits (MaybeFits (LineFits w)) (after (codes "  shows ") line) _ _
+      (shows_fits below) tt))))))
 
   parameters_fit : (left : ℕ) (names : List (List ℕ)) (text : List ℕ)
       → FitsIf (λ found. length found ≤ length names + left) (parameters_read w left names text)
   parameters_fit left names [] = omega arith
   parameters_fit zero names (b ∷ text) = tt
   parameters_fit (suc left) names (b ∷ text) =
-      after_fits (FitsIf (λ found. length found ≤ length names + suc left)) (after (codes " ") (b ∷ text)) _ _
-      (λ next. then_fits (λ found. length found ≤ length names + suc left) (λ name rest. parameters_read w left (names ++ name ∷ []) rest)
+      after_fits (FitsIf (λ found. length found ≤ length names + suc left))
+      (after (codes " ") (b ∷ text)) _ _
+      (λ next. then_fits (λ found. length found ≤ length names + suc left)
+      (λ name rest. parameters_read w left (names ++ name ∷ []) rest)
       (new_name (is_known w (word_of next) || is_among (word_of next) names) next)
-      (λ name rest. weaker name rest (parameters_read w left (names ++ name ∷ []) rest) (parameters_fit left (names ++ name ∷ []) rest)))
+      (λ name rest. weaker name rest (parameters_read w left (names ++ name ∷ []) rest)
+      (parameters_fit left (names ++ name ∷ []) rest)))
       tt
     where
-      weaker : (name rest : List ℕ) (r : Taken (List (List ℕ))) → FitsIf (λ found. length found ≤ length (names ++ name ∷ []) + left) r
+      weaker : (name rest : List ℕ) (r : Taken (List (List ℕ)))
+          → FitsIf (λ found. length found ≤ length (names ++ name ∷ []) + left) r
           → FitsIf (λ found. length found ≤ length names + suc left) r
       weaker name rest (Ok found) is = omega (arith, is, length-append names (name ∷ []))
       weaker name rest (Err stop) is = tt
@@ -239,9 +297,11 @@ module _ (w : Written) where
       cond_fits (FitsIf (LineFits w)) (is_unfinished w.methods) _ _ (λ _. tt)
       (λ _. cond_fits (FitsIf (LineFits w)) (nat_le 64 (length w.methods)) _ _ (λ _. tt)
       (λ _. with_fits (λ r. length r.1 ≤ 3) (LineFits w) (λ r. method r.0 r.1) (named_method w text)
-      (then_fits (λ (r : List ℕ × List (List ℕ)). length r.1 ≤ 3) (λ name rest. taken_with (λ names. (name, names)) (parameters_read w 3 [] rest))
+      (then_fits (λ (r : List ℕ × List (List ℕ)). length r.1 ≤ 3)
+      (λ name rest. taken_with (λ names. (name, names)) (parameters_read w 3 [] rest))
       (new_name (is_method (word_of text) w.methods) text)
-      (λ name rest. with_fits (λ names. length names ≤ 3) (λ (r : List ℕ × List (List ℕ)). length r.1 ≤ 3) (λ names. (name, names))
+      (λ name rest. with_fits (λ names. length names ≤ 3)
+      (λ (r : List ℕ × List (List ℕ)). length r.1 ≤ 3) (λ names. (name, names))
       (parameters_read w 3 [] rest) (parameters_fit 3 [] rest) (λ names is. is)))
       (λ r is. is)))
 
@@ -249,7 +309,8 @@ module _ (w : Written) where
   naming_fits m text =
       cond_fits (FitsIf (InnerFits m)) (is_closed m) _ _ (λ _. tt)
       (λ _. cond_fits (FitsIf (InnerFits m)) (nat_le 16 (length m.names)) _ _ (λ _. tt)
-      (λ e. any_fits (InnerFits m) (λ r. naming r.0 r.1) (named_expr w m text) (λ r. few (length m.names) 16 e)))
+      (λ e. any_fits (InnerFits m) (λ r. naming r.0 r.1) (named_expr w m text)
+      (λ r. few (length m.names) 16 e)))
 
   answer_fits : (m : Method) (text : List ℕ) → FitsIf (InnerFits m) (answer_read w m text)
   answer_fits m text =
@@ -259,13 +320,15 @@ module _ (w : Written) where
   allow_fits : (m : Method) (text : List ℕ) → FitsIf (InnerFits m) (allow_read w m text)
   allow_fits m text =
       cond_fits (FitsIf (InnerFits m)) (nat_le 8 (length m.cases)) _ _ (λ _. tt)
-      (λ _. any_fits (InnerFits m) allowing (last_read (method_scope w m (codes "reply" ∷ [])) text) (λ x. tt))
+      (λ _. any_fits (InnerFits m) allowing (last_read (method_scope w m (codes "reply" ∷ [])) text)
+      (λ x. tt))
 
   case_fits : (m : Method) (text : List ℕ) → FitsIf (InnerFits m) (case_line_read w m text)
   case_fits m text =
       cond_fits (FitsIf (InnerFits m)) (not (has_any m.cases)) _ _ (λ _. tt)
       (λ _. cond_fits (FitsIf (InnerFits m)) (nat_le 8 (changes_in (last_in m.cases))) _ _ (λ _. tt)
-      (λ _. any_fits (InnerFits m) changing (change_read w.register_names (method_scope w m (codes "reply" ∷ [])) text) (λ x. tt)))
+      (λ _. any_fits (InnerFits m) changing
+      (change_read w.register_names (method_scope w m (codes "reply" ∷ [])) text) (λ x. tt)))
 
   inner_fits : (m : Method) (line : List ℕ) → MaybeFits (InnerFits m) (inner_read w m line)
   unfolding inner_read
@@ -274,7 +337,8 @@ module _ (w : Written) where
       (after_fits (MaybeFits (InnerFits m)) (after (codes "  answer ") line) _ _ (answer_fits m)
       (after_fits (MaybeFits (InnerFits m)) (after (codes "  allow ") line) _ _ (allow_fits m) tt))
 
-  if_line_fits : (m : Method) (line : List ℕ) (o : Option (Taken Inner)) → MaybeFits (InnerFits m) o → FitsIf (InnerFits m) (if_line line o)
+  if_line_fits : (m : Method) (line : List ℕ) (o : Option (Taken Inner)) → MaybeFits (InnerFits m) o
+      → FitsIf (InnerFits m) (if_line line o)
   if_line_fits m line (Some r) is = is
   if_line_fits m line None is = tt
 
@@ -284,30 +348,36 @@ module _ (w : Written) where
       after_fits (FitsIf (InnerFits m)) (after (codes "    ") line) _ _ (case_fits m)
       (if_line_fits m line (inner_read w m line) (inner_fits m line))
 
-last_of : (methods : List Method) (m : Method) (i : Inner) → last_in methods ≡ Some m → InnerFits m i → LastFits methods i
+last_of : (methods : List Method) (m : Method) (i : Inner) → last_in methods ≡ Some m
+    → InnerFits m i → LastFits methods i
 last_of [] m i e fits = tt
 last_of (x ∷ []) m i e fits = subst (λ y. InnerFits y i) (same_Some m x (sym e)) fits
 last_of (x ∷ next ∷ methods) m i e fits = last_of (next ∷ methods) m i (shorter ∙ e) fits
   where
     shorter : last_in (next ∷ methods) ≡ last_in (x ∷ next ∷ methods)
     shorter =
-        let one : length (x ∷ next ∷ methods) - 1 ≡ suc (length (next ∷ methods) - 1) = omega arith in
+        let one : length (x ∷ next ∷ methods) - 1 ≡ suc (length (next ∷ methods) - 1) =
+        omega arith in
         sym (ap (slice_get (x ∷ next ∷ methods)) one)
 
 module _ (w : Written) where
-  method_line_fits : (line : List ℕ) (o : Option Method) → last_in w.methods ≡ o → FitsIf (LineFits w) (of_method w line o)
+  method_line_fits : (line : List ℕ) (o : Option Method) → last_in w.methods ≡ o
+      → FitsIf (LineFits w) (of_method w line o)
   method_line_fits line None e = tt
   method_line_fits line (Some m) e =
-      with_fits (InnerFits m) (LineFits w) inner (within_read w m line) (within_fits w m line) (λ i is. last_of w.methods m i e is)
+      with_fits (InnerFits m) (LineFits w) inner (within_read w m line) (within_fits w m line)
+      (λ i is. last_of w.methods m i e is)
 
   last_line_fits : (line : List ℕ) → FitsIf (LineFits w) (method_line_read w line)
   unfolding method_line_read
   last_line_fits line = method_line_fits line (last_in w.methods) refl
 
-  or_fits : (line : List ℕ) (o : Option (Taken Line)) → MaybeFits (LineFits w) o → FitsIf (LineFits w) (or_method w line o)
+  or_fits : (line : List ℕ) (o : Option (Taken Line)) → MaybeFits (LineFits w) o
+      → FitsIf (LineFits w) (or_method w line o)
   or_fits line (Some r) is = is
   or_fits line None is =
-      after_fits (FitsIf (LineFits w)) (after (codes "method ") line) _ _ (method_fits w) (last_line_fits line)
+      after_fits (FitsIf (LineFits w)) (after (codes "method ") line) _ _ (method_fits w)
+      (last_line_fits line)
 
   line_fits : (below : Last) (line : List ℕ) → FitsIf (LineFits w) (line_read w below line)
   unfolding line_read
@@ -316,28 +386,36 @@ module _ (w : Written) where
       (λ _. cond_fits (FitsIf (LineFits w)) (is_remark line) _ _ (λ _. tt)
       (λ _. or_fits line (outer_read w below line) (outer_fits w below line)))
 
-told_kept : (s : SoFar) (line : List ℕ) (r : Taken Line) → Within s.specification → FitsIf (LineFits s.specification) r
+told_kept : (s : SoFar) (line : List ℕ) (r : Taken Line) → Within s.specification
+    → FitsIf (LineFits s.specification) r
     → Within (told s line r).1.specification
 told_kept s line (Ok says) is fits = line_kept s.specification says is fits
 told_kept s line (Err stop) is fits = is
 
-ended_kept : (s : SoFar) (o : Option SpecificationRule) → Within s.specification → Within (ended_with s o).1.specification
+ended_kept : (s : SoFar) (o : Option SpecificationRule) → Within s.specification
+    → Within (ended_with s o).1.specification
 ended_kept s (Some rule) is = is
 ended_kept s None is = is
 
-next_kept : (s : SoFar) (line : List ℕ) → Within s.specification → Within (read_next s line).1.specification
+next_kept : (s : SoFar) (line : List ℕ) → Within s.specification
+    → Within (read_next s line).1.specification
 unfolding read_next
 next_kept s line is =
-    cond_fits (λ (t : SpecificationLine × SoFar). Within t.1.specification) (bytes_eq line (codes "log")) _ _
+    cond_fits (λ (t : SpecificationLine × SoFar). Within t.1.specification)
+    (bytes_eq line (codes "log")) _ _
     (λ _. ended_kept s (unfinished s.specification.methods) is)
-    (λ _. cond_fits (λ (t : SpecificationLine × SoFar). Within t.1.specification) (nat_le 1000 s.lines) _ _ (λ _. is)
-    (λ _. told_kept s line (line_read s.specification s.below line) is (line_fits s.specification s.below line)))
+    (λ _. cond_fits (λ (t : SpecificationLine × SoFar). Within t.1.specification)
+    (nat_le 1000 s.lines) _ _ (λ _. is)
+    (λ _. told_kept s line (line_read s.specification s.below line) is
+    (line_fits s.specification s.below line)))
 
-lines_kept : (s : SoFar) (lines : List (List ℕ)) → Within s.specification → Within (read_lines s lines).specification
+lines_kept : (s : SoFar) (lines : List (List ℕ)) → Within s.specification
+    → Within (read_lines s lines).specification
 lines_kept s [] is = is
 lines_kept s (line ∷ lines) is = lines_kept (read_next s line).1 lines (next_kept s line is)
 
-lets_at : (methods : List Method) (i : ℕ) (m : Method) → MethodsFit methods → slice_get methods i ≡ Some m → length m.lets ≤ 16
+lets_at : (methods : List Method) (i : ℕ) (m : Method) → MethodsFit methods → slice_get methods i
+    ≡ Some m → length m.lets ≤ 16
 lets_at [] i m fits e = cc
 lets_at (x ∷ methods) zero m fits e =
     subst (λ y. length y.lets ≤ 16) (same_Some x m e) (omega (arith, fits.0.0, fits.0.1))

@@ -1,14 +1,19 @@
 -- Sums of what places give, one place after the other.
-use Rattle.std.proofs.Common.{◌≡◌, ℕ, zero, suc, ◌+◌, ◌-◌, ◌*◌, ◌/◌, ◌<◌, ◌≤◌, ◌^◌, Bool, true, false, cond, not, ◌||◌, List, [], ◌∷◌, map, length, Some, refl, ap, ◌∙◌, sym, subst, arith}
+use Rattle.std.proofs.Common.{◌≡◌, ℕ, zero, suc, ◌+◌, ◌-◌, ◌*◌, ◌/◌, ◌<◌, ◌≤◌, ◌^◌, Bool, true}
+use Rattle.std.proofs.Common.{false, cond, not, ◌||◌, List, [], ◌∷◌, map, length, Some, refl, ap}
+use Rattle.std.proofs.Common.{◌∙◌, sym, subst, arith}
 use Rattle.std.specs.Prelude.{◌==◌, nat_lt, filter, unwrap_or}
 use Rattle.std.specs.Ordering.{nat_cmp, eq_by_cmp}
 use Rattle.std.specs.declared.cmp.Ordering.TheVariants.{Less, Equal, Greater}
 use Rattle.std.specs.FinMap.Entries.{find, put, by_order}
-use Rattle.vyrd_base.proofs.TestLaws.{both_true, first_true, second_true, is_below, below_of, same_of}
-use Rattle.vyrd_base.specs.Amounts.{Amounts, amount_of, with_amount, plus_amount, given, part_given, collected}
+use Rattle.vyrd_base.proofs.TestLaws.{both_true, first_true, second_true, is_below, below_of}
+use Rattle.vyrd_base.proofs.TestLaws.{same_of}
+use Rattle.vyrd_base.specs.Amounts.{Amounts, amount_of, with_amount, plus_amount, given, part_given}
+use Rattle.vyrd_base.specs.Amounts.{collected}
 use Rattle.vyrd_base.specs.Places.{numbers_below}
 use Rattle.vyrd_base.proofs.AmountLaws.{IsAmounts-with_amount, no_amounts, same_amounts}
-use Rattle.vyrd_base.proofs.SumLaws.{amount_of-plus, amount_of-collected, IsAmounts-collected, own_part}
+use Rattle.vyrd_base.proofs.SumLaws.{amount_of-plus, amount_of-collected, IsAmounts-collected}
+use Rattle.vyrd_base.proofs.SumLaws.{own_part}
 use Rattle.std.specs.Prelude.{slice_range}
 use Rattle.vyrd_base.specs.Own.Programs.{Written}
 use Rattle.vyrd_view.specs.Decoded.{pair_at}
@@ -25,41 +30,51 @@ use Rattle.vyrd_own_spec.specs.Sums.{are_low, HasSums}
 pub no_sums : (sums : Amounts) (f : ℕ → ℕ × ℕ) (m : ℕ) → sums ≡ [] → m ≡ 0 → HasSums sums f m
 no_sums sums f m none start =
     subst (λ s. HasSums s f m) (sym none)
-    (subst (λ n. HasSums [] f n) (sym start) (record { formed = no_amounts; low = refl; each = λ q. refl }))
+    (subst (λ n. HasSums [] f n) (sym start)
+    (record { formed = no_amounts; low = refl; each = λ q. refl }))
 
 -- amounts that are low stay so with one that is
 low_filter : (p : ℕ × ℕ → Bool) (s : Amounts) → are_low s ≡ true → are_low (filter p s) ≡ true
 low_filter p [] low = refl
-low_filter p (e ∷ s) low = by_test (p e) (low_filter p s (second_true (nat_lt e.1 (2 ^ 64)) (are_low s) low))
+low_filter p (e ∷ s) low = by_test (p e)
+    (low_filter p s (second_true (nat_lt e.1 (2 ^ 64)) (are_low s) low))
   where
-    by_test : (b : Bool) → are_low (filter p s) ≡ true → are_low (cond b (e ∷ filter p s) (filter p s)) ≡ true
-    by_test true rest = both_true (nat_lt e.1 (2 ^ 64)) _ (first_true (nat_lt e.1 (2 ^ 64)) (are_low s) low) rest
+    by_test : (b : Bool) → are_low (filter p s) ≡ true
+        → are_low (cond b (e ∷ filter p s) (filter p s)) ≡ true
+    by_test true rest = both_true (nat_lt e.1 (2 ^ 64)) _
+        (first_true (nat_lt e.1 (2 ^ 64)) (are_low s) low) rest
     by_test false rest = rest
 
-low_put : (k a : ℕ) (s : Amounts) → nat_lt a (2 ^ 64) ≡ true → are_low s ≡ true → are_low (put nat_cmp k a s) ≡ true
+low_put : (k a : ℕ) (s : Amounts) → nat_lt a (2 ^ 64) ≡ true → are_low s ≡ true
+    → are_low (put nat_cmp k a s) ≡ true
 low_put k a [] small low = both_true (nat_lt a (2 ^ 64)) true small refl
 low_put k a (e ∷ s) small low =
     let first = first_true (nat_lt e.1 (2 ^ 64)) (are_low s) low in
     let rest = second_true (nat_lt e.1 (2 ^ 64)) (are_low s) low in
-    elim (nat_cmp k e.0) as (λ o. are_low (by_order o ((k, a) ∷ e ∷ s) ((e.0, a) ∷ s) (e ∷ put nat_cmp k a s)) ≡ true) [
+    elim (nat_cmp k e.0) as (λ o. are_low
+    (by_order o ((k, a) ∷ e ∷ s) ((e.0, a) ∷ s) (e ∷ put nat_cmp k a s)) ≡ true) [
       | Less ↦ both_true (nat_lt a (2 ^ 64)) _ small low
       | Equal ↦ both_true (nat_lt a (2 ^ 64)) _ small rest
       | Greater ↦ both_true (nat_lt e.1 (2 ^ 64)) _ first (low_put k a s small rest)
     ]
 
-low_with : (s : Amounts) (k a : ℕ) → nat_lt a (2 ^ 64) ≡ true → are_low s ≡ true → are_low (with_amount s k a) ≡ true
+low_with : (s : Amounts) (k a : ℕ) → nat_lt a (2 ^ 64) ≡ true → are_low s ≡ true
+    → are_low (with_amount s k a) ≡ true
 low_with s k a small low = by_test (a == 0)
   where
-    by_test : (b : Bool) → are_low (cond b (filter (λ entry. not (entry.0 == k)) s) (put nat_cmp k a s)) ≡ true
+    by_test : (b : Bool)
+        → are_low (cond b (filter (λ entry. not (entry.0 == k)) s) (put nat_cmp k a s)) ≡ true
     by_test true = low_filter (λ entry. not (entry.0 == k)) s low
     by_test false = low_put k a s small low
 
 -- where all are low, each is
 low_found : (s : Amounts) (q : ℕ) → are_low s ≡ true → amount_of s q < 2 ^ 64
 low_found [] q low = omega arith
-low_found (e ∷ s) q low = by_test (eq_by_cmp nat_cmp q e.0) (low_found s q (second_true (nat_lt e.1 (2 ^ 64)) (are_low s) low))
+low_found (e ∷ s) q low = by_test (eq_by_cmp nat_cmp q e.0)
+    (low_found s q (second_true (nat_lt e.1 (2 ^ 64)) (are_low s) low))
   where
-    by_test : (b : Bool) → amount_of s q < 2 ^ 64 → unwrap_or (cond b (Some e.1) (find nat_cmp q s)) 0 < 2 ^ 64
+    by_test : (b : Bool) → amount_of s q < 2 ^ 64 → unwrap_or (cond b (Some e.1) (find nat_cmp q s))
+        0 < 2 ^ 64
     by_test true rest = below_of e.1 (2 ^ 64) (first_true (nat_lt e.1 (2 ^ 64)) (are_low s) low)
     by_test false rest = rest
 
@@ -71,12 +86,15 @@ not_low s (q, much) = by_test (are_low s) refl
     by_test false e = refl
 
 -- one place more
-pub sums_more : (sums after : Amounts) (f : ℕ → ℕ × ℕ) (m : ℕ) (pair : ℕ × ℕ) → HasSums sums f m → pair ≡ f m
-    → after ≡ plus_amount sums pair.0 pair.1 → amount_of sums pair.0 + pair.1 < 2 ^ 64 → HasSums after f (m + 1)
+pub sums_more : (sums after : Amounts) (f : ℕ → ℕ × ℕ) (m : ℕ) (pair : ℕ × ℕ) → HasSums sums f m
+    → pair ≡ f m
+    → after ≡ plus_amount sums pair.0 pair.1 → amount_of sums pair.0 + pair.1 < 2 ^ 64
+    → HasSums after f (m + 1)
 sums_more sums after f m pair has is then small =
     subst (λ s. HasSums s f (m + 1)) (sym then) (record {
       formed = IsAmounts-with_amount sums pair.0 (amount_of sums pair.0 + pair.1) has.formed;
-      low = low_with sums pair.0 (amount_of sums pair.0 + pair.1) (is_below (amount_of sums pair.0 + pair.1) (2 ^ 64) small) has.low;
+      low = low_with sums pair.0 (amount_of sums pair.0 + pair.1)
+          (is_below (amount_of sums pair.0 + pair.1) (2 ^ 64) small) has.low;
       each = λ q. amount_of-plus sums pair.0 pair.1 q
           ∙ ap (λ n. n + part_given q pair) (has.each q)
           ∙ ap (λ p. given q (map f (numbers_below m)) + part_given q p) is
@@ -84,18 +102,22 @@ sums_more sums after f m pair has is then small =
     })
 
 -- more places give no less
-rises : (q : ℕ) (f : ℕ → ℕ × ℕ) (m k : ℕ) → given q (map f (numbers_below m)) ≤ given q (map f (numbers_below (m + k)))
+rises : (q : ℕ) (f : ℕ → ℕ × ℕ) (m k : ℕ) → given q (map f (numbers_below m))
+    ≤ given q (map f (numbers_below (m + k)))
 rises q f m zero =
     let none : m + 0 ≡ m = omega arith in
-    subst (λ n. given q (map f (numbers_below m)) ≤ given q (map f (numbers_below n))) (sym none) (omega arith)
+    subst (λ n. given q (map f (numbers_below m)) ≤ given q (map f (numbers_below n))) (sym none)
+    (omega arith)
 rises q f m (suc k) =
     let more : m + suc k ≡ m + k + 1 = omega arith in
     subst (λ n. given q (map f (numbers_below m)) ≤ given q (map f (numbers_below n))) (sym more)
     (omega (arith, rises q f m k, given_map_push q f (m + k)))
 
 -- a sum that is too large stays so
-pub beyond_all : (sums : Amounts) (f : ℕ → ℕ × ℕ) (m n : ℕ) (pair : ℕ × ℕ) → HasSums sums f m → pair ≡ f m → m < n
-    → 2 ^ 64 ≤ amount_of sums pair.0 + pair.1 → (q : ℕ) × (2 ^ 64 ≤ given q (map f (numbers_below n)))
+pub beyond_all : (sums : Amounts) (f : ℕ → ℕ × ℕ) (m n : ℕ) (pair : ℕ × ℕ) → HasSums sums f m
+    → pair ≡ f m → m < n
+    → 2 ^ 64 ≤ amount_of sums pair.0 + pair.1 → (q : ℕ)
+    × (2 ^ 64 ≤ given q (map f (numbers_below n)))
 beyond_all sums f m n pair has is low much = (pair.0, at_end)
   where
     own_more : part_given pair.0 (f m) ≡ pair.1
@@ -111,16 +133,20 @@ beyond_all sums f m n pair has is low much = (pair.0, at_end)
     here = omega (arith, much, has.each pair.0, given_map_push pair.0 f m, own_more)
 
     at_end : 2 ^ 64 ≤ given pair.0 (map f (numbers_below n))
-    at_end = subst (λ k. 2 ^ 64 ≤ given pair.0 (map f (numbers_below k))) all (omega (arith, here, rises pair.0 f (m + 1) rest))
+    at_end = subst (λ k. 2 ^ 64 ≤ given pair.0 (map f (numbers_below k))) all
+        (omega (arith, here, rises pair.0 f (m + 1) rest))
 
 -- the sums of all places are what is collected
-pub all_summed : (sums : Amounts) (f : ℕ → ℕ × ℕ) (m : ℕ) → HasSums sums f m → sums ≡ collected (map f (numbers_below m))
+pub all_summed : (sums : Amounts) (f : ℕ → ℕ × ℕ) (m : ℕ) → HasSums sums f m
+    → sums ≡ collected (map f (numbers_below m))
 all_summed sums f m has =
-    same_amounts sums (collected (map f (numbers_below m))) has.formed (IsAmounts-collected (map f (numbers_below m)))
+    same_amounts sums (collected (map f (numbers_below m))) has.formed
+    (IsAmounts-collected (map f (numbers_below m)))
     (λ q. has.each q ∙ sym (amount_of-collected (map f (numbers_below m)) q))
 
 -- a pair as it was decoded
-pub decoded : (w : Written) (width places part j a b : ℕ) (words : List ℕ) (pair : ℕ × ℕ) → a ≡ width → b ≡ width → j < places
+pub decoded : (w : Written) (width places part j a b : ℕ) (words : List ℕ) (pair : ℕ × ℕ)
+    → a ≡ width → b ≡ width → j < places
     → pair ≡ own_gives w part (slice_range words (part * a) (part * a + b)) j
     → pair ≡ pair_at width places (own_gives w) words (part * places + j)
 decoded w width places part j a b words pair ea eb low is =
@@ -129,26 +155,31 @@ decoded w width places part j a b words pair ea eb low is =
     ∙ sym (place_of width places (own_gives w) words part j low)
 
 -- the sums of all places are what the words show
-pub shown_summed : (w : Written) (width places parts : ℕ) (words : List ℕ) (sums : Amounts) → width ≡ width_of w
+pub shown_summed : (w : Written) (width places parts : ℕ) (words : List ℕ) (sums : Amounts)
+    → width ≡ width_of w
     → AreFew w width places parts → length words ≡ parts * width
-    → HasSums sums (pair_at width places (own_gives w) words) (parts * places) → sums ≡ own_view w words
+    → HasSums sums (pair_at width places (own_gives w) words) (parts * places)
+    → sums ≡ own_view w words
 shown_summed w width places parts words sums wide few count has =
     all_summed sums (pair_at width places (own_gives w) words) (parts * places) has
     ∙ own_shown w words wide few count
 
 pub shown_beyond : (w : Written) (width places parts : ℕ) (words : List ℕ) → width ≡ width_of w
     → AreFew w width places parts → length words ≡ parts * width
-    → ((q : ℕ) × (2 ^ 64 ≤ given q (map (pair_at width places (own_gives w) words) (numbers_below (parts * places)))))
+    → ((q : ℕ) × (2 ^ 64
+    ≤ given q (map (pair_at width places (own_gives w) words) (numbers_below (parts * places)))))
     → (q : ℕ) × (2 ^ 64 ≤ amount_of (own_view w words) q)
 shown_beyond w width places parts words wide few count (q, much) =
     let pairs = map (pair_at width places (own_gives w) words) (numbers_below (parts * places)) in (
       q,
       subst (λ n. 2 ^ 64 ≤ n)
-          (sym (amount_of-collected pairs q) ∙ ap (λ s. amount_of s q) (own_shown w words wide few count)) much,
+          (sym (amount_of-collected pairs q)
+          ∙ ap (λ s. amount_of s q) (own_shown w words wide few count)) much,
     )
 
 -- how many words there are, if they are a whole number of parts
-pub count_is : (size n width parts : ℕ) (w own : Written) → n ≡ size → IsWhole size w → own ≡ w → width ≡ width_of own
+pub count_is : (size n width parts : ℕ) (w own : Written) → n ≡ size → IsWhole size w → own ≡ w
+    → width ≡ width_of own
     → parts ≡ size / width → n ≡ parts * width
 count_is size n width parts w own all whole same wide many =
     let is : width ≡ width_of w = wide ∙ ap width_of same in
@@ -158,7 +189,8 @@ count_is size n width parts w own all whole same wide many =
 pub whole_is : (w : Written) (n : ℕ) → is_whole w n ≡ true → IsWhole n w
 whole_is w n e = by_test (w.words == 0) e
   where
-    by_test : (b : Bool) → (b || n / w.words * w.words == n) ≡ true → n / cond b 1 w.words * cond b 1 w.words ≡ n
+    by_test : (b : Bool) → (b || n / w.words * w.words == n) ≡ true → n / cond b 1 w.words
+        * cond b 1 w.words ≡ n
     by_test true f = omega arith
     by_test false f = same_of (n / w.words * w.words) n f
 
@@ -167,9 +199,11 @@ pub start_registers : (w : Written) → (start_of w).registers ≡ w.registers
 unfolding start_of
 start_registers w = refl
 
-pub few_registers : (w : Written) (n s : State) (shown : Amounts) → IsSmall w → n ≡ start_of w → s ≡ record n { shown = shown }
+pub few_registers : (w : Written) (n s : State) (shown : Amounts) → IsSmall w → n ≡ start_of w
+    → s ≡ record n { shown = shown }
     → length s.registers ≤ 16
 few_registers w n s shown small is then =
     let all : length s.registers ≡ length w.registers =
-    ap (λ (t : State). length t.registers) then ∙ ap (λ (t : State). length t.registers) is ∙ ap (λ (rs : List ℕ). length rs) (start_registers w) in
+    ap (λ (t : State). length t.registers) then ∙ ap (λ (t : State). length t.registers) is
+    ∙ ap (λ (rs : List ℕ). length rs) (start_registers w) in
     omega (arith, all, small.registers)

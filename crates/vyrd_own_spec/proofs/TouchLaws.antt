@@ -41,10 +41,12 @@ other_amounts : (s : State) (es : List Effect) (q : ℕ) → is_touched (shown_k
     → amount_of (with_effects s es).shown q ≡ cond (list_any is_clearing es) 0 (amount_of s.shown q)
 other_amounts s [] q e = refl
 other_amounts s (SetShown k a ∷ es) q e =
-    other_amounts (with_effect s (SetShown k a)) es q (right_false (k == q) (is_touched (shown_keys es) q) e)
+    other_amounts (with_effect s (SetShown k a)) es q
+    (right_false (k == q) (is_touched (shown_keys es) q) e)
     ∙ ap (cond (list_any is_clearing es) 0)
     (amount_of-with_amount s.shown k a q
-    ∙ ap (λ b. cond b a (amount_of s.shown q)) (flipped k q (left_false (k == q) (is_touched (shown_keys es) q) e)))
+    ∙ ap (λ b. cond b a (amount_of s.shown q))
+    (flipped k q (left_false (k == q) (is_touched (shown_keys es) q) e)))
 other_amounts s (SetHidden k a ∷ es) q e = other_amounts (with_effect s (SetHidden k a)) es q e
 other_amounts s (SetRegister i a ∷ es) q e = other_amounts (with_effect s (SetRegister i a)) es q e
 other_amounts s (PutLast i a ∷ es) q e = other_amounts (with_effect s (PutLast i a)) es q e
@@ -67,7 +69,8 @@ not_there (p ∷ s) q e =
 pub touched_all : (s : State) (es : List Effect) → IsAmounts s.shown
     → with_touched (touched_by s es) (with_effects s es).shown s.shown ≡ (with_effects s es).shown
 touched_all s es is =
-    same_amounts (with_touched keys t s.shown) t (with_formed keys t s.shown is) (formed_after s es is)
+    same_amounts (with_touched keys t s.shown) t (with_formed keys t s.shown is)
+    (formed_after s es is)
     (λ q. with_amounts keys t s.shown q ∙ by_test q (is_touched keys q) refl)
   where
     t : Amounts
@@ -76,18 +79,24 @@ touched_all s es is =
     keys : List ℕ
     keys = touched_by s es
 
-    by_clear : (q : ℕ) (b : Bool) → (is_touched (cond b (keys_of s.shown) []) q || is_touched (shown_keys es) q) ≡ false
+    by_clear : (q : ℕ) (b : Bool)
+        → (is_touched (cond b (keys_of s.shown) []) q || is_touched (shown_keys es) q) ≡ false
         → amount_of s.shown q ≡ cond b 0 (amount_of s.shown q)
-    by_clear q true e = not_there s.shown q (left_false (is_touched (keys_of s.shown) q) (is_touched (shown_keys es) q) e)
+    by_clear q true e = not_there s.shown q
+        (left_false (is_touched (keys_of s.shown) q) (is_touched (shown_keys es) q) e)
     by_clear q false e = refl
 
-    by_test : (q : ℕ) (b : Bool) → is_touched keys q ≡ b → cond b (amount_of t q) (amount_of s.shown q) ≡ amount_of t q
+    by_test : (q : ℕ) (b : Bool) → is_touched keys q ≡ b
+        → cond b (amount_of t q) (amount_of s.shown q) ≡ amount_of t q
     by_test q true e = refl
     by_test q false e =
-        let split = sym (list_any-append (λ k. k == q) (cond (list_any is_clearing es) (keys_of s.shown) []) (shown_keys es)) ∙ e in
+        let split = sym
+        (list_any-append (λ k. k == q) (cond (list_any is_clearing es) (keys_of s.shown) [])
+        (shown_keys es)) ∙ e in
         by_clear q (list_any is_clearing es) split
         ∙ sym (other_amounts s es q
-        (right_false (is_touched (cond (list_any is_clearing es) (keys_of s.shown) []) q) (is_touched (shown_keys es) q) split))
+        (right_false (is_touched (cond (list_any is_clearing es) (keys_of s.shown) []) q)
+        (is_touched (shown_keys es) q) split))
 
 -- nothing is shown before and after
 nothing_touched : (ks : List ℕ) → with_touched ks [] [] ≡ []
@@ -102,9 +111,11 @@ touched_shown false true ks t s is = nothing_touched ks
 touched_shown false false ks t s is = is
 
 -- the registers stay as many
-pub registers_stay : (s : State) (es : List Effect) → length (with_effects s es).registers ≡ length s.registers
+pub registers_stay : (s : State) (es : List Effect) → length (with_effects s es).registers
+    ≡ length s.registers
 registers_stay s [] = refl
-registers_stay s (SetRegister i a ∷ es) = registers_stay (with_effect s (SetRegister i a)) es ∙ length-set s.registers i a
+registers_stay s (SetRegister i a ∷ es) = registers_stay (with_effect s (SetRegister i a)) es
+    ∙ length-set s.registers i a
 registers_stay s (SetShown k a ∷ es) = registers_stay (with_effect s (SetShown k a)) es
 registers_stay s (SetHidden k a ∷ es) = registers_stay (with_effect s (SetHidden k a)) es
 registers_stay s (PutLast i a ∷ es) = registers_stay (with_effect s (PutLast i a)) es

@@ -1,5 +1,6 @@
 -- What each case is worth if a reply is refused.
-use Rattle.std.proofs.Common.{◌≡◌, ℕ, Bool, true, false, not, cond, ◌&&◌, List, [], ◌∷◌, ◌++◌, Option}
+use Rattle.std.proofs.Common.{◌≡◌, ℕ, Bool, true, false, not, cond, ◌&&◌, List, [], ◌∷◌, ◌++◌}
+use Rattle.std.proofs.Common.{Option}
 use Rattle.std.proofs.Common.{Some, None, refl}
 use Rattle.std.specs.Prelude.{◌==◌, find, option_map}
 use Rattle.std.specs.List.{list_all}
@@ -27,7 +28,8 @@ none_holds s values f (case ∷ cases) none =
     by_test false rest none = cc
 
 -- a step that isn't made does nothing
-no_effects : (s : State) (o : Option (List Effect)) → option_map (with_effects s) o ≡ None → o ≡ None
+no_effects : (s : State) (o : Option (List Effect)) → option_map (with_effects s) o ≡ None
+    → o ≡ None
 no_effects s None none = refl
 no_effects s (Some effects) none = cc
 

@@ -23,7 +23,8 @@ module _ (h : Header) (w : Written) (starting : List StartWord) (front : List En
       ∙ by_state (state_then (own_rules h w) starting front at)
     where
       by_state : (o : Option State)
-          → option_map_or (λ state. option_map_or (own_refused_items h w at reply state) None []) o []
+          → option_map_or (λ state. option_map_or (own_refused_items h w at reply state) None []) o
+          []
           ≡ []
       by_state None = refl
       by_state (Some s) = refl

@@ -1,12 +1,15 @@
 -- How the numbers of commits and of returns without a commit grow, entry by entry.
-use Rattle.std.proofs.Common.{◌≡◌, ℕ, suc, ◌+◌, ◌<◌, Bool, true, false, cond, ◌&&◌, List, ◌∷◌, length, take, drop, get_or, set, Some, None, slice_get, refl, ap, subst, ◌∙◌, sym, arith, drop-cons}
+use Rattle.std.proofs.Common.{◌≡◌, ℕ, suc, ◌+◌, ◌<◌, Bool, true, false, cond, ◌&&◌, List, ◌∷◌}
+use Rattle.std.proofs.Common.{length, take, drop, get_or, set, Some, None, slice_get, refl, ap}
+use Rattle.std.proofs.Common.{subst, ◌∙◌, sym, arith, drop-cons}
 use Rattle.std.specs.Prelude.{count_by}
 use Rattle.std.specs.Prelude.{not}
 use Rattle.std.proofs.lemmas.List.Sums.{sum_by-cons}
 use Rattle.std.proofs.lemmas.Option.{slice_get_within}
 use Rattle.vyrd_base.specs.declared.header.Header.{Header}
 use Rattle.vyrd_base.specs.declared.log.Kind.{Kind}
-use Rattle.vyrd_base.specs.declared.log.Kind.TheVariants.{Call, Return, Write, Commit, BlockOpen, BlockClose, BlockCommit}
+use Rattle.vyrd_base.specs.declared.log.Kind.TheVariants.{Call, Return, Write, Commit, BlockOpen}
+use Rattle.vyrd_base.specs.declared.log.Kind.TheVariants.{BlockClose, BlockCommit}
 use Rattle.vyrd_base.specs.declared.log.Entry.{Entry}
 use Rattle.vyrd_base.specs.Places.{places_after, newest_first}
 use Rattle.vyrd_base.specs.Callers.{has_committed, commit_or_call}
@@ -19,37 +22,50 @@ use Rattle.vyrd_base.proofs.ListLaws.{slice_get-set_same, slice_get-set_other}
 use Rattle.vyrd_base.proofs.TestLaws.{apart_of}
 
 -- a call, a commit or a return tells of its caller whether it has committed then
-changed : (h : Header) (c : ℕ) (kind : Kind) (earlier : List Entry) (committed : List Bool) (b : Bool) → c < h.callers
+changed : (h : Header) (c : ℕ) (kind : Kind) (earlier : List Entry) (committed : List Bool)
+    (b : Bool) → c < h.callers
     → AreCommitted h earlier committed
     → commit_or_call kind ≡ Some b → AreCommitted h (entry c kind ∷ earlier) (set committed c b)
 changed h c kind earlier committed b here so own d within = by_same c d
-    (λ same. subst (λ k. slice_get (set committed c b) k ≡ Some (has_committed k (entry c kind ∷ earlier))) same
-    (slice_get-set_same committed c b (slice_get_within committed c (has_committed c earlier) (so c here))
+    (λ same. subst
+    (λ k. slice_get (set committed c b) k ≡ Some (has_committed k (entry c kind ∷ earlier))) same
+    (slice_get-set_same committed c b
+    (slice_get_within committed c (has_committed c earlier) (so c here))
     ∙ ap Some (sym (committed-own c kind earlier b own))))
     (λ other. slice_get-set_other committed c d b (apart_of c d other) ∙ so d within
     ∙ ap Some (sym (committed-other d c kind earlier other)))
 
 -- any other entry changes nothing
-unchanged : (h : Header) (c : ℕ) (kind : Kind) (earlier : List Entry) (committed : List Bool) → commit_or_call kind ≡ None
+unchanged : (h : Header) (c : ℕ) (kind : Kind) (earlier : List Entry) (committed : List Bool)
+    → commit_or_call kind ≡ None
     → AreCommitted h earlier committed
     → AreCommitted h (entry c kind ∷ earlier) committed
 unchanged h c kind earlier committed quiet so d within =
     so d within ∙ ap Some (sym (committed-quiet d c kind earlier quiet))
 
-pub committed-next : (h : Header) (c : ℕ) (kind : Kind) (earlier : List Entry) (committed : List Bool) → c < h.callers
+pub committed-next : (h : Header) (c : ℕ) (kind : Kind) (earlier : List Entry)
+    (committed : List Bool) → c < h.callers
     → AreCommitted h earlier committed
     → AreCommitted h (entry c kind ∷ earlier) (committed_after committed c kind)
-committed-next h c (Call method args) earlier committed here so = changed h c (Call method args) earlier committed false here so refl
-committed-next h c (Return reply) earlier committed here so = changed h c (Return reply) earlier committed false here so refl
-committed-next h c (Write word value) earlier committed here so = unchanged h c (Write word value) earlier committed refl so
-committed-next h c Commit earlier committed here so = changed h c Commit earlier committed true here so refl
-committed-next h c BlockOpen earlier committed here so = unchanged h c BlockOpen earlier committed refl so
-committed-next h c BlockClose earlier committed here so = unchanged h c BlockClose earlier committed refl so
-committed-next h c BlockCommit earlier committed here so = changed h c BlockCommit earlier committed true here so refl
+committed-next h c (Call method args) earlier committed here so = changed h c
+    (Call method args) earlier committed false here so refl
+committed-next h c (Return reply) earlier committed here so = changed h c (Return reply) earlier
+    committed false here so refl
+committed-next h c (Write word value) earlier committed here so = unchanged h c
+    (Write word value) earlier committed refl so
+committed-next h c Commit earlier committed here so = changed h c Commit earlier committed true here
+    so refl
+committed-next h c BlockOpen earlier committed here so = unchanged h c BlockOpen earlier committed
+    refl so
+committed-next h c BlockClose earlier committed here so = unchanged h c BlockClose earlier committed
+    refl so
+committed-next h c BlockCommit earlier committed here so = changed h c BlockCommit earlier committed
+    true here so refl
 
 -- how many executions return without a commit from a place on
 abbrev pub observers_from : List Entry → ℕ → ℕ
-observers_from es at = count_by observer_returns (places_after (newest_first (take at es)) (drop at es))
+observers_from es at = count_by observer_returns
+    (places_after (newest_first (take at es)) (drop at es))
 
 pub observers_next : (es : List Entry) (at : ℕ) (d : Entry) → at < length es
     → observers_from es at ≡ cond (observer_returns (record {
@@ -61,25 +77,31 @@ observers_next es at d within =
     let more : suc at ≡ at + 1 = omega arith in
     let earlier = newest_first (take at es) in
     let here = get_or es at d in
-    ap (λ later. count_by observer_returns (places_after earlier later)) (drop-cons es at d within ∙ ap (λ n. here ∷ drop n es) more)
+    ap (λ later. count_by observer_returns (places_after earlier later))
+    (drop-cons es at d within ∙ ap (λ n. here ∷ drop n es) more)
     ∙ sum_by-cons (λ place. cond (observer_returns place) 1 0) (record {
       earlier = earlier;
       here = here;
       later = drop (at + 1) es;
     }) (places_after (here ∷ earlier) (drop (at + 1) es))
-    ∙ ap (λ before. cond (observer_returns (record { earlier = earlier; here = here; later = drop (at + 1) es })) 1 0
+    ∙ ap (λ before. cond
+    (observer_returns (record { earlier = earlier; here = here; later = drop (at + 1) es })) 1 0
     + count_by observer_returns (places_after before (drop (at + 1) es)))
     (sym (newest_next es at d within))
 
 -- the same for an entry that was read, with whether such a return stands there
-pub observers_step : (es : List Entry) (at : ℕ) (r : Entry) (b : Bool) → at < length es → get_or es at r ≡ r
-    → b ≡ (is_return r.kind && not (has_committed r.caller (newest_first (take at es)))) → observers_from es at ≡ cond b 1 0 + observers_from es (at + 1)
+pub observers_step : (es : List Entry) (at : ℕ) (r : Entry) (b : Bool) → at < length es
+    → get_or es at r ≡ r
+    → b ≡ (is_return r.kind && not (has_committed r.caller (newest_first (take at es))))
+    → observers_from es at ≡ cond b 1 0 + observers_from es (at + 1)
 observers_step es at r b within same returns =
     observers_next es at r within
-    ∙ ap (λ e. cond (is_return e.kind && not (has_committed e.caller (newest_first (take at es)))) 1 0 + observers_from es (at + 1)) same
+    ∙ ap (λ e. cond (is_return e.kind && not (has_committed e.caller (newest_first (take at es)))) 1
+    0 + observers_from es (at + 1)) same
     ∙ ap (λ t. cond t 1 0 + observers_from es (at + 1)) (sym returns)
 
-pub committed_step : (h : Header) (es : List Entry) (at : ℕ) (r : Entry) (old new : List Bool) → at < length es
+pub committed_step : (h : Header) (es : List Entry) (at : ℕ) (r : Entry) (old new : List Bool)
+    → at < length es
     → get_or es at r ≡ r → r.caller < h.callers
     → AreCommitted h (newest_first (take at es)) old → new ≡ committed_after old r.caller r.kind
     → AreCommitted h (newest_first (take (at + 1) es)) new
@@ -90,10 +112,12 @@ committed_step h es at r old new within same low so after =
     (committed-next h r.caller r.kind (newest_first (take at es)) old low so))
 
 -- one more where the test holds
-pub counted_true : (b : Bool) (old new rest total : ℕ) → b ≡ true → new ≡ old + 1 → old + (cond b 1 0 + rest) ≡ total → new + rest ≡ total
+pub counted_true : (b : Bool) (old new rest total : ℕ) → b ≡ true → new ≡ old + 1
+    → old + (cond b 1 0 + rest) ≡ total → new + rest ≡ total
 counted_true true old new rest total is one e = omega arith
 counted_true false old new rest total is one e = cc
 
-pub counted_false : (b : Bool) (old new rest total : ℕ) → b ≡ false → new ≡ old → old + (cond b 1 0 + rest) ≡ total → new + rest ≡ total
+pub counted_false : (b : Bool) (old new rest total : ℕ) → b ≡ false → new ≡ old
+    → old + (cond b 1 0 + rest) ≡ total → new + rest ≡ total
 counted_false true old new rest total is one e = cc
 counted_false false old new rest total is one e = omega arith

@@ -1,5 +1,6 @@
 -- How what is kept of a caller's execution changes with one more entry.
-use Rattle.std.proofs.Common.{◌≡◌, ℕ, true, ◌||◌, List, [], ◌∷◌, ◌++◌, Option, Some, None, ap, ◌∙◌, sym}
+use Rattle.std.proofs.Common.{◌≡◌, ℕ, true, ◌||◌, List, [], ◌∷◌, ◌++◌, Option, Some, None, ap, ◌∙◌}
+use Rattle.std.proofs.Common.{sym}
 use Rattle.std.specs.List.{list_any}
 use Rattle.std.proofs.lemmas.List.Folds.{list_any-append}
 use Rattle.std.proofs.Math.Bool.{or-false}
@@ -13,8 +14,10 @@ use Rattle.vyrd_plain.specs.Executions.{answers, seeing, with_commit, IsExecutio
 use Rattle.vyrd_base.specs.Rules.{Rules}
 
 -- what is kept stays where the entry changes none of it
-pub execution_stays : (r : Rules) (states : List State) (c : ℕ) (e : Entry) (earlier later : List Entry) (o : Option Execution)
-    → open_call c (e ∷ earlier) ≡ open_call c earlier → next_reply c (e ∷ later) ≡ next_reply c later
+pub execution_stays : (r : Rules) (states : List State) (c : ℕ) (e : Entry)
+    (earlier later : List Entry) (o : Option Execution)
+    → open_call c (e ∷ earlier) ≡ open_call c earlier → next_reply c (e ∷ later)
+    ≡ next_reply c later
     → has_committed c (e ∷ earlier) ≡ has_committed c earlier
     → states_since_call states c (e ∷ earlier) ≡ states_since_call states c earlier
     → IsOpen r states c earlier (e ∷ later) o → IsOpen r states c (e ∷ earlier) later o
@@ -28,21 +31,27 @@ execution_stays r states c e earlier later (Some x) called reply committed windo
 }
 
 -- what is kept sees the state after a commit
-sees_more : (r : Rules) (states : List State) (c : ℕ) (e : Entry) (earlier later : List Entry) (next : State) (x : Execution)
+sees_more : (r : Rules) (states : List State) (c : ℕ) (e : Entry) (earlier later : List Entry)
+    (next : State) (x : Execution)
     → states_since_call states c (e ∷ earlier) ≡ states_since_call states c earlier ++ next ∷ []
     → IsExecution r states c earlier (e ∷ later) x
-    → (x.is_answered || answers r x next) ≡ list_any (answers r x) (states_since_call states c (e ∷ earlier))
+    → (x.is_answered || answers r x next) ≡ list_any (answers r x)
+    (states_since_call states c (e ∷ earlier))
 sees_more r states c e earlier later next x window is =
     ap (λ b. b || answers r x next) is.answered
-    ∙ ap (λ b. list_any (answers r x) (states_since_call states c earlier) || b) (sym (or-false (answers r x next)))
+    ∙ ap (λ b. list_any (answers r x) (states_since_call states c earlier) || b)
+    (sym (or-false (answers r x next)))
     ∙ sym (list_any-append (answers r x) (states_since_call states c earlier) (next ∷ []))
     ∙ ap (list_any (answers r x)) (sym window)
 
-pub execution_sees : (r : Rules) (states : List State) (c : ℕ) (e : Entry) (earlier later : List Entry) (next : State) (o : Option Execution)
-    → open_call c (e ∷ earlier) ≡ open_call c earlier → next_reply c (e ∷ later) ≡ next_reply c later
+pub execution_sees : (r : Rules) (states : List State) (c : ℕ) (e : Entry)
+    (earlier later : List Entry) (next : State) (o : Option Execution)
+    → open_call c (e ∷ earlier) ≡ open_call c earlier → next_reply c (e ∷ later)
+    ≡ next_reply c later
     → has_committed c (e ∷ earlier) ≡ has_committed c earlier
     → states_since_call states c (e ∷ earlier) ≡ states_since_call states c earlier ++ next ∷ []
-    → IsOpen r states c earlier (e ∷ later) o → IsOpen r states c (e ∷ earlier) later (seeing r next o)
+    → IsOpen r states c earlier (e ∷ later) o → IsOpen r states c (e ∷ earlier) later
+    (seeing r next o)
 execution_sees r states c e earlier later next None called reply committed window is = called ∙ is
 execution_sees r states c e earlier later next (Some x) called reply committed window is = record {
   called = called ∙ is.called;
@@ -53,11 +62,14 @@ execution_sees r states c e earlier later next (Some x) called reply committed w
 }
 
 -- and so does the execution whose commit it is
-pub execution_commits : (r : Rules) (states : List State) (c : ℕ) (e : Entry) (earlier later : List Entry) (next : State) (x : Execution)
-    → open_call c (e ∷ earlier) ≡ open_call c earlier → next_reply c (e ∷ later) ≡ next_reply c later
+pub execution_commits : (r : Rules) (states : List State) (c : ℕ) (e : Entry)
+    (earlier later : List Entry) (next : State) (x : Execution)
+    → open_call c (e ∷ earlier) ≡ open_call c earlier → next_reply c (e ∷ later)
+    ≡ next_reply c later
     → has_committed c (e ∷ earlier) ≡ true
     → states_since_call states c (e ∷ earlier) ≡ states_since_call states c earlier ++ next ∷ []
-    → IsExecution r states c earlier (e ∷ later) x → IsOpen r states c (e ∷ earlier) later (seeing r next (Some (with_commit x)))
+    → IsExecution r states c earlier (e ∷ later) x → IsOpen r states c (e ∷ earlier) later
+    (seeing r next (Some (with_commit x)))
 execution_commits r states c e earlier later next x called reply committed window is = record {
   called = called ∙ is.called;
   allowed = is.allowed;

@@ -10,22 +10,34 @@ use Rattle.vyrd_plain.specs.Outcomes.{CommitFaults}
 use Rattle.vyrd_base.specs.Rules.{Rules}
 
 -- what is known of the execution at a place holds for every execution there
-pub for_execution : (P : Execution → Type 0) (o : Option (Option Execution)) (x y : Execution) → o ≡ Some (Some x) → o ≡ Some (Some y) → P x → P y
+pub for_execution : (P : Execution → Type 0) (o : Option (Option Execution)) (x y : Execution)
+    → o ≡ Some (Some x) → o ≡ Some (Some y) → P x → P y
 for_execution P o x y is_x is_y p = let same : x ≡ y = cc in subst P same p
 
-pub refused : (r : Rules) (shown : Amounts) (x : Execution) (reply : ℕ) (before : State) → x.reply ≡ Some reply → r.next x.method x.args reply before ≡ None
+pub refused : (r : Rules) (shown : Amounts) (x : Execution) (reply : ℕ) (before : State)
+    → x.reply ≡ Some reply → r.next x.method x.args reply before ≡ None
     → CommitFaults r shown x before (Reply reply)
 refused r shown x reply before replied none = record {
   reply = reply;
   returned = replied;
-  fault = ap (λ o. elim o as (λ _. Option Why) [ None ↦ Some (Reply reply) | Some after ↦ option_map View (first_difference shown (r.shown after)) ]) none;
+  fault = ap (λ o. elim o as (λ _. Option Why) [
+    | None ↦ Some (Reply reply)
+    | Some after ↦ option_map
+        View (first_difference shown (r.shown after))
+  ]) none;
 }
 
-pub differs : (r : Rules) (shown : Amounts) (x : Execution) (reply : ℕ) (before after : State) (key : ℕ) → x.reply ≡ Some reply
-    → r.next x.method x.args reply before ≡ Some after → first_difference shown (r.shown after) ≡ Some key → CommitFaults r shown x before (View key)
+pub differs : (r : Rules) (shown : Amounts) (x : Execution) (reply : ℕ) (before after : State)
+    (key : ℕ) → x.reply ≡ Some reply
+    → r.next x.method x.args reply before ≡ Some after → first_difference shown (r.shown after)
+    ≡ Some key → CommitFaults r shown x before (View key)
 differs r shown x reply before after key replied next first = record {
   reply = reply;
   returned = replied;
-  fault = ap (λ o. elim o as (λ _. Option Why) [ None ↦ Some (Reply reply) | Some s ↦ option_map View (first_difference shown (r.shown s)) ]) next
+  fault = ap (λ o. elim o as (λ _. Option Why) [
+    | None ↦ Some (Reply reply)
+    | Some s ↦ option_map
+        View (first_difference shown (r.shown s))
+  ]) next
       ∙ ap (option_map View) first;
 }

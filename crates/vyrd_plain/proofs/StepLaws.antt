@@ -1,5 +1,7 @@
 -- What a judge that tracks a front up to a place may do with the entry there.
-use Rattle.std.proofs.Common.{◌≡◌, ℕ, zero, suc, ◌+◌, ◌<◌, ◌≤◌, true, List, [], ◌∷◌, length, take, drop, get_or, replicate, Option, Some, None, slice_get, refl, ap, subst, ◌∙◌, sym, arith, drop-cons}
+use Rattle.std.proofs.Common.{◌≡◌, ℕ, zero, suc, ◌+◌, ◌<◌, ◌≤◌, true, List, [], ◌∷◌, length, take}
+use Rattle.std.proofs.Common.{drop, get_or, replicate, Option, Some, None, slice_get, refl, ap}
+use Rattle.std.proofs.Common.{subst, ◌∙◌, sym, arith, drop-cons}
 use Rattle.std.proofs.lemmas.List.{length-take}
 use Rattle.std.proofs.Math.ListN.{drop_of_length-le}
 use Rattle.std.proofs.lemmas.Option.{slice_get_within, get_or_from_slice_get}
@@ -42,74 +44,100 @@ use Rattle.vyrd_base.specs.Starts.{state_at_start}
 -- a caller that is in an execution
 pub running_at : (r : Rules) (states : List State) (earlier later : List Entry) (state : State)
     (executions : List (Option Execution)) (c : ℕ) (called : Called)
-    → Tracks r states earlier later state executions → c < r.header.callers → open_call c earlier ≡ Some called
-    → (x : Execution) × (slice_get executions c ≡ Some (Some x)) × IsExecution r states c earlier later x
-running_at r states earlier later state executions c called s within runs = let kept = s.open_calls c within in by_option kept.0 kept.1 kept.2
+    → Tracks r states earlier later state executions → c < r.header.callers → open_call c earlier
+    ≡ Some called
+    → (x : Execution) × (slice_get executions c ≡ Some (Some x))
+    × IsExecution r states c earlier later x
+running_at r states earlier later state executions c called s within runs = let kept =
+    s.open_calls c within in by_option kept.0 kept.1 kept.2
   where
-    by_option : (o : Option Execution) → slice_get executions c ≡ Some o → IsOpen r states c earlier later o
-        → (x : Execution) × (slice_get executions c ≡ Some (Some x)) × IsExecution r states c earlier later x
+    by_option : (o : Option Execution) → slice_get executions c ≡ Some o
+        → IsOpen r states c earlier later o
+        → (x : Execution) × (slice_get executions c ≡ Some (Some x))
+        × IsExecution r states c earlier later x
     by_option None at is = cc
     by_option (Some x) at is = (x, at, is)
 
 -- every kept execution's method is the header's
-pub allowed_all : (r : Rules) (states : List State) (earlier later : List Entry) (state : State) (executions : List (Option Execution))
+pub allowed_all : (r : Rules) (states : List State) (earlier later : List Entry) (state : State)
+    (executions : List (Option Execution))
     → Tracks r states earlier later state executions → AreAllowed r.header executions
-allowed_all r states earlier later state executions s c x within is = let kept = s.open_calls c within in by_option kept.0 kept.1 kept.2
+allowed_all r states earlier later state executions s c x within is = let kept =
+    s.open_calls c within in by_option kept.0 kept.1 kept.2
   where
-    by_option : (o : Option Execution) → slice_get executions c ≡ Some o → IsOpen r states c earlier later o → has_method r.header x.method x.args ≡ true
+    by_option : (o : Option Execution) → slice_get executions c ≡ Some o
+        → IsOpen r states c earlier later o → has_method r.header x.method x.args ≡ true
     by_option None at open_none = cc
-    by_option (Some y) at execution = let same : y ≡ x = cc in subst (λ z. has_method r.header z.method z.args ≡ true) same execution.allowed
+    by_option (Some y) at execution = let same : y ≡ x = cc in
+        subst (λ z. has_method r.header z.method z.args ≡ true) same execution.allowed
 
 -- what the judge knows of the entry at a place of a front that keeps all rules
-pub record IsAt (r : Rules) (front : List Entry) (at : ℕ) (e : Entry) (state : State) (executions : List (Option Execution)) : Type 0 where
-  pub tracks : Tracks r (states_along r [] front) (newest_first (take at front)) (e ∷ drop (at + 1) front) state executions
+pub record IsAt (r : Rules) (front : List Entry) (at : ℕ) (e : Entry) (state : State)
+    (executions : List (Option Execution)) : Type 0 where
+  pub tracks : Tracks r (states_along r [] front) (newest_first (take at front))
+      (e ∷ drop (at + 1) front) state executions
   pub kept : broken_rule r.header (newest_first (take at front)) e ≡ None
   pub within : e.caller < r.header.callers
   pub next : newest_first (take (at + 1) front) ≡ e ∷ newest_first (take at front)
 
-is_at : (r : Rules) (front : List Entry) (at : ℕ) (e : Entry) (state : State) (executions : List (Option Execution))
+is_at : (r : Rules) (front : List Entry) (at : ℕ) (e : Entry) (state : State)
+    (executions : List (Option Execution))
     → slice_get front at ≡ Some e → first_break r.header front ≡ None
-    → Tracks r (states_along r [] front) (newest_first (take at front)) (drop at front) state executions → IsAt r front at e state executions
+    → Tracks r (states_along r [] front) (newest_first (take at front)) (drop at front) state
+    executions → IsAt r front at e state executions
 is_at r front at e state executions here kept s =
     let within = slice_get_within front at e here in
     let same : get_or front at e ≡ e = get_or_from_slice_get front at e e here in
     let more : suc at ≡ at + 1 = omega arith in
-    let rules : broken_rule r.header (newest_first (take at front)) e ≡ None = rules_at r.header front at e here kept in
+    let rules : broken_rule r.header (newest_first (take at front)) e
+    ≡ None = rules_at r.header front at e here kept in
     record {
-      tracks = subst (λ later. Tracks r (states_along r [] front) (newest_first (take at front)) later state executions)
-          (drop-cons front at e within ∙ ap (λ x. x ∷ drop (suc at) front) same ∙ ap (λ n. e ∷ drop n front) more) s;
+      tracks = subst
+          (λ later. Tracks r (states_along r [] front) (newest_first (take at front)) later state
+          executions)
+          (drop-cons front at e within ∙ ap (λ x. x ∷ drop (suc at) front) same
+          ∙ ap (λ n. e ∷ drop n front) more) s;
       kept = rules;
       within = caller_kept r.header (newest_first (take at front)) e rules;
       next = newest_next front at e within ∙ ap (λ x. x ∷ newest_first (take at front)) same;
     }
 
 -- the same for an entry that was read and whose kind is known
-pub known_at : {r : Rules} {front : List Entry} {at : ℕ} {val : Entry} {kind : Kind} {state : State} {executions : List (Option Execution)}
+pub known_at : {r : Rules} {front : List Entry} {at : ℕ} {val : Entry} {kind : Kind} {state : State}
+    {executions : List (Option Execution)}
     → slice_get front at ≡ Some val → val.kind ≡ kind → first_break r.header front ≡ None
-    → Tracks r (states_along r [] front) (newest_first (take at front)) (drop at front) state executions
+    → Tracks r (states_along r [] front) (newest_first (take at front)) (drop at front) state
+    executions
     → IsAt r front at (entry val.caller kind) state executions
 known_at {r} {front} {at} {val} {kind} {state} {executions} here named kept s =
-    is_at r front at (entry val.caller kind) state executions (here ∙ ap (λ k. Some (entry val.caller k)) named) kept s
+    is_at r front at (entry val.caller kind) state executions
+    (here ∙ ap (λ k. Some (entry val.caller k)) named) kept s
 
 -- the entry that was read is every entry at its place
-pub same_entry : {o : Option Entry} {r e : Entry} {kind : Kind} → o ≡ Some r → r.kind ≡ kind → o ≡ Some e → entry r.caller kind ≡ e
+pub same_entry : {o : Option Entry} {r e : Entry} {kind : Kind} → o ≡ Some r → r.kind ≡ kind
+    → o ≡ Some e → entry r.caller kind ≡ e
 same_entry {o} {r} {e} {kind} is_r named is_e =
     let read : entry r.caller kind ≡ r = ap (entry r.caller) (sym named) in
     let same : r ≡ e = cc in
     read ∙ same
 
 -- the execution of the entry's caller, if it is in one
-pub running : {r : Rules} {front : List Entry} {at : ℕ} {e : Entry} {state : State} {executions : List (Option Execution)} {called : Called}
-    → IsAt r front at e state executions → open_call e.caller (newest_first (take at front)) ≡ Some called
+pub running : {r : Rules} {front : List Entry} {at : ℕ} {e : Entry} {state : State}
+    {executions : List (Option Execution)} {called : Called}
+    → IsAt r front at e state executions → open_call e.caller (newest_first (take at front))
+    ≡ Some called
     → (x : Execution) × (slice_get executions e.caller ≡ Some (Some x))
-    × IsExecution r (states_along r [] front) e.caller (newest_first (take at front)) (e ∷ drop (at + 1) front) x
+    × IsExecution r (states_along r [] front) e.caller (newest_first (take at front))
+    (e ∷ drop (at + 1) front) x
 running {r} {front} {at} {e} {state} {executions} {called} here is =
     running_at r (states_along r [] front) (newest_first (take at front))
     (e ∷ drop (at + 1) front) state executions e.caller called here.tracks here.within is
 
 -- an execution of the caller is what was called
-pub called_is : {r : Rules} {front : List Entry} {at : ℕ} {e : Entry} {state : State} {executions : List (Option Execution)} {called : Called}
-    → IsAt r front at e state executions → open_call e.caller (newest_first (take at front)) ≡ Some called
+pub called_is : {r : Rules} {front : List Entry} {at : ℕ} {e : Entry} {state : State}
+    {executions : List (Option Execution)} {called : Called}
+    → IsAt r front at e state executions → open_call e.caller (newest_first (take at front))
+    ≡ Some called
     → (x : Execution) → slice_get executions e.caller ≡ Some (Some x) → x.method ≡ called.method
 called_is {called = called} here is x at =
     let kept = running here is in
@@ -121,68 +149,99 @@ called_is {called = called} here is x at =
     called_of y = record { method = y.method; args = y.args }
 
 -- what the entry at a place of a front leads to
-pub record Leads (r : Rules) (front : List Entry) (at : ℕ) (e : Entry) (state : State) (executions : List (Option Execution))
+pub record Leads (r : Rules) (front : List Entry) (at : ℕ) (e : Entry) (state : State)
+    (executions : List (Option Execution))
     (o : Outcome) : Type 0 where
-  pub to : PlaceGives r [] (states_along r [] front) (place_of e (newest_first (take at front)) (drop (at + 1) front)) state executions o
+  pub to : PlaceGives r [] (states_along r [] front)
+      (place_of e (newest_first (take at front)) (drop (at + 1) front)) state executions o
 
 -- the same by other names of what is kept and of the outcome
-pub leads_as : {r : Rules} {front : List Entry} {at : ℕ} {e : Entry} {s s' : State} {xs xs' : List (Option Execution)} {o o' : Outcome}
+pub leads_as : {r : Rules} {front : List Entry} {at : ℕ} {e : Entry} {s s' : State}
+    {xs xs' : List (Option Execution)} {o o' : Outcome}
     → s' ≡ s → xs' ≡ xs → o' ≡ o → Leads r front at e s xs o → Leads r front at e s' xs' o'
-leads_as {r} {front} {at} {e} {s} {s'} {xs} {xs'} {o} {o'} same_state same_executions same_outcome leads =
+leads_as {r} {front} {at} {e} {s} {s'} {xs} {xs'} {o} {o'} same_state same_executions same_outcome
+    leads =
     subst (λ t. Leads r front at e t xs' o') (sym same_state)
-    (subst (λ ys. Leads r front at e s ys o') (sym same_executions) (subst (Leads r front at e s xs) (sym same_outcome) leads))
+    (subst (λ ys. Leads r front at e s ys o') (sym same_executions)
+    (subst (Leads r front at e s xs) (sym same_outcome) leads))
 
 -- the same for another name of the entry
-pub leads_for : {r : Rules} {front : List Entry} {at : ℕ} {d e : Entry} {s : State} {xs : List (Option Execution)} {o : Outcome}
+pub leads_for : {r : Rules} {front : List Entry} {at : ℕ} {d e : Entry} {s : State}
+    {xs : List (Option Execution)} {o : Outcome}
     → d ≡ e → Leads r front at d s xs o → Leads r front at e s xs o
-leads_for {r} {front} {at} {d} {e} {s} {xs} {o} same leads = subst (λ x. Leads r front at x s xs o) same leads
+leads_for {r} {front} {at} {d} {e} {s} {xs} {o} same leads = subst (λ x. Leads r front at x s xs o)
+    same leads
 
 -- What the rules of shape say at each kind of entry.
-pub call_allowed : {r : Rules} {front : List Entry} {at c : ℕ} {method : Method} {args : Args} {state : State} {executions : List (Option Execution)}
-    → IsAt r front at (entry c (Call method args)) state executions → has_method r.header method args ≡ true
-call_allowed {r} {front} {at} {c} {method} {args} here = call_kept r.header c method args (newest_first (take at front)) here.kept
+pub call_allowed : {r : Rules} {front : List Entry} {at c : ℕ} {method : Method} {args : Args}
+    {state : State} {executions : List (Option Execution)}
+    → IsAt r front at (entry c (Call method args)) state executions
+    → has_method r.header method args ≡ true
+call_allowed {r} {front} {at} {c} {method} {args} here = call_kept r.header c method args
+    (newest_first (take at front)) here.kept
 
-pub return_called : {r : Rules} {front : List Entry} {at c reply : ℕ} {state : State} {executions : List (Option Execution)}
-    → IsAt r front at (entry c (Return reply)) state executions → (called : Called) × (open_call c (newest_first (take at front)) ≡ Some called)
-return_called {r} {front} {at} {c} {reply} here = return_kept r.header c reply (newest_first (take at front)) here.kept
+pub return_called : {r : Rules} {front : List Entry} {at c reply : ℕ} {state : State}
+    {executions : List (Option Execution)}
+    → IsAt r front at (entry c (Return reply)) state executions → (called : Called)
+    × (open_call c (newest_first (take at front)) ≡ Some called)
+return_called {r} {front} {at} {c} {reply} here = return_kept r.header c reply
+    (newest_first (take at front)) here.kept
 
 -- the first fault of a front from a place on
 abbrev pub fault_from : Rules → List Entry → ℕ → Option Verdict
-fault_from r front at = first_answer (violation_at r [] (states_along r [] front)) (places_after (newest_first (take at front)) (drop at front))
+fault_from r front at = first_answer (violation_at r [] (states_along r [] front))
+    (places_after (newest_first (take at front)) (drop at front))
 
-pub fault_from_start : (r : Rules) (front : List Entry) → first_fault r [] front ≡ fault_from r front 0
+pub fault_from_start : (r : Rules) (front : List Entry) → first_fault r [] front
+    ≡ fault_from r front 0
 unfolding first_fault
 fault_from_start r front = refl
 
 -- how a place comes before those after it
-fault_here : (r : Rules) (front : List Entry) (at : ℕ) (e : Entry) (o : Option Why) → slice_get front at ≡ Some e
-    → fault_at r [] (states_along r [] front) (place_of e (newest_first (take at front)) (drop (at + 1) front)) ≡ o
-    → fault_from r front at ≡ option_or (option_map (Violation (line_of [] (length (newest_first (take at front))))) o) (fault_from r front (at + 1))
+fault_here : (r : Rules) (front : List Entry) (at : ℕ) (e : Entry) (o : Option Why)
+    → slice_get front at ≡ Some e
+    → fault_at r [] (states_along r [] front)
+    (place_of e (newest_first (take at front)) (drop (at + 1) front)) ≡ o
+    → fault_from r front at
+    ≡ option_or (option_map (Violation (line_of [] (length (newest_first (take at front))))) o)
+    (fault_from r front (at + 1))
 fault_here r front at e o here fault =
     let within = slice_get_within front at e here in
     let same : get_or front at e ≡ e = get_or_from_slice_get front at e e here in
     let more : suc at ≡ at + 1 = omega arith in
-    let next : newest_first (take (at + 1) front) ≡ e ∷ newest_first (take at front) = newest_next front at e within
+    let next : newest_first (take (at + 1) front) ≡ e ∷ newest_first (take at front) =
+    newest_next front at e within
     ∙ ap (λ x. x ∷ newest_first (take at front)) same in
-    ap (λ later. first_answer (violation_at r [] (states_along r [] front)) (places_after (newest_first (take at front)) later))
-    (drop-cons front at e within ∙ ap (λ x. x ∷ drop (suc at) front) same ∙ ap (λ n. e ∷ drop n front) more)
-    ∙ ap (λ p. option_or (option_map (Violation (line_of [] (length (newest_first (take at front))))) p)
-    (first_answer (violation_at r [] (states_along r [] front)) (places_after (e ∷ newest_first (take at front)) (drop (at + 1) front)))) fault
-    ∙ ap (λ es. option_or (option_map (Violation (line_of [] (length (newest_first (take at front))))) o)
-    (first_answer (violation_at r [] (states_along r [] front)) (places_after es (drop (at + 1) front)))) (sym next)
+    ap (λ later. first_answer (violation_at r [] (states_along r [] front))
+    (places_after (newest_first (take at front)) later))
+    (drop-cons front at e within ∙ ap (λ x. x ∷ drop (suc at) front) same
+    ∙ ap (λ n. e ∷ drop n front) more)
+    ∙ ap (λ p. option_or
+    (option_map (Violation (line_of [] (length (newest_first (take at front))))) p)
+    (first_answer (violation_at r [] (states_along r [] front))
+    (places_after (e ∷ newest_first (take at front)) (drop (at + 1) front)))) fault
+    ∙ ap (λ es. option_or
+    (option_map (Violation (line_of [] (length (newest_first (take at front))))) o)
+    (first_answer (violation_at r [] (states_along r [] front))
+    (places_after es (drop (at + 1) front)))) (sym next)
 
 -- a place that isn't a fault leads on to those after it
 pub fault_goes : (r : Rules) (front : List Entry) (at : ℕ) (e : Entry) → slice_get front at ≡ Some e
-    → fault_at r [] (states_along r [] front) (place_of e (newest_first (take at front)) (drop (at + 1) front)) ≡ None
+    → fault_at r [] (states_along r [] front)
+    (place_of e (newest_first (take at front)) (drop (at + 1) front)) ≡ None
     → fault_from r front at ≡ fault_from r front (at + 1)
 fault_goes r front at e here fault = fault_here r front at e None here fault
 
-length_taken : (front : List Entry) (at : ℕ) → at ≤ length front → length (newest_first (take at front)) ≡ at
-length_taken front at within = length-newest_first (take at front) ∙ omega (arith, length-take at front)
+length_taken : (front : List Entry) (at : ℕ) → at ≤ length front
+    → length (newest_first (take at front)) ≡ at
+length_taken front at within = length-newest_first (take at front)
+    ∙ omega (arith, length-take at front)
 
 -- a place that is a fault
-pub fault_found : (r : Rules) (front : List Entry) (at : ℕ) (e : Entry) (why : Why) → slice_get front at ≡ Some e
-    → fault_at r [] (states_along r [] front) (place_of e (newest_first (take at front)) (drop (at + 1) front)) ≡ Some why
+pub fault_found : (r : Rules) (front : List Entry) (at : ℕ) (e : Entry) (why : Why)
+    → slice_get front at ≡ Some e
+    → fault_at r [] (states_along r [] front)
+    (place_of e (newest_first (take at front)) (drop (at + 1) front)) ≡ Some why
     → fault_from r front at ≡ Some (Violation (at + 2) why)
 fault_found r front at e why here fault =
     let within = slice_get_within front at e here in
@@ -192,35 +251,44 @@ fault_found r front at e why here fault =
 
 -- if no later state is known, nothing later is a fault
 pub fault_ends : (r : Rules) (front : List Entry) (at : ℕ) (e : Entry) → slice_get front at ≡ Some e
-    → fault_at r [] (states_along r [] front) (place_of e (newest_first (take at front)) (drop (at + 1) front)) ≡ None
-    → length (states_along r [] front) ≤ commit_count (e ∷ newest_first (take at front)) → fault_from r front at ≡ None
+    → fault_at r [] (states_along r [] front)
+    (place_of e (newest_first (take at front)) (drop (at + 1) front)) ≡ None
+    → length (states_along r [] front) ≤ commit_count (e ∷ newest_first (take at front))
+    → fault_from r front at ≡ None
 fault_ends r front at e here fault short =
     let within = slice_get_within front at e here in
     let same : get_or front at e ≡ e = get_or_from_slice_get front at e e here in
-    let next : e ∷ newest_first (take at front) ≡ newest_first (take (at + 1) front) = sym (newest_next front at e within
+    let next : e ∷ newest_first (take at front) ≡ newest_first (take (at + 1) front) =
+    sym (newest_next front at e within
     ∙ ap (λ x. x ∷ newest_first (take at front)) same) in
     fault_goes r front at e here fault
-    ∙ no_fault_beyond r [] (states_along r [] front) (newest_first (take (at + 1) front)) (drop (at + 1) front)
+    ∙ no_fault_beyond r [] (states_along r [] front) (newest_first (take (at + 1) front))
+    (drop (at + 1) front)
     (subst (λ es. length (states_along r [] front) ≤ commit_count es) next short)
 
 -- past the last place there is none
-pub fault_past : (r : Rules) (front : List Entry) (at : ℕ) → length front ≤ at → fault_from r front at ≡ None
+pub fault_past : (r : Rules) (front : List Entry) (at : ℕ) → length front ≤ at
+    → fault_from r front at ≡ None
 fault_past r front at past = ap (λ later. first_answer (violation_at r [] (states_along r [] front))
     (places_after (newest_first (take at front)) later)) (drop_of_length-le front past)
 
 -- before the first place nothing has begun
-pub tracks_first : (r : Rules) (front : List Entry) (state : State) (executions : List (Option Execution)) → state_at_start r [] ≡ Some state
-    → executions ≡ replicate r.header.callers None → Tracks r (states_along r [] front) [] front state executions
+pub tracks_first : (r : Rules) (front : List Entry) (state : State)
+    (executions : List (Option Execution)) → state_at_start r [] ≡ Some state
+    → executions ≡ replicate r.header.callers None → Tracks r (states_along r [] front)
+    [] front state executions
 unfolding commits
 tracks_first r front state executions begins empty =
-    let at_start : Tracks r (states_along r [] front) [] front state (replicate r.header.callers None) = record {
+    let at_start : Tracks r (states_along r [] front) [] front state
+    (replicate r.header.callers None) = record {
       going = ap (λ o. states_of r o front) begins;
       open_calls = λ c within. (None, none_there r.header.callers c within, refl);
     } in
     subst (Tracks r (states_along r [] front) [] front state) (sym empty) at_start
 
 -- an entry at each place
-pub some_at : (front : List Entry) (at : ℕ) → at < length front → (e : Entry) × (slice_get front at ≡ Some e)
+pub some_at : (front : List Entry) (at : ℕ) → at < length front → (e : Entry)
+    × (slice_get front at ≡ Some e)
 some_at [] at within = absurd (omega arith)
 some_at (x ∷ xs) zero within = (x, refl)
 some_at (x ∷ xs) (suc at) within = some_at xs at (omega arith)
@@ -233,7 +301,11 @@ next_is front at e here =
     ∙ ap (λ x. x ∷ newest_first (take at front)) (get_or_from_slice_get front at e e here))
 
 -- what the entry leads to, by another name of the rules and of the outcome
-pub leads_at : {r q : Rules} {front : List Entry} {at : ℕ} {e : Entry} {s : State} {xs : List (Option Execution)} {o o' : Outcome} → q ≡ r → o ≡ o'
-    → PlaceGives q [] (states_along q [] front) (place_of e (newest_first (take at front)) (drop (at + 1) front)) s xs o → Leads r front at e s xs o'
+pub leads_at : {r q : Rules} {front : List Entry} {at : ℕ} {e : Entry} {s : State}
+    {xs : List (Option Execution)} {o o' : Outcome} → q ≡ r → o ≡ o'
+    → PlaceGives q [] (states_along q [] front)
+    (place_of e (newest_first (take at front)) (drop (at + 1) front)) s xs o
+    → Leads r front at e s xs o'
 leads_at {r} {q} {front} {at} {e} {s} {xs} {o} {o'} same_rules same_outcome gives =
-    subst (λ j. Leads j front at e s xs o') same_rules (subst (Leads q front at e s xs) same_outcome (record { to = gives }))
+    subst (λ j. Leads j front at e s xs o') same_rules
+    (subst (Leads q front at e s xs) same_outcome (record { to = gives }))

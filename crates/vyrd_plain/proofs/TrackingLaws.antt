@@ -1,5 +1,6 @@
 -- What tracks a front up to a place tracks it up to the next one, entry by entry.
-use Rattle.std.proofs.Common.{◌≡◌, ℕ, ◌+◌, true, false, cond, ◌&&◌, List, [], ◌∷◌, map, drop, set, Option, Some, None, slice_get, refl, ap, subst, ◌∙◌, sym}
+use Rattle.std.proofs.Common.{◌≡◌, ℕ, ◌+◌, true, false, cond, ◌&&◌, List, [], ◌∷◌, map, drop, set}
+use Rattle.std.proofs.Common.{Option, Some, None, slice_get, refl, ap, subst, ◌∙◌, sym}
 use Rattle.std.specs.Prelude.{◌==◌, option_map}
 use Rattle.std.specs.Option.{option_flatten}
 use Rattle.std.specs.List.{list_any}
@@ -10,9 +11,11 @@ use Rattle.vyrd_base.specs.declared.subject.Args.{Args}
 use Rattle.vyrd_base.specs.declared.log.Kind.{Kind}
 use Rattle.vyrd_base.specs.declared.log.Kind.TheVariants.{Call, Return}
 use Rattle.vyrd_base.specs.declared.log.Entry.{Entry}
-use Rattle.vyrd_base.specs.Callers.{Called, call_or_return, commit_or_call, is_call, entries_before_call}
+use Rattle.vyrd_base.specs.Callers.{Called, call_or_return, commit_or_call, is_call}
+use Rattle.vyrd_base.specs.Callers.{entries_before_call}
 use Rattle.vyrd_base.specs.States.{State}
-use Rattle.vyrd_base.specs.Commits.{is_commit, returned, next_reply, Committed, committed_at, commits_after, state_after, states_from, commit_count}
+use Rattle.vyrd_base.specs.Commits.{is_commit, returned, next_reply, Committed, committed_at}
+use Rattle.vyrd_base.specs.Commits.{commits_after, state_after, states_from, commit_count}
 use Rattle.vyrd_base.specs.Faults.{states_since_call}
 use Rattle.vyrd_base.proofs.BlockLaws.{entry, by_same, own_answer, open_call-quiet}
 use Rattle.vyrd_base.proofs.TestLaws.{same_number, apart_of}
@@ -21,48 +24,66 @@ use Rattle.vyrd_base.specs.Entries.{has_method}
 use Rattle.vyrd_plain.specs.Executions.{answers, seeing, with_commit, IsExecution, IsOpen}
 use Rattle.vyrd_plain.specs.Tracking.{Tracks}
 use Rattle.vyrd_base.proofs.ListLaws.{slice_get-set_same, slice_get-set_other}
-use Rattle.vyrd_base.proofs.StateLaws.{state_here, going-quiet, going-commit, open_call-other, next_reply-other, before_call-other, next_reply-quiet, before_call-quiet, count-commit, window-quiet, window-commit, window-call}
+use Rattle.vyrd_base.proofs.StateLaws.{state_here, going-quiet, going-commit, open_call-other}
+use Rattle.vyrd_base.proofs.StateLaws.{next_reply-other, before_call-other, next_reply-quiet}
+use Rattle.vyrd_base.proofs.StateLaws.{before_call-quiet, count-commit, window-quiet, window-commit}
+use Rattle.vyrd_base.proofs.StateLaws.{window-call}
 use Rattle.vyrd_base.proofs.CommittedLaws.{committed-other, committed-quiet, committed-own}
 use Rattle.vyrd_plain.proofs.ExecutionLaws.{execution_stays, execution_sees, execution_commits}
 use Rattle.vyrd_base.specs.Rules.{Rules}
 
 -- an entry inside its caller's execution that isn't its commit
-pub tracks_inside : (r : Rules) (states : List State) (c : ℕ) (kind : Kind) (earlier later : List Entry) (state : State)
+pub tracks_inside : (r : Rules) (states : List State) (c : ℕ) (kind : Kind)
+    (earlier later : List Entry) (state : State)
     (executions : List (Option Execution))
-    → call_or_return kind ≡ None → returned kind ≡ None → is_call kind ≡ false → is_commit kind ≡ false
+    → call_or_return kind ≡ None → returned kind ≡ None → is_call kind ≡ false → is_commit kind
+    ≡ false
     → commit_or_call kind ≡ None
-    → Tracks r states earlier (entry c kind ∷ later) state executions → Tracks r states (entry c kind ∷ earlier) later state executions
-tracks_inside r states c kind earlier later state executions inside unreturned uncalled quiet uncommitted s = record {
-  going = going-quiet r states (entry c kind) earlier later state quiet s.going;
-  open_calls = λ d within. let o = s.open_calls d within in (
-    o.0,
-    o.1,
-    execution_stays r states d (entry c kind) earlier later o.0 (open_call-quiet d c kind earlier inside) (next_reply-quiet d c kind later unreturned)
-        (committed-quiet d c kind earlier uncommitted)
-        (window-quiet states d (entry c kind) earlier quiet (before_call-quiet d c kind earlier uncalled)) o.2,
-  );
-}
+    → Tracks r states earlier (entry c kind ∷ later) state executions
+    → Tracks r states (entry c kind ∷ earlier) later state executions
+tracks_inside r states c kind earlier later state executions inside unreturned uncalled quiet
+    uncommitted s = record {
+      going = going-quiet r states (entry c kind) earlier later state quiet s.going;
+      open_calls = λ d within. let o = s.open_calls d within in (
+        o.0,
+        o.1,
+        execution_stays r states d (entry c kind) earlier later o.0
+            (open_call-quiet d c kind earlier inside) (next_reply-quiet d c kind later unreturned)
+            (committed-quiet d c kind earlier uncommitted)
+            (window-quiet states d (entry c kind) earlier quiet
+            (before_call-quiet d c kind earlier uncalled)) o.2,
+      );
+    }
 
 -- another caller's execution, beside an entry that isn't a commit
-beside : (r : Rules) (states : List State) (c d : ℕ) (kind : Kind) (earlier later : List Entry) (o : Option Execution)
+beside : (r : Rules) (states : List State) (c d : ℕ) (kind : Kind) (earlier later : List Entry)
+    (o : Option Execution)
     → (c == d) ≡ false → is_commit kind ≡ false → IsOpen r states d earlier (entry c kind ∷ later) o
     → IsOpen r states d (entry c kind ∷ earlier) later o
 beside r states c d kind earlier later o other quiet is =
-    execution_stays r states d (entry c kind) earlier later o (open_call-other d c kind earlier other) (next_reply-other d c kind later other)
+    execution_stays r states d (entry c kind) earlier later o
+    (open_call-other d c kind earlier other) (next_reply-other d c kind later other)
     (committed-other d c kind earlier other)
-    (window-quiet states d (entry c kind) earlier quiet (before_call-other d c kind earlier other)) is
+    (window-quiet states d (entry c kind) earlier quiet (before_call-other d c kind earlier other))
+    is
 
 -- the caller's execution alone is another one after its call or return
-tracks_changed : (r : Rules) (states : List State) (c : ℕ) (kind : Kind) (earlier later : List Entry) (state : State)
+tracks_changed : (r : Rules) (states : List State) (c : ℕ) (kind : Kind)
+    (earlier later : List Entry) (state : State)
     (executions : List (Option Execution)) (o : Option Execution)
     → is_commit kind ≡ false → IsOpen r states c (entry c kind ∷ earlier) later o
-    → Tracks r states earlier (entry c kind ∷ later) state executions → Tracks r states (entry c kind ∷ earlier) later state (set executions c o)
+    → Tracks r states earlier (entry c kind ∷ later) state executions
+    → Tracks r states (entry c kind ∷ earlier) later state (set executions c o)
 tracks_changed r states c kind earlier later state executions o quiet own s = record {
   going = going-quiet r states (entry c kind) earlier later state quiet s.going;
   open_calls = λ d within. let old = s.open_calls d within in by_same c d
       (λ same. subst (λ k. (n : Option Execution) × (slice_get (set executions c o) k ≡ Some n)
-      × IsOpen r states k (entry c kind ∷ earlier) later n) same
-      (o, slice_get-set_same executions c o (slice_get_within executions c old.0 (ap (slice_get executions) same ∙ old.1)), own))
+      × IsOpen r states k (entry c kind ∷ earlier) later n) same (
+        o,
+        slice_get-set_same executions c o
+            (slice_get_within executions c old.0 (ap (slice_get executions) same ∙ old.1)),
+        own,
+      ))
       (λ other. (
         old.0,
         slice_get-set_other executions c d o (apart_of c d other) ∙ old.1,
@@ -71,24 +92,29 @@ tracks_changed r states c kind earlier later state executions o quiet own s = re
 }
 
 -- a call begins an execution, which sees the state there
-pub tracks_call : (r : Rules) (states : List State) (c : ℕ) (method : Method) (args : Args) (earlier later : List Entry) (state : State)
+pub tracks_call : (r : Rules) (states : List State) (c : ℕ) (method : Method) (args : Args)
+    (earlier later : List Entry) (state : State)
     (executions : List (Option Execution)) (x : Execution)
-    → x.method ≡ method → x.args ≡ args → x.reply ≡ next_reply c later → x.has_committed ≡ false → x.is_answered ≡ answers r x state
+    → x.method ≡ method → x.args ≡ args → x.reply ≡ next_reply c later → x.has_committed ≡ false
+    → x.is_answered ≡ answers r x state
     → has_method r.header method args ≡ true
     → Tracks r states earlier (entry c (Call method args) ∷ later) state executions
     → Tracks r states (entry c (Call method args) ∷ earlier) later state (set executions c (Some x))
-tracks_call r states c method args earlier later state executions x has_its_method has_its_args reply uncommitted answered allowed s =
+tracks_call r states c method args earlier later state executions x has_its_method has_its_args
+    reply uncommitted answered allowed s =
     tracks_changed r states c (Call method args) earlier later state executions (Some x) refl own s
   where
     e : Entry
     e = entry c (Call method args)
 
     window : states_since_call states c (e ∷ earlier) ≡ state ∷ []
-    window = window-call states c e earlier state (drop 1 (states_from r state (commits_after earlier (e ∷ later)))) refl
+    window = window-call states c e earlier state
+        (drop 1 (states_from r state (commits_after earlier (e ∷ later)))) refl
         (ap (λ b. cond (b && true) earlier (entries_before_call c earlier)) (same_number c))
         (s.going ∙ first_of (commits_after earlier (e ∷ later)))
       where
-        first_of : (xs : List Committed) → states_from r state xs ≡ state ∷ drop 1 (states_from r state xs)
+        first_of : (xs : List Committed) → states_from r state xs ≡ state
+            ∷ drop 1 (states_from r state xs)
         first_of [] = refl
         first_of (y ∷ ys) = refl
 
@@ -97,17 +123,20 @@ tracks_call r states c method args earlier later state executions x has_its_meth
       called = ap option_flatten_of (own_answer c call_or_return (Call method args) earlier)
           ∙ ap (λ m. Some (record { method = m; args = args })) (sym has_its_method)
           ∙ ap (λ a. Some (record { method = x.method; args = a })) (sym has_its_args);
-      allowed = ap (λ m. has_method r.header m x.args) has_its_method ∙ ap (has_method r.header method) has_its_args ∙ allowed;
+      allowed = ap (λ m. has_method r.header m x.args) has_its_method
+          ∙ ap (has_method r.header method) has_its_args ∙ allowed;
       reply = reply;
       committed = uncommitted ∙ sym (committed-own c (Call method args) earlier false refl);
-      answered = answered ∙ sym (or-false (answers r x state)) ∙ ap (list_any (answers r x)) (sym window);
+      answered = answered ∙ sym (or-false (answers r x state)) ∙ ap (list_any (answers r x))
+          (sym window);
     }
       where
         option_flatten_of : Option (Option Called) → Option Called
         option_flatten_of o = option_flatten o
 
 -- a return ends one
-pub tracks_return : (r : Rules) (states : List State) (c reply : ℕ) (earlier later : List Entry) (state : State)
+pub tracks_return : (r : Rules) (states : List State) (c reply : ℕ) (earlier later : List Entry)
+    (state : State)
     (executions : List (Option Execution))
     → Tracks r states earlier (entry c (Return reply) ∷ later) state executions
     → Tracks r states (entry c (Return reply) ∷ earlier) later state (set executions c None)
@@ -119,38 +148,55 @@ tracks_return r states c reply earlier later state executions s =
     option_flatten_of o = option_flatten o
 
 -- a commit leads to the next state, which all executions see, and its own has committed
-pub tracks_commit : (r : Rules) (states : List State) (c : ℕ) (kind : Kind) (earlier later : List Entry) (state next : State)
+pub tracks_commit : (r : Rules) (states : List State) (c : ℕ) (kind : Kind)
+    (earlier later : List Entry) (state next : State)
     (executions : List (Option Execution)) (x : Execution)
-    → call_or_return kind ≡ None → returned kind ≡ None → is_call kind ≡ false → is_commit kind ≡ true → commit_or_call kind ≡ Some true
-    → state_after r state (committed_at (record { earlier = earlier; here = entry c kind; later = later })) ≡ Some next
+    → call_or_return kind ≡ None → returned kind ≡ None → is_call kind ≡ false → is_commit kind
+    ≡ true → commit_or_call kind ≡ Some true
+    → state_after r state
+    (committed_at (record { earlier = earlier; here = entry c kind; later = later })) ≡ Some next
     → IsExecution r states c earlier (entry c kind ∷ later) x
     → Tracks r states earlier (entry c kind ∷ later) state executions
-    → Tracks r states (entry c kind ∷ earlier) later next (map (seeing r next) (set executions c (Some (with_commit x))))
-tracks_commit r states c kind earlier later state next executions x inside unreturned uncalled commits committed after is s =
-    let going = going-commit r states (entry c kind) earlier later state next commits after s.going in
+    → Tracks r states (entry c kind ∷ earlier) later next
+    (map (seeing r next) (set executions c (Some (with_commit x))))
+tracks_commit r states c kind earlier later state next executions x inside unreturned uncalled
+    commits committed after is s =
+    let going = going-commit r states (entry c kind) earlier later state next commits after
+    s.going in
     let here : slice_get states (commit_count earlier + 1) ≡ Some next =
     ap (slice_get states) (sym (count-commit (entry c kind) earlier commits))
-    ∙ state_here r states (entry c kind ∷ earlier) next (commits_after (entry c kind ∷ earlier) later) going in
+    ∙ state_here r states (entry c kind ∷ earlier) next
+    (commits_after (entry c kind ∷ earlier) later) going in
     record {
       going = going;
       open_calls = λ d within. let o = s.open_calls d within in by_same c d
-          (λ same. subst (λ k. (n : Option Execution) × (slice_get (map (seeing r next) marked) k ≡ Some n)
+          (λ same. subst
+          (λ k. (n : Option Execution) × (slice_get (map (seeing r next) marked) k ≡ Some n)
           × IsOpen r states k (entry c kind ∷ earlier) later n) same (
             seeing r next (Some (with_commit x)),
             slice_get-map (seeing r next) marked c
-                ∙ ap (option_map (seeing r next)) (slice_get-set_same executions c (Some (with_commit x))
+                ∙ ap (option_map (seeing r next))
+                (slice_get-set_same executions c (Some (with_commit x))
                 (slice_get_within executions c o.0 (ap (slice_get executions) same ∙ o.1))),
-            execution_commits r states c (entry c kind) earlier later next x (open_call-quiet c c kind earlier inside)
-                (next_reply-quiet c c kind later unreturned) (committed-own c kind earlier true committed)
-                (window-commit states c (entry c kind) earlier next commits (before_call-quiet c c kind earlier uncalled) here) is,
+            execution_commits r states c (entry c kind) earlier later next x
+                (open_call-quiet c c kind earlier inside)
+                (next_reply-quiet c c kind later unreturned)
+                (committed-own c kind earlier true committed)
+                (window-commit states c (entry c kind) earlier next commits
+                (before_call-quiet c c kind earlier uncalled) here) is,
           ))
           (λ other. (
             seeing r next o.0,
             slice_get-map (seeing r next) marked d
-                ∙ ap (option_map (seeing r next)) (slice_get-set_other executions c d (Some (with_commit x)) (apart_of c d other) ∙ o.1),
-            execution_sees r states d (entry c kind) earlier later next o.0 (open_call-quiet d c kind earlier inside)
-                (next_reply-quiet d c kind later unreturned) (committed-other d c kind earlier other)
-                (window-commit states d (entry c kind) earlier next commits (before_call-quiet d c kind earlier uncalled) here) o.2,
+                ∙ ap (option_map (seeing r next))
+                (slice_get-set_other executions c d (Some (with_commit x)) (apart_of c d other)
+                ∙ o.1),
+            execution_sees r states d (entry c kind) earlier later next o.0
+                (open_call-quiet d c kind earlier inside)
+                (next_reply-quiet d c kind later unreturned)
+                (committed-other d c kind earlier other)
+                (window-commit states d (entry c kind) earlier next commits
+                (before_call-quiet d c kind earlier uncalled) here) o.2,
           ));
     }
   where

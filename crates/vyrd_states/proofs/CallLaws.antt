@@ -37,7 +37,8 @@ use Rattle.vyrd_states.proofs.KnownLaws.{later_is}
 -- an entry of the caller calls what may be called, or goes on with what may be
 still_allowed : (h : Header) (c : ℕ) (kind : Kind) (earlier : List Entry) (called : Called)
     → (open_call c earlier ≡ Some called → has_method h called.method called.args ≡ true)
-    → broken_rule h earlier (entry c kind) ≡ None → open_call c (entry c kind ∷ earlier) ≡ Some called
+    → broken_rule h earlier (entry c kind) ≡ None → open_call c (entry c kind ∷ earlier)
+    ≡ Some called
     → has_method h called.method called.args ≡ true
 still_allowed h c kind earlier called before kept is =
     by_kind kind kept (sym (ap option_flatten (own_answer c call_or_return kind earlier)) ∙ is)

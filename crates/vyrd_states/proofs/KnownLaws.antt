@@ -1,5 +1,6 @@
 -- The state at a place of a front, one entry more.
-use Rattle.std.proofs.Common.{◌≡◌, ℕ, zero, suc, ◌+◌, ◌-◌, ◌<◌, ◌≤◌, Bool, true, false, cond, List, []}
+use Rattle.std.proofs.Common.{◌≡◌, ℕ, zero, suc, ◌+◌, ◌-◌, ◌<◌, ◌≤◌, Bool, true, false, cond, List}
+use Rattle.std.proofs.Common.{[]}
 use Rattle.std.proofs.Common.{◌∷◌, length, take, drop, Option, Some, None, slice_get, refl}
 use Rattle.std.proofs.Common.{ap, subst, ◌∙◌, sym, arith, drop-cons}
 use Rattle.std.specs.Prelude.{option_and_then}

@@ -61,7 +61,8 @@ pub reply_allowed : (r : Rules) (called : Called) (o : Option State) (s : State)
     → before ≡ first ++ allowed_below r called o n → after ≡ before ++ Allowed n ∷ []
     → after ≡ first ++ allowed_below r called o (n + 1)
 reply_allowed r called o s n first before after b known is allowed so next =
-    next ∙ ap (λ xs. xs ++ Allowed n ∷ []) so ∙ append_assoc first (allowed_below r called o n) (Allowed n ∷ [])
+    next ∙ ap (λ xs. xs ++ Allowed n ∷ []) so ∙ append_assoc first (allowed_below r called o n)
+    (Allowed n ∷ [])
     ∙ ap (λ q. first ++ (allowed_below r called q n ++ Allowed n ∷ [])) known
     ∙ ap (λ t. first ++ (allowed_below r called (Some s) n ++ cond t (Allowed n ∷ []) []))
     (sym allowed ∙ is)

@@ -65,7 +65,8 @@ pub answers_end : (r : Rules) (starting : List StartWord) (front : List Entry) (
 answers_end r starting front called last n position at items all low within none so =
     sym (append-nil items)
     ∙ ap (λ xs. items ++ xs)
-    (sym (no_answers called.method (answer_after r starting front called) position (at - position) last silent))
+    (sym (no_answers called.method (answer_after r starting front called) position
+    (at - position) last silent))
     ∙ so
   where
     silent : (i : ℕ) → position ≤ i → i < position + (at - position)
@@ -76,7 +77,8 @@ answers_end r starting front called last n position at items all low within none
         (omega (arith, from, to, within)) none)
 
 -- a call stands before what follows it
-before_call : (c : ℕ) (earlier : List Entry) → length (entries_before_call c earlier) ≤ length earlier
+before_call : (c : ℕ) (earlier : List Entry) → length (entries_before_call c earlier)
+    ≤ length earlier
 before_call c [] = omega arith
 before_call c (e ∷ earlier) =
     by_call ((e.caller == c) && is_call e.kind) (before_call c earlier)

@@ -1,11 +1,14 @@
 -- What late writes cost over a whole log: the work that open blocks hold is a potential.
-use Rattle.std.proofs.Common.{◌≡◌, ◌≢◌, ℕ, zero, suc, ◌+◌, ◌*◌, ◌-◌, ◌<◌, ◌≤◌, List, [], ◌∷◌, ◌++◌, length, refl, ap, subst, ◌∙◌, sym, arith, Bool, true, false, cond, Option, None}
+use Rattle.std.proofs.Common.{◌≡◌, ◌≢◌, ℕ, zero, suc, ◌+◌, ◌*◌, ◌-◌, ◌<◌, ◌≤◌, List, [], ◌∷◌, ◌++◌}
+use Rattle.std.proofs.Common.{length, refl, ap, subst, ◌∙◌, sym, arith, Bool, true, false, cond}
+use Rattle.std.proofs.Common.{Option, None}
 use Rattle.std.specs.Prelude.{◌==◌, ◌||◌, unwrap_or}
 use Rattle.std.specs.Option.{option_or}
 use Rattle.std.specs.List.{sum_by, list_any}
 use Rattle.std.proofs.lemmas.List.Sums.{sum_by-cons}
 use Rattle.vyrd_base.specs.declared.log.Kind.{Kind}
-use Rattle.vyrd_base.specs.declared.log.Kind.TheVariants.{Call, Return, Write, Commit, BlockOpen, BlockClose, BlockCommit}
+use Rattle.vyrd_base.specs.declared.log.Kind.TheVariants.{Call, Return, Write, Commit, BlockOpen}
+use Rattle.vyrd_base.specs.declared.log.Kind.TheVariants.{BlockClose, BlockCommit}
 use Rattle.vyrd_base.specs.declared.log.Entry.{Entry}
 use Rattle.vyrd_base.specs.Callers.{has_block, by_caller, open_or_close}
 use Rattle.vyrd_base.specs.Commits.{is_commit, commit_count}
@@ -41,29 +44,39 @@ new_commit true commits = let one : 1 + commits - commits ≡ 1 = omega arith in
 
 -- a caller's part of what is held, after an entry of this caller or another
 by_same : (same : Bool) (kind : Kind) (commits n : ℕ) (answer : Option Bool) → n ≤ commits
-    → held_if (unwrap_or (option_or (cond same (open_or_close kind) None) answer) false) (cond same (number_at kind commits n) n)
+    → held_if (unwrap_or (option_or (cond same (open_or_close kind) None) answer) false)
+    (cond same (number_at kind commits n) n)
     (cond (is_commit kind) 1 0 + commits)
     ≤ held_if (unwrap_or answer false) n commits + 2
-by_same false kind commits n answer low = seen_by_other (unwrap_or answer false) (is_commit kind) commits n low
-by_same true (Call method args) commits n answer low = seen_by_other (unwrap_or answer false) false commits n low
-by_same true (Return reply) commits n answer low = seen_by_other (unwrap_or answer false) false commits n low
-by_same true (Write word value) commits n answer low = seen_by_other (unwrap_or answer false) false commits n low
+by_same false kind commits n answer low = seen_by_other (unwrap_or answer false)
+    (is_commit kind) commits n low
+by_same true (Call method args) commits n answer low = seen_by_other (unwrap_or answer false) false
+    commits n low
+by_same true (Return reply) commits n answer low = seen_by_other (unwrap_or answer false) false
+    commits n low
+by_same true (Write word value) commits n answer low = seen_by_other (unwrap_or answer false) false
+    commits n low
 by_same true Commit commits n answer low =
     let one = new_commit (unwrap_or answer false) commits in omega (arith, one)
 by_same true BlockOpen commits n answer low = omega arith
 by_same true BlockClose commits n answer low = omega arith
 by_same true BlockCommit commits n answer low = omega arith
 
-pub held_more : (c : ℕ) (e : Entry) (earlier : List Entry) → held (e ∷ earlier) c ≤ held earlier c + 2
+pub held_more : (c : ℕ) (e : Entry) (earlier : List Entry) → held (e ∷ earlier) c ≤ held earlier c
+    + 2
 held_more c e earlier =
-    let more = by_same (e.caller == c) e.kind (commit_count earlier) (inner_number c earlier) (first_answer (by_caller c open_or_close) earlier)
+    let more = by_same (e.caller == c) e.kind (commit_count earlier) (inner_number c earlier)
+    (first_answer (by_caller c open_or_close) earlier)
     (number_low c earlier) in
-    let same : held (e ∷ earlier) c ≡ held_if (has_block c (e ∷ earlier)) (inner_number c (e ∷ earlier)) (cond (is_commit e.kind) 1 0 + commit_count earlier) =
-    (λ j. held_if (has_block c (e ∷ earlier)) (inner_number c (e ∷ earlier)) (commit_count-cons e earlier j)) in
+    let same : held (e ∷ earlier) c ≡ held_if (has_block c (e ∷ earlier))
+    (inner_number c (e ∷ earlier)) (cond (is_commit e.kind) 1 0 + commit_count earlier) =
+    (λ j. held_if (has_block c (e ∷ earlier)) (inner_number c (e ∷ earlier))
+    (commit_count-cons e earlier j)) in
     omega (arith, same, more)
 
 -- sums over callers, each of which may have something more
-sum_more : (f g : ℕ → ℕ) (k : ℕ) (xs : List ℕ) → ((x : ℕ) → f x ≤ g x + k) → sum_by f xs ≤ sum_by g xs + sum_by (λ x. k) xs
+sum_more : (f g : ℕ → ℕ) (k : ℕ) (xs : List ℕ) → ((x : ℕ) → f x ≤ g x + k) → sum_by f xs
+    ≤ sum_by g xs + sum_by (λ x. k) xs
 sum_more f g k [] more = omega arith
 sum_more f g k (x ∷ xs) more =
     let rest = sum_more f g k xs more in
@@ -71,7 +84,8 @@ sum_more f g k (x ∷ xs) more =
     omega (arith, sum_by-cons f x xs, sum_by-cons g x xs, sum_by-cons (λ y. k) x xs, rest, here)
 
 -- and one of which has nothing any more
-sum_closed : (f g : ℕ → ℕ) (k c : ℕ) (xs : List ℕ) → list_any (λ x. x == c) xs ≡ true → f c ≡ 0 → ((x : ℕ) → f x ≤ g x + k)
+sum_closed : (f g : ℕ → ℕ) (k c : ℕ) (xs : List ℕ) → list_any (λ x. x == c) xs ≡ true → f c ≡ 0
+    → ((x : ℕ) → f x ≤ g x + k)
     → sum_by f xs + g c ≤ sum_by g xs + sum_by (λ x. k) xs
 sum_closed f g k c [] there none more = cc
 sum_closed f g k c (x ∷ xs) there none more =
@@ -85,7 +99,16 @@ sum_closed f g k c (x ∷ xs) there none more =
         let left = sum_more f g k xs more in
         let gone : f x ≡ 0 = ap f same ∙ none in
         let own = ap g same in
-        omega (arith, sum_by-cons f x xs, sum_by-cons g x xs, sum_by-cons (λ y. k) x xs, left, gone, own)
+        omega (
+          arith,
+          sum_by-cons f x xs,
+          sum_by-cons g x xs,
+          sum_by-cons
+              (λ y. k) x xs,
+          left,
+          gone,
+          own,
+        )
     by_test false is there rest =
         let left = rest there in
         let here = more x in
@@ -94,9 +117,11 @@ sum_closed f g k c (x ∷ xs) there none more =
 is_among_from : (k n c : ℕ) → k ≤ c → c < k + n → list_any (λ x. x == c) (numbers_from k n) ≡ true
 is_among_from k zero c low high = absurd (omega (arith, low, high))
 is_among_from k (suc n) c low high =
-    by_test (k == c) refl (λ apart. is_among_from (k + 1) n c (omega (arith, low, apart)) (omega (arith, high)))
+    by_test (k == c) refl (λ apart. is_among_from (k + 1) n c (omega (arith, low, apart))
+    (omega (arith, high)))
   where
-    by_test : (b : Bool) → (k == c) ≡ b → (k ≢ c → list_any (λ x. x == c) (numbers_from (k + 1) n) ≡ true)
+    by_test : (b : Bool) → (k == c) ≡ b
+        → (k ≢ c → list_any (λ x. x == c) (numbers_from (k + 1) n) ≡ true)
         → (b || list_any (λ x. x == c) (numbers_from (k + 1) n)) ≡ true
     by_test true is rest = refl
     by_test false is rest = rest (apart_of k c is)
@@ -105,25 +130,29 @@ is_among_from k (suc n) c low high =
 two_each : (k n : ℕ) → sum_by (λ c. 2) (numbers_from k n) ≡ 2 * n
 two_each k zero = refl
 two_each k (suc n) =
-    let rest = two_each (k + 1) n in omega (arith, sum_by-cons (λ c. 2) k (numbers_from (k + 1) n), rest)
+    let rest = two_each (k + 1) n in
+    omega (arith, sum_by-cons (λ c. 2) k (numbers_from (k + 1) n), rest)
 
 -- What an end of a block costs is what was held, and what is held grows by a commit alone.
 pub late_paid : (callers : ℕ) (e : Entry) (earlier : List Entry)
     → e.caller < callers → (e.kind ≡ BlockClose → has_block e.caller earlier ≡ true)
-    → 2 * parts_behind earlier e.caller e.kind + work_held callers (e ∷ earlier) ≤ work_held callers earlier + 2 * callers
+    → 2 * parts_behind earlier e.caller e.kind + work_held callers (e ∷ earlier)
+    ≤ work_held callers earlier + 2 * callers
 late_paid callers e earlier low opened = by_kind e.kind refl
   where
     more : (x : ℕ) → held (e ∷ earlier) x ≤ held earlier x + 2
     more x = held_more x e earlier
 
     quiet : parts_behind earlier e.caller e.kind ≡ 0
-        → 2 * parts_behind earlier e.caller e.kind + work_held callers (e ∷ earlier) ≤ work_held callers earlier + 2 * callers
+        → 2 * parts_behind earlier e.caller e.kind + work_held callers (e ∷ earlier)
+        ≤ work_held callers earlier + 2 * callers
     quiet none =
         let all = sum_more (held (e ∷ earlier)) (held earlier) 2 (numbers_below callers) more in
         omega (arith, all, two_each 0 callers, none)
 
     by_kind : (kind : Kind) → e.kind ≡ kind
-        → 2 * parts_behind earlier e.caller e.kind + work_held callers (e ∷ earlier) ≤ work_held callers earlier + 2 * callers
+        → 2 * parts_behind earlier e.caller e.kind + work_held callers (e ∷ earlier)
+        ≤ work_held callers earlier + 2 * callers
     by_kind (Call method args) at = quiet (ap (parts_behind earlier e.caller) at)
     by_kind (Return reply) at = quiet (ap (parts_behind earlier e.caller) at)
     by_kind (Write word value) at = quiet (ap (parts_behind earlier e.caller) at)
@@ -132,77 +161,101 @@ late_paid callers e earlier low opened = by_kind e.kind refl
     by_kind BlockCommit at = quiet (ap (parts_behind earlier e.caller) at)
     by_kind BlockClose at =
         let closed : has_block e.caller (e ∷ earlier) ≡ false =
-        (λ j. unwrap_or (option_or (cond (same_number e.caller j) (open_or_close (at j)) None) (first_answer (by_caller e.caller open_or_close) earlier)) false) in
+        (λ j. unwrap_or (option_or (cond (same_number e.caller j) (open_or_close (at j)) None)
+        (first_answer (by_caller e.caller open_or_close) earlier)) false) in
         let none : held (e ∷ earlier) e.caller ≡ 0 =
-        ap (λ b. held_if b (inner_number e.caller (e ∷ earlier)) (commit_count (e ∷ earlier))) closed in
+        ap (λ b. held_if b (inner_number e.caller (e ∷ earlier)) (commit_count (e ∷ earlier)))
+        closed in
         let there = is_among_from 0 callers e.caller (omega arith) (omega (arith, low)) in
-        let all = sum_closed (held (e ∷ earlier)) (held earlier) 2 e.caller (numbers_below callers) there none more in
-        let own : held earlier e.caller ≡ 2 * parts_since (commit_count earlier) (inner_number e.caller earlier) =
+        let all = sum_closed (held (e ∷ earlier)) (held earlier) 2 e.caller (numbers_below callers)
+        there none more in
+        let own : held earlier e.caller ≡ 2 * parts_since (commit_count earlier)
+        (inner_number e.caller earlier) =
         ap (λ b. held_if b (inner_number e.caller earlier) (commit_count earlier)) (opened at) in
         let here = ap (λ kind. parts_behind earlier e.caller kind) at in
         omega (arith, all, two_each 0 callers, own, here)
 
 -- the same, of what is kept before an entry
-pub paid_now : {v w : WordsView} (e : Entry) {kind : Kind} (earlier : List Entry) (writes : List (ℕ × ℕ)) (s0 s1 : ℕ)
-    → w ≡ v → e.kind ≡ kind → e.caller < w.shadow.header.callers → (kind ≡ BlockClose → has_block e.caller earlier ≡ true)
+pub paid_now : {v w : WordsView} (e : Entry) {kind : Kind} (earlier : List Entry)
+    (writes : List (ℕ × ℕ)) (s0 s1 : ℕ)
+    → w ≡ v → e.kind ≡ kind → e.caller < w.shadow.header.callers
+    → (kind ≡ BlockClose → has_block e.caller earlier ≡ true)
     → length writes ≡ effect_count w.shadow e.caller kind
     → s1 ≤ s0 + 4 * length writes + 2 * parts_behind earlier e.caller kind
     → s1 + work_held v.shadow.header.callers (e ∷ earlier)
-    ≤ s0 + work_held v.shadow.header.callers earlier + 4 * effect_count v.shadow e.caller e.kind + 2 * v.shadow.header.callers
+    ≤ s0 + work_held v.shadow.header.callers earlier + 4 * effect_count v.shadow e.caller e.kind + 2
+    * v.shadow.header.callers
 paid_now {v} {w} e {kind} earlier writes s0 s1 is at low opened count cost =
     subst (λ (x : WordsView). s1 + work_held x.shadow.header.callers (e ∷ earlier)
-    ≤ s0 + work_held x.shadow.header.callers earlier + 4 * effect_count x.shadow e.caller e.kind + 2 * x.shadow.header.callers) is
+    ≤ s0 + work_held x.shadow.header.callers earlier + 4 * effect_count x.shadow e.caller e.kind + 2
+    * x.shadow.header.callers) is
     (let n = w.shadow.header.callers in
-    let effects : length writes ≡ effect_count w.shadow e.caller e.kind = count ∙ ap (effect_count w.shadow e.caller) (sym at) in
+    let effects : length writes ≡ effect_count w.shadow e.caller e.kind = count
+    ∙ ap (effect_count w.shadow e.caller) (sym at) in
     let paid = late_paid n e earlier low (λ closes. opened (sym at ∙ closes)) in
     let here = ap (λ x. parts_behind earlier e.caller x) at in
     omega (arith, paid, here, effects, cost))
 
 -- and whatever is kept after it
-pub paid_at_most : {v w : WordsView} (e : Entry) {kind : Kind} (earlier : List Entry) (writes : List (ℕ × ℕ)) (s0 s1 : ℕ)
-    → w ≡ v → e.kind ≡ kind → e.caller < w.shadow.header.callers → (kind ≡ BlockClose → has_block e.caller earlier ≡ true)
+pub paid_at_most : {v w : WordsView} (e : Entry) {kind : Kind} (earlier : List Entry)
+    (writes : List (ℕ × ℕ)) (s0 s1 : ℕ)
+    → w ≡ v → e.kind ≡ kind → e.caller < w.shadow.header.callers
+    → (kind ≡ BlockClose → has_block e.caller earlier ≡ true)
     → length writes ≡ effect_count w.shadow e.caller kind
     → s1 ≤ s0 + 4 * length writes + 2 * parts_behind earlier e.caller kind
-    → s1 ≤ s0 + work_held v.shadow.header.callers earlier + 4 * effect_count v.shadow e.caller e.kind + 2 * v.shadow.header.callers
+    → s1 ≤ s0 + work_held v.shadow.header.callers earlier + 4 * effect_count v.shadow e.caller
+    e.kind + 2 * v.shadow.header.callers
 paid_at_most {v} {w} e {kind} earlier writes s0 s1 is at low opened count cost =
-    let paid = paid_now {v = v} {w = w} e {kind = kind} earlier writes s0 s1 is at low opened count cost in
+    let paid = paid_now {v = v} {w = w} e {kind = kind} earlier writes s0 s1 is at low opened count
+    cost in
     omega (arith, paid)
 
-pub paid_closed : {T E : Type 0} {v w : WordsView} (r : Result T E) (e : Entry) {kind : Kind} (earlier : List Entry) (writes : List (ℕ × ℕ)) (s0 s1 : ℕ)
-    → w ≡ v → e.kind ≡ kind → e.caller < w.shadow.header.callers → (kind ≡ BlockClose → has_block e.caller earlier ≡ true)
+pub paid_closed : {T E : Type 0} {v w : WordsView} (r : Result T E) (e : Entry) {kind : Kind}
+    (earlier : List Entry) (writes : List (ℕ × ℕ)) (s0 s1 : ℕ)
+    → w ≡ v → e.kind ≡ kind → e.caller < w.shadow.header.callers
+    → (kind ≡ BlockClose → has_block e.caller earlier ≡ true)
     → length writes ≡ effect_count w.shadow e.caller kind
     → OnOk r (s1 ≤ s0 + 4 * length writes + 2 * parts_behind earlier e.caller kind)
     → OnOk r (s1 + work_held v.shadow.header.callers (e ∷ earlier)
-    ≤ s0 + work_held v.shadow.header.callers earlier + 4 * effect_count v.shadow e.caller e.kind + 2 * v.shadow.header.callers)
+    ≤ s0 + work_held v.shadow.header.callers earlier + 4 * effect_count v.shadow e.caller e.kind + 2
+    * v.shadow.header.callers)
 paid_closed {v = v} {w = w} (Ok x) e {kind} earlier writes s0 s1 is at low opened count cost =
     paid_now {v = v} {w = w} e {kind = kind} earlier writes s0 s1 is at low opened count cost
 paid_closed (Err x) e earlier writes s0 s1 is at low opened count cost = tt
 
 -- how many words a write has changed
-pub one_changed : (b : Bool) (changed old : List ℕ) (w : ℕ) → changed ≡ cond b old (old ++ w ∷ []) → old ≡ [] → length changed ≡ cond b 0 1
+pub one_changed : (b : Bool) (changed old : List ℕ) (w : ℕ) → changed ≡ cond b old (old ++ w ∷ [])
+    → old ≡ [] → length changed ≡ cond b 0 1
 one_changed true changed old w is none = ap length (is ∙ none)
 one_changed false changed old w is none = ap length is ∙ ap (λ xs. length (xs ++ w ∷ [])) none
 
 -- and the end of a block
-pub block_changed : (changed old : List ℕ) (kept : List (ℕ × ℕ)) → changed ≡ old ++ words_of kept → old ≡ [] → length changed ≡ length kept
-block_changed changed old kept is none = ap length is ∙ ap (λ xs. length (xs ++ words_of kept)) none ∙ by_list kept
+pub block_changed : (changed old : List ℕ) (kept : List (ℕ × ℕ)) → changed ≡ old ++ words_of kept
+    → old ≡ [] → length changed ≡ length kept
+block_changed changed old kept is none = ap length is ∙ ap (λ xs. length (xs ++ words_of kept)) none
+    ∙ by_list kept
   where
     by_list : (xs : List (ℕ × ℕ)) → length (words_of xs) ≡ length xs
     by_list [] = refl
     by_list (x ∷ xs) = ap suc (by_list xs)
 
 -- which words a write has changed, and the end of a block
-pub one_word : (b : Bool) (changed old : List ℕ) (w : ℕ) → changed ≡ cond b old (old ++ w ∷ []) → old ≡ [] → changed ≡ cond b [] (w ∷ [])
+pub one_word : (b : Bool) (changed old : List ℕ) (w : ℕ) → changed ≡ cond b old (old ++ w ∷ [])
+    → old ≡ [] → changed ≡ cond b [] (w ∷ [])
 one_word true changed old w is none = is ∙ none
 one_word false changed old w is none = is ∙ ap (λ xs. xs ++ w ∷ []) none
 
-pub block_words : (changed old : List ℕ) (kept : List (ℕ × ℕ)) → changed ≡ old ++ words_of kept → old ≡ [] → changed ≡ words_of kept
+pub block_words : (changed old : List ℕ) (kept : List (ℕ × ℕ)) → changed ≡ old ++ words_of kept
+    → old ≡ [] → changed ≡ words_of kept
 block_words changed old kept is none = is ∙ ap (λ xs. xs ++ words_of kept) none
 
 -- and their prices
-pub priced : {v w : WordsView} (price : Shows → ℕ → ℕ) (e : Entry) {kind : Kind} (changed : List ℕ) → w ≡ v → e.kind ≡ kind
+pub priced : {v w : WordsView} (price : Shows → ℕ → ℕ) (e : Entry) {kind : Kind} (changed : List ℕ)
+    → w ≡ v → e.kind ≡ kind
     → changed ≡ effect_words w.shadow e.caller kind
-    → sum_by (price w.views.shows) changed ≡ sum_by (price v.views.shows) (effect_words v.shadow e.caller e.kind)
+    → sum_by (price w.views.shows) changed ≡ sum_by (price v.views.shows)
+    (effect_words v.shadow e.caller e.kind)
 priced {v} {w} price e {kind} changed is at same =
     ap (sum_by (price w.views.shows)) (same ∙ ap (effect_words w.shadow e.caller) (sym at))
-    ∙ ap (λ (x : WordsView). sum_by (price x.views.shows) (effect_words x.shadow e.caller e.kind)) is
+    ∙ ap (λ (x : WordsView). sum_by (price x.views.shows) (effect_words x.shadow e.caller e.kind))
+    is

@@ -1,11 +1,13 @@
 -- An entry's steps are paid by what is owed before it and a constant.
-use Rattle.std.proofs.Common.{◌≡◌, ◌≢◌, ℕ, zero, suc, ◌+◌, ◌*◌, ◌<◌, ◌≤◌, List, ◌∷◌, length, refl, ap, sym, arith, Bool, true, false, cond, Option, None}
+use Rattle.std.proofs.Common.{◌≡◌, ◌≢◌, ℕ, zero, suc, ◌+◌, ◌*◌, ◌<◌, ◌≤◌, List, ◌∷◌, length, refl}
+use Rattle.std.proofs.Common.{ap, sym, arith, Bool, true, false, cond, Option, None}
 use Rattle.std.specs.Prelude.{◌==◌, unwrap_or, Result, Ok, Err, OnOk}
 use Rattle.std.specs.Option.{option_or}
 use Rattle.std.specs.List.{sum_by}
 use Rattle.std.proofs.lemmas.List.Sums.{sum_by-cons}
 use Rattle.vyrd_base.specs.declared.log.Kind.{Kind}
-use Rattle.vyrd_base.specs.declared.log.Kind.TheVariants.{Call, Return, Write, Commit, BlockOpen, BlockClose, BlockCommit}
+use Rattle.vyrd_base.specs.declared.log.Kind.TheVariants.{Call, Return, Write, Commit, BlockOpen}
+use Rattle.vyrd_base.specs.declared.log.Kind.TheVariants.{BlockClose, BlockCommit}
 use Rattle.vyrd_base.specs.declared.log.Entry.{Entry}
 use Rattle.vyrd_base.specs.declared.log.StartWord.{StartWord}
 use Rattle.vyrd_base.specs.Callers.{has_block, by_caller, open_or_close}
@@ -14,7 +16,8 @@ use Rattle.vyrd_base.specs.Words.{block_writes, with_write}
 use Rattle.vyrd_base.proofs.TestLaws.{apart_of, same_of, same_number, isnt_same}
 use Rattle.vyrd_shadow.specs.Following.{Kept, kept_writes}
 use Rattle.vyrd_words.specs.HasWords.{HasWords, Keeps}
-use Rattle.vyrd_words.specs.Costs.{work_held, effect_count, kept_back, all_kept_back, each_entry, owed}
+use Rattle.vyrd_words.specs.Costs.{work_held, effect_count, kept_back, all_kept_back, each_entry}
+use Rattle.vyrd_words.specs.Costs.{owed}
 use Rattle.vyrd_words.proofs.FewLaws.{first_few, length-words_of}
 use Rattle.vyrd_words.proofs.WordsLaws.{low_caller, closes_block, commits_block}
 
@@ -28,7 +31,8 @@ own_effects _ b writes = 0
 -- what is kept back, or takes effect, of one caller at its own entry
 own_kept : (kind : Kind) (answer : Option Bool) (writes : List (ℕ × ℕ)) (effects : ℕ)
     → effects ≤ own_effects kind (unwrap_or answer false) writes
-    → cond (unwrap_or (option_or (open_or_close kind) answer) false) (length (with_write true kind writes)) 0 + effects
+    → cond (unwrap_or (option_or (open_or_close kind) answer) false)
+    (length (with_write true kind writes)) 0 + effects
     ≤ cond (unwrap_or answer false) (length writes) 0 + 1
 own_kept (Call method args) answer writes effects few = omega (arith, few)
 own_kept (Return reply) answer writes effects few = omega (arith, few)
@@ -38,39 +42,59 @@ own_kept BlockClose answer writes effects few = omega (arith, few)
 own_kept BlockCommit answer writes effects few = omega (arith, few)
 own_kept (Write word value) answer writes effects few = by_test (unwrap_or answer false) few
   where
-    by_test : (b : Bool) → effects ≤ cond b 0 1 → cond b (suc (length writes)) 0 + effects ≤ cond b (length writes) 0 + 1
+    by_test : (b : Bool) → effects ≤ cond b 0 1 → cond b (suc (length writes)) 0 + effects
+        ≤ cond b (length writes) 0 + 1
     by_test true few = omega (arith, few)
     by_test false few = omega (arith, few)
 
-kept_by_caller : (e : Entry) (earlier : List Entry) (effects : ℕ) → effects ≤ own_effects e.kind (has_block e.caller earlier) (block_writes e.caller earlier)
+kept_by_caller : (e : Entry) (earlier : List Entry) (effects : ℕ) → effects ≤ own_effects e.kind
+    (has_block e.caller earlier) (block_writes e.caller earlier)
     → kept_back (e ∷ earlier) e.caller + effects ≤ kept_back earlier e.caller + 1
 kept_by_caller e earlier effects few =
-    let own = own_kept e.kind (first_answer (by_caller e.caller open_or_close) earlier) (block_writes e.caller earlier) effects few in
-    let here : kept_back (e ∷ earlier) e.caller ≡ cond (unwrap_or (option_or (open_or_close e.kind) (first_answer (by_caller e.caller open_or_close) earlier)) false)
+    let own = own_kept e.kind (first_answer (by_caller e.caller open_or_close) earlier)
+    (block_writes e.caller earlier) effects few in
+    let here : kept_back (e ∷ earlier) e.caller
+    ≡ cond (unwrap_or
+    (option_or (open_or_close e.kind) (first_answer (by_caller e.caller open_or_close) earlier))
+    false)
     (length (with_write true e.kind (block_writes e.caller earlier))) 0 =
-    (λ j. cond (unwrap_or (option_or (cond (same_number e.caller j) (open_or_close e.kind) None) (first_answer (by_caller e.caller open_or_close) earlier)) false)
+    (λ j. cond (unwrap_or (option_or (cond (same_number e.caller j) (open_or_close e.kind) None)
+    (first_answer (by_caller e.caller open_or_close) earlier)) false)
     (length (with_write (same_number e.caller j) e.kind (block_writes e.caller earlier))) 0) in
     omega (arith, own, here)
 
-kept_by_other : (c : ℕ) (e : Entry) (earlier : List Entry) → c ≢ e.caller → kept_back (e ∷ earlier) c ≡ kept_back earlier c
+kept_by_other : (c : ℕ) (e : Entry) (earlier : List Entry) → c ≢ e.caller
+    → kept_back (e ∷ earlier) c ≡ kept_back earlier c
 kept_by_other c e earlier apart =
     let no = isnt_same e.caller c (λ same. apart (sym same)) in
-    (λ j. cond (unwrap_or (option_or (cond (no j) (open_or_close e.kind) None) (first_answer (by_caller c open_or_close) earlier)) false)
+    (λ j. cond (unwrap_or
+    (option_or (cond (no j) (open_or_close e.kind) None)
+    (first_answer (by_caller c open_or_close) earlier)) false)
     (length (with_write (no j) e.kind (block_writes c earlier))) 0)
 
 -- sums in which one caller's part changes
-sum_apart : (f g : ℕ → ℕ) (c k n : ℕ) → c < k → ((x : ℕ) → x ≢ c → f x ≡ g x) → sum_by f (numbers_from k n) ≡ sum_by g (numbers_from k n)
+sum_apart : (f g : ℕ → ℕ) (c k n : ℕ) → c < k → ((x : ℕ) → x ≢ c → f x ≡ g x)
+    → sum_by f (numbers_from k n) ≡ sum_by g (numbers_from k n)
 sum_apart f g c k zero low same = refl
 sum_apart f g c k (suc n) low same =
     let rest = sum_apart f g c (k + 1) n (omega (arith, low)) same in
     let here = same k (λ e. absurd (omega (arith, low, e))) in
-    omega (arith, sum_by-cons f k (numbers_from (k + 1) n), sum_by-cons g k (numbers_from (k + 1) n), rest, here)
+    omega (
+      arith,
+      sum_by-cons f k (numbers_from (k + 1) n),
+      sum_by-cons g k
+          (numbers_from (k + 1) n),
+      rest,
+      here,
+    )
 
-pub sum_at : (f g : ℕ → ℕ) (m c w k n : ℕ) → k ≤ c → c < k + n → ((x : ℕ) → x ≢ c → f x ≡ g x) → f c + w ≤ g c + m
+pub sum_at : (f g : ℕ → ℕ) (m c w k n : ℕ) → k ≤ c → c < k + n → ((x : ℕ) → x ≢ c → f x ≡ g x)
+    → f c + w ≤ g c + m
     → sum_by f (numbers_from k n) + w ≤ sum_by g (numbers_from k n) + m
 sum_at f g m c w k zero low high same own = absurd (omega (arith, low, high))
 sum_at f g m c w k (suc n) low high same own =
-    by_test (k == c) refl (λ apart. sum_at f g m c w (k + 1) n (omega (arith, low, apart)) (omega (arith, high)) same own)
+    by_test (k == c) refl (λ apart. sum_at f g m c w (k + 1) n (omega (arith, low, apart))
+    (omega (arith, high)) same own)
   where
     by_test : (b : Bool) → (k == c) ≡ b
         → (k ≢ c → sum_by f (numbers_from (k + 1) n) + w ≤ sum_by g (numbers_from (k + 1) n) + m)
@@ -80,23 +104,42 @@ sum_at f g m c w k (suc n) low high same own =
         let fs = ap f e in
         let gs = ap g e in
         let others = sum_apart f g c (k + 1) n (omega (arith, e)) same in
-        omega (arith, sum_by-cons f k (numbers_from (k + 1) n), sum_by-cons g k (numbers_from (k + 1) n), others, own, fs, gs)
+        omega (
+          arith,
+          sum_by-cons f k (numbers_from (k + 1) n),
+          sum_by-cons g k
+              (numbers_from (k + 1) n),
+          others,
+          own,
+          fs,
+          gs,
+        )
     by_test false is rest =
         let apart = apart_of k c is in
         let left = rest apart in
         let here = same k apart in
-        omega (arith, sum_by-cons f k (numbers_from (k + 1) n), sum_by-cons g k (numbers_from (k + 1) n), left, here)
+        omega (
+          arith,
+          sum_by-cons f k (numbers_from (k + 1) n),
+          sum_by-cons g k
+              (numbers_from (k + 1) n),
+          left,
+          here,
+        )
 
 all_kept : (callers : ℕ) (e : Entry) (earlier : List Entry) (effects : ℕ) → e.caller < callers
     → effects ≤ own_effects e.kind (has_block e.caller earlier) (block_writes e.caller earlier)
     → all_kept_back callers (e ∷ earlier) + effects ≤ all_kept_back callers earlier + 1
 all_kept callers e earlier effects low few =
-    sum_at (kept_back (e ∷ earlier)) (kept_back earlier) 1 e.caller effects 0 callers (omega arith) (omega (arith, low))
+    sum_at (kept_back (e ∷ earlier)) (kept_back earlier) 1 e.caller effects 0 callers (omega arith)
+    (omega (arith, low))
     (λ x apart. kept_by_other x e earlier apart) (kept_by_caller e earlier effects few)
 
 -- an open block keeps no more than it has written
-block_few : (kept : Kept) (starting : List StartWord) (inner : List ℕ) (earlier : List Entry) (c : ℕ) → HasWords kept inner starting earlier → c < kept.header.callers
-    → has_block c earlier ≡ true → length (kept_writes kept c) ≤ cond (has_block c earlier) (length (block_writes c earlier)) 0
+block_few : (kept : Kept) (starting : List StartWord) (inner : List ℕ) (earlier : List Entry)
+    (c : ℕ) → HasWords kept inner starting earlier → c < kept.header.callers
+    → has_block c earlier ≡ true → length (kept_writes kept c) ≤ cond (has_block c earlier)
+    (length (block_writes c earlier)) 0
 block_few kept starting inner earlier c has low inside =
     let long = length-words_of (kept_writes kept c) in
     let same = ap length (has.followed.order c low inside) in
@@ -105,35 +148,46 @@ block_few kept starting inner earlier c has low inside =
     omega (arith, long, same, few, here)
 
 -- the effects are those of the caller's own block
-effects_few : (kept : Kept) (starting : List StartWord) (inner : List ℕ) (earlier : List Entry) (e : Entry) → HasWords kept inner starting earlier
-    → Keeps kept.header earlier e → effect_count kept e.caller e.kind ≤ own_effects e.kind (has_block e.caller earlier) (block_writes e.caller earlier)
+effects_few : (kept : Kept) (starting : List StartWord) (inner : List ℕ) (earlier : List Entry)
+    (e : Entry) → HasWords kept inner starting earlier
+    → Keeps kept.header earlier e → effect_count kept e.caller e.kind ≤ own_effects e.kind
+    (has_block e.caller earlier) (block_writes e.caller earlier)
 effects_few kept starting inner earlier e has keeps = by_kind e.kind refl
   where
-    by_kind : (kind : Kind) → e.kind ≡ kind → effect_count kept e.caller kind ≤ own_effects kind (has_block e.caller earlier) (block_writes e.caller earlier)
+    by_kind : (kind : Kind) → e.kind ≡ kind → effect_count kept e.caller kind ≤ own_effects kind
+        (has_block e.caller earlier) (block_writes e.caller earlier)
     by_kind (Call method args) at = omega arith
     by_kind (Return reply) at = omega arith
     by_kind Commit at = omega arith
     by_kind BlockOpen at = omega arith
     by_kind (Write word value) at =
-        let same = ap {B = ℕ} (λ b. cond b 0 1) (has.followed.blocks e.caller (low_caller keeps)) in omega (arith, same)
-    by_kind BlockClose at = block_few kept starting inner earlier e.caller has (low_caller keeps) (closes_block at keeps)
-    by_kind BlockCommit at = block_few kept starting inner earlier e.caller has (low_caller keeps) (commits_block at keeps)
+        let same = ap {B = ℕ} (λ b. cond b 0 1) (has.followed.blocks e.caller (low_caller keeps)) in
+        omega (arith, same)
+    by_kind BlockClose at = block_few kept starting inner earlier e.caller has (low_caller keeps)
+        (closes_block at keeps)
+    by_kind BlockCommit at = block_few kept starting inner earlier e.caller has (low_caller keeps)
+        (commits_block at keeps)
 
 -- what an entry costs, with what is owed after it
-pub owed_paid : {T E : Type 0} (r : Result T E) (kept : Kept) (starting : List StartWord) (inner : List ℕ) (earlier : List Entry) (e : Entry)
+pub owed_paid : {T E : Type 0} (r : Result T E) (kept : Kept) (starting : List StartWord)
+    (inner : List ℕ) (earlier : List Entry) (e : Entry)
     (s0 s1 : ℕ) → HasWords kept inner starting earlier → Keeps kept.header earlier e
     → OnOk r (s1 + work_held kept.header.callers (e ∷ earlier)
-    ≤ s0 + 5 + work_held kept.header.callers earlier + 4 * effect_count kept e.caller e.kind + 2 * kept.header.callers)
-    → OnOk r (s1 + owed kept.header.callers (e ∷ earlier) ≤ s0 + owed kept.header.callers earlier + each_entry kept.header.callers)
+    ≤ s0 + 5 + work_held kept.header.callers earlier + 4 * effect_count kept e.caller e.kind + 2
+    * kept.header.callers)
+    → OnOk r (s1 + owed kept.header.callers (e ∷ earlier) ≤ s0 + owed kept.header.callers earlier
+    + each_entry kept.header.callers)
 owed_paid (Err x) kept starting inner earlier e s0 s1 has keeps paid = tt
 owed_paid (Ok x) kept starting inner earlier e s0 s1 has keeps paid =
     let n = kept.header.callers in
     let w = effect_count kept e.caller e.kind in
-    let all = all_kept n e earlier w (low_caller keeps) (effects_few kept starting inner earlier e has keeps) in
+    let all = all_kept n e earlier w (low_caller keeps)
+    (effects_few kept starting inner earlier e has keeps) in
     omega (arith, paid, all)
 
 -- and whatever is owed after it
-pub owed_at_most : (kept : Kept) (starting : List StartWord) (inner : List ℕ) (earlier : List Entry) (e : Entry)
+pub owed_at_most : (kept : Kept) (starting : List StartWord) (inner : List ℕ) (earlier : List Entry)
+    (e : Entry)
     (s0 s1 : ℕ) → HasWords kept inner starting earlier → Keeps kept.header earlier e
     → s1 ≤ s0 + 5 + work_held kept.header.callers earlier + 4 * effect_count kept e.caller e.kind
     + 2 * kept.header.callers
@@ -141,5 +195,6 @@ pub owed_at_most : (kept : Kept) (starting : List StartWord) (inner : List ℕ) 
 owed_at_most kept starting inner earlier e s0 s1 has keeps paid =
     let n = kept.header.callers in
     let w = effect_count kept e.caller e.kind in
-    let all = all_kept n e earlier w (low_caller keeps) (effects_few kept starting inner earlier e has keeps) in
+    let all = all_kept n e earlier w (low_caller keeps)
+    (effects_few kept starting inner earlier e has keeps) in
     omega (arith, paid, all)

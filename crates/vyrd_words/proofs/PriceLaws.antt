@@ -1,11 +1,13 @@
 -- The prices of an entry's effects are paid by the writes that open blocks keep back.
-use Rattle.std.proofs.Common.{◌≡◌, ◌≢◌, ℕ, ◌+◌, ◌*◌, ◌<◌, ◌≤◌, List, [], ◌∷◌, ◌++◌, refl, ap, sym, arith, Bool, true, false, cond, Option, None}
+use Rattle.std.proofs.Common.{◌≡◌, ◌≢◌, ℕ, ◌+◌, ◌*◌, ◌<◌, ◌≤◌, List, [], ◌∷◌, ◌++◌, refl, ap, sym}
+use Rattle.std.proofs.Common.{arith, Bool, true, false, cond, Option, None}
 use Rattle.std.specs.Prelude.{◌==◌, unwrap_or, Result, Ok, Err, OnOk}
 use Rattle.std.specs.Option.{option_or}
 use Rattle.std.specs.List.{sum_by, list_any}
 use Rattle.std.proofs.lemmas.List.Sums.{sum_by-cons, sum_by_push}
 use Rattle.vyrd_base.specs.declared.log.Kind.{Kind}
-use Rattle.vyrd_base.specs.declared.log.Kind.TheVariants.{Call, Return, Write, Commit, BlockOpen, BlockClose, BlockCommit}
+use Rattle.vyrd_base.specs.declared.log.Kind.TheVariants.{Call, Return, Write, Commit, BlockOpen}
+use Rattle.vyrd_base.specs.declared.log.Kind.TheVariants.{BlockClose, BlockCommit}
 use Rattle.vyrd_base.specs.declared.log.Entry.{Entry}
 use Rattle.vyrd_base.specs.declared.log.StartWord.{StartWord}
 use Rattle.vyrd_base.specs.Callers.{has_block, by_caller, open_or_close}
@@ -15,7 +17,8 @@ use Rattle.vyrd_base.proofs.TestLaws.{same_number, isnt_same}
 use Rattle.vyrd_shadow.specs.Blocks.{first_written}
 use Rattle.vyrd_shadow.specs.Following.{Kept, words_of, kept_writes}
 use Rattle.vyrd_words.specs.HasWords.{HasWords, Keeps}
-use Rattle.vyrd_words.specs.Costs.{held, kept_back, work_held, effect_count, effect_words, each_entry, owed, entry_price, price_back, price_kept}
+use Rattle.vyrd_words.specs.Costs.{held, kept_back, work_held, effect_count, effect_words}
+use Rattle.vyrd_words.specs.Costs.{each_entry, owed, entry_price, price_back, price_kept}
 use Rattle.vyrd_words.proofs.WordsLaws.{low_caller, closes_block, commits_block}
 use Rattle.vyrd_words.proofs.OwedLaws.{sum_at, owed_paid, owed_at_most}
 
@@ -32,7 +35,8 @@ own_prices p _ b writes = 0
 -- what is kept back, or takes effect, of one caller at its own entry
 own_priced : (p : ℕ → ℕ) (kind : Kind) (answer : Option Bool) (writes : List (ℕ × ℕ)) (effects : ℕ)
     → effects ≤ own_prices p kind (unwrap_or answer false) writes
-    → cond (unwrap_or (option_or (open_or_close kind) answer) false) (prices_of p (with_write true kind writes)) 0 + effects
+    → cond (unwrap_or (option_or (open_or_close kind) answer) false)
+    (prices_of p (with_write true kind writes)) 0 + effects
     ≤ cond (unwrap_or answer false) (prices_of p writes) 0 + entry_price p kind
 own_priced p (Call method args) answer writes effects few = omega (arith, few)
 own_priced p (Return reply) answer writes effects few = omega (arith, few)
@@ -43,40 +47,62 @@ own_priced p BlockCommit answer writes effects few = omega (arith, few)
 own_priced p (Write word value) answer writes effects few = by_test (unwrap_or answer false) few
   where
     by_test : (b : Bool) → effects ≤ cond b 0 (p word)
-        → cond b (prices_of p ((word, value) ∷ writes)) 0 + effects ≤ cond b (prices_of p writes) 0 + p word
+        → cond b (prices_of p ((word, value) ∷ writes)) 0 + effects ≤ cond b (prices_of p writes) 0
+        + p word
     by_test true few = omega (arith, few, sum_by-cons (λ write. p write.0) (word, value) writes)
     by_test false few = omega (arith, few)
 
 priced_by_caller : (p : ℕ → ℕ) (e : Entry) (earlier : List Entry) (effects : ℕ)
     → effects ≤ own_prices p e.kind (has_block e.caller earlier) (block_writes e.caller earlier)
-    → price_back p (e ∷ earlier) e.caller + effects ≤ price_back p earlier e.caller + entry_price p e.kind
+    → price_back p (e ∷ earlier) e.caller + effects ≤ price_back p earlier e.caller
+    + entry_price p e.kind
 priced_by_caller p e earlier effects few =
-    let own = own_priced p e.kind (first_answer (by_caller e.caller open_or_close) earlier) (block_writes e.caller earlier) effects few in
-    let here : price_back p (e ∷ earlier) e.caller ≡ cond (unwrap_or (option_or (open_or_close e.kind) (first_answer (by_caller e.caller open_or_close) earlier)) false)
+    let own = own_priced p e.kind (first_answer (by_caller e.caller open_or_close) earlier)
+    (block_writes e.caller earlier) effects few in
+    let here : price_back p (e ∷ earlier) e.caller
+    ≡ cond (unwrap_or
+    (option_or (open_or_close e.kind) (first_answer (by_caller e.caller open_or_close) earlier))
+    false)
     (prices_of p (with_write true e.kind (block_writes e.caller earlier))) 0 =
-    (λ j. cond (unwrap_or (option_or (cond (same_number e.caller j) (open_or_close e.kind) None) (first_answer (by_caller e.caller open_or_close) earlier)) false)
+    (λ j. cond (unwrap_or (option_or (cond (same_number e.caller j) (open_or_close e.kind) None)
+    (first_answer (by_caller e.caller open_or_close) earlier)) false)
     (prices_of p (with_write (same_number e.caller j) e.kind (block_writes e.caller earlier))) 0) in
     omega (arith, own, here)
 
-priced_by_other : (p : ℕ → ℕ) (c : ℕ) (e : Entry) (earlier : List Entry) → c ≢ e.caller → price_back p (e ∷ earlier) c ≡ price_back p earlier c
+priced_by_other : (p : ℕ → ℕ) (c : ℕ) (e : Entry) (earlier : List Entry) → c ≢ e.caller
+    → price_back p (e ∷ earlier) c ≡ price_back p earlier c
 priced_by_other p c e earlier apart =
     let no = isnt_same e.caller c (λ same. apart (sym same)) in
-    (λ j. cond (unwrap_or (option_or (cond (no j) (open_or_close e.kind) None) (first_answer (by_caller c open_or_close) earlier)) false)
+    (λ j. cond (unwrap_or
+    (option_or (cond (no j) (open_or_close e.kind) None)
+    (first_answer (by_caller c open_or_close) earlier)) false)
     (prices_of p (with_write (no j) e.kind (block_writes c earlier))) 0)
 
 -- the words of a block have no greater price than its writes
-first_priced : (p : ℕ → ℕ) (writes : List (ℕ × ℕ)) → sum_by p (first_written writes) ≤ prices_of p writes
+first_priced : (p : ℕ → ℕ) (writes : List (ℕ × ℕ)) → sum_by p (first_written writes)
+    ≤ prices_of p writes
 first_priced p [] = omega arith
-first_priced p ((word, value) ∷ writes) = by_test (list_any (λ other. word == other) (first_written writes)) (first_priced p writes)
+first_priced p ((word, value) ∷ writes) = by_test
+    (list_any (λ other. word == other) (first_written writes)) (first_priced p writes)
   where
     by_test : (b : Bool) → sum_by p (first_written writes) ≤ prices_of p writes
-        → sum_by p (cond b (first_written writes) (first_written writes ++ word ∷ [])) ≤ prices_of p ((word, value) ∷ writes)
+        → sum_by p (cond b (first_written writes) (first_written writes ++ word ∷ []))
+        ≤ prices_of p ((word, value) ∷ writes)
     by_test true rest = omega (arith, rest, sum_by-cons (λ write. p write.0) (word, value) writes)
-    by_test false rest = omega (arith, rest, sum_by-cons (λ write. p write.0) (word, value) writes, sum_by_push p (first_written writes) word)
+    by_test false rest =
+        omega (
+          arith,
+          rest,
+          sum_by-cons (λ write. p write.0) (word, value) writes,
+          sum_by_push p
+              (first_written writes) word,
+        )
 
-block_priced : (p : ℕ → ℕ) (kept : Kept) (starting : List StartWord) (inner : List ℕ) (earlier : List Entry) (c : ℕ) → HasWords kept inner starting earlier
+block_priced : (p : ℕ → ℕ) (kept : Kept) (starting : List StartWord) (inner : List ℕ)
+    (earlier : List Entry) (c : ℕ) → HasWords kept inner starting earlier
     → c < kept.header.callers → has_block c earlier ≡ true
-    → sum_by p (words_of (kept_writes kept c)) ≤ cond (has_block c earlier) (prices_of p (block_writes c earlier)) 0
+    → sum_by p (words_of (kept_writes kept c)) ≤ cond (has_block c earlier)
+    (prices_of p (block_writes c earlier)) 0
 block_priced p kept starting inner earlier c has low inside =
     let same = ap (sum_by p) (has.followed.order c low inside) in
     let few = first_priced p (block_writes c earlier) in
@@ -88,25 +114,32 @@ one_price p true word = omega arith
 one_price p false word = omega (arith, sum_by-cons p word [])
 
 -- the effects are those of the caller's own block
-prices_few : (p : ℕ → ℕ) (kept : Kept) (starting : List StartWord) (inner : List ℕ) (earlier : List Entry) (e : Entry) → HasWords kept inner starting earlier
+prices_few : (p : ℕ → ℕ) (kept : Kept) (starting : List StartWord) (inner : List ℕ)
+    (earlier : List Entry) (e : Entry) → HasWords kept inner starting earlier
     → Keeps kept.header earlier e
-    → sum_by p (effect_words kept e.caller e.kind) ≤ own_prices p e.kind (has_block e.caller earlier) (block_writes e.caller earlier)
+    → sum_by p (effect_words kept e.caller e.kind) ≤ own_prices p e.kind
+    (has_block e.caller earlier) (block_writes e.caller earlier)
 prices_few p kept starting inner earlier e has keeps = by_kind e.kind refl
   where
     by_kind : (kind : Kind) → e.kind ≡ kind
-        → sum_by p (effect_words kept e.caller kind) ≤ own_prices p kind (has_block e.caller earlier) (block_writes e.caller earlier)
+        → sum_by p (effect_words kept e.caller kind) ≤ own_prices p kind
+        (has_block e.caller earlier) (block_writes e.caller earlier)
     by_kind (Call method args) at = omega arith
     by_kind (Return reply) at = omega arith
     by_kind Commit at = omega arith
     by_kind BlockOpen at = omega arith
     by_kind (Write word value) at =
-        let same = ap {B = ℕ} (λ b. sum_by p (cond b [] (word ∷ []))) (has.followed.blocks e.caller (low_caller keeps)) in
+        let same = ap {B = ℕ} (λ b. sum_by p (cond b [] (word ∷ [])))
+        (has.followed.blocks e.caller (low_caller keeps)) in
         omega (arith, same, one_price p (has_block e.caller earlier) word)
-    by_kind BlockClose at = block_priced p kept starting inner earlier e.caller has (low_caller keeps) (closes_block at keeps)
-    by_kind BlockCommit at = block_priced p kept starting inner earlier e.caller has (low_caller keeps) (commits_block at keeps)
+    by_kind BlockClose at = block_priced p kept starting inner earlier e.caller has
+        (low_caller keeps) (closes_block at keeps)
+    by_kind BlockCommit at = block_priced p kept starting inner earlier e.caller has
+        (low_caller keeps) (commits_block at keeps)
 
 -- what all blocks keep back, after an entry whose effects have these prices
-prices_paid : (p : ℕ → ℕ) (kept : Kept) (starting : List StartWord) (inner : List ℕ) (earlier : List Entry) (e : Entry) → HasWords kept inner starting earlier
+prices_paid : (p : ℕ → ℕ) (kept : Kept) (starting : List StartWord) (inner : List ℕ)
+    (earlier : List Entry) (e : Entry) → HasWords kept inner starting earlier
     → Keeps kept.header earlier e
     → price_kept p kept.header.callers (e ∷ earlier) + sum_by p (effect_words kept e.caller e.kind)
     ≤ price_kept p kept.header.callers earlier + entry_price p e.kind
@@ -114,29 +147,36 @@ prices_paid p kept starting inner earlier e has keeps =
     sum_at (price_back p (e ∷ earlier)) (price_back p earlier) (entry_price p e.kind) e.caller
     (sum_by p (effect_words kept e.caller e.kind)) 0 kept.header.callers
     (omega arith) (omega (arith, low_caller keeps)) (λ x apart. priced_by_other p x e earlier apart)
-    (priced_by_caller p e earlier (sum_by p (effect_words kept e.caller e.kind)) (prices_few p kept starting inner earlier e has keeps))
+    (priced_by_caller p e earlier (sum_by p (effect_words kept e.caller e.kind))
+    (prices_few p kept starting inner earlier e has keeps))
 
 -- what an entry costs, with what is owed after it, by the price of what it writes
-pub owed_priced : {T E : Type 0} (r : Result T E) (p : ℕ → ℕ) (kept : Kept) (starting : List StartWord) (inner : List ℕ) (earlier : List Entry) (e : Entry)
+pub owed_priced : {T E : Type 0} (r : Result T E) (p : ℕ → ℕ) (kept : Kept)
+    (starting : List StartWord) (inner : List ℕ) (earlier : List Entry) (e : Entry)
     (s0 s1 : ℕ) → HasWords kept inner starting earlier → Keeps kept.header earlier e
     → OnOk r (s1 + work_held kept.header.callers (e ∷ earlier)
-    ≤ s0 + sum_by p (effect_words kept e.caller e.kind) + 5 + work_held kept.header.callers earlier + 4 * effect_count kept e.caller e.kind
+    ≤ s0 + sum_by p (effect_words kept e.caller e.kind) + 5 + work_held kept.header.callers earlier
+    + 4 * effect_count kept e.caller e.kind
     + 2 * kept.header.callers)
-    → OnOk r (s1 + owed kept.header.callers (e ∷ earlier) + price_kept p kept.header.callers (e ∷ earlier)
+    → OnOk r (s1 + owed kept.header.callers (e ∷ earlier) + price_kept p kept.header.callers
+    (e ∷ earlier)
     ≤ s0 + owed kept.header.callers earlier + price_kept p kept.header.callers earlier
     + (each_entry kept.header.callers + entry_price p e.kind))
 owed_priced (Err x) p kept starting inner earlier e s0 s1 has keeps paid = tt
 owed_priced {T = T} {E = E} (Ok x) p kept starting inner earlier e s0 s1 has keeps paid =
     let n = kept.header.callers in
     let prices = sum_by p (effect_words kept e.caller e.kind) in
-    let all = owed_paid {T = T} {E = E} (Ok x) kept starting inner earlier e (s0 + prices) s1 has keeps paid in
+    let all = owed_paid {T = T} {E = E} (Ok x) kept starting inner earlier e (s0 + prices) s1 has
+    keeps paid in
     let each = prices_paid p kept starting inner earlier e has keeps in
     omega (arith, all, each)
 
 -- and whatever is owed after it
-pub priced_at_most : (p : ℕ → ℕ) (kept : Kept) (starting : List StartWord) (inner : List ℕ) (earlier : List Entry) (e : Entry)
+pub priced_at_most : (p : ℕ → ℕ) (kept : Kept) (starting : List StartWord) (inner : List ℕ)
+    (earlier : List Entry) (e : Entry)
     (s0 s1 : ℕ) → HasWords kept inner starting earlier → Keeps kept.header earlier e
-    → s1 ≤ s0 + sum_by p (effect_words kept e.caller e.kind) + 5 + work_held kept.header.callers earlier + 4 * effect_count kept e.caller e.kind
+    → s1 ≤ s0 + sum_by p (effect_words kept e.caller e.kind) + 5
+    + work_held kept.header.callers earlier + 4 * effect_count kept e.caller e.kind
     + 2 * kept.header.callers
     → s1 ≤ s0 + owed kept.header.callers earlier + price_kept p kept.header.callers earlier
     + (each_entry kept.header.callers + entry_price p e.kind)

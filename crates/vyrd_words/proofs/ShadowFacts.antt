@@ -1,4 +1,5 @@
--- What a shadow that has followed some entries tells of its words, and the entries that leave it as it is.
+-- What a shadow that has followed some entries tells of its words, and the entries that leave it as
+-- it is.
 use Rattle.std.proofs.Common.{◌≡◌, ℕ, List, ◌∷◌, None, ◌∙◌}
 use Rattle.vyrd_base.specs.declared.subject.Method.{Method}
 use Rattle.vyrd_base.specs.declared.subject.Args.{Args}
@@ -14,18 +15,25 @@ use Rattle.vyrd_shadow.specs.Following.{Kept, HasFollowed}
 use Rattle.vyrd_shadow.proofs.FollowLaws.{followed_call, followed_return, followed_lone_commit}
 
 -- its words are those that blocks leave whose writes take effect at their end
-pub words_old : (k : Kept) (starting : List StartWord) (earlier : List Entry) → HasFollowed k starting earlier
+pub words_old : (k : Kept) (starting : List StartWord) (earlier : List Entry)
+    → HasFollowed k starting earlier
     → k.words ≡ words_with k.header starting (old_effects earlier)
 words_old k starting earlier f = f.words ∙ words_settled k.header starting earlier f.rules
 
-pub call_followed : (k : Kept) (starting : List StartWord) (earlier : List Entry) (c : ℕ) (method : Method) (args : Args)
-    → broken_rule k.header earlier (entry c (Call method args)) ≡ None → HasFollowed k starting earlier → HasFollowed k starting (entry c (Call method args) ∷ earlier)
-call_followed k starting earlier c method args keeps f = followed_call k starting earlier c method args f keeps
+pub call_followed : (k : Kept) (starting : List StartWord) (earlier : List Entry) (c : ℕ)
+    (method : Method) (args : Args)
+    → broken_rule k.header earlier (entry c (Call method args)) ≡ None
+    → HasFollowed k starting earlier → HasFollowed k starting (entry c (Call method args) ∷ earlier)
+call_followed k starting earlier c method args keeps f = followed_call k starting earlier c method
+    args f keeps
 
 pub return_followed : (k : Kept) (starting : List StartWord) (earlier : List Entry) (c reply : ℕ)
-    → broken_rule k.header earlier (entry c (Return reply)) ≡ None → HasFollowed k starting earlier → HasFollowed k starting (entry c (Return reply) ∷ earlier)
-return_followed k starting earlier c reply keeps f = followed_return k starting earlier c reply f keeps
+    → broken_rule k.header earlier (entry c (Return reply)) ≡ None → HasFollowed k starting earlier
+    → HasFollowed k starting (entry c (Return reply) ∷ earlier)
+return_followed k starting earlier c reply keeps f = followed_return k starting earlier c reply f
+    keeps
 
 pub commit_followed : (k : Kept) (starting : List StartWord) (earlier : List Entry) (c : ℕ)
-    → broken_rule k.header earlier (entry c Commit) ≡ None → HasFollowed k starting earlier → HasFollowed k starting (entry c Commit ∷ earlier)
+    → broken_rule k.header earlier (entry c Commit) ≡ None → HasFollowed k starting earlier
+    → HasFollowed k starting (entry c Commit ∷ earlier)
 commit_followed k starting earlier c keeps f = followed_lone_commit k starting earlier c f keeps

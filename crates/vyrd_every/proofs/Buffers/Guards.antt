@@ -1,5 +1,6 @@
 -- The string buffers as a structure: a buffer's lock guards its words, and nothing is reserved.
-use Rattle.std.proofs.Common.{◌≡◌, ℕ, ◌+◌, ◌*◌, ◌/◌, ◌<◌, ◌≤◌, Bool, true, false, cond, List, [], ◌∷◌, map, refl, ap, ◌∙◌, sym, subst, arith}
+use Rattle.std.proofs.Common.{◌≡◌, ℕ, ◌+◌, ◌*◌, ◌/◌, ◌<◌, ◌≤◌, Bool, true, false, cond, List, []}
+use Rattle.std.proofs.Common.{◌∷◌, map, refl, ap, ◌∙◌, sym, subst, arith}
 use Rattle.std.specs.Prelude.{◌==◌, flat_map, slice_index}
 use Rattle.vyrd_base.specs.declared.header.Header.{Header}
 use Rattle.vyrd_base.specs.declared.subject.Subject.TheVariants.{Buffers}
@@ -19,13 +20,15 @@ use Rattle.vyrd_memory.proofs.NumberLists.{element_below, flat_map_alike}
 use Rattle.vyrd_memory.proofs.PartSums.{collected-is}
 use Rattle.vyrd_memory.proofs.Memories.{Represents}
 use Rattle.vyrd_buffers.specs.Contents.{buffer_of, shown}
-use Rattle.vyrd_buffers.specs.Laws.Alone.Changes.{Alike, sound_alike, shown_alike, buffer_in, sound_at}
+use Rattle.vyrd_buffers.specs.Laws.Alone.Changes.{Alike, sound_alike, shown_alike, buffer_in}
+use Rattle.vyrd_buffers.specs.Laws.Alone.Changes.{sound_at}
 use Rattle.vyrd_buffers.specs.Laws.Sound.{lock_cell}
 use Rattle.vyrd_every.specs.Structures.{Fits, shown_by}
 use Rattle.vyrd_every.specs.Guarded.{buffers}
 
 -- what a buffer gives that has the same words as a sound one
-gives : (size k : ℕ) (a b : Buffer) → Alike a b → is_buffer b ≡ true → buffer_parts size k a ≡ (k, shown b) ∷ []
+gives : (size k : ℕ) (a b : Buffer) → Alike a b → is_buffer b ≡ true → buffer_parts size k a
+    ≡ (k, shown b) ∷ []
 gives size k a b alike sound =
     ap (λ t. cond t ((k, shown a) ∷ []) ((size + k, 1) ∷ [])) (sound_alike a b alike ∙ sound)
     ∙ ap (λ text. (k, text) ∷ []) (shown_alike a b alike sound)
@@ -33,7 +36,8 @@ gives size k a b alike sound =
 -- nothing was written yet
 nothing_given : (q k : ℕ) → given q ((k, shown (buffer_of (shown_by []) k)) ∷ []) ≡ 0
 nothing_given q k =
-    let one : given q ((k, shown (buffer_of (shown_by []) k)) ∷ []) ≡ cond (q == k) 0 0 = omega arith in
+    let one : given q ((k, shown (buffer_of (shown_by []) k)) ∷ []) ≡ cond (q == k) 0 0 =
+    omega arith in
     one ∙ by_key (q == k)
   where
     by_key : (b : Bool) → ◌≡◌ {A = ℕ} (cond b 0 0) 0
@@ -46,19 +50,25 @@ empty_represents h is = record {
   sound = subst (λ subject. is_sound subject h.size (words_in h (shown_by [])) ≡ true) (sym is)
       (pass_all (λ j. is_buffer (buffer_at (words_in h (shown_by [])) j)) 0 h.size (λ j from to.
       let below : j < h.size = omega (arith, to) in
-      sound_alike (buffer_at (words_in h (shown_by [])) j) (buffer_of (shown_by []) j) (buffer_in h (shown_by []) j is below)));
+      sound_alike (buffer_at (words_in h (shown_by [])) j) (buffer_of (shown_by []) j)
+      (buffer_in h (shown_by []) j is below)));
   free = λ lock from to. refl;
   shows = ap (λ subject. collected (parts_of subject h.size (words_in h (shown_by [])))) is
-      ∙ collected-is (flat_map (λ k. buffer_parts h.size k (buffer_at (words_in h (shown_by [])) k)) (numbers_below h.size)) start.shown
+      ∙ collected-is (flat_map (λ k. buffer_parts h.size k (buffer_at (words_in h (shown_by [])) k))
+      (numbers_below h.size)) start.shown
       (record { rising = tt; some = tt })
-      (λ q. given_nothing (λ k. buffer_parts h.size k (buffer_at (words_in h (shown_by [])) k)) q 0 h.size (λ j from to.
+      (λ q. given_nothing (λ k. buffer_parts h.size k (buffer_at (words_in h (shown_by [])) k)) q 0
+      h.size (λ j from to.
       let below : j < h.size = omega (arith, to) in
-      ap (given q) (gives h.size j (buffer_at (words_in h (shown_by [])) j) (buffer_of (shown_by []) j) (buffer_in h (shown_by []) j is below) refl)
+      ap (given q)
+      (gives h.size j (buffer_at (words_in h (shown_by [])) j) (buffer_of (shown_by []) j)
+      (buffer_in h (shown_by []) j is below) refl)
       ∙ nothing_given q j));
 }
 
 -- the view of the words that the log leaves is the state that they represent
-view_is : (h : Header) (log : List Entry) (state : Amounts) → h.subject ≡ Buffers → Represents h (shown_by log) state
+view_is : (h : Header) (log : List Entry) (state : Amounts) → h.subject ≡ Buffers
+    → Represents h (shown_by log) state
     → view_of_words h (old_words_after h log) ≡ state
 unfolding view_of_words old_words_after
 view_is h log state is s =
@@ -72,18 +82,26 @@ view_is h log state is s =
     words = map (old_value_after (old_effects log)) (numbers_below (plain_words h))
 
     word : (cell : ℕ) → cell < 8 * h.size → slice_index words cell ≡ shown_by log cell
-    word cell low = element_below (old_value_after (old_effects log)) (plain_words h) cell (subst (λ s. cell < plain_words_of s h.size) (sym is) low)
+    word cell low = element_below (old_value_after (old_effects log)) (plain_words h) cell
+        (subst (λ s. cell < plain_words_of s h.size) (sym is) low)
 
     alike : (k : ℕ) → k < h.size → Alike (buffer_at words k) (buffer_of (shown_by log) k)
-    alike k low = record { count = word (8 * k) (omega (arith, low)); characters = λ i few. word (8 * k + (1 + i)) (omega (arith, low, few)) }
+    alike k low = record {
+      count = word (8 * k) (omega (arith, low));
+      characters = λ i few. word
+          (8 * k + (1 + i)) (omega (arith, low, few));
+    }
 
     each : (k : ℕ) → 0 ≤ k → k < 0 + h.size
-        → buffer_parts h.size k (buffer_at words k) ≡ buffer_parts h.size k (buffer_at (words_in h (shown_by log)) k)
+        → buffer_parts h.size k (buffer_at words k) ≡ buffer_parts h.size k
+        (buffer_at (words_in h (shown_by log)) k)
     each k from to =
         let below : k < h.size = omega (arith, to) in
-        let sound : is_buffer (buffer_of (shown_by log) k) ≡ true = sound_at h (shown_by log) state k is s below in
+        let sound : is_buffer (buffer_of (shown_by log) k) ≡ true = sound_at h (shown_by log) state
+        k is s below in
         gives h.size k (buffer_at words k) (buffer_of (shown_by log) k) (alike k below) sound
-        ∙ sym (gives h.size k (buffer_at (words_in h (shown_by log)) k) (buffer_of (shown_by log) k) (buffer_in h (shown_by log) k is below) sound)
+        ∙ sym (gives h.size k (buffer_at (words_in h (shown_by log)) k) (buffer_of (shown_by log) k)
+        (buffer_in h (shown_by log) k is below) sound)
 
 -- they fit a header of string buffers
 pub buffers_fit : (h : Header) → h.version ≡ 1 → h.subject ≡ Buffers → Fits (buffers h)

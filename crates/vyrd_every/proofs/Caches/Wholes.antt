@@ -1,5 +1,6 @@
 -- Each procedure of the correct cache does right: all of it happens under the lock of its chunk.
-use Rattle.std.proofs.Common.{◌≡◌, ◌≢◌, ℕ, ◌+◌, ◌*◌, ◌/◌, ◌<◌, ◌≤◌, ◌^◌, Bool, true, false, cond, List, [], ◌∷◌, Some, refl, ap, ◌∙◌, sym, subst, arith}
+use Rattle.std.proofs.Common.{◌≡◌, ◌≢◌, ℕ, ◌+◌, ◌*◌, ◌/◌, ◌<◌, ◌≤◌, ◌^◌, Bool, true, false, cond}
+use Rattle.std.proofs.Common.{List, [], ◌∷◌, Some, refl, ap, ◌∙◌, sym, subst, arith}
 use Rattle.std.specs.Prelude.{◌==◌, ◌&&◌, nat_lt}
 use Rattle.vyrd_base.specs.declared.header.Header.{Header}
 use Rattle.vyrd_base.specs.declared.subject.Subject.TheVariants.{Cache}
@@ -10,7 +11,8 @@ use Rattle.vyrd_base.specs.declared.subject.Method.TheVariants.{Buffers as OfBuf
 use Rattle.vyrd_base.specs.declared.subject.Method.TheVariants.{OwnNever, OwnAtMostOnce, OwnOnce}
 use Rattle.vyrd_base.specs.declared.cache.CacheMethod.TheVariants.{Write, Flush, Evict, Read}
 use Rattle.vyrd_base.specs.declared.subject.Args.{Args}
-use Rattle.vyrd_base.specs.declared.log.Kind.TheVariants.{Return, BlockOpen, BlockClose, BlockCommit}
+use Rattle.vyrd_base.specs.declared.log.Kind.TheVariants.{Return, BlockOpen, BlockClose}
+use Rattle.vyrd_base.specs.declared.log.Kind.TheVariants.{BlockCommit}
 use Rattle.vyrd_base.specs.Callers.{Called}
 use Rattle.vyrd_base.specs.Subjects.{is_observer, subject_of, are_args, same_subject}
 use Rattle.vyrd_base.specs.Amounts.{Amounts, with_amount}
@@ -45,48 +47,68 @@ use Rattle.vyrd_every.specs.Others.{Rely, Guarantee}
 use Rattle.vyrd_every.specs.RightScripts.{DoesRight, IsRight}
 use Rattle.vyrd_every.specs.Guarded.{cache}
 use Rattle.vyrd_every.proofs.Relies.{rely_more}
-use Rattle.vyrd_every.proofs.Acts.{never, at, holds_first, without_slots, load_right, take_right, give_right, returns_right, mutates, lone_commit_right, open_right, block_store_right, commit_right, close_right, answer_right}
-use Rattle.vyrd_every.proofs.Caches.Chunks.{chunk_access, chunk_stays, thrice, thrice-other, after_cached, after_stored, after_state, kept, changed}
+use Rattle.vyrd_every.proofs.Acts.{never, at, holds_first, without_slots, load_right, take_right}
+use Rattle.vyrd_every.proofs.Acts.{give_right, returns_right, mutates, lone_commit_right}
+use Rattle.vyrd_every.proofs.Acts.{open_right, block_store_right, commit_right, close_right}
+use Rattle.vyrd_every.proofs.Acts.{answer_right}
+use Rattle.vyrd_every.proofs.Caches.Chunks.{chunk_access, chunk_stays, thrice, thrice-other}
+use Rattle.vyrd_every.proofs.Caches.Chunks.{after_cached, after_stored, after_state, kept, changed}
 use Rattle.vyrd_every.proofs.Acts.{writing}
 
 -- the chunk's lock is held, and no other
 abbrev locked : Header → ℕ → Bool → Bool → Called → Situation
 locked h n committed in_block called = at (lock_of h n ∷ []) committed in_block called
 
-has_lock : (h : Header) (n : ℕ) (committed in_block : Bool) (called : Called) → holds (locked h n committed in_block called) (lock_of h n) ≡ true
+has_lock : (h : Header) (n : ℕ) (committed in_block : Bool) (called : Called)
+    → holds (locked h n committed in_block called) (lock_of h n) ≡ true
 has_lock h n committed in_block called = holds_first (lock_of h n) [] committed in_block called
 
-access_in : (h : Header) (n cell : ℕ) (committed in_block : Bool) (called : Called) → n < h.size → 5 * n ≤ cell → cell < 5 * n + 5
+access_in : (h : Header) (n cell : ℕ) (committed in_block : Bool) (called : Called) → n < h.size
+    → 5 * n ≤ cell → cell < 5 * n + 5
     → Access (cache h) (locked h n committed in_block called) cell
 access_in h n cell committed in_block called low from to =
-    chunk_access h (locked h n committed in_block called) n cell low (has_lock h n committed in_block called) from to
+    chunk_access h (locked h n committed in_block called) n cell low
+    (has_lock h n committed in_block called) from to
 
-stays_in : (h : Header) (n : ℕ) (committed in_block : Bool) (called : Called) (k : Locals) (before now : Memory) → n < h.size
-    → Rely (cache h) (locked h n committed in_block called) k before now → chunk_of now n ≡ chunk_of before n
+stays_in : (h : Header) (n : ℕ) (committed in_block : Bool) (called : Called) (k : Locals)
+    (before now : Memory) → n < h.size
+    → Rely (cache h) (locked h n committed in_block called) k before now → chunk_of now n
+    ≡ chunk_of before n
 stays_in h n committed in_block called k before now low rely =
-    chunk_stays h (locked h n committed in_block called) k before now n low (has_lock h n committed in_block called) rely
+    chunk_stays h (locked h n committed in_block called) k before now n low
+    (has_lock h n committed in_block called) rely
 
 -- a load of a word of the chunk finds what it has afterwards too
-look_right : (h : Header) (n cell : ℕ) (called : Called) (k : Locals) (before : Memory) (rest : ℕ → Script) → n < h.size → 5 * n ≤ cell → cell < 5 * n + 5
-    → ((now : Memory) → chunk_of now n ≡ chunk_of before n → DoesRight (cache h) (locked h n false false called) k now (rest (now cell)))
+look_right : (h : Header) (n cell : ℕ) (called : Called) (k : Locals) (before : Memory)
+    (rest : ℕ → Script) → n < h.size → 5 * n ≤ cell → cell < 5 * n + 5
+    → ((now : Memory) → chunk_of now n ≡ chunk_of before n
+    → DoesRight (cache h) (locked h n false false called) k now (rest (now cell)))
     → DoesRight (cache h) (locked h n false false called) k before (step (Load cell) rest)
 look_right h n cell called k before rest low from to later =
-    load_right (cache h) (locked h n false false called) k before cell rest (access_in h n cell false false called low from to) refl
-    (λ now rely. subst (λ value. DoesRight (cache h) (locked h n false false called) k now (rest value))
+    load_right (cache h) (locked h n false false called) k before cell rest
+    (access_in h n cell false false called low from to) refl
+    (λ now rely. subst (λ value. DoesRight (cache h) (locked h n false false called) k now
+    (rest value))
     (rely.held cell (access_in h n cell false false called low from to))
     (later now (stays_in h n false false called k before now low rely)))
 
 -- both halves of a pair are loaded
-look_twice : (h : Header) (n a b : ℕ) (called : Called) (k : Locals) (before : Memory) (rest : ℕ → ℕ → Script) → n < h.size
+look_twice : (h : Header) (n a b : ℕ) (called : Called) (k : Locals) (before : Memory)
+    (rest : ℕ → ℕ → Script) → n < h.size
     → 5 * n ≤ a → a < 5 * n + 5 → 5 * n ≤ b → b < 5 * n + 5
-    → ((now : Memory) → chunk_of now n ≡ chunk_of before n → DoesRight (cache h) (locked h n false false called) k now (rest (now a) (now b)))
-    → DoesRight (cache h) (locked h n false false called) k before (step (Load a) (λ low. step (Load b) (λ high. rest low high)))
+    → ((now : Memory) → chunk_of now n ≡ chunk_of before n
+    → DoesRight (cache h) (locked h n false false called) k now (rest (now a) (now b)))
+    → DoesRight (cache h) (locked h n false false called) k before
+    (step (Load a) (λ low. step (Load b) (λ high. rest low high)))
 look_twice h n a b called k before rest low from_a to_a from_b to_b later =
-    load_right (cache h) (locked h n false false called) k before a (λ x. step (Load b) (λ y. rest x y)) (access_in h n a false false called low from_a to_a) refl
+    load_right (cache h) (locked h n false false called) k before a
+    (λ x. step (Load b) (λ y. rest x y)) (access_in h n a false false called low from_a to_a) refl
     (λ mid first.
-    load_right (cache h) (locked h n false false called) k mid b (λ y. rest (before a) y) (access_in h n b false false called low from_b to_b) refl
+    load_right (cache h) (locked h n false false called) k mid b (λ y. rest (before a) y)
+    (access_in h n b false false called low from_b to_b) refl
     (λ now second.
-    let both : Rely (cache h) (locked h n false false called) k before now = rely_more (cache h) (locked h n false false called) k before mid now first second in
+    let both : Rely (cache h) (locked h n false false called) k before now = rely_more (cache h)
+    (locked h n false false called) k before mid now first second in
     subst (λ x. DoesRight (cache h) (locked h n false false called) k now (rest x (mid b)))
     (both.held a (access_in h n a false false called low from_a to_a))
     (subst (λ y. DoesRight (cache h) (locked h n false false called) k now (rest (now a) y))
@@ -98,49 +120,64 @@ enter_right : (h : Header) (n : ℕ) (called : Called) (k : Locals) (before : Me
     → ((now : Memory) → DoesRight (cache h) (locked h n false false called) k now rest)
     → DoesRight (cache h) (at [] false false called) k before (lock h n rest)
 enter_right h n called k before rest later =
-    take_right (cache h) (at [] false false called) k before (lock_of h n) rest (λ held e. cc) (λ now rely. later now)
+    take_right (cache h) (at [] false false called) k before (lock_of h n) rest (λ held e. cc)
+    (λ now rely. later now)
 
 -- the lock is given back after the commit
-leave_right : (h : Header) (n : ℕ) (called : Called) (k : Locals) (now : Memory) → ((i : ℕ) → k.owned i ≡ false) → k.called ≡ Some called
+leave_right : (h : Header) (n : ℕ) (called : Called) (k : Locals) (now : Memory)
+    → ((i : ℕ) → k.owned i ≡ false) → k.called ≡ Some called
     → is_observer called.method ≡ false
-    → DoesRight (cache h) (locked h n true false called) k now (in_order (Give (lock_of h n) ∷ Mark (Return 1) ∷ []))
+    → DoesRight (cache h) (locked h n true false called) k now
+    (in_order (Give (lock_of h n) ∷ Mark (Return 1) ∷ []))
 leave_right h n called k now none is mutator =
     give_right (cache h) (locked h n true false called) k now (lock_of h n) (returns 1) refl
-    (λ last rely. subst (λ locks. DoesRight (cache h) (at locks true false called) k last (returns 1)) (sym (gone (lock_of h n) []))
+    (λ last rely. subst (λ locks. DoesRight (cache h) (at locks true false called) k last
+    (returns 1)) (sym (gone (lock_of h n) []))
     (returns_right (cache h) k last true called 1 none (mutates k called 1 is mutator)))
 
 -- stores into a chunk leave other chunks alone
-leaves_alone : (h : Header) (n a x b y z : ℕ) (called : Called) (k : Locals) (memory : Memory) → n < h.size → 5 * n ≤ a → a < 5 * n + 5 → 5 * n ≤ b → b < 5 * n + 5
+leaves_alone : (h : Header) (n a x b y z : ℕ) (called : Called) (k : Locals) (memory : Memory)
+    → n < h.size → 5 * n ≤ a → a < 5 * n + 5 → 5 * n ≤ b → b < 5 * n + 5
     → Guarantee (cache h) (locked h n false true called) k memory (thrice memory a x b y (5 * n) z)
 leaves_alone h n a x b y z called k memory low from_a to_a from_b to_b = record {
   others = λ cell below free. thrice-other memory a x b y (5 * n) z cell
-      (outside cell (5 * n) free (access_in h n (5 * n) false true called low (omega arith) (omega arith)))
+      (outside cell (5 * n) free
+      (access_in h n (5 * n) false true called low (omega arith) (omega arith)))
       (outside cell b free (access_in h n b false true called low from_b to_b))
       (outside cell a free (access_in h n a false true called low from_a to_a));
   reserved = λ slot one other. tt;
 }
   where
-    outside : (cell word : ℕ) → holds (locked h n false true called) (lock_of h (cell / 5)) ≡ false → Access (cache h) (locked h n false true called) word → cell ≢ word
+    outside : (cell word : ℕ) → holds (locked h n false true called) (lock_of h (cell / 5)) ≡ false
+        → Access (cache h) (locked h n false true called) word → cell ≢ word
     outside cell word free access = λ same.
-        never free (subst (λ c. holds (locked h n false true called) (lock_of h (c / 5)) ≡ true) (sym same) access.held)
+        never free (subst (λ c. holds (locked h n false true called) (lock_of h (c / 5)) ≡ true)
+        (sym same) access.held)
 
 -- a block that stores a pair and a state, up to its end
-stored_right : (h : Header) (n a x b y z : ℕ) (called : Called) (k : Locals) (before : Memory) (later : Script) → n < h.size
+stored_right : (h : Header) (n a x b y z : ℕ) (called : Called) (k : Locals) (before : Memory)
+    (later : Script) → n < h.size
     → 5 * n ≤ a → a < 5 * n + 5 → 5 * n ≤ b → b < 5 * n + 5
     → ((now : Memory) → chunk_of now n ≡ chunk_of before n
-    → DoesRight (cache h) (locked h n false true called) (writing k ((5 * n, z) ∷ (b, y) ∷ (a, x) ∷ [])) now later)
+    → DoesRight (cache h) (locked h n false true called)
+    (writing k ((5 * n, z) ∷ (b, y) ∷ (a, x) ∷ [])) now later)
     → DoesRight (cache h) (locked h n false false called) k before
-    (perform (Mark BlockOpen) (perform (Store a x) (perform (Store b y) (perform (Store (5 * n) z) later))))
+    (perform (Mark BlockOpen)
+    (perform (Store a x) (perform (Store b y) (perform (Store (5 * n) z) later))))
 stored_right h n a x b y z called k before later low from_a to_a from_b to_b rest =
-    open_right (cache h) (lock_of h n ∷ []) k before called (perform (Store a x) (perform (Store b y) (perform (Store (5 * n) z) later)))
+    open_right (cache h) (lock_of h n ∷ []) k before called
+    (perform (Store a x) (perform (Store b y) (perform (Store (5 * n) z) later)))
     (λ m0 r0.
-    block_store_right (cache h) (lock_of h n ∷ []) (writing k []) m0 called a x (perform (Store b y) (perform (Store (5 * n) z) later))
+    block_store_right (cache h) (lock_of h n ∷ []) (writing k []) m0 called a x
+    (perform (Store b y) (perform (Store (5 * n) z) later))
     (access_in h n a false true called low from_a to_a)
     (λ m1 r1.
-    block_store_right (cache h) (lock_of h n ∷ []) (writing k ((a, x) ∷ [])) m1 called b y (perform (Store (5 * n) z) later)
+    block_store_right (cache h) (lock_of h n ∷ []) (writing k ((a, x) ∷ [])) m1 called b y
+    (perform (Store (5 * n) z) later)
     (access_in h n b false true called low from_b to_b)
     (λ m2 r2.
-    block_store_right (cache h) (lock_of h n ∷ []) (writing k ((b, y) ∷ (a, x) ∷ [])) m2 called (5 * n) z later
+    block_store_right (cache h) (lock_of h n ∷ []) (writing k ((b, y) ∷ (a, x) ∷ [])) m2 called
+    (5 * n) z later
     (access_in h n (5 * n) false true called low (omega arith) (omega arith))
     (λ m3 r3. rest m3
     (stays_in h n false true called (writing k ((5 * n, z) ∷ (b, y) ∷ (a, x) ∷ [])) m2 m3 low r3
@@ -151,45 +188,69 @@ stored_right h n a x b y z called k before later low from_a to_a from_b to_b res
 -- what a commit with reply 1 has to lead to
 abbrev LeadsTo : Header → Called → Memory → Memory → Type 0
 LeadsTo h called now after = (before : Amounts) → Represents h now before
-    → (next : Amounts) × (next_state called.method called.args 1 before ≡ Some next) × Represents h after next
+    → (next : Amounts) × (next_state called.method called.args 1 before ≡ Some next)
+    × Represents h after next
 
 -- such a block that commits, and the return
-committed_right : (h : Header) (n a x b y z : ℕ) (called : Called) (k : Locals) (before : Memory) → n < h.size
-    → 5 * n ≤ a → a < 5 * n + 5 → 5 * n ≤ b → b < 5 * n + 5 → k.called ≡ Some called → is_observer called.method ≡ false
-    → ((now : Memory) → chunk_of now n ≡ chunk_of before n → LeadsTo h called now (thrice now a x b y (5 * n) z))
+committed_right : (h : Header) (n a x b y z : ℕ) (called : Called) (k : Locals) (before : Memory)
+    → n < h.size
+    → 5 * n ≤ a → a < 5 * n + 5 → 5 * n ≤ b → b < 5 * n + 5 → k.called ≡ Some called
+    → is_observer called.method ≡ false
+    → ((now : Memory) → chunk_of now n ≡ chunk_of before n
+    → LeadsTo h called now (thrice now a x b y (5 * n) z))
     → DoesRight (cache h) (locked h n false false called) k before
-    (in_order (Mark BlockOpen ∷ Store a x ∷ Store b y ∷ Store (5 * n) z ∷ Mark BlockCommit ∷ Give (lock_of h n) ∷ Mark (Return 1) ∷ []))
+    (in_order (Mark BlockOpen ∷ Store a x ∷ Store b y ∷ Store (5 * n) z ∷ Mark BlockCommit
+    ∷ Give (lock_of h n) ∷ Mark (Return 1) ∷ []))
 committed_right h n a x b y z called k before low from_a to_a from_b to_b is mutator leads =
-    stored_right h n a x b y z called k before (in_order (Mark BlockCommit ∷ Give (lock_of h n) ∷ Mark (Return 1) ∷ [])) low from_a to_a from_b to_b
+    stored_right h n a x b y z called k before
+    (in_order (Mark BlockCommit ∷ Give (lock_of h n) ∷ Mark (Return 1) ∷ [])) low from_a to_a from_b
+    to_b
     (λ now same.
-    commit_right (cache h) (lock_of h n ∷ []) (writing k pending) now called (in_order (Give (lock_of h n) ∷ Mark (Return 1) ∷ []))
+    commit_right (cache h) (lock_of h n ∷ []) (writing k pending) now called
+    (in_order (Give (lock_of h n) ∷ Mark (Return 1) ∷ []))
     (leaves_alone h n a x b y z called (writing k pending) now low from_a to_a from_b to_b)
     (λ state s.
     let end = leads now same state s in
-    record { called = called; is_called = is; reply = 1; returns = λ answer is'. refl; next = end.0; allowed = end.1; means = end.2 })
-    (λ last rely. leave_right h n called (without_slots (writing k pending) pending) last (λ i. refl) is mutator))
+    record {
+      called = called;
+      is_called = is;
+      reply = 1;
+      returns = λ answer is'. refl;
+      next = end.0;
+      allowed = end.1;
+      means = end.2;
+    })
+    (λ last rely. leave_right h n called (without_slots (writing k pending) pending) last
+    (λ i. refl) is mutator))
   where
     pending : List (ℕ × ℕ)
     pending = (5 * n, z) ∷ (b, y) ∷ (a, x) ∷ []
 
 -- a write
-write_right : (h : Header) (k : Locals) (before : Memory) (args : Args) → h.subject ≡ Cache → args.a < h.size → are_small args ≡ true
+write_right : (h : Header) (k : Locals) (before : Memory) (args : Args) → h.subject ≡ Cache
+    → args.a < h.size → are_small args ≡ true
     → k.called ≡ Some (record { method = OfCache Write; args = args })
-    → DoesRight (cache h) (at [] false false (record { method = OfCache Write; args = args })) k before (write h Correct args.a args.b args.c)
+    → DoesRight (cache h) (at [] false false (record { method = OfCache Write; args = args })) k
+    before (write h Correct args.a args.b args.c)
 write_right h k before args is low few called_is =
     enter_right h args.a called k before (put_cached h args.a args.b args.c)
-    (λ now. committed_right h args.a (5 * args.a + 1) args.b (5 * args.a + 2) args.c 2 called k now low
+    (λ now. committed_right h args.a (5 * args.a + 1) args.b (5 * args.a + 2) args.c 2 called k now
+    low
     (omega arith) (omega arith) (omega arith) (omega arith) called_is refl
     (λ then_ same state s. (
       with_amount state args.a (args.c * 2 ^ 32 + args.b),
       refl,
-      changed h then_ (thrice then_ (5 * args.a + 1) args.b (5 * args.a + 2) args.c (5 * args.a) 2) state args.a
+      changed h then_ (thrice then_ (5 * args.a + 1) args.b (5 * args.a + 2) args.c (5 * args.a) 2)
+          state args.a
           (with_cached 2 args.b args.c (chunk_of then_ args.a)) is s low
-          (λ cell e0 e1 e2 e3 e4 lock. thrice-other then_ (5 * args.a + 1) args.b (5 * args.a + 2) args.c (5 * args.a) 2 cell e0 e2 e1)
-          (thrice-other then_ (5 * args.a + 1) args.b (5 * args.a + 2) args.c (5 * args.a) 2 (lock_of h args.a)
+          (λ cell e0 e1 e2 e3 e4 lock. thrice-other then_ (5 * args.a + 1) args.b
+          (5 * args.a + 2) args.c (5 * args.a) 2 cell e0 e2 e1)
+          (thrice-other then_ (5 * args.a + 1) args.b (5 * args.a + 2) args.c (5 * args.a) 2
+          (lock_of h args.a)
           (λ e. omega (arith, e, low)) (λ e. omega (arith, e, low)) (λ e. omega (arith, e, low)))
           (after_cached then_ args.a 2 args.b args.c)
-          (dirty_sound (chunk_of then_ args.a) args.b args.c (sound_at h then_ state args.a is s low) b_small c_small),
+          (dirty_sound (chunk_of then_ args.a) args.b args.c
+          (sound_at h then_ state args.a is s low) b_small c_small),
     )))
   where
     called : Called
@@ -202,11 +263,14 @@ write_right h k before args is low few called_is =
     c_small = second_true _ (nat_lt args.c (2 ^ 32)) few
 
 -- nothing is changed
-only_commit_right : (h : Header) (n : ℕ) (called : Called) (k : Locals) (now : Memory) → ((i : ℕ) → k.owned i ≡ false) → k.called ≡ Some called
-    → is_observer called.method ≡ false → ((state : Amounts) → next_state called.method called.args 1 state ≡ Some state)
+only_commit_right : (h : Header) (n : ℕ) (called : Called) (k : Locals) (now : Memory)
+    → ((i : ℕ) → k.owned i ≡ false) → k.called ≡ Some called
+    → is_observer called.method ≡ false
+    → ((state : Amounts) → next_state called.method called.args 1 state ≡ Some state)
     → DoesRight (cache h) (locked h n false false called) k now (only_commit h n)
 only_commit_right h n called k now none is mutator same =
-    lone_commit_right (cache h) (lock_of h n ∷ []) k now called (in_order (Give (lock_of h n) ∷ Mark (Return 1) ∷ []))
+    lone_commit_right (cache h) (lock_of h n ∷ []) k now called
+    (in_order (Give (lock_of h n) ∷ Mark (Return 1) ∷ []))
     (λ state s. record {
       called = called;
       is_called = is;
@@ -219,46 +283,64 @@ only_commit_right h n called k now none is mutator same =
     (λ last rely. leave_right h n called k last none is mutator)
 
 -- a dirty chunk's pair is put into the store, and the chunk shows the same pair after it
-put_stored_right : (h : Header) (n left : ℕ) (called : Called) (k : Locals) (before : Memory) → h.subject ≡ Cache → n < h.size → k.called ≡ Some called
-    → is_observer called.method ≡ false → ((state : Amounts) → next_state called.method called.args 1 state ≡ Some state)
+put_stored_right : (h : Header) (n left : ℕ) (called : Called) (k : Locals) (before : Memory)
+    → h.subject ≡ Cache → n < h.size → k.called ≡ Some called
+    → is_observer called.method ≡ false
+    → ((state : Amounts) → next_state called.method called.args 1 state ≡ Some state)
     → (before (5 * n) == 2) ≡ true
-    → ((c : Chunk) → is_sound_chunk c ≡ true → is_sound_chunk (with_stored left c.cached_lo c.cached_hi c) ≡ true)
+    → ((c : Chunk) → is_sound_chunk c ≡ true
+    → is_sound_chunk (with_stored left c.cached_lo c.cached_hi c) ≡ true)
     → ((c : Chunk) → shown (with_stored left c.cached_lo c.cached_hi c) ≡ cached_pair c)
     → DoesRight (cache h) (locked h n false false called) k before (put_stored h n left)
 put_stored_right h n left called k before is low called_is mutator stays dirty sound shows =
     look_twice h n (5 * n + 1) (5 * n + 2) called k before
-    (λ x y. in_order (Mark BlockOpen ∷ Store (5 * n + 3) x ∷ Store (5 * n + 4) y ∷ Store (5 * n) left ∷ Mark BlockCommit ∷ Give (lock_of h n) ∷ Mark (Return 1) ∷ []))
+    (λ x y. in_order (Mark BlockOpen ∷ Store (5 * n + 3) x ∷ Store (5 * n + 4) y
+    ∷ Store (5 * n) left ∷ Mark BlockCommit ∷ Give (lock_of h n) ∷ Mark (Return 1) ∷ []))
     low (omega arith) (omega arith) (omega arith) (omega arith)
     (λ now same.
-    committed_right h n (5 * n + 3) (now (5 * n + 1)) (5 * n + 4) (now (5 * n + 2)) left called k now low
+    committed_right h n (5 * n + 3) (now (5 * n + 1)) (5 * n + 4) (now (5 * n + 2)) left called k
+    now low
     (omega arith) (omega arith) (omega arith) (omega arith) called_is mutator
     (λ then_ same' state s. (
       state,
       stays state,
-      kept h then_ (thrice then_ (5 * n + 3) (now (5 * n + 1)) (5 * n + 4) (now (5 * n + 2)) (5 * n) left) state n
+      kept h then_ (thrice then_ (5 * n + 3) (now (5 * n + 1)) (5 * n + 4) (now (5 * n + 2))
+          (5 * n) left) state n
           (with_stored left (now (5 * n + 1)) (now (5 * n + 2)) (chunk_of now n)) is s low
-          (λ cell e0 e1 e2 e3 e4 lock. thrice-other then_ (5 * n + 3) (now (5 * n + 1)) (5 * n + 4) (now (5 * n + 2)) (5 * n) left cell e0 e4 e3)
-          (thrice-other then_ (5 * n + 3) (now (5 * n + 1)) (5 * n + 4) (now (5 * n + 2)) (5 * n) left (lock_of h n)
+          (λ cell e0 e1 e2 e3 e4 lock. thrice-other then_ (5 * n + 3) (now (5 * n + 1)) (5 * n + 4)
+          (now (5 * n + 2)) (5 * n) left cell e0 e4 e3)
+          (thrice-other then_ (5 * n + 3) (now (5 * n + 1)) (5 * n + 4) (now (5 * n + 2))
+          (5 * n) left (lock_of h n)
           (λ e. omega (arith, e, low)) (λ e. omega (arith, e, low)) (λ e. omega (arith, e, low)))
-          (after_stored then_ n left (now (5 * n + 1)) (now (5 * n + 2)) ∙ ap (with_stored left (now (5 * n + 1)) (now (5 * n + 2))) same')
-          (sound (chunk_of now n) (ap is_sound_chunk (sym same') ∙ sound_at h then_ state n is s low))
-          (shows (chunk_of now n) ∙ sym (shown_dirty (chunk_of now n) (ap (λ c. c.state == 2) same ∙ dirty)) ∙ ap shown (sym same')),
+          (after_stored then_ n left (now (5 * n + 1)) (now (5 * n + 2))
+          ∙ ap (with_stored left (now (5 * n + 1)) (now (5 * n + 2))) same')
+          (sound (chunk_of now n)
+          (ap is_sound_chunk (sym same') ∙ sound_at h then_ state n is s low))
+          (shows (chunk_of now n)
+          ∙ sym (shown_dirty (chunk_of now n) (ap (λ c. c.state == 2) same ∙ dirty))
+          ∙ ap shown (sym same')),
     )))
 
 -- the chunk, which is clean, is forgotten
-forget_right : (h : Header) (n : ℕ) (called : Called) (k : Locals) (before : Memory) → h.subject ≡ Cache → n < h.size → k.called ≡ Some called
-    → is_observer called.method ≡ false → ((state : Amounts) → next_state called.method called.args 1 state ≡ Some state)
+forget_right : (h : Header) (n : ℕ) (called : Called) (k : Locals) (before : Memory) → h.subject
+    ≡ Cache → n < h.size → k.called ≡ Some called
+    → is_observer called.method ≡ false
+    → ((state : Amounts) → next_state called.method called.args 1 state ≡ Some state)
     → (before (5 * n) == 2) ≡ false → (before (5 * n) == 0) ≡ false
     → DoesRight (cache h) (locked h n false false called) k before (forget h n)
 forget_right h n called k before is low called_is mutator stays other there =
-    open_right (cache h) (lock_of h n ∷ []) k before called (in_order (Store (5 * n) 0 ∷ Mark BlockCommit ∷ Give (lock_of h n) ∷ Mark (Return 1) ∷ []))
+    open_right (cache h) (lock_of h n ∷ []) k before called
+    (in_order (Store (5 * n) 0 ∷ Mark BlockCommit ∷ Give (lock_of h n) ∷ Mark (Return 1) ∷ []))
     (λ m0 r0.
-    block_store_right (cache h) (lock_of h n ∷ []) (writing k []) m0 called (5 * n) 0 (in_order (Mark BlockCommit ∷ Give (lock_of h n) ∷ Mark (Return 1) ∷ []))
+    block_store_right (cache h) (lock_of h n ∷ []) (writing k []) m0 called (5 * n) 0
+    (in_order (Mark BlockCommit ∷ Give (lock_of h n) ∷ Mark (Return 1) ∷ []))
     (access_in h n (5 * n) false true called low (omega arith) (omega arith))
     (λ m1 r1.
-    let same : chunk_of m1 n ≡ chunk_of before n = stays_in h n false true called (writing k ((5 * n, 0) ∷ [])) m0 m1 low r1
+    let same : chunk_of m1 n ≡ chunk_of before n = stays_in h n false true called
+    (writing k ((5 * n, 0) ∷ [])) m0 m1 low r1
     ∙ stays_in h n false true called (writing k []) before m0 low r0 in
-    commit_right (cache h) (lock_of h n ∷ []) (writing k ((5 * n, 0) ∷ [])) m1 called (in_order (Give (lock_of h n) ∷ Mark (Return 1) ∷ []))
+    commit_right (cache h) (lock_of h n ∷ []) (writing k ((5 * n, 0) ∷ [])) m1 called
+    (in_order (Give (lock_of h n) ∷ Mark (Return 1) ∷ []))
     (guarantee m1)
     (λ state s. record {
       called = called;
@@ -275,39 +357,54 @@ forget_right h n called k before is low called_is mutator stays other there =
           (sym (shown_clean (chunk_of m1 n) (sound_at h m1 state n is s low)
           (ap (λ c. c.state == 2) same ∙ other) (ap (λ c. c.state == 0) same ∙ there)));
     })
-    (λ last rely. leave_right h n called (without_slots (writing k ((5 * n, 0) ∷ [])) ((5 * n, 0) ∷ [])) last (λ i. refl) called_is mutator)))
+    (λ last rely. leave_right h n called
+    (without_slots (writing k ((5 * n, 0) ∷ [])) ((5 * n, 0) ∷ [])) last (λ i. refl) called_is
+    mutator)))
   where
-    guarantee : (memory : Memory) → Guarantee (cache h) (locked h n false true called) (writing k ((5 * n, 0) ∷ [])) memory (with_cell memory (5 * n) 0)
+    guarantee : (memory : Memory) → Guarantee (cache h) (locked h n false true called)
+        (writing k ((5 * n, 0) ∷ [])) memory (with_cell memory (5 * n) 0)
     guarantee memory = record {
       others = λ cell below free. other_cell memory (5 * n) 0 cell (λ same.
-          never free (subst (λ c. holds (locked h n false true called) (lock_of h (c / 5)) ≡ true) (sym same)
+          never free (subst (λ c. holds (locked h n false true called) (lock_of h (c / 5)) ≡ true)
+          (sym same)
           (access_in h n (5 * n) false true called low (omega arith) (omega arith)).held));
       reserved = λ slot one other. tt;
     }
 
 -- a flush
-flush_right : (h : Header) (k : Locals) (before : Memory) (args : Args) → h.subject ≡ Cache → args.a < h.size → ((i : ℕ) → k.owned i ≡ false)
+flush_right : (h : Header) (k : Locals) (before : Memory) (args : Args) → h.subject ≡ Cache
+    → args.a < h.size → ((i : ℕ) → k.owned i ≡ false)
     → k.called ≡ Some (record { method = OfCache Flush; args = args })
-    → DoesRight (cache h) (at [] false false (record { method = OfCache Flush; args = args })) k before (flush h args.a)
+    → DoesRight (cache h) (at [] false false (record { method = OfCache Flush; args = args })) k
+    before (flush h args.a)
 flush_right h k before args is low none called_is =
-    enter_right h args.a called k before (step (Load (state_cell args.a)) (λ n. cond (n == 2) (put_stored h args.a 1) (only_commit h args.a)))
+    enter_right h args.a called k before
+    (step (Load (state_cell args.a))
+    (λ n. cond (n == 2) (put_stored h args.a 1) (only_commit h args.a)))
     (λ m0.
-    look_right h args.a (5 * args.a) called k m0 (λ n. cond (n == 2) (put_stored h args.a 1) (only_commit h args.a)) low (omega arith) (omega arith)
+    look_right h args.a (5 * args.a) called k m0
+    (λ n. cond (n == 2) (put_stored h args.a 1) (only_commit h args.a)) low (omega arith)
+    (omega arith)
     (λ now same. by_state now (now (5 * args.a) == 2) refl))
   where
     called : Called
     called = record { method = OfCache Flush; args = args }
 
     by_state : (now : Memory) (b : Bool) → (now (5 * args.a) == 2) ≡ b
-        → DoesRight (cache h) (locked h args.a false false called) k now (cond b (put_stored h args.a 1) (only_commit h args.a))
+        → DoesRight (cache h) (locked h args.a false false called) k now
+        (cond b (put_stored h args.a 1) (only_commit h args.a))
     by_state now true dirty =
-        put_stored_right h args.a 1 called k now is low called_is refl (λ state. refl) dirty (λ c sound. flushed_sound c sound) (λ c. refl)
-    by_state now false other = only_commit_right h args.a called k now none called_is refl (λ state. refl)
+        put_stored_right h args.a 1 called k now is low called_is refl (λ state. refl) dirty
+        (λ c sound. flushed_sound c sound) (λ c. refl)
+    by_state now false other = only_commit_right h args.a called k now none called_is refl
+        (λ state. refl)
 
 -- an evict
-evict_right : (h : Header) (k : Locals) (before : Memory) (args : Args) → h.subject ≡ Cache → args.a < h.size → ((i : ℕ) → k.owned i ≡ false)
+evict_right : (h : Header) (k : Locals) (before : Memory) (args : Args) → h.subject ≡ Cache
+    → args.a < h.size → ((i : ℕ) → k.owned i ≡ false)
     → k.called ≡ Some (record { method = OfCache Evict; args = args })
-    → DoesRight (cache h) (at [] false false (record { method = OfCache Evict; args = args })) k before (evict h args.a)
+    → DoesRight (cache h) (at [] false false (record { method = OfCache Evict; args = args })) k
+    before (evict h args.a)
 evict_right h k before args is low none called_is =
     enter_right h args.a called k before (step (Load (state_cell args.a)) rest)
     (λ m0. look_right h args.a (5 * args.a) called k m0 rest low (omega arith) (omega arith)
@@ -317,27 +414,40 @@ evict_right h k before args is low none called_is =
     called = record { method = OfCache Evict; args = args }
 
     rest : ℕ → Script
-    rest n = cond (n == 2) (put_stored h args.a 0) (cond (n == 0) (only_commit h args.a) (forget h args.a))
+    rest n = cond (n == 2) (put_stored h args.a 0)
+        (cond (n == 0) (only_commit h args.a) (forget h args.a))
 
-    by_state : (now : Memory) (b : Bool) → (now (5 * args.a) == 2) ≡ b → (c : Bool) → (now (5 * args.a) == 0) ≡ c
-        → DoesRight (cache h) (locked h args.a false false called) k now (cond b (put_stored h args.a 0) (cond c (only_commit h args.a) (forget h args.a)))
+    by_state : (now : Memory) (b : Bool) → (now (5 * args.a) == 2) ≡ b → (c : Bool)
+        → (now (5 * args.a) == 0) ≡ c
+        → DoesRight (cache h) (locked h args.a false false called) k now
+        (cond b (put_stored h args.a 0) (cond c (only_commit h args.a) (forget h args.a)))
     by_state now true dirty c e =
-        put_stored_right h args.a 0 called k now is low called_is refl (λ state. refl) dirty (λ c sound. evicted_sound c sound) (λ c. refl)
-    by_state now false other true absent = only_commit_right h args.a called k now none called_is refl (λ state. refl)
-    by_state now false other false there = forget_right h args.a called k now is low called_is refl (λ state. refl) other there
+        put_stored_right h args.a 0 called k now is low called_is refl (λ state. refl) dirty
+        (λ c sound. evicted_sound c sound) (λ c. refl)
+    by_state now false other true absent = only_commit_right h args.a called k now none called_is
+        refl (λ state. refl)
+    by_state now false other false there = forget_right h args.a called k now is low called_is refl
+        (λ state. refl) other there
 
 -- a read has its answer when it gives its lock back
-answer_cached_right : (h : Header) (k : Locals) (before : Memory) (args : Args) → h.subject ≡ Cache → args.a < h.size → ((i : ℕ) → k.owned i ≡ false)
-    → k.called ≡ Some (record { method = OfCache Read; args = args }) → (before (5 * args.a) == 0) ≡ false
-    → DoesRight (cache h) (locked h args.a false false (record { method = OfCache Read; args = args })) k before (answer_cached h args.a)
+answer_cached_right : (h : Header) (k : Locals) (before : Memory) (args : Args) → h.subject ≡ Cache
+    → args.a < h.size → ((i : ℕ) → k.owned i ≡ false)
+    → k.called ≡ Some (record { method = OfCache Read; args = args }) → (before (5 * args.a) == 0)
+    ≡ false
+    → DoesRight (cache h)
+    (locked h args.a false false (record { method = OfCache Read; args = args })) k before
+    (answer_cached h args.a)
 answer_cached_right h k before args is low none called_is there =
-    look_twice h n (5 * n + 1) (5 * n + 2) called k before (λ x y. in_order (Give (lock_of h n) ∷ Mark (Return (joined x y)) ∷ []))
+    look_twice h n (5 * n + 1) (5 * n + 2) called k before
+    (λ x y. in_order (Give (lock_of h n) ∷ Mark (Return (joined x y)) ∷ []))
     low (omega arith) (omega arith) (omega arith) (omega arith)
     (λ now same.
-    answer_right (cache h) k now (lock_of h n) called (joined (now (5 * n + 1)) (now (5 * n + 2))) none called_is
+    answer_right (cache h) k now (lock_of h n) called (joined (now (5 * n + 1)) (now (5 * n + 2)))
+    none called_is
     (λ state s.
     let few = small (chunk_of now n) (sound_at h now state n is s low) in
-    shown_at h now state n is s low ∙ shown_cached (chunk_of now n) (ap (λ c. c.state == 0) same ∙ there)
+    shown_at h now state n is s low ∙ shown_cached (chunk_of now n)
+    (ap (λ c. c.state == 0) same ∙ there)
     ∙ sym (joined_small (now (5 * n + 1)) (now (5 * n + 2)) few.cached_lo few.cached_hi)))
   where
     n : ℕ
@@ -347,12 +457,17 @@ answer_cached_right h k before args is low none called_is there =
     called = record { method = OfCache Read; args = args }
 
 -- an absent chunk is fetched first, which changes nothing that it shows
-fetch_right : (h : Header) (k : Locals) (before : Memory) (args : Args) → h.subject ≡ Cache → args.a < h.size → ((i : ℕ) → k.owned i ≡ false)
-    → k.called ≡ Some (record { method = OfCache Read; args = args }) → (before (5 * args.a) == 0) ≡ true
-    → DoesRight (cache h) (locked h args.a false false (record { method = OfCache Read; args = args })) k before (fetch h args.a)
+fetch_right : (h : Header) (k : Locals) (before : Memory) (args : Args) → h.subject ≡ Cache
+    → args.a < h.size → ((i : ℕ) → k.owned i ≡ false)
+    → k.called ≡ Some (record { method = OfCache Read; args = args }) → (before (5 * args.a) == 0)
+    ≡ true
+    → DoesRight (cache h)
+    (locked h args.a false false (record { method = OfCache Read; args = args })) k before
+    (fetch h args.a)
 fetch_right h k before args is low none called_is absent =
     look_twice h n (5 * n + 3) (5 * n + 4) called k before
-    (λ x y. in_order (Mark BlockOpen ∷ Store (5 * n + 1) x ∷ Store (5 * n + 2) y ∷ Store (5 * n) 1 ∷ Mark BlockClose
+    (λ x y. in_order (Mark BlockOpen ∷ Store (5 * n + 1) x ∷ Store (5 * n + 2) y ∷ Store (5 * n) 1
+    ∷ Mark BlockClose
     ∷ Give (lock_of h n) ∷ Mark (Return (joined x y)) ∷ []))
     low (omega arith) (omega arith) (omega arith) (omega arith)
     (λ now same. filled now (ap (λ c. c.state == 0) same ∙ absent))
@@ -363,29 +478,42 @@ fetch_right h k before args is low none called_is absent =
     called : Called
     called = record { method = OfCache Read; args = args }
 
-    filled : (now : Memory) → (now (5 * n) == 0) ≡ true → DoesRight (cache h) (locked h n false false called) k now
-        (in_order (Mark BlockOpen ∷ Store (5 * n + 1) (now (5 * n + 3)) ∷ Store (5 * n + 2) (now (5 * n + 4)) ∷ Store (5 * n) 1 ∷ Mark BlockClose
+    filled : (now : Memory) → (now (5 * n) == 0) ≡ true
+        → DoesRight (cache h) (locked h n false false called) k now
+        (in_order (Mark BlockOpen ∷ Store (5 * n + 1) (now (5 * n + 3)) ∷ Store (5 * n + 2)
+        (now (5 * n + 4)) ∷ Store (5 * n) 1 ∷ Mark BlockClose
         ∷ Give (lock_of h n) ∷ Mark (Return (joined (now (5 * n + 3)) (now (5 * n + 4)))) ∷ []))
     filled now none' =
-        stored_right h n (5 * n + 1) x (5 * n + 2) y 1 called k now (in_order (Mark BlockClose ∷ Give (lock_of h n) ∷ Mark (Return (joined x y)) ∷ [])) low
+        stored_right h n (5 * n + 1) x (5 * n + 2) y 1 called k now
+        (in_order (Mark BlockClose ∷ Give (lock_of h n) ∷ Mark (Return (joined x y)) ∷ [])) low
         (omega arith) (omega arith) (omega arith) (omega arith)
         (λ then_ same.
-        close_right (cache h) (lock_of h n ∷ []) (writing k pending) then_ called (in_order (Give (lock_of h n) ∷ Mark (Return (joined x y)) ∷ []))
-        (leaves_alone h n (5 * n + 1) x (5 * n + 2) y 1 called (writing k pending) then_ low (omega arith) (omega arith) (omega arith) (omega arith))
-        (λ state s. kept h then_ (thrice then_ (5 * n + 1) x (5 * n + 2) y (5 * n) 1) state n (with_cached 1 x y (chunk_of now n)) is s low
-        (λ cell e0 e1 e2 e3 e4 lock. thrice-other then_ (5 * n + 1) x (5 * n + 2) y (5 * n) 1 cell e0 e2 e1)
-        (thrice-other then_ (5 * n + 1) x (5 * n + 2) y (5 * n) 1 (lock_of h n) (λ e. omega (arith, e, low)) (λ e. omega (arith, e, low)) (λ e. omega (arith, e, low)))
+        close_right (cache h) (lock_of h n ∷ []) (writing k pending) then_ called
+        (in_order (Give (lock_of h n) ∷ Mark (Return (joined x y)) ∷ []))
+        (leaves_alone h n (5 * n + 1) x (5 * n + 2) y 1 called (writing k pending) then_ low
+        (omega arith) (omega arith) (omega arith) (omega arith))
+        (λ state s. kept h then_ (thrice then_ (5 * n + 1) x (5 * n + 2) y (5 * n) 1) state n
+        (with_cached 1 x y (chunk_of now n)) is s low
+        (λ cell e0 e1 e2 e3 e4 lock. thrice-other then_ (5 * n + 1) x (5 * n + 2) y
+        (5 * n) 1 cell e0 e2 e1)
+        (thrice-other then_ (5 * n + 1) x (5 * n + 2) y (5 * n) 1 (lock_of h n)
+        (λ e. omega (arith, e, low)) (λ e. omega (arith, e, low)) (λ e. omega (arith, e, low)))
         (chunk_is then_ same)
-        (fetched_sound (chunk_of now n) (ap is_sound_chunk (sym same) ∙ sound_at h then_ state n is s low))
+        (fetched_sound (chunk_of now n)
+        (ap is_sound_chunk (sym same) ∙ sound_at h then_ state n is s low))
         (sym (shown_absent (chunk_of now n) none') ∙ ap shown (sym same)))
         (λ last rely.
-        answer_right (cache h) (without_slots (writing k pending) pending) last (lock_of h n) called (joined x y) (λ i. refl) called_is
+        answer_right (cache h) (without_slots (writing k pending) pending) last (lock_of h n) called
+        (joined x y) (λ i. refl) called_is
         (λ state s.
         let e : chunk_of last n ≡ with_cached 1 x y (chunk_of now n) =
-        stays_in h n false false called (without_slots (writing k pending) pending) (thrice then_ (5 * n + 1) x (5 * n + 2) y (5 * n) 1) last low rely
+        stays_in h n false false called (without_slots (writing k pending) pending)
+        (thrice then_ (5 * n + 1) x (5 * n + 2) y (5 * n) 1) last low rely
         ∙ chunk_is then_ same in
-        let few = small (with_cached 1 x y (chunk_of now n)) (ap is_sound_chunk (sym e) ∙ sound_at h last state n is s low) in
-        shown_at h last state n is s low ∙ ap shown e ∙ sym (joined_small x y few.cached_lo few.cached_hi))))
+        let few = small (with_cached 1 x y (chunk_of now n))
+        (ap is_sound_chunk (sym e) ∙ sound_at h last state n is s low) in
+        shown_at h last state n is s low ∙ ap shown e
+        ∙ sym (joined_small x y few.cached_lo few.cached_hi))))
       where
         x : ℕ
         x = now (5 * n + 3)
@@ -397,34 +525,45 @@ fetch_right h k before args is low none called_is absent =
         pending = (5 * n, 1) ∷ (5 * n + 2, y) ∷ (5 * n + 1, x) ∷ []
 
         chunk_is : (then_ : Memory) → chunk_of then_ n ≡ chunk_of now n
-            → chunk_of (thrice then_ (5 * n + 1) x (5 * n + 2) y (5 * n) 1) n ≡ with_cached 1 x y (chunk_of now n)
+            → chunk_of (thrice then_ (5 * n + 1) x (5 * n + 2) y (5 * n) 1) n ≡ with_cached 1 x y
+            (chunk_of now n)
         chunk_is then_ same = after_cached then_ n 1 x y ∙ ap (with_cached 1 x y) same
 
-read_right : (h : Header) (k : Locals) (before : Memory) (args : Args) → h.subject ≡ Cache → args.a < h.size → ((i : ℕ) → k.owned i ≡ false)
+read_right : (h : Header) (k : Locals) (before : Memory) (args : Args) → h.subject ≡ Cache
+    → args.a < h.size → ((i : ℕ) → k.owned i ≡ false)
     → k.called ≡ Some (record { method = OfCache Read; args = args })
-    → DoesRight (cache h) (at [] false false (record { method = OfCache Read; args = args })) k before (read h args.a)
+    → DoesRight (cache h) (at [] false false (record { method = OfCache Read; args = args })) k
+    before (read h args.a)
 read_right h k before args is low none called_is =
-    enter_right h args.a called k before (step (Load (state_cell args.a)) (λ n. cond (n == 0) (fetch h args.a) (answer_cached h args.a)))
-    (λ m0. look_right h args.a (5 * args.a) called k m0 (λ n. cond (n == 0) (fetch h args.a) (answer_cached h args.a)) low (omega arith) (omega arith)
+    enter_right h args.a called k before
+    (step (Load (state_cell args.a)) (λ n. cond (n == 0) (fetch h args.a) (answer_cached h args.a)))
+    (λ m0. look_right h args.a (5 * args.a) called k m0
+    (λ n. cond (n == 0) (fetch h args.a) (answer_cached h args.a)) low (omega arith) (omega arith)
     (λ now same. by_state now (now (5 * args.a) == 0) refl))
   where
     called : Called
     called = record { method = OfCache Read; args = args }
 
     by_state : (now : Memory) (b : Bool) → (now (5 * args.a) == 0) ≡ b
-        → DoesRight (cache h) (locked h args.a false false called) k now (cond b (fetch h args.a) (answer_cached h args.a))
+        → DoesRight (cache h) (locked h args.a false false called) k now
+        (cond b (fetch h args.a) (answer_cached h args.a))
     by_state now true absent = fetch_right h k now args is low none called_is absent
     by_state now false there = answer_cached_right h k now args is low none called_is there
 
 -- the procedure of each operation
-procedure_right : (h : Header) (k : Locals) (before : Memory) (method : Method) (args : Args) → h.subject ≡ Cache → subject_of method ≡ Cache
+procedure_right : (h : Header) (k : Locals) (before : Memory) (method : Method) (args : Args)
+    → h.subject ≡ Cache → subject_of method ≡ Cache
     → args.a < h.size → are_small args ≡ true → ((i : ℕ) → k.owned i ≡ false)
     → k.called ≡ Some (record { method = method; args = args })
     → DoesRight (cache h) (just_called method) k before (procedure_of h Correct method args)
-procedure_right h k before (OfCache Write) args is of low few none called_is = write_right h k before args is low few called_is
-procedure_right h k before (OfCache Flush) args is of low few none called_is = flush_right h k before args is low none called_is
-procedure_right h k before (OfCache Evict) args is of low few none called_is = evict_right h k before args is low none called_is
-procedure_right h k before (OfCache Read) args is of low few none called_is = read_right h k before args is low none called_is
+procedure_right h k before (OfCache Write) args is of low few none called_is =
+    write_right h k before args is low few called_is
+procedure_right h k before (OfCache Flush) args is of low few none called_is =
+    flush_right h k before args is low none called_is
+procedure_right h k before (OfCache Evict) args is of low few none called_is =
+    evict_right h k before args is low none called_is
+procedure_right h k before (OfCache Read) args is of low few none called_is =
+    read_right h k before args is low none called_is
 procedure_right h k before (OfMultiset other) args is of low few none called_is = cc
 procedure_right h k before (OfTree other) args is of low few none called_is = cc
 procedure_right h k before (OfBuffers other) args is of low few none called_is = cc
@@ -433,12 +572,16 @@ procedure_right h k before (OwnAtMostOnce i) args is of low few none called_is =
 procedure_right h k before (OwnOnce i) args is of low few none called_is = cc
 
 -- so each operation that may be called does right
-pub cache_right : (h : Header) (op : Op) → h.subject ≡ Cache → is_callable h op ≡ true → IsRight (cache h) (cache_procedure h Correct) op
+pub cache_right : (h : Header) (op : Op) → h.subject ≡ Cache → is_callable h op ≡ true
+    → IsRight (cache h) (cache_procedure h Correct) op
 cache_right h op is callable k before none called =
     procedure_right h k before op.method op.args is of_cache
-    (chunk_below h.size op.method op.args of_cache (second_true (same_subject (subject_of op.method) h.subject) (are_args h.size op.method op.args)
-    (first_true (same_subject (subject_of op.method) h.subject && are_args h.size op.method op.args) (are_small op.args) callable)))
-    (second_true (same_subject (subject_of op.method) h.subject && are_args h.size op.method op.args) (are_small op.args) callable)
+    (chunk_below h.size op.method op.args of_cache
+    (second_true (same_subject (subject_of op.method) h.subject) (are_args h.size op.method op.args)
+    (first_true (same_subject (subject_of op.method) h.subject && are_args h.size op.method op.args)
+    (are_small op.args) callable)))
+    (second_true (same_subject (subject_of op.method) h.subject
+    && are_args h.size op.method op.args) (are_small op.args) callable)
     none called
   where
     of_cache : subject_of op.method ≡ Cache

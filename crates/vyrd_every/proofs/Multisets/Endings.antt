@@ -1,5 +1,6 @@
 -- What each procedure does at its end does right: blocks that commit, giving up, and returns.
-use Rattle.std.proofs.Common.{◌≡◌, ◌≢◌, ℕ, ◌+◌, ◌*◌, ◌/◌, ◌<◌, inl, true, false, List, [], ◌∷◌, Some, refl, ap, ◌∙◌, sym, subst, arith}
+use Rattle.std.proofs.Common.{◌≡◌, ◌≢◌, ℕ, ◌+◌, ◌*◌, ◌/◌, ◌<◌, inl, true, false, List, [], ◌∷◌}
+use Rattle.std.proofs.Common.{Some, refl, ap, ◌∙◌, sym, subst, arith}
 use Rattle.vyrd_base.specs.declared.header.Header.{Header}
 use Rattle.vyrd_base.specs.declared.subject.Method.TheVariants.{Multiset as OfMultiset}
 use Rattle.vyrd_base.specs.declared.multiset.MultisetMethod.TheVariants.{InsertPair}
@@ -22,61 +23,105 @@ use Rattle.vyrd_every.specs.Locals.{Locals, Access}
 use Rattle.vyrd_every.specs.Others.{Guarantee}
 use Rattle.vyrd_every.specs.RightScripts.{WillReturn, DoesRight}
 use Rattle.vyrd_every.specs.Guarded.{multiset}
-use Rattle.vyrd_every.proofs.Acts.{never, lone_commit_right, at, holds_first, without_slots, returns_right, mutates, open_right, block_store_right, commit_right}
-use Rattle.vyrd_every.proofs.Multisets.Parts.{one_two, state_access, value_access, take_right, give_last, store_right, Keeps, keeps_rely}
+use Rattle.vyrd_every.proofs.Acts.{never, lone_commit_right, at, holds_first, without_slots}
+use Rattle.vyrd_every.proofs.Acts.{returns_right, mutates, open_right, block_store_right}
+use Rattle.vyrd_every.proofs.Acts.{commit_right}
+use Rattle.vyrd_every.proofs.Multisets.Parts.{one_two, state_access, value_access, take_right}
+use Rattle.vyrd_every.proofs.Multisets.Parts.{give_last, store_right, Keeps, keeps_rely}
 
 -- commit and return 0
-pub gives_up_right : (h : Header) (k : Locals) (shown : Memory) (called : Called) → ((i : ℕ) → k.owned i ≡ false) → k.called ≡ Some called
+pub gives_up_right : (h : Header) (k : Locals) (shown : Memory) (called : Called)
+    → ((i : ℕ) → k.owned i ≡ false) → k.called ≡ Some called
     → is_observer called.method ≡ false
     → ((state : Amounts) → next_state called.method called.args 0 state ≡ Some state)
     → DoesRight (multiset h) (at [] false false called) k shown gives_up
 gives_up_right h k shown called none is mutator stays =
     lone_commit_right (multiset h) [] k shown called (returns 0)
-    (λ state m. record { called = called; is_called = is; reply = 0; returns = refl; next = state; allowed = stays state; means = m })
-    (λ now rely. returns_right (multiset h) k now true called 0 none (mutates k called 0 is mutator))
+    (λ state m. record {
+      called = called;
+      is_called = is;
+      reply = 0;
+      returns = refl;
+      next = state;
+      allowed = stays state;
+      means = m;
+    })
+    (λ now rely. returns_right (multiset h) k now true called 0 none
+    (mutates k called 0 is mutator))
 
 -- a change of one slot's state leaves alone what it has to
-changes_one : (h : Header) (s : Situation) (k : Locals) (shown : Memory) (slot state : ℕ) → Access (multiset h) s (2 * slot) → (shown (2 * slot) ≡ 1 → k.owned slot ≡ true)
+changes_one : (h : Header) (s : Situation) (k : Locals) (shown : Memory) (slot state : ℕ)
+    → Access (multiset h) s (2 * slot) → (shown (2 * slot) ≡ 1 → k.owned slot ≡ true)
     → Guarantee (multiset h) s k shown (with_cell shown (2 * slot) state)
 changes_one h s k shown slot state access mine = record {
-  others = λ cell low free. other_cell shown (2 * slot) state cell (λ same. never free (subst (λ x. holds s (lock_of h (x / 8)) ≡ true) (sym same) access.held));
+  others = λ cell low free. other_cell shown (2 * slot) state cell
+      (λ same. never free (subst (λ x. holds s (lock_of h (x / 8)) ≡ true) (sym same) access.held));
   reserved = λ i one other.
-      let apart : i ≢ slot = λ same. never other (subst (λ x. k.owned x ≡ true) (sym same) (mine (subst (λ x. shown (2 * x) ≡ 1) same one))) in
-      (other_cell shown (2 * slot) state (2 * i) (λ f. apart (omega (arith, f))), other_cell shown (2 * slot) state (2 * i + 1) (λ f. omega (arith, f)));
+      let apart : i ≢ slot = λ same. never other
+      (subst (λ x. k.owned x ≡ true) (sym same) (mine (subst (λ x. shown (2 * x) ≡ 1) same one))) in (
+        other_cell shown (2 * slot) state (2 * i) (λ f. apart (omega (arith, f))),
+        other_cell shown
+            (2 * slot) state (2 * i + 1) (λ f. omega (arith, f)),
+      );
 }
 
 -- in a block that commits a slot gets its state
-pub commit_state_right : (h : Header) (k : Locals) (shown : Memory) (called : Called) (bucket slot state : ℕ) → slot < 4 * h.size → slot / 4 ≡ bucket
+pub commit_state_right : (h : Header) (k : Locals) (shown : Memory) (called : Called)
+    (bucket slot state : ℕ) → slot < 4 * h.size → slot / 4 ≡ bucket
     → k.called ≡ Some called → is_observer called.method ≡ false
     → (shown (2 * slot) ≡ 1 → k.owned slot ≡ true)
-    → ((now : Memory) → now (2 * slot) ≡ shown (2 * slot) → now (2 * slot + 1) ≡ shown (2 * slot + 1) → (before : Amounts) → IsMultiset h now before
-    → (after : Amounts) × (next_state called.method called.args 1 before ≡ Some after) × IsMultiset h (with_cell now (2 * slot) state) after)
-    → DoesRight (multiset h) (at (lock_of h bucket ∷ []) false false called) k shown (commit_state h bucket slot state)
+    → ((now : Memory) → now (2 * slot) ≡ shown (2 * slot) → now (2 * slot + 1)
+    ≡ shown (2 * slot + 1) → (before : Amounts) → IsMultiset h now before
+    → (after : Amounts) × (next_state called.method called.args 1 before ≡ Some after)
+    × IsMultiset h (with_cell now (2 * slot) state) after)
+    → DoesRight (multiset h) (at (lock_of h bucket ∷ []) false false called) k shown
+    (commit_state h bucket slot state)
 commit_state_right h k shown called bucket slot state low of is mutator mine leads =
     open_right (multiset h) (lock_of h bucket ∷ []) k shown called
     (perform (Store (2 * slot) state) (perform (Mark BlockCommit) (unlock h bucket (returns 1))))
     (λ a rely_a.
-    block_store_right (multiset h) (lock_of h bucket ∷ []) (without k []) a called (2 * slot) state (perform (Mark BlockCommit) (unlock h bucket (returns 1))) access
+    block_store_right (multiset h) (lock_of h bucket ∷ []) (without k []) a called (2 * slot) state
+    (perform (Mark BlockCommit) (unlock h bucket (returns 1))) access
     (λ b rely_b.
-    let state_is : b (2 * slot) ≡ shown (2 * slot) = rely_b.held (2 * slot) access ∙ rely_a.held (2 * slot) access in
-    let value_is : b (2 * slot + 1) ≡ shown (2 * slot + 1) = rely_b.held (2 * slot + 1) access_value ∙ rely_a.held (2 * slot + 1) access_value in
-    commit_right (multiset h) (lock_of h bucket ∷ []) (without k ((2 * slot, state) ∷ [])) b called (unlock h bucket (returns 1))
-    (changes_one h inside (without k ((2 * slot, state) ∷ [])) b slot state access (λ one. mine (sym state_is ∙ one)))
+    let state_is : b (2 * slot) ≡ shown (2 * slot) = rely_b.held (2 * slot) access
+    ∙ rely_a.held (2 * slot) access in
+    let value_is : b (2 * slot + 1) ≡ shown (2 * slot + 1) = rely_b.held (2 * slot + 1) access_value
+    ∙ rely_a.held (2 * slot + 1) access_value in
+    commit_right (multiset h) (lock_of h bucket ∷ []) (without k ((2 * slot, state) ∷ [])) b called
+    (unlock h bucket (returns 1))
+    (changes_one h inside (without k ((2 * slot, state) ∷ [])) b slot state access
+    (λ one. mine (sym state_is ∙ one)))
     (λ before m.
     let end = leads b state_is value_is before m in
-    record { called = called; is_called = is; reply = 1; returns = λ answer is'. refl; next = end.0; allowed = end.1; means = end.2 })
-    (λ c rely_c. give_last h (without_slots k ((2 * slot, state) ∷ [])) c bucket true called (returns 1)
-    (λ d keeps. returns_right (multiset h) (without_slots k ((2 * slot, state) ∷ [])) d true called 1 (λ i. refl)
+    record {
+      called = called;
+      is_called = is;
+      reply = 1;
+      returns = λ answer is'. refl;
+      next = end.0;
+      allowed = end.1;
+      means = end.2;
+    })
+    (λ c rely_c. give_last h (without_slots k ((2 * slot, state) ∷ [])) c bucket true called
+    (returns 1)
+    (λ d keeps. returns_right (multiset h) (without_slots k ((2 * slot, state) ∷ [])) d true called
+    1 (λ i. refl)
     (mutates (without_slots k ((2 * slot, state) ∷ [])) called 1 is mutator)))))
   where
     without : Locals → List (ℕ × ℕ) → Locals
-    without k pending = record { owned = k.owned; pending = pending; called = k.called; answered = k.answered }
+    without k pending = record {
+      owned = k.owned;
+      pending = pending;
+      called = k.called;
+      answered = k.answered;
+    }
 
     inside : Situation
     inside = at (lock_of h bucket ∷ []) false true called
 
     held : holds inside (lock_of h (slot / 4)) ≡ true
-    held = subst (λ b. holds inside (lock_of h b) ≡ true) (sym of) (holds_first (lock_of h bucket) [] false true called)
+    held = subst (λ b. holds inside (lock_of h b) ≡ true) (sym of)
+        (holds_first (lock_of h bucket) [] false true called)
 
     access : Access (multiset h) inside (2 * slot)
     access = state_access h inside slot low held
@@ -85,15 +130,19 @@ commit_state_right h k shown called bucket slot state low of is mutator mine lea
     access_value = value_access h inside slot low held
 
 -- the slot that was reserved is freed, and the insert gives up
-pub undo_right : (h : Header) (k : Locals) (shown : Memory) (called : Called) (x slot : ℕ) → slot < 4 * h.size → slot / 4 ≡ bucket_of h x
-    → k.owned slot ≡ true → shown (2 * slot) ≡ 1 → k.called ≡ Some called → is_observer called.method ≡ false
+pub undo_right : (h : Header) (k : Locals) (shown : Memory) (called : Called) (x slot : ℕ)
+    → slot < 4 * h.size → slot / 4 ≡ bucket_of h x
+    → k.owned slot ≡ true → shown (2 * slot) ≡ 1 → k.called ≡ Some called
+    → is_observer called.method ≡ false
     → ((state : Amounts) → next_state called.method called.args 0 state ≡ Some state)
     → DoesRight (multiset h) (at [] false false called) k shown (undo h x slot)
 undo_right h k shown called x slot low of mine one is mutator stays =
-    take_right h (at [] false false called) k shown (bucket_of h x) (perform (Store (2 * slot) 0) (unlock h (bucket_of h x) gives_up)) (λ held e. cc)
+    take_right h (at [] false false called) k shown (bucket_of h x)
+    (perform (Store (2 * slot) 0) (unlock h (bucket_of h x) gives_up)) (λ held e. cc)
     (λ now rely.
     let here : now (2 * slot) ≡ 1 = (rely.owned slot mine).0 ∙ one in
-    store_right h inside k freed now (2 * slot) 0 slot (unlock h (bucket_of h x) gives_up) refl access (inl refl) (λ same. mine)
+    store_right h inside k freed now (2 * slot) 0 slot (unlock h (bucket_of h x) gives_up) refl
+    access (inl refl) (λ same. mine)
     (λ i mine' was one'. cc) (λ i mine' wasnt. cc)
     (λ state m. left_invalid h now (with_cell now (2 * slot) 0) state slot m low
     (λ cell not_state not_value. other_cell now (2 * slot) 0 cell not_state)
@@ -110,13 +159,16 @@ undo_right h k shown called x slot low of mine one is mutator stays =
     inside = at (lock_of h (bucket_of h x) ∷ []) false false called
 
     access : Access (multiset h) inside (2 * slot)
-    access = state_access h inside slot low (subst (λ b. holds inside (lock_of h b) ≡ true) (sym of) (holds_first (lock_of h (bucket_of h x)) [] false false called))
+    access = state_access h inside slot low
+        (subst (λ b. holds inside (lock_of h b) ≡ true) (sym of)
+        (holds_first (lock_of h (bucket_of h x)) [] false false called))
 
     zero_two : (n : ℕ) → n ≡ 0 → n ≡ 2 → ⊥
     zero_two n e f = omega (arith, e, f)
 
 -- two slots that were reserved for the values of a pair
-pub record AreReserved (h : Header) (k : Locals) (shown : Memory) (args : Args) (slot_x slot_y : ℕ) : Type 0 where
+pub record AreReserved (h : Header) (k : Locals) (shown : Memory) (args : Args)
+    (slot_x slot_y : ℕ) : Type 0 where
   pub low_x : slot_x < 4 * h.size
   pub low_y : slot_y < 4 * h.size
   pub of_x : slot_x / 4 ≡ bucket_of h args.a
@@ -130,7 +182,8 @@ pub record AreReserved (h : Header) (k : Locals) (shown : Memory) (args : Args) 
   pub apart : slot_x ≢ slot_y
 
 -- they are so still, whatever others do
-pub still_reserved : (h : Header) (k k' : Locals) (shown now : Memory) (args : Args) (slot_x slot_y : ℕ) → AreReserved h k shown args slot_x slot_y
+pub still_reserved : (h : Header) (k k' : Locals) (shown now : Memory) (args : Args)
+    (slot_x slot_y : ℕ) → AreReserved h k shown args slot_x slot_y
     → k'.owned ≡ k.owned → Keeps k shown now → AreReserved h k' now args slot_x slot_y
 still_reserved h k k' shown now args slot_x slot_y r same keeps = record {
   low_x = r.low_x;
@@ -151,13 +204,17 @@ abbrev pub pair_of : Args → Called
 pair_of args = record { method = OfMultiset InsertPair; args = args }
 
 -- both slots become valid in a block that commits
-pair_leads : (h : Header) (k : Locals) (shown : Memory) (args : Args) (slot_x slot_y : ℕ) (before : Amounts) → AreReserved h k shown args slot_x slot_y
+pair_leads : (h : Header) (k : Locals) (shown : Memory) (args : Args) (slot_x slot_y : ℕ)
+    (before : Amounts) → AreReserved h k shown args slot_x slot_y
     → IsMultiset h shown before
-    → IsMultiset h (with_cell (with_cell shown (2 * slot_x) 2) (2 * slot_y) 2) (plus_amount (plus_amount before args.a 1) args.b 1)
+    → IsMultiset h (with_cell (with_cell shown (2 * slot_x) 2) (2 * slot_y) 2)
+    (plus_amount (plus_amount before args.a 1) args.b 1)
 pair_leads h k shown args slot_x slot_y before r m =
-    made_valid h mid (with_cell mid (2 * slot_y) 2) (plus_amount before args.a 1) slot_y args.b first r.low_y
+    made_valid h mid (with_cell mid (2 * slot_y) 2) (plus_amount before args.a 1) slot_y args.b
+    first r.low_y
     (λ cell not_state not_value. other_cell mid (2 * slot_y) 2 cell not_state)
-    (λ two. one_two (mid (2 * slot_y)) (other_cell shown (2 * slot_x) 2 (2 * slot_y) (λ e. r.apart (omega (arith, e))) ∙ r.one_y) two)
+    (λ two. one_two (mid (2 * slot_y))
+    (other_cell shown (2 * slot_x) 2 (2 * slot_y) (λ e. r.apart (omega (arith, e))) ∙ r.one_y) two)
     (changed_cell mid (2 * slot_y) 2)
     (other_cell mid (2 * slot_y) 2 (2 * slot_y + 1) (λ e. omega (arith, e))
     ∙ other_cell shown (2 * slot_x) 2 (2 * slot_y + 1) (λ e. omega (arith, e)) ∙ r.has_y)
@@ -174,48 +231,69 @@ pair_leads h k shown args slot_x slot_y before r m =
         (other_cell shown (2 * slot_x) 2 (2 * slot_x + 1) (λ e. omega (arith, e)) ∙ r.has_x)
         r.of_x
 
-pair_leaves : (h : Header) (s : Situation) (k : Locals) (shown : Memory) (slot_x slot_y : ℕ) → Access (multiset h) s (2 * slot_x) → Access (multiset h) s (2 * slot_y)
+pair_leaves : (h : Header) (s : Situation) (k : Locals) (shown : Memory) (slot_x slot_y : ℕ)
+    → Access (multiset h) s (2 * slot_x) → Access (multiset h) s (2 * slot_y)
     → k.owned slot_x ≡ true → k.owned slot_y ≡ true
     → Guarantee (multiset h) s k shown (with_cell (with_cell shown (2 * slot_x) 2) (2 * slot_y) 2)
 pair_leaves h s k shown slot_x slot_y access_x access_y mine_x mine_y = record {
-  others = λ cell low free. other_cell mid (2 * slot_y) 2 cell (outside cell (2 * slot_y) free access_y)
+  others = λ cell low free. other_cell mid (2 * slot_y) 2 cell
+      (outside cell (2 * slot_y) free access_y)
       ∙ other_cell shown (2 * slot_x) 2 cell (outside cell (2 * slot_x) free access_x);
   reserved = λ i one other.
-      let not_x : i ≢ slot_x = λ same. never other (subst (λ x. k.owned x ≡ true) (sym same) mine_x) in
-      let not_y : i ≢ slot_y = λ same. never other (subst (λ x. k.owned x ≡ true) (sym same) mine_y) in (
-        other_cell mid (2 * slot_y) 2 (2 * i) (λ e. not_y (omega (arith, e))) ∙ other_cell shown (2 * slot_x) 2 (2 * i) (λ e. not_x (omega (arith, e))),
-        other_cell mid (2 * slot_y) 2 (2 * i + 1) (λ e. omega (arith, e)) ∙ other_cell shown (2 * slot_x) 2 (2 * i + 1) (λ e. omega (arith, e)),
+      let not_x : i ≢ slot_x = λ same. never other
+      (subst (λ x. k.owned x ≡ true) (sym same) mine_x) in
+      let not_y : i ≢ slot_y = λ same. never other
+      (subst (λ x. k.owned x ≡ true) (sym same) mine_y) in (
+        other_cell mid (2 * slot_y) 2 (2 * i) (λ e. not_y (omega (arith, e)))
+            ∙ other_cell shown (2 * slot_x) 2 (2 * i) (λ e. not_x (omega (arith, e))),
+        other_cell mid (2 * slot_y) 2 (2 * i + 1) (λ e. omega (arith, e))
+            ∙ other_cell shown (2 * slot_x) 2 (2 * i + 1) (λ e. omega (arith, e)),
       );
 }
   where
     mid : Memory
     mid = with_cell shown (2 * slot_x) 2
 
-    outside : (cell word : ℕ) → holds s (lock_of h (cell / 8)) ≡ false → Access (multiset h) s word → cell ≢ word
-    outside cell word free access = λ same. never free (subst (λ x. holds s (lock_of h (x / 8)) ≡ true) (sym same) access.held)
+    outside : (cell word : ℕ) → holds s (lock_of h (cell / 8)) ≡ false → Access (multiset h) s word
+        → cell ≢ word
+    outside cell word free access = λ same. never free
+        (subst (λ x. holds s (lock_of h (x / 8)) ≡ true) (sym same) access.held)
 
-pub validate_both_right : (h : Header) (locks : List ℕ) (k : Locals) (shown : Memory) (args : Args) (first second slot_x slot_y : ℕ)
+pub validate_both_right : (h : Header) (locks : List ℕ) (k : Locals) (shown : Memory) (args : Args)
+    (first second slot_x slot_y : ℕ)
     → AreReserved h k shown args slot_x slot_y → k.called ≡ Some (pair_of args)
-    → Access (multiset h) (at locks false true (pair_of args)) (2 * slot_x) → Access (multiset h) (at locks false true (pair_of args)) (2 * slot_y)
+    → Access (multiset h) (at locks false true (pair_of args)) (2 * slot_x)
+    → Access (multiset h) (at locks false true (pair_of args)) (2 * slot_y)
     → WillReturn 1 (unlock_both h first second)
-    → ((now : Memory) → DoesRight (multiset h) (at locks true false (pair_of args)) (without_slots k ((2 * slot_y, 2) ∷ (2 * slot_x, 2) ∷ [])) now (unlock_both h first second))
-    → DoesRight (multiset h) (at locks false false (pair_of args)) k shown (validate_both h first second slot_x slot_y)
-validate_both_right h locks k shown args first second slot_x slot_y r is access_x access_y returns_one rest =
-    open_right (multiset h) locks k shown (pair_of args) (perform (Store (2 * slot_x) 2) (perform (Store (2 * slot_y) 2) later))
+    → ((now : Memory) → DoesRight (multiset h) (at locks true false (pair_of args))
+    (without_slots k ((2 * slot_y, 2) ∷ (2 * slot_x, 2) ∷ [])) now (unlock_both h first second))
+    → DoesRight (multiset h) (at locks false false (pair_of args)) k shown
+    (validate_both h first second slot_x slot_y)
+validate_both_right h locks k shown args first second slot_x slot_y r is access_x access_y
+    returns_one rest =
+    open_right (multiset h) locks k shown (pair_of args)
+    (perform (Store (2 * slot_x) 2) (perform (Store (2 * slot_y) 2) later))
     (λ a rely_a.
-    block_store_right (multiset h) locks (with_writes []) a (pair_of args) (2 * slot_x) 2 (perform (Store (2 * slot_y) 2) later) access_x
+    block_store_right (multiset h) locks (with_writes []) a (pair_of args) (2 * slot_x) 2
+    (perform (Store (2 * slot_y) 2) later) access_x
     (λ b rely_b.
-    block_store_right (multiset h) locks (with_writes ((2 * slot_x, 2) ∷ [])) b (pair_of args) (2 * slot_y) 2 later access_y
+    block_store_right (multiset h) locks (with_writes ((2 * slot_x, 2) ∷ [])) b (pair_of args)
+    (2 * slot_y) 2 later access_y
     (λ c rely_c.
     let at_a : AreReserved h (with_writes []) a args slot_x slot_y =
-    still_reserved h k (with_writes []) shown a args slot_x slot_y r refl (keeps_own k (with_writes []) shown a refl
+    still_reserved h k (with_writes []) shown a args slot_x slot_y r refl
+    (keeps_own k (with_writes []) shown a refl
     (keeps_rely h inside (with_writes []) shown a rely_a)) in
     let at_b : AreReserved h (with_writes ((2 * slot_x, 2) ∷ [])) b args slot_x slot_y =
-    still_reserved h (with_writes []) (with_writes ((2 * slot_x, 2) ∷ [])) a b args slot_x slot_y at_a refl
-    (keeps_own (with_writes []) (with_writes ((2 * slot_x, 2) ∷ [])) a b refl (keeps_rely h inside (with_writes ((2 * slot_x, 2) ∷ [])) a b rely_b)) in
+    still_reserved h (with_writes []) (with_writes ((2 * slot_x, 2) ∷ [])) a b args slot_x slot_y
+    at_a refl
+    (keeps_own (with_writes []) (with_writes ((2 * slot_x, 2) ∷ [])) a b refl
+    (keeps_rely h inside (with_writes ((2 * slot_x, 2) ∷ [])) a b rely_b)) in
     let at_c : AreReserved h (with_writes both) c args slot_x slot_y =
-    still_reserved h (with_writes ((2 * slot_x, 2) ∷ [])) (with_writes both) b c args slot_x slot_y at_b refl
-    (keeps_own (with_writes ((2 * slot_x, 2) ∷ [])) (with_writes both) b c refl (keeps_rely h inside (with_writes both) b c rely_c)) in
+    still_reserved h (with_writes ((2 * slot_x, 2) ∷ [])) (with_writes both) b c args slot_x slot_y
+    at_b refl
+    (keeps_own (with_writes ((2 * slot_x, 2) ∷ [])) (with_writes both) b c refl
+    (keeps_rely h inside (with_writes both) b c rely_c)) in
     commit_right (multiset h) locks (with_writes both) c (pair_of args) (unlock_both h first second)
     (pair_leaves h inside (with_writes both) c slot_x slot_y access_x access_y r.mine_x r.mine_y)
     (λ before m. record {
@@ -236,10 +314,17 @@ validate_both_right h locks k shown args first second slot_x slot_y r is access_
     later = perform (Mark BlockCommit) (unlock_both h first second)
 
     with_writes : List (ℕ × ℕ) → Locals
-    with_writes pending = record { owned = k.owned; pending = pending; called = k.called; answered = k.answered }
+    with_writes pending = record {
+      owned = k.owned;
+      pending = pending;
+      called = k.called;
+      answered = k.answered;
+    }
 
     inside : Situation
     inside = at locks false true (pair_of args)
 
-    keeps_own : (k k' : Locals) (shown now : Memory) → k'.owned ≡ k.owned → Keeps k' shown now → Keeps k shown now
-    keeps_own k k' shown now same keeps = record { slots = λ i mine one. keeps.slots i (ap (λ o. o i) same ∙ mine) one }
+    keeps_own : (k k' : Locals) (shown now : Memory) → k'.owned ≡ k.owned → Keeps k' shown now
+        → Keeps k shown now
+    keeps_own k k' shown now same keeps =
+        record { slots = λ i mine one. keeps.slots i (ap (λ o. o i) same ∙ mine) one }

@@ -1,5 +1,7 @@
--- The multiset as a structure: a bucket's lock guards the words of its slots, and a slot with state 1 is reserved.
-use Rattle.std.proofs.Common.{◌≡◌, ℕ, ◌+◌, ◌*◌, ◌/◌, ◌<◌, ◌≤◌, cond, List, [], ◌∷◌, map, refl, ap, ◌∙◌, sym, subst, arith}
+-- The multiset as a structure: a bucket's lock guards the words of its slots, and a slot with state
+-- 1 is reserved.
+use Rattle.std.proofs.Common.{◌≡◌, ℕ, ◌+◌, ◌*◌, ◌/◌, ◌<◌, ◌≤◌, cond, List, [], ◌∷◌, map, refl, ap}
+use Rattle.std.proofs.Common.{◌∙◌, sym, subst, arith}
 use Rattle.std.specs.Prelude.{◌==◌, flat_map, slice_index}
 use Rattle.vyrd_base.specs.declared.header.Header.{Header}
 use Rattle.vyrd_base.specs.declared.subject.Subject.TheVariants.{Multiset}
@@ -20,23 +22,40 @@ use Rattle.vyrd_every.specs.Structures.{Fits, shown_by}
 use Rattle.vyrd_every.specs.Guarded.{multiset}
 
 -- the view of the words that the log leaves is the state that they represent
-view_is : (h : Header) (log : List Entry) (state : Amounts) → h.subject ≡ Multiset → IsMultiset h (shown_by log) state
+view_is : (h : Header) (log : List Entry) (state : Amounts) → h.subject ≡ Multiset
+    → IsMultiset h (shown_by log) state
     → view_of_words h (old_words_after h log) ≡ state
 unfolding view_of_words old_words_after
 view_is h log state is m =
-    ap (λ s. collected (parts_of s h.size (map (old_value_after (old_effects log)) (numbers_below (plain_words h))))) is
-    ∙ ap collected (flat_map_alike (slot_parts (map (old_value_after (old_effects log)) (numbers_below (plain_words h)))) (parts_in (shown_by log)) 0 (4 * h.size) each)
-    ∙ collected-is (flat_map (parts_in (shown_by log)) (numbers_below (4 * h.size))) state m.formed m.shows
+    ap (λ s. collected
+    (parts_of s h.size (map (old_value_after (old_effects log)) (numbers_below (plain_words h)))))
+    is
+    ∙ ap collected
+    (flat_map_alike
+    (slot_parts (map (old_value_after (old_effects log)) (numbers_below (plain_words h))))
+    (parts_in (shown_by log)) 0 (4 * h.size) each)
+    ∙ collected-is (flat_map (parts_in (shown_by log)) (numbers_below (4 * h.size))) state m.formed
+    m.shows
   where
-    word : (cell : ℕ) → cell < 8 * h.size → slice_index (map (old_value_after (old_effects log)) (numbers_below (plain_words h))) cell ≡ shown_by log cell
-    word cell low = element_below (old_value_after (old_effects log)) (plain_words h) cell (subst (λ s. cell < plain_words_of s h.size) (sym is) low)
+    word : (cell : ℕ) → cell < 8 * h.size
+        → slice_index (map (old_value_after (old_effects log)) (numbers_below (plain_words h))) cell
+        ≡ shown_by log cell
+    word cell low = element_below (old_value_after (old_effects log)) (plain_words h) cell
+        (subst (λ s. cell < plain_words_of s h.size) (sym is) low)
 
     each : (i : ℕ) → 0 ≤ i → i < 0 + 4 * h.size
-        → slot_parts (map (old_value_after (old_effects log)) (numbers_below (plain_words h))) i ≡ parts_in (shown_by log) i
+        → slot_parts (map (old_value_after (old_effects log)) (numbers_below (plain_words h))) i
+        ≡ parts_in (shown_by log) i
     each i from to =
-        ap (λ a. cond (a == 2) ((slice_index (map (old_value_after (old_effects log)) (numbers_below (plain_words h))) (2 * i + 1), 1) ∷ []) [])
+        ap (λ a. cond (a == 2)
+        ((
+          slice_index (map (old_value_after (old_effects log)) (numbers_below (plain_words h)))
+              (2 * i + 1),
+          1,
+        ) ∷ []) [])
         (word (2 * i) (omega arith))
-        ∙ ap (λ v. cond (shown_by log (2 * i) == 2) ((v, 1) ∷ []) []) (word (2 * i + 1) (omega arith))
+        ∙ ap (λ v. cond (shown_by log (2 * i) == 2) ((v, 1) ∷ []) [])
+        (word (2 * i + 1) (omega arith))
 
 -- nothing was written yet
 empty_means : (h : Header) → IsMultiset h (shown_by []) start.shown

@@ -1,5 +1,7 @@
 -- Each part of a procedure of the multiset does right, if what follows it does.
-use Rattle.std.proofs.Common.{◌≡◌, ◌≢◌, ℕ, zero, suc, ◌+◌, ◌*◌, ◌/◌, ◌<◌, ◌≤◌, ◌⊎◌, inl, inr, Bool, true, false, cond, List, [], ◌∷◌, Option, Some, None, refl, ap, ◌∙◌, sym, subst, arith}
+use Rattle.std.proofs.Common.{◌≡◌, ◌≢◌, ℕ, zero, suc, ◌+◌, ◌*◌, ◌/◌, ◌<◌, ◌≤◌, ◌⊎◌, inl, inr, Bool}
+use Rattle.std.proofs.Common.{true, false, cond, List, [], ◌∷◌, Option, Some, None, refl, ap, ◌∙◌}
+use Rattle.std.proofs.Common.{sym, subst, arith}
 use Rattle.std.specs.Prelude.{◌==◌}
 use Rattle.vyrd_base.specs.declared.header.Header.{Header}
 use Rattle.vyrd_base.specs.Callers.{Called}
@@ -20,86 +22,123 @@ use Rattle.vyrd_every.specs.Guarded.{zero_one, multiset}
 use Rattle.vyrd_every.specs.Locals.{Locals, Access, shown_after}
 use Rattle.vyrd_every.specs.Others.{Rely, Guarantee}
 use Rattle.vyrd_every.specs.RightScripts.{DoesRight}
-use Rattle.vyrd_every.proofs.Acts.{never, load_right, take_right as take, give_right as give, at, holds_first}
+use Rattle.vyrd_every.proofs.Acts.{never, load_right, take_right as take, give_right as give, at}
+use Rattle.vyrd_every.proofs.Acts.{holds_first}
 use Rattle.vyrd_every.proofs.Relies.{rely_same, rely_more}
 
 pub one_two : (n : ℕ) → n ≡ 1 → n ≡ 2 → ⊥
 one_two n e f = omega (arith, e, f)
 
 -- the words of a slot whose bucket's lock is held
-pub state_access : (h : Header) (s : Situation) (j : ℕ) → j < 4 * h.size → holds s (lock_of h (j / 4)) ≡ true → Access (multiset h) s (2 * j)
+pub state_access : (h : Header) (s : Situation) (j : ℕ) → j < 4 * h.size
+    → holds s (lock_of h (j / 4)) ≡ true → Access (multiset h) s (2 * j)
 state_access h s j low held = record {
   low = omega (arith, low);
-  held = let e : j / 4 ≡ (2 * j) / 8 = omega arith in subst (λ b. holds s (lock_of h b) ≡ true) e held;
+  held = let e : j / 4 ≡ (2 * j) / 8 = omega arith in subst (λ b. holds s (lock_of h b) ≡ true) e
+      held;
 }
 
-pub value_access : (h : Header) (s : Situation) (j : ℕ) → j < 4 * h.size → holds s (lock_of h (j / 4)) ≡ true → Access (multiset h) s (2 * j + 1)
+pub value_access : (h : Header) (s : Situation) (j : ℕ) → j < 4 * h.size
+    → holds s (lock_of h (j / 4)) ≡ true → Access (multiset h) s (2 * j + 1)
 value_access h s j low held = record {
   low = omega (arith, low);
-  held = let e : j / 4 ≡ (2 * j + 1) / 8 = omega arith in subst (λ b. holds s (lock_of h b) ≡ true) e held;
+  held = let e : j / 4 ≡ (2 * j + 1) / 8 = omega arith in subst (λ b. holds s (lock_of h b) ≡ true)
+      e held;
 }
 
-pub take_right : (h : Header) (s : Situation) (k : Locals) (shown : Memory) (bucket : ℕ) (later : Script)
+pub take_right : (h : Header) (s : Situation) (k : Locals) (shown : Memory) (bucket : ℕ)
+    (later : Script)
     → ((held : ℕ) → holds s held ≡ true → held < lock_of h bucket)
-    → ((now : Memory) → Rely (multiset h) (after_act s (Take (lock_of h bucket))) k shown now → DoesRight (multiset h) (after_act s (Take (lock_of h bucket))) k now later)
+    → ((now : Memory) → Rely (multiset h) (after_act s (Take (lock_of h bucket))) k shown now
+    → DoesRight (multiset h) (after_act s (Take (lock_of h bucket))) k now later)
     → DoesRight (multiset h) s k shown (lock h bucket later)
-take_right h s k shown bucket later above rest = take (multiset h) s k shown (lock_of h bucket) later above rest
+take_right h s k shown bucket later above rest = take (multiset h) s k shown
+    (lock_of h bucket) later above rest
 
-pub give_right : (h : Header) (s : Situation) (k : Locals) (shown : Memory) (bucket : ℕ) (later : Script) → s.in_block ≡ false
-    → ((now : Memory) → Rely (multiset h) (after_act s (Give (lock_of h bucket))) k shown now → DoesRight (multiset h) (after_act s (Give (lock_of h bucket))) k now later)
+pub give_right : (h : Header) (s : Situation) (k : Locals) (shown : Memory) (bucket : ℕ)
+    (later : Script) → s.in_block ≡ false
+    → ((now : Memory) → Rely (multiset h) (after_act s (Give (lock_of h bucket))) k shown now
+    → DoesRight (multiset h) (after_act s (Give (lock_of h bucket))) k now later)
     → DoesRight (multiset h) s k shown (unlock h bucket later)
-give_right h s k shown bucket later out rest = give (multiset h) s k shown (lock_of h bucket) later out rest
+give_right h s k shown bucket later out rest = give (multiset h) s k shown (lock_of h bucket) later
+    out rest
 
 -- a store outside a block, to one of the two words of a slot
-pub store_right : (h : Header) (s : Situation) (k next : Locals) (shown : Memory) (cell value j : ℕ) (later : Script) → s.in_block ≡ false → Access (multiset h) s cell
+pub store_right : (h : Header) (s : Situation) (k next : Locals) (shown : Memory) (cell value j : ℕ)
+    (later : Script) → s.in_block ≡ false → Access (multiset h) s cell
     → (cell ≡ 2 * j) ⊎ (cell ≡ 2 * j + 1)
     → (shown (2 * j) ≡ 1 → k.owned j ≡ true)
-    → ((i : ℕ) → next.owned i ≡ true → k.owned i ≡ true → shown (2 * i) ≡ 1 → with_cell shown cell value (2 * i) ≡ 1)
-    → ((i : ℕ) → next.owned i ≡ true → k.owned i ≡ false → (shown (2 * i) ≡ 0) × (with_cell shown cell value (2 * i) ≡ 1))
-    → ((state : Amounts) → IsMultiset h shown state → IsMultiset h (with_cell shown cell value) state)
+    → ((i : ℕ) → next.owned i ≡ true → k.owned i ≡ true → shown (2 * i) ≡ 1
+    → with_cell shown cell value (2 * i) ≡ 1)
+    → ((i : ℕ) → next.owned i ≡ true → k.owned i ≡ false → (shown (2 * i) ≡ 0)
+    × (with_cell shown cell value (2 * i) ≡ 1))
+    → ((state : Amounts) → IsMultiset h shown state
+    → IsMultiset h (with_cell shown cell value) state)
     → next.pending ≡ (cell, value) ∷ k.pending → next.called ≡ k.called → next.answered ≡ k.answered
-    → ((now : Memory) → Rely (multiset h) s next (with_cell shown cell value) now → DoesRight (multiset h) s next now later)
+    → ((now : Memory) → Rely (multiset h) s next (with_cell shown cell value) now
+    → DoesRight (multiset h) s next now later)
     → DoesRight (multiset h) s k shown (perform (Store cell value) later)
-store_right h s k next shown cell value j later out access is mine kept fresh means pending called answered rest = (
-  next,
-  record {
-    reaches = access;
-    guarantee = subst (Guarantee (multiset h) s k shown) (sym here) guarantee;
-    kept = λ i now_mine was one. ap (λ m. m (2 * i)) here ∙ kept i now_mine was one;
-    fresh = λ i now_mine wasnt. ((fresh i now_mine wasnt).0, ap (λ m. m (2 * i)) here ∙ (fresh i now_mine wasnt).1);
-    leads = λ state m. subst (λ mem. IsMultiset h mem state) (sym here) (means state m);
-    pending = pending;
-    called = called;
-    answers = answered;
-  },
-  λ now rely. rest now (subst (λ m. Rely (multiset h) s next m now) here rely),
-)
+store_right h s k next shown cell value j later out access is mine kept fresh means pending called
+    answered rest = (
+      next,
+      record {
+        reaches = access;
+        guarantee = subst (Guarantee (multiset h) s k shown) (sym here) guarantee;
+        kept = λ i now_mine was one. ap (λ m. m (2 * i)) here ∙ kept i now_mine was one;
+        fresh = λ i now_mine wasnt. (
+          (fresh i now_mine wasnt).0,
+          ap (λ m. m (2 * i)) here
+              ∙ (fresh i now_mine wasnt).1,
+        );
+        leads = λ state m. subst (λ mem. IsMultiset h mem state) (sym here) (means state m);
+        pending = pending;
+        called = called;
+        answers = answered;
+      },
+      λ now rely. rest now (subst (λ m. Rely (multiset h) s next m now) here rely),
+    )
   where
     here : shown_after s k shown (Store cell value) ≡ with_cell shown cell value
     here = ap (λ b. cond b shown (with_cell shown cell value)) out
 
     guarantee : Guarantee (multiset h) s k shown (with_cell shown cell value)
     guarantee = record {
-      others = λ other low free. other_cell shown cell value other (λ same. never free (subst (λ x. holds s (lock_of h (x / 8))
+      others = λ other low free. other_cell shown cell value other
+          (λ same. never free (subst (λ x. holds s (lock_of h (x / 8))
           ≡ true) (sym same) access.held));
       reserved = λ i one other. apart i one other is;
     }
       where
-        apart : (i : ℕ) → shown (2 * i) ≡ 1 → k.owned i ≡ false → (cell ≡ 2 * j) ⊎ (cell ≡ 2 * j + 1)
-            → (with_cell shown cell value (2 * i) ≡ shown (2 * i)) × (with_cell shown cell value (2 * i + 1) ≡ shown (2 * i + 1))
+        apart : (i : ℕ) → shown (2 * i) ≡ 1 → k.owned i ≡ false → (cell ≡ 2 * j)
+            ⊎ (cell ≡ 2 * j + 1)
+            → (with_cell shown cell value (2 * i) ≡ shown (2 * i))
+            × (with_cell shown cell value (2 * i + 1) ≡ shown (2 * i + 1))
         apart i one other (inl e) =
-            let not_j : i ≢ j = λ same. never other (subst (λ x. k.owned x ≡ true) (sym same) (mine (subst (λ x. shown (2 * x) ≡ 1) same one))) in
-            (other_cell shown cell value (2 * i) (λ f. not_j (omega (arith, e, f))), other_cell shown cell value (2 * i + 1) (λ f. omega (arith, e, f)))
+            let not_j : i ≢ j = λ same. never other
+            (subst (λ x. k.owned x ≡ true) (sym same)
+            (mine (subst (λ x. shown (2 * x) ≡ 1) same one))) in (
+              other_cell shown cell value (2 * i) (λ f. not_j (omega (arith, e, f))),
+              other_cell
+                  shown cell value (2 * i + 1) (λ f. omega (arith, e, f)),
+            )
         apart i one other (inr e) =
-            let not_j : i ≢ j = λ same. never other (subst (λ x. k.owned x ≡ true) (sym same) (mine (subst (λ x. shown (2 * x) ≡ 1) same one))) in
-            (other_cell shown cell value (2 * i) (λ f. omega (arith, e, f)), other_cell shown cell value (2 * i + 1) (λ f. not_j (omega (arith, e, f))))
+            let not_j : i ≢ j = λ same. never other
+            (subst (λ x. k.owned x ≡ true) (sym same)
+            (mine (subst (λ x. shown (2 * x) ≡ 1) same one))) in (
+              other_cell shown cell value (2 * i) (λ f. omega (arith, e, f)),
+              other_cell shown cell
+                  value (2 * i + 1) (λ f. not_j (omega (arith, e, f))),
+            )
 
 -- what is said of slots that were reserved holds of them still
 pub record Keeps (k : Locals) (shown now : Memory) : Type 0 where
-  pub slots : (i : ℕ) → k.owned i ≡ true → shown (2 * i) ≡ 1 → (now (2 * i) ≡ 1) × (now (2 * i + 1) ≡ shown (2 * i + 1))
+  pub slots : (i : ℕ) → k.owned i ≡ true → shown (2 * i) ≡ 1 → (now (2 * i) ≡ 1)
+      × (now (2 * i + 1) ≡ shown (2 * i + 1))
 
-pub keeps_rely : (h : Header) (s : Situation) (k : Locals) (shown now : Memory) → Rely (multiset h) s k shown now → Keeps k shown now
-keeps_rely h s k shown now rely = record { slots = λ i mine one. ((rely.owned i mine).0 ∙ one, (rely.owned i mine).1) }
+pub keeps_rely : (h : Header) (s : Situation) (k : Locals) (shown now : Memory)
+    → Rely (multiset h) s k shown now → Keeps k shown now
+keeps_rely h s k shown now rely =
+    record { slots = λ i mine one. ((rely.owned i mine).0 ∙ one, (rely.owned i mine).1) }
 
 pub keeps_more : (k : Locals) (a b c : Memory) → Keeps k a b → Keeps k b c → Keeps k a c
 keeps_more k a b c first second = record {
@@ -111,19 +150,27 @@ keeps_more k a b c first second = record {
 
 -- the locals with one more slot that is reserved, whatever was written for it
 abbrev pub with_slot : Locals → ℕ → List (ℕ × ℕ) → Locals
-with_slot k j pending = record { owned = λ i. cond (i == j) true (k.owned i); pending = pending; called = k.called; answered = k.answered }
+with_slot k j pending = record {
+  owned = λ i. cond (i == j) true (k.owned i);
+  pending = pending;
+  called = k.called;
+  answered = k.answered;
+}
 
-pub has_slot : (k : Locals) (j : ℕ) (pending : List (ℕ × ℕ)) → (with_slot k j pending).owned j ≡ true
+pub has_slot : (k : Locals) (j : ℕ) (pending : List (ℕ × ℕ)) → (with_slot k j pending).owned j
+    ≡ true
 has_slot k j pending = ap (λ b. cond b true (k.owned j)) (same_number j)
 
-pub had_slot : (k : Locals) (j i : ℕ) (pending : List (ℕ × ℕ)) → k.owned i ≡ true → (with_slot k j pending).owned i ≡ true
+pub had_slot : (k : Locals) (j i : ℕ) (pending : List (ℕ × ℕ)) → k.owned i ≡ true
+    → (with_slot k j pending).owned i ≡ true
 had_slot k j i pending mine = by_test (i == j)
   where
     by_test : (b : Bool) → cond b true (k.owned i) ≡ true
     by_test true = refl
     by_test false = mine
 
-new_slot : (k : Locals) (j i : ℕ) (pending : List (ℕ × ℕ)) → (with_slot k j pending).owned i ≡ true → k.owned i ≡ false → i ≡ j
+new_slot : (k : Locals) (j i : ℕ) (pending : List (ℕ × ℕ)) → (with_slot k j pending).owned i ≡ true
+    → k.owned i ≡ false → i ≡ j
 new_slot k j i pending mine wasnt = by_test (i == j) refl mine
   where
     by_test : (b : Bool) → (i == j) ≡ b → cond b true (k.owned i) ≡ true → i ≡ j
@@ -131,19 +178,23 @@ new_slot k j i pending mine wasnt = by_test (i == j) refl mine
     by_test false e m = absurd (never wasnt m)
 
 -- the value of a free slot is stored, and the slot reserved
-reserve_right : (h : Header) (s : Situation) (k : Locals) (shown : Memory) (j value : ℕ) (later : Script) → s.in_block ≡ false → j < 4 * h.size
+reserve_right : (h : Header) (s : Situation) (k : Locals) (shown : Memory) (j value : ℕ)
+    (later : Script) → s.in_block ≡ false → j < 4 * h.size
     → holds s (lock_of h (j / 4)) ≡ true → shown (2 * j) ≡ 0
-    → ((now : Memory) → now (2 * j) ≡ 1 → now (2 * j + 1) ≡ value → Keeps k shown now → (pending : List (ℕ × ℕ)) → DoesRight (multiset h) s (with_slot k j pending) now later)
+    → ((now : Memory) → now (2 * j) ≡ 1 → now (2 * j + 1) ≡ value → Keeps k shown now
+    → (pending : List (ℕ × ℕ)) → DoesRight (multiset h) s (with_slot k j pending) now later)
     → DoesRight (multiset h) s k shown (reserve j value later)
 reserve_right h s k shown j value later out low held free rest =
-    store_right h s k filled shown (2 * j + 1) value j (perform (Store (2 * j) 1) later) out (value_access h s j low held) (inr refl)
+    store_right h s k filled shown (2 * j + 1) value j (perform (Store (2 * j) 1) later) out
+    (value_access h s j low held) (inr refl)
     (λ one. absurd (zero_one (shown (2 * j)) free one))
     (λ i mine was one. other_cell shown (2 * j + 1) value (2 * i) (λ e. omega (arith, e)) ∙ one)
     (λ i mine wasnt. absurd (never wasnt mine))
     (λ state m. left_invalid h shown (with_cell shown (2 * j + 1) value) state j m low
     (λ cell not_state not_value. other_cell shown (2 * j + 1) value cell not_value)
     (invalid_zero (shown (2 * j)) free)
-    (invalid_zero (with_cell shown (2 * j + 1) value (2 * j)) (other_cell shown (2 * j + 1) value (2 * j) (λ e. omega (arith, e)) ∙ free)))
+    (invalid_zero (with_cell shown (2 * j + 1) value (2 * j))
+    (other_cell shown (2 * j + 1) value (2 * j) (λ e. omega (arith, e)) ∙ free)))
     refl refl refl
     (λ now rely. second now rely)
   where
@@ -151,25 +202,35 @@ reserve_right h s k shown j value later out low held free rest =
     invalid_zero n e f = omega (arith, e, f)
 
     filled : Locals
-    filled = record { owned = k.owned; pending = (2 * j + 1, value) ∷ k.pending; called = k.called; answered = k.answered }
+    filled = record {
+      owned = k.owned;
+      pending = (2 * j + 1, value) ∷ k.pending;
+      called = k.called;
+      answered = k.answered;
+    }
 
-    second : (now : Memory) → Rely (multiset h) s filled (with_cell shown (2 * j + 1) value) now → DoesRight (multiset h) s filled now (perform (Store (2 * j) 1) later)
+    second : (now : Memory) → Rely (multiset h) s filled (with_cell shown (2 * j + 1) value) now
+        → DoesRight (multiset h) s filled now (perform (Store (2 * j) 1) later)
     second now rely =
-        store_right h s filled (with_slot k j pending) now (2 * j) 1 j later out (state_access h s j low held) (inl refl)
+        store_right h s filled (with_slot k j pending) now (2 * j) 1 j later out
+        (state_access h s j low held) (inl refl)
         (λ one. absurd (zero_one (now (2 * j)) here one))
         (λ i mine was one. other_cell now (2 * j) 1 (2 * i) (λ e.
         let same : i ≡ j = omega (arith, e) in
         zero_one (now (2 * j)) here (subst (λ x. now (2 * x) ≡ 1) same one)) ∙ one)
         (λ i mine wasnt.
         let same : i ≡ j = new_slot k j i pending mine wasnt in
-        subst (λ x. (now (2 * x) ≡ 0) × (with_cell now (2 * j) 1 (2 * x) ≡ 1)) (sym same) (here, changed_cell now (2 * j) 1))
+        subst (λ x. (now (2 * x) ≡ 0) × (with_cell now (2 * j) 1 (2 * x) ≡ 1)) (sym same)
+        (here, changed_cell now (2 * j) 1))
         (λ state m. left_invalid h now (with_cell now (2 * j) 1) state j m low
         (λ cell not_state not_value. other_cell now (2 * j) 1 cell not_state)
         (invalid_zero (now (2 * j)) here)
         (λ e. one_two (with_cell now (2 * j) 1 (2 * j)) (changed_cell now (2 * j) 1) e))
         refl refl refl
-        (λ last rely'. rest last ((rely'.owned j (has_slot k j pending)).0 ∙ changed_cell now (2 * j) 1)
-        ((rely'.owned j (has_slot k j pending)).1 ∙ other_cell now (2 * j) 1 (2 * j + 1) (λ e. omega (arith, e)) ∙ has)
+        (λ last rely'. rest last ((rely'.owned j (has_slot k j pending)).0
+        ∙ changed_cell now (2 * j) 1)
+        ((rely'.owned j (has_slot k j pending)).1 ∙ other_cell now (2 * j) 1 (2 * j + 1)
+        (λ e. omega (arith, e)) ∙ has)
         (record { slots = λ i mine one. kept last rely' i mine one })
         pending)
       where
@@ -177,15 +238,20 @@ reserve_right h s k shown j value later out low held free rest =
         pending = (2 * j, 1) ∷ (2 * j + 1, value) ∷ k.pending
 
         here : now (2 * j) ≡ 0
-        here = rely.held (2 * j) (state_access h s j low held) ∙ other_cell shown (2 * j + 1) value (2 * j) (λ e. omega (arith, e)) ∙ free
+        here = rely.held (2 * j) (state_access h s j low held) ∙ other_cell shown (2 * j + 1) value
+            (2 * j) (λ e. omega (arith, e)) ∙ free
 
         has : now (2 * j + 1) ≡ value
-        has = rely.held (2 * j + 1) (value_access h s j low held) ∙ changed_cell shown (2 * j + 1) value
+        has = rely.held (2 * j + 1) (value_access h s j low held)
+            ∙ changed_cell shown (2 * j + 1) value
 
-        kept : (last : Memory) → Rely (multiset h) s (with_slot k j pending) (with_cell now (2 * j) 1) last
-            → (i : ℕ) → k.owned i ≡ true → shown (2 * i) ≡ 1 → (last (2 * i) ≡ 1) × (last (2 * i + 1) ≡ shown (2 * i + 1))
+        kept : (last : Memory) → Rely (multiset h) s (with_slot k j pending)
+            (with_cell now (2 * j) 1) last
+            → (i : ℕ) → k.owned i ≡ true → shown (2 * i) ≡ 1 → (last (2 * i) ≡ 1)
+            × (last (2 * i + 1) ≡ shown (2 * i + 1))
         kept last rely' i mine one =
-            let apart : i ≢ j = λ same. zero_one (shown (2 * j)) free (subst (λ x. shown (2 * x) ≡ 1) same one) in
+            let apart : i ≢ j = λ same. zero_one (shown (2 * j)) free
+            (subst (λ x. shown (2 * x) ≡ 1) same one) in
             let after = rely'.owned i (had_slot k j i pending mine) in
             let before = rely.owned i mine in (
               after.0 ∙ other_cell now (2 * j) 1 (2 * i) (λ e. apart (omega (arith, e))) ∙ before.0
@@ -199,38 +265,50 @@ pub record AreHeld (h : Header) (s : Situation) (slot left : ℕ) : Type 0 where
   pub low : (j : ℕ) → slot ≤ j → j < slot + left → j < 4 * h.size
   pub held : (j : ℕ) → slot ≤ j → j < slot + left → holds s (lock_of h (j / 4)) ≡ true
 
-held_next : (h : Header) (s : Situation) (slot left : ℕ) → AreHeld h s slot (suc left) → AreHeld h s (slot + 1) left
+held_next : (h : Header) (s : Situation) (slot left : ℕ) → AreHeld h s slot (suc left)
+    → AreHeld h s (slot + 1) left
 held_next h s slot left each = record {
   low = λ j from to. each.low j (omega (arith, from)) (omega (arith, to));
   held = λ j from to. each.held j (omega (arith, from)) (omega (arith, to));
 }
 
 -- a free slot is found among these and reserved, or there is none
-pub find_from_right : (h : Header) (s : Situation) (k : Locals) (shown : Memory) (left slot value : ℕ) (found : Option ℕ → Script) → s.in_block ≡ false
+pub find_from_right : (h : Header) (s : Situation) (k : Locals) (shown : Memory)
+    (left slot value : ℕ) (found : Option ℕ → Script) → s.in_block ≡ false
     → AreHeld h s slot left
-    → ((j : ℕ) → slot ≤ j → j < slot + left → (now : Memory) → now (2 * j) ≡ 1 → now (2 * j + 1) ≡ value → Keeps k shown now
-    → ((i : ℕ) → k.owned i ≡ true → shown (2 * i) ≡ 1 → i ≢ j) → (pending : List (ℕ × ℕ)) → DoesRight (multiset h) s (with_slot k j pending) now (found (Some j)))
+    → ((j : ℕ) → slot ≤ j → j < slot + left → (now : Memory) → now (2 * j) ≡ 1 → now (2 * j + 1)
+    ≡ value → Keeps k shown now
+    → ((i : ℕ) → k.owned i ≡ true → shown (2 * i) ≡ 1 → i ≢ j) → (pending : List (ℕ × ℕ))
+    → DoesRight (multiset h) s (with_slot k j pending) now (found (Some j)))
     → ((now : Memory) → Keeps k shown now → DoesRight (multiset h) s k now (found None))
     → DoesRight (multiset h) s k shown (find_from left slot value found)
 find_from_right h s k shown zero slot value found out each some none =
     none shown (keeps_rely h s k shown shown (rely_same (multiset h) s k shown))
 find_from_right h s k shown (suc left) slot value found out each some none =
-    load_right (multiset h) s k shown (2 * slot) (λ state. cond (state == 0) (reserve slot value (found (Some slot))) (find_from left (slot + 1) value found))
-    (state_access h s slot (each.low slot (omega arith) (omega arith)) (each.held slot (omega arith) (omega arith))) out
+    load_right (multiset h) s k shown (2 * slot)
+    (λ state. cond (state == 0) (reserve slot value (found (Some slot)))
+    (find_from left (slot + 1) value found))
+    (state_access h s slot (each.low slot (omega arith) (omega arith))
+    (each.held slot (omega arith) (omega arith))) out
     (λ now rely. by_state now rely
     (find_from_right h s k now left (slot + 1) value found out (held_next h s slot left each)
-    (λ j from to last one has keeps apart. some j (omega (arith, from)) (omega (arith, to)) last one has
+    (λ j from to last one has keeps apart. some j (omega (arith, from)) (omega (arith, to)) last one
+    has
     (keeps_more k shown now last (keeps_rely h s k shown now rely) keeps)
     (λ i mine was. apart i mine ((rely.owned i mine).0 ∙ was)))
     (λ last keeps. none last (keeps_more k shown now last (keeps_rely h s k shown now rely) keeps)))
     (shown (2 * slot) == 0) refl)
   where
-    by_state : (now : Memory) → Rely (multiset h) s k shown now → DoesRight (multiset h) s k now (find_from left (slot + 1) value found) → (b : Bool) → (shown (2 * slot) == 0) ≡ b
-        → DoesRight (multiset h) s k now (cond b (reserve slot value (found (Some slot))) (find_from left (slot + 1) value found))
+    by_state : (now : Memory) → Rely (multiset h) s k shown now → DoesRight (multiset h) s k now
+        (find_from left (slot + 1) value found) → (b : Bool) → (shown (2 * slot) == 0) ≡ b
+        → DoesRight (multiset h) s k now
+        (cond b (reserve slot value (found (Some slot))) (find_from left (slot + 1) value found))
     by_state now rely more true e =
         let low : slot < 4 * h.size = each.low slot (omega arith) (omega arith) in
-        let held : holds s (lock_of h (slot / 4)) ≡ true = each.held slot (omega arith) (omega arith) in
-        let free : now (2 * slot) ≡ 0 = rely.held (2 * slot) (state_access h s slot low held) ∙ same_of (shown (2 * slot)) 0 e in
+        let held : holds s (lock_of h (slot / 4)) ≡ true = each.held slot (omega arith)
+        (omega arith) in
+        let free : now (2 * slot) ≡ 0 = rely.held (2 * slot) (state_access h s slot low held)
+        ∙ same_of (shown (2 * slot)) 0 e in
         reserve_right h s k now slot value (found (Some slot)) out low held free
         (λ last one has keeps pending. some slot (omega arith) (omega arith) last one has
         (keeps_more k shown now last (keeps_rely h s k shown now rely) keeps)
@@ -240,37 +318,52 @@ find_from_right h s k shown (suc left) slot value found out each some none =
     by_state now rely more false e = more
 
 -- the one lock is given back
-pub give_last : (h : Header) (k : Locals) (shown : Memory) (bucket : ℕ) (committed : Bool) (called : Called) (later : Script)
-    → ((now : Memory) → Keeps k shown now → DoesRight (multiset h) (at [] committed false called) k now later)
-    → DoesRight (multiset h) (at (lock_of h bucket ∷ []) committed false called) k shown (unlock h bucket later)
+pub give_last : (h : Header) (k : Locals) (shown : Memory) (bucket : ℕ) (committed : Bool)
+    (called : Called) (later : Script)
+    → ((now : Memory) → Keeps k shown now → DoesRight (multiset h) (at [] committed false called) k
+    now later)
+    → DoesRight (multiset h) (at (lock_of h bucket ∷ []) committed false called) k shown
+    (unlock h bucket later)
 give_last h k shown bucket committed called later rest =
     give_right h (at (lock_of h bucket ∷ []) committed false called) k shown bucket later refl
-    (λ now rely. subst (λ locks. DoesRight (multiset h) (at locks committed false called) k now later) (sym (gone (lock_of h bucket) []))
-    (rest now (keeps_rely h (after_act (at (lock_of h bucket ∷ []) committed false called) (Give (lock_of h bucket))) k shown now rely)))
+    (λ now rely. subst
+    (λ locks. DoesRight (multiset h) (at locks committed false called) k now later)
+    (sym (gone (lock_of h bucket) []))
+    (rest now (keeps_rely h (after_act (at (lock_of h bucket ∷ []) committed false called)
+    (Give (lock_of h bucket))) k shown now rely)))
 
 -- the slots of a bucket
-pub bucket_slots : (h : Header) (bucket : ℕ) (committed in_block : Bool) (called : Called) (locks : List ℕ) → bucket < h.size
+pub bucket_slots : (h : Header) (bucket : ℕ) (committed in_block : Bool) (called : Called)
+    (locks : List ℕ) → bucket < h.size
     → AreHeld h (at (lock_of h bucket ∷ locks) committed in_block called) (4 * bucket) 4
 bucket_slots h bucket committed in_block called locks low = record {
   low = λ j from to. omega (arith, from, to, low);
   held = λ j from to.
       let e : bucket ≡ j / 4 = omega (arith, from, to) in
-      subst (λ b. holds (at (lock_of h bucket ∷ locks) committed in_block called) (lock_of h b) ≡ true) e
+      subst (λ b. holds (at (lock_of h bucket ∷ locks) committed in_block called) (lock_of h b)
+      ≡ true) e
       (holds_first (lock_of h bucket) locks committed in_block called);
 }
 
-pub find_right : (h : Header) (k : Locals) (shown : Memory) (value : ℕ) (called : Called) (found : Option ℕ → Script) → bucket_of h value < h.size
-    → ((j : ℕ) → j < 4 * h.size → j / 4 ≡ bucket_of h value → (now : Memory) → now (2 * j) ≡ 1 → now (2 * j + 1) ≡ value → Keeps k shown now
+pub find_right : (h : Header) (k : Locals) (shown : Memory) (value : ℕ) (called : Called)
+    (found : Option ℕ → Script) → bucket_of h value < h.size
+    → ((j : ℕ) → j < 4 * h.size → j / 4 ≡ bucket_of h value → (now : Memory) → now (2 * j) ≡ 1
+    → now (2 * j + 1) ≡ value → Keeps k shown now
     → ((i : ℕ) → k.owned i ≡ true → shown (2 * i) ≡ 1 → i ≢ j) → (pending : List (ℕ × ℕ))
-    → DoesRight (multiset h) (at [] false false called) (with_slot k j pending) now (found (Some j)))
-    → ((now : Memory) → Keeps k shown now → DoesRight (multiset h) (at [] false false called) k now (found None))
+    → DoesRight (multiset h) (at [] false false called) (with_slot k j pending) now
+    (found (Some j)))
+    → ((now : Memory) → Keeps k shown now → DoesRight (multiset h) (at [] false false called) k now
+    (found None))
     → DoesRight (multiset h) (at [] false false called) k shown (find h Correct value found)
 find_right h k shown value called found low some none =
     let b : ℕ = bucket_of h value in
-    take_right h (at [] false false called) k shown b (find_from 4 (4 * b) value (λ slot. unlock h b (found slot))) (λ held e. cc)
+    take_right h (at [] false false called) k shown b
+    (find_from 4 (4 * b) value (λ slot. unlock h b (found slot))) (λ held e. cc)
     (λ now rely.
-    let first : Keeps k shown now = keeps_rely h (at (lock_of h b ∷ []) false false called) k shown now rely in
-    find_from_right h (at (lock_of h b ∷ []) false false called) k now 4 (4 * b) value (λ slot. unlock h b (found slot)) refl
+    let first : Keeps k shown now = keeps_rely h (at (lock_of h b ∷ []) false false called) k shown
+    now rely in
+    find_from_right h (at (lock_of h b ∷ []) false false called) k now 4 (4 * b) value
+    (λ slot. unlock h b (found slot)) refl
     (bucket_slots h b false false called [] low)
     (λ j from to last one has keeps apart pending.
     let of : j / 4 ≡ b = omega (arith, from, to) in
@@ -288,78 +381,108 @@ find_right h k shown value called found low some none =
     (λ i mine was. apart i mine (first.slots i mine was).0)
     pending))
     (λ last keeps. give_last h k last b false called (found None)
-    (λ end kept. none end (keeps_more k shown last end (keeps_more k shown now last first keeps) kept))))
+    (λ end kept. none end
+    (keeps_more k shown last end (keeps_more k shown now last first keeps) kept))))
 
 -- the rest of a search does right, if what follows it does
 abbrev On : Header → Situation → Locals → ℕ → ℕ → ℕ → (Option ℕ → Script) → Memory → Type 0
 On h s k left slot value ended shown =
-    ((j : ℕ) → slot + 1 ≤ j → j < slot + 1 + left → (now : Memory) → Rely (multiset h) s k shown now → now (2 * j) ≡ 2 → now (2 * j + 1) ≡ value
+    ((j : ℕ) → slot + 1 ≤ j → j < slot + 1 + left → (now : Memory) → Rely (multiset h) s k shown now
+    → now (2 * j) ≡ 2 → now (2 * j + 1) ≡ value
     → DoesRight (multiset h) s k now (ended (Some j)))
     → ((now : Memory) → Rely (multiset h) s k shown now
-    → ((j : ℕ) → slot + 1 ≤ j → j < slot + 1 + left → now (2 * j) ≡ 2 → now (2 * j + 1) ≡ value → ⊥) → DoesRight (multiset h) s k now (ended None))
+    → ((j : ℕ) → slot + 1 ≤ j → j < slot + 1 + left → now (2 * j) ≡ 2 → now (2 * j + 1) ≡ value → ⊥)
+    → DoesRight (multiset h) s k now (ended None))
     → DoesRight (multiset h) s k shown (search_from left (slot + 1) value ended)
 
 -- a search ends at a valid slot with the value, or no slot from this one on is one
-pub search_from_right : (h : Header) (s : Situation) (k : Locals) (shown : Memory) (left slot value : ℕ) (ended : Option ℕ → Script) → s.in_block ≡ false
+pub search_from_right : (h : Header) (s : Situation) (k : Locals) (shown : Memory)
+    (left slot value : ℕ) (ended : Option ℕ → Script) → s.in_block ≡ false
     → AreHeld h s slot left
-    → ((j : ℕ) → slot ≤ j → j < slot + left → (now : Memory) → Rely (multiset h) s k shown now → now (2 * j) ≡ 2 → now (2 * j + 1) ≡ value
+    → ((j : ℕ) → slot ≤ j → j < slot + left → (now : Memory) → Rely (multiset h) s k shown now
+    → now (2 * j) ≡ 2 → now (2 * j + 1) ≡ value
     → DoesRight (multiset h) s k now (ended (Some j)))
     → ((now : Memory) → Rely (multiset h) s k shown now
-    → ((j : ℕ) → slot ≤ j → j < slot + left → now (2 * j) ≡ 2 → now (2 * j + 1) ≡ value → ⊥) → DoesRight (multiset h) s k now (ended None))
+    → ((j : ℕ) → slot ≤ j → j < slot + left → now (2 * j) ≡ 2 → now (2 * j + 1) ≡ value → ⊥)
+    → DoesRight (multiset h) s k now (ended None))
     → DoesRight (multiset h) s k shown (search_from left slot value ended)
 search_from_right h s k shown zero slot value ended out each some none =
-    none shown (rely_same (multiset h) s k shown) (λ j from to valid has. absurd (omega (arith, from, to)))
+    none shown (rely_same (multiset h) s k shown)
+    (λ j from to valid has. absurd (omega (arith, from, to)))
 search_from_right h s k shown (suc left) slot value ended out each some none =
     load_right (multiset h) s k shown (2 * slot)
-    (λ state. cond (state == 2) (compare slot value (ended (Some slot)) (search_from left (slot + 1) value ended))
+    (λ state. cond (state == 2)
+    (compare slot value (ended (Some slot)) (search_from left (slot + 1) value ended))
     (search_from left (slot + 1) value ended))
     state_held out
     (λ now rely. by_state now rely
-    (λ then_ rely'. search_from_right h s k then_ left (slot + 1) value ended out (held_next h s slot left each))
+    (λ then_ rely'. search_from_right h s k then_ left (slot + 1) value ended out
+    (held_next h s slot left each))
     (shown (2 * slot) == 2) refl)
   where
     state_held : Access (multiset h) s (2 * slot)
-    state_held = state_access h s slot (each.low slot (omega arith) (omega arith)) (each.held slot (omega arith) (omega arith))
+    state_held = state_access h s slot (each.low slot (omega arith) (omega arith))
+        (each.held slot (omega arith) (omega arith))
 
     value_held : Access (multiset h) s (2 * slot + 1)
-    value_held = value_access h s slot (each.low slot (omega arith) (omega arith)) (each.held slot (omega arith) (omega arith))
+    value_held = value_access h s slot (each.low slot (omega arith) (omega arith))
+        (each.held slot (omega arith) (omega arith))
 
-    later : (then_ : Memory) → Rely (multiset h) s k shown then_ → (shown (2 * slot) ≡ 2 → then_ (2 * slot + 1) ≡ value → ⊥)
-        → On h s k left slot value ended then_ → DoesRight (multiset h) s k then_ (search_from left (slot + 1) value ended)
+    later : (then_ : Memory) → Rely (multiset h) s k shown then_
+        → (shown (2 * slot) ≡ 2 → then_ (2 * slot + 1) ≡ value → ⊥)
+        → On h s k left slot value ended then_ → DoesRight (multiset h) s k then_
+        (search_from left (slot + 1) value ended)
     later then_ rely here on =
-        on (λ j from to now rely' valid has. some j (omega (arith, from)) (omega (arith, to)) now (rely_more (multiset h) s k shown then_ now rely rely') valid has)
-        (λ now rely' more. none now (rely_more (multiset h) s k shown then_ now rely rely') (λ j from to valid has. by_place now rely' more j from to valid has (j == slot) refl))
+        on (λ j from to now rely' valid has. some j (omega (arith, from)) (omega (arith, to)) now
+        (rely_more (multiset h) s k shown then_ now rely rely') valid has)
+        (λ now rely' more. none now (rely_more (multiset h) s k shown then_ now rely rely')
+        (λ j from to valid has. by_place now rely' more j from to valid has (j == slot) refl))
       where
         by_place : (now : Memory) → Rely (multiset h) s k then_ now
-            → ((j : ℕ) → slot + 1 ≤ j → j < slot + 1 + left → now (2 * j) ≡ 2 → now (2 * j + 1) ≡ value → ⊥)
-            → (j : ℕ) → slot ≤ j → j < slot + suc left → now (2 * j) ≡ 2 → now (2 * j + 1) ≡ value → (b : Bool) → (j == slot) ≡ b → ⊥
+            → ((j : ℕ) → slot + 1 ≤ j → j < slot + 1 + left → now (2 * j) ≡ 2 → now (2 * j + 1)
+            ≡ value → ⊥)
+            → (j : ℕ) → slot ≤ j → j < slot + suc left → now (2 * j) ≡ 2 → now (2 * j + 1) ≡ value
+            → (b : Bool) → (j == slot) ≡ b → ⊥
         by_place now rely' more j from to valid has true e =
             let same : j ≡ slot = same_of j slot e in
             let valid_here : now (2 * slot) ≡ 2 = subst (λ x. now (2 * x) ≡ 2) same valid in
-            let has_here : now (2 * slot + 1) ≡ value = subst (λ x. now (2 * x + 1) ≡ value) same has in
-            here (sym (rely'.held (2 * slot) state_held ∙ rely.held (2 * slot) state_held) ∙ valid_here)
+            let has_here : now (2 * slot + 1) ≡ value = subst (λ x. now (2 * x + 1) ≡ value) same
+            has in
+            here (sym (rely'.held (2 * slot) state_held ∙ rely.held (2 * slot) state_held)
+            ∙ valid_here)
             (sym (rely'.held (2 * slot + 1) value_held) ∙ has_here)
         by_place now rely' more j from to valid has false e =
             let apart = apart_of j slot e in
             more j (omega (arith, apart, from)) (omega (arith, to)) valid has
 
-    by_value : (now : Memory) → Rely (multiset h) s k shown now → shown (2 * slot) ≡ 2 → (then_ : Memory) → Rely (multiset h) s k now then_
+    by_value : (now : Memory) → Rely (multiset h) s k shown now → shown (2 * slot) ≡ 2
+        → (then_ : Memory) → Rely (multiset h) s k now then_
         → On h s k left slot value ended then_ → (b : Bool) → (now (2 * slot + 1) == value) ≡ b
-        → DoesRight (multiset h) s k then_ (cond b (ended (Some slot)) (search_from left (slot + 1) value ended))
+        → DoesRight (multiset h) s k then_
+        (cond b (ended (Some slot)) (search_from left (slot + 1) value ended))
     by_value now rely valid then_ rely' on true e =
-        some slot (omega arith) (omega arith) then_ (rely_more (multiset h) s k shown now then_ rely rely')
+        some slot (omega arith) (omega arith) then_
+        (rely_more (multiset h) s k shown now then_ rely rely')
         (rely'.held (2 * slot) state_held ∙ rely.held (2 * slot) state_held ∙ valid)
         (rely'.held (2 * slot + 1) value_held ∙ same_of (now (2 * slot + 1)) value e)
     by_value now rely valid then_ rely' on false e =
         later then_ (rely_more (multiset h) s k shown now then_ rely rely')
-        (λ v has. apart_of (now (2 * slot + 1)) value e (sym (rely'.held (2 * slot + 1) value_held) ∙ has)) on
+        (λ v has. apart_of (now (2 * slot + 1)) value e (sym (rely'.held (2 * slot + 1) value_held)
+        ∙ has)) on
 
-    by_state : (now : Memory) → Rely (multiset h) s k shown now → ((then_ : Memory) → Rely (multiset h) s k shown then_ → On h s k left slot value ended then_) → (b : Bool) → (shown (2 * slot) == 2) ≡ b
-        → DoesRight (multiset h) s k now (cond b (compare slot value (ended (Some slot)) (search_from left (slot + 1) value ended))
+    by_state : (now : Memory) → Rely (multiset h) s k shown now
+        → ((then_ : Memory) → Rely (multiset h) s k shown then_
+        → On h s k left slot value ended then_) → (b : Bool) → (shown (2 * slot) == 2) ≡ b
+        → DoesRight (multiset h) s k now
+        (cond b (compare slot value (ended (Some slot)) (search_from left (slot + 1) value ended))
         (search_from left (slot + 1) value ended))
     by_state now rely on true e =
-        load_right (multiset h) s k now (2 * slot + 1) (λ loaded. cond (loaded == value) (ended (Some slot)) (search_from left (slot + 1) value ended))
+        load_right (multiset h) s k now (2 * slot + 1)
+        (λ loaded. cond (loaded == value) (ended (Some slot))
+        (search_from left (slot + 1) value ended))
         value_held out
-        (λ then_ rely'. by_value now rely (same_of (shown (2 * slot)) 2 e) then_ rely' (on then_ (rely_more (multiset h) s k shown now then_ rely rely'))
+        (λ then_ rely'. by_value now rely (same_of (shown (2 * slot)) 2 e) then_ rely'
+        (on then_ (rely_more (multiset h) s k shown now then_ rely rely'))
         (now (2 * slot + 1) == value) refl)
-    by_state now rely on false e = later now rely (λ valid has. apart_of (shown (2 * slot)) 2 e valid) (on now rely)
+    by_state now rely on false e = later now rely
+        (λ valid has. apart_of (shown (2 * slot)) 2 e valid) (on now rely)

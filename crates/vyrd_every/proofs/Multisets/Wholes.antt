@@ -1,5 +1,7 @@
 -- Each procedure of the correct multiset does right.
-use Rattle.std.proofs.Common.{◌≡◌, ℕ, ◌+◌, ◌-◌, ◌*◌, ◌/◌, ◌<◌, ◌≤◌, ◌⊎◌, inl, inr, Bool, true, false, cond, not, List, [], ◌∷◌, Option, Some, None, min, max, refl, ap, ◌∙◌, sym, subst, arith}
+use Rattle.std.proofs.Common.{◌≡◌, ℕ, ◌+◌, ◌-◌, ◌*◌, ◌/◌, ◌<◌, ◌≤◌, ◌⊎◌, inl, inr, Bool, true}
+use Rattle.std.proofs.Common.{false, cond, not, List, [], ◌∷◌, Option, Some, None, min, max, refl}
+use Rattle.std.proofs.Common.{ap, ◌∙◌, sym, subst, arith}
 use Rattle.std.specs.Prelude.{nat_le, ◌==◌, ◌||◌, if◌then◌else◌}
 use Rattle.std.specs.Bool.{then_some}
 use Rattle.std.proofs.lemmas.Bool.Decides.{nat_tests}
@@ -17,7 +19,8 @@ use Rattle.vyrd_base.specs.Callers.{Called}
 use Rattle.vyrd_base.specs.Subjects.{is_observer, subject_of}
 use Rattle.vyrd_base.specs.Amounts.{Amounts, amount_of, with_amount, plus_amount}
 use Rattle.vyrd_base.specs.Specification.{answer_in}
-use Rattle.vyrd_base.proofs.TestLaws.{at_most_of, above_of, same_of, same_number, isnt_same, apart_of}
+use Rattle.vyrd_base.proofs.TestLaws.{at_most_of, above_of, same_of, same_number, isnt_same}
+use Rattle.vyrd_base.proofs.TestLaws.{apart_of}
 use Rattle.vyrd_memory.specs.declared.op.Op.{Op}
 use Rattle.vyrd_memory.specs.declared.op.Variant.TheVariants.{Correct}
 use Rattle.vyrd_memory.specs.Players.{is_callable}
@@ -37,114 +40,165 @@ use Rattle.vyrd_multiset.specs.Laws.Sound.{bucket_low}
 use Rattle.vyrd_every.specs.Locals.{Locals, Access}
 use Rattle.vyrd_every.specs.RightScripts.{WillReturn, DoesRight, IsRight}
 use Rattle.vyrd_every.specs.Guarded.{multiset}
-use Rattle.vyrd_every.proofs.Acts.{at, holds_first, without_slots, returns_right, mutates, answer_right, lone_commit_right}
-use Rattle.vyrd_every.proofs.Multisets.Parts.{one_two, state_access, take_right, give_right, give_last, keeps_rely, with_slot, has_slot, had_slot, bucket_slots, find_right, search_from_right}
-use Rattle.vyrd_every.proofs.Multisets.Endings.{gives_up_right, commit_state_right, undo_right, AreReserved, still_reserved, pair_of, validate_both_right}
+use Rattle.vyrd_every.proofs.Acts.{at, holds_first, without_slots, returns_right, mutates}
+use Rattle.vyrd_every.proofs.Acts.{answer_right, lone_commit_right}
+use Rattle.vyrd_every.proofs.Multisets.Parts.{one_two, state_access, take_right, give_right}
+use Rattle.vyrd_every.proofs.Multisets.Parts.{give_last, keeps_rely, with_slot, has_slot, had_slot}
+use Rattle.vyrd_every.proofs.Multisets.Parts.{bucket_slots, find_right, search_from_right}
+use Rattle.vyrd_every.proofs.Multisets.Endings.{gives_up_right, commit_state_right, undo_right}
+use Rattle.vyrd_every.proofs.Multisets.Endings.{AreReserved, still_reserved, pair_of}
+use Rattle.vyrd_every.proofs.Multisets.Endings.{validate_both_right}
 
 -- the locks of two buckets are given back
-unlock_one : (h : Header) (k : Locals) (shown : Memory) (called : Called) (bucket : ℕ) → ((i : ℕ) → k.owned i ≡ false) → k.called ≡ Some called
-    → is_observer called.method ≡ false → DoesRight (multiset h) (at (lock_of h bucket ∷ []) true false called) k shown (unlock h bucket (returns 1))
+unlock_one : (h : Header) (k : Locals) (shown : Memory) (called : Called) (bucket : ℕ)
+    → ((i : ℕ) → k.owned i ≡ false) → k.called ≡ Some called
+    → is_observer called.method ≡ false
+    → DoesRight (multiset h) (at (lock_of h bucket ∷ []) true false called) k shown
+    (unlock h bucket (returns 1))
 unlock_one h k shown called bucket none is mutator =
-    give_last h k shown bucket true called (returns 1) (λ now keeps. returns_right (multiset h) k now true called 1 none (mutates k called 1 is mutator))
+    give_last h k shown bucket true called (returns 1)
+    (λ now keeps. returns_right (multiset h) k now true called 1 none
+    (mutates k called 1 is mutator))
 
-unlock_two : (h : Header) (k : Locals) (shown : Memory) (called : Called) (first second : ℕ) → (lock_of h first == lock_of h second) ≡ false
+unlock_two : (h : Header) (k : Locals) (shown : Memory) (called : Called) (first second : ℕ)
+    → (lock_of h first == lock_of h second) ≡ false
     → ((i : ℕ) → k.owned i ≡ false) → k.called ≡ Some called → is_observer called.method ≡ false
-    → DoesRight (multiset h) (at (lock_of h second ∷ lock_of h first ∷ []) true false called) k shown (unlock h second (unlock h first (returns 1)))
+    → DoesRight (multiset h) (at (lock_of h second ∷ lock_of h first ∷ []) true false called) k
+    shown (unlock h second (unlock h first (returns 1)))
 unlock_two h k shown called first second apart none is mutator =
-    give_right h (at (lock_of h second ∷ lock_of h first ∷ []) true false called) k shown second (unlock h first (returns 1)) refl
-    (λ now rely. subst (λ locks. DoesRight (multiset h) (at locks true false called) k now (unlock h first (returns 1)))
-    (sym (gone (lock_of h second) (lock_of h first ∷ []) ∙ ap (λ b. cond (not b) (lock_of h first ∷ []) []) apart))
+    give_right h (at (lock_of h second ∷ lock_of h first ∷ []) true false called) k shown second
+    (unlock h first (returns 1)) refl
+    (λ now rely. subst (λ locks. DoesRight (multiset h) (at locks true false called) k now
+    (unlock h first (returns 1)))
+    (sym (gone (lock_of h second) (lock_of h first ∷ [])
+    ∙ ap (λ b. cond (not b) (lock_of h first ∷ []) []) apart))
     (unlock_one h k now called first none is mutator))
 
 -- both slots become valid under the locks of their buckets, of which the lower one is locked first
-commit_both_right : (h : Header) (k : Locals) (shown : Memory) (args : Args) (first second slot_x slot_y : ℕ) → AreReserved h k shown args slot_x slot_y
+commit_both_right : (h : Header) (k : Locals) (shown : Memory) (args : Args)
+    (first second slot_x slot_y : ℕ) → AreReserved h k shown args slot_x slot_y
     → k.called ≡ Some (pair_of args) → first ≤ second
     → (slot_x / 4 ≡ first) ⊎ (slot_x / 4 ≡ second) → (slot_y / 4 ≡ first) ⊎ (slot_y / 4 ≡ second)
-    → DoesRight (multiset h) (at [] false false (pair_of args)) k shown (commit_both h first second slot_x slot_y)
+    → DoesRight (multiset h) (at [] false false (pair_of args)) k shown
+    (commit_both h first second slot_x slot_y)
 commit_both_right h k shown args first second slot_x slot_y r is order of_x of_y =
-    take_right h (at [] false false (pair_of args)) k shown first (lock_other h first second (validate_both h first second slot_x slot_y)) (λ held e. cc)
+    take_right h (at [] false false (pair_of args)) k shown first
+    (lock_other h first second (validate_both h first second slot_x slot_y)) (λ held e. cc)
     (λ now rely. by_test now
-    (still_reserved h k k shown now args slot_x slot_y r refl (keeps_rely h (at (lock_of h first ∷ []) false false (pair_of args)) k shown now rely))
+    (still_reserved h k k shown now args slot_x slot_y r refl
+    (keeps_rely h (at (lock_of h first ∷ []) false false (pair_of args)) k shown now rely))
     (first == second) refl)
   where
     pending : List (ℕ × ℕ)
     pending = (2 * slot_y, 2) ∷ (2 * slot_x, 2) ∷ []
 
-    held_one : (slot : ℕ) → (first == second) ≡ true → (slot / 4 ≡ first) ⊎ (slot / 4 ≡ second) → slot / 4 ≡ first
+    held_one : (slot : ℕ) → (first == second) ≡ true → (slot / 4 ≡ first) ⊎ (slot / 4 ≡ second)
+        → slot / 4 ≡ first
     held_one slot e (inl f) = f
     held_one slot e (inr f) = f ∙ sym (same_of first second e)
 
-    in_one : (slot : ℕ) → slot < 4 * h.size → slot / 4 ≡ first → Access (multiset h) (at (lock_of h first ∷ []) false true (pair_of args)) (2 * slot)
+    in_one : (slot : ℕ) → slot < 4 * h.size → slot / 4 ≡ first
+        → Access (multiset h) (at (lock_of h first ∷ []) false true (pair_of args)) (2 * slot)
     in_one slot low of =
         state_access h (at (lock_of h first ∷ []) false true (pair_of args)) slot low
-        (subst (λ b. holds (at (lock_of h first ∷ []) false true (pair_of args)) (lock_of h b) ≡ true) (sym of)
+        (subst (λ b. holds (at (lock_of h first ∷ []) false true (pair_of args)) (lock_of h b)
+        ≡ true) (sym of)
         (holds_first (lock_of h first) [] false true (pair_of args)))
 
     holds_either : (slot : ℕ) → (slot / 4 ≡ first) ⊎ (slot / 4 ≡ second)
-        → holds (at (lock_of h second ∷ lock_of h first ∷ []) false true (pair_of args)) (lock_of h (slot / 4)) ≡ true
+        → holds (at (lock_of h second ∷ lock_of h first ∷ []) false true (pair_of args))
+        (lock_of h (slot / 4)) ≡ true
     holds_either slot (inl of) =
-        subst (λ b. holds (at (lock_of h second ∷ lock_of h first ∷ []) false true (pair_of args)) (lock_of h b) ≡ true) (sym of)
-        (ap (λ b. (lock_of h second == lock_of h first) || (b || false)) (same_number (lock_of h first)) ∙ or_true (lock_of h second == lock_of h first))
+        subst (λ b. holds (at (lock_of h second ∷ lock_of h first ∷ []) false true (pair_of args))
+        (lock_of h b) ≡ true) (sym of)
+        (ap (λ b. (lock_of h second == lock_of h first) || (b || false))
+        (same_number (lock_of h first)) ∙ or_true (lock_of h second == lock_of h first))
       where
         or_true : (b : Bool) → (b || true) ≡ true
         or_true true = refl
         or_true false = refl
     holds_either slot (inr of) =
-        subst (λ b. holds (at (lock_of h second ∷ lock_of h first ∷ []) false true (pair_of args)) (lock_of h b) ≡ true) (sym of)
+        subst (λ b. holds (at (lock_of h second ∷ lock_of h first ∷ []) false true (pair_of args))
+        (lock_of h b) ≡ true) (sym of)
         (holds_first (lock_of h second) (lock_of h first ∷ []) false true (pair_of args))
 
     in_two : (slot : ℕ) → slot < 4 * h.size → (slot / 4 ≡ first) ⊎ (slot / 4 ≡ second)
-        → Access (multiset h) (at (lock_of h second ∷ lock_of h first ∷ []) false true (pair_of args)) (2 * slot)
+        → Access (multiset h)
+        (at (lock_of h second ∷ lock_of h first ∷ []) false true (pair_of args)) (2 * slot)
     in_two slot low of =
-        state_access h (at (lock_of h second ∷ lock_of h first ∷ []) false true (pair_of args)) slot low (holds_either slot of)
+        state_access h (at (lock_of h second ∷ lock_of h first ∷ []) false true (pair_of args)) slot
+        low (holds_either slot of)
 
-    returns_one : (b : Bool) → (first == second) ≡ b → WillReturn 1 (cond b (unlock h first (returns 1)) (unlock h second (unlock h first (returns 1))))
+    returns_one : (b : Bool) → (first == second) ≡ b
+        → WillReturn 1
+        (cond b (unlock h first (returns 1)) (unlock h second (unlock h first (returns 1))))
     returns_one true e = λ answer is'. refl
     returns_one false e = λ answer is' answer' is''. refl
 
     higher : (first == second) ≡ false → lock_of h first < lock_of h second
     higher e = let apart = apart_of first second e in omega (arith, apart, order)
 
-    above_first : (first == second) ≡ false → (held : ℕ) → (b : Bool) → (lock_of h first == held) ≡ b → (b || false) ≡ true → held < lock_of h second
-    above_first e held true f g = subst (λ x. x < lock_of h second) (same_of (lock_of h first) held f) (higher e)
+    above_first : (first == second) ≡ false → (held : ℕ) → (b : Bool) → (lock_of h first == held)
+        ≡ b → (b || false) ≡ true → held < lock_of h second
+    above_first e held true f g = subst (λ x. x < lock_of h second)
+        (same_of (lock_of h first) held f) (higher e)
     above_first e held false f g = cc
 
-    by_test : (now : Memory) → AreReserved h k now args slot_x slot_y → (b : Bool) → (first == second) ≡ b
+    by_test : (now : Memory) → AreReserved h k now args slot_x slot_y → (b : Bool)
+        → (first == second) ≡ b
         → DoesRight (multiset h) (at (lock_of h first ∷ []) false false (pair_of args)) k now
-        (cond b (validate_both h first second slot_x slot_y) (lock h second (validate_both h first second slot_x slot_y)))
+        (cond b (validate_both h first second slot_x slot_y)
+        (lock h second (validate_both h first second slot_x slot_y)))
     by_test now at_now true e =
         validate_both_right h (lock_of h first ∷ []) k now args first second slot_x slot_y at_now is
-        (in_one slot_x r.low_x (held_one slot_x e of_x)) (in_one slot_y r.low_y (held_one slot_y e of_y))
+        (in_one slot_x r.low_x (held_one slot_x e of_x))
+        (in_one slot_y r.low_y (held_one slot_y e of_y))
         (returns_one (first == second) refl)
-        (λ end. subst (λ b. DoesRight (multiset h) (at (lock_of h first ∷ []) true false (pair_of args)) (without_slots k pending) end
-        (cond b (unlock h first (returns 1)) (unlock h second (unlock h first (returns 1))))) (sym e)
+        (λ end. subst
+        (λ b. DoesRight (multiset h) (at (lock_of h first ∷ []) true false (pair_of args))
+        (without_slots k pending) end
+        (cond b (unlock h first (returns 1)) (unlock h second (unlock h first (returns 1)))))
+        (sym e)
         (unlock_one h (without_slots k pending) end (pair_of args) first (λ i. refl) is refl))
     by_test now at_now false e =
-        take_right h (at (lock_of h first ∷ []) false false (pair_of args)) k now second (validate_both h first second slot_x slot_y)
+        take_right h (at (lock_of h first ∷ []) false false (pair_of args)) k now second
+        (validate_both h first second slot_x slot_y)
         (λ held f. above_first e held (lock_of h first == held) refl f)
         (λ then_ rely.
-        validate_both_right h (lock_of h second ∷ lock_of h first ∷ []) k then_ args first second slot_x slot_y
+        validate_both_right h (lock_of h second ∷ lock_of h first ∷ []) k then_ args first second
+        slot_x slot_y
         (still_reserved h k k now then_ args slot_x slot_y at_now refl
-        (keeps_rely h (at (lock_of h second ∷ lock_of h first ∷ []) false false (pair_of args)) k now then_ rely)) is
+        (keeps_rely h (at (lock_of h second ∷ lock_of h first ∷ []) false false (pair_of args)) k
+        now then_ rely)) is
         (in_two slot_x r.low_x of_x) (in_two slot_y r.low_y of_y)
         (returns_one (first == second) refl)
-        (λ end. subst (λ b. DoesRight (multiset h) (at (lock_of h second ∷ lock_of h first ∷ []) true false (pair_of args)) (without_slots k pending) end
-        (cond b (unlock h first (returns 1)) (unlock h second (unlock h first (returns 1))))) (sym e)
+        (λ end. subst
+        (λ b. DoesRight (multiset h)
+        (at (lock_of h second ∷ lock_of h first ∷ []) true false (pair_of args))
+        (without_slots k pending) end
+        (cond b (unlock h first (returns 1)) (unlock h second (unlock h first (returns 1)))))
+        (sym e)
         (unlock_two h (without_slots k pending) end (pair_of args) first second
-        (isnt_same (lock_of h first) (lock_of h second) (λ same. apart_of first second e (omega (arith, same)))) (λ i. refl) is refl)))
+        (isnt_same (lock_of h first) (lock_of h second)
+        (λ same. apart_of first second e (omega (arith, same)))) (λ i. refl) is refl)))
 
 -- an insert makes the slot that it found valid
-insert_right : (h : Header) → h.subject ≡ Multiset → (k : Locals) (shown : Memory) (args : Args) → ((i : ℕ) → k.owned i ≡ false)
+insert_right : (h : Header) → h.subject ≡ Multiset → (k : Locals) (shown : Memory) (args : Args)
+    → ((i : ℕ) → k.owned i ≡ false)
     → k.called ≡ Some (record { method = OfMultiset Insert; args = args })
-    → DoesRight (multiset h) (at [] false false (record { method = OfMultiset Insert; args = args })) k shown (find h Correct args.a (inserted h args.a))
+    → DoesRight (multiset h)
+    (at [] false false (record { method = OfMultiset Insert; args = args })) k shown
+    (find h Correct args.a (inserted h args.a))
 insert_right h ours k shown args none is =
     find_right h k shown args.a called (inserted h args.a) (bucket_low h ours args.a)
     (λ j low of now one has keeps apart pending.
-    take_right h (at [] false false called) (with_slot k j pending) now (bucket_of h args.a) _ (λ held e. cc)
+    take_right h (at [] false false called) (with_slot k j pending) now (bucket_of h args.a) _
+    (λ held e. cc)
     (λ then_ rely.
     let state_is : then_ (2 * j) ≡ 1 = (rely.owned j (has_slot k j pending)).0 ∙ one in
     let value_is : then_ (2 * j + 1) ≡ args.a = (rely.owned j (has_slot k j pending)).1 ∙ has in
-    commit_state_right h (with_slot k j pending) then_ called (bucket_of h args.a) j 2 low of is refl (λ same. has_slot k j pending)
+    commit_state_right h (with_slot k j pending) then_ called (bucket_of h args.a) j 2 low of is
+    refl (λ same. has_slot k j pending)
     (λ last same_state same_value before m. (
       plus_amount before args.a 1,
       refl,
@@ -161,11 +215,14 @@ insert_right h ours k shown args none is =
     called = record { method = OfMultiset Insert; args = args }
 
 -- if both slots for a pair were found, they are made valid
-pair_found_right : (h : Header) (k : Locals) (shown : Memory) (args : Args) (slot_x slot_y : ℕ) → AreReserved h k shown args slot_x slot_y
+pair_found_right : (h : Header) (k : Locals) (shown : Memory) (args : Args) (slot_x slot_y : ℕ)
+    → AreReserved h k shown args slot_x slot_y
     → k.called ≡ Some (pair_of args)
-    → DoesRight (multiset h) (at [] false false (pair_of args)) k shown (second_found h Correct args.a args.b slot_x (Some slot_y))
+    → DoesRight (multiset h) (at [] false false (pair_of args)) k shown
+    (second_found h Correct args.a args.b slot_x (Some slot_y))
 pair_found_right h k shown args slot_x slot_y r is =
-    commit_both_right h k shown args (min p q) (max p q) slot_x slot_y r is (ordered p q) (either_x (slot_x / 4) p q r.of_x) (either_y (slot_y / 4) p q r.of_y)
+    commit_both_right h k shown args (min p q) (max p q) slot_x slot_y r is (ordered p q)
+    (either_x (slot_x / 4) p q r.of_x) (either_y (slot_y / 4) p q r.of_y)
   where
     p : ℕ
     p = bucket_of h args.a
@@ -193,21 +250,27 @@ pair_found_right h k shown args slot_x slot_y r is =
       where
         by_order : (b : Bool) → nat_le p q ≡ b → (n ≡ min p q) ⊎ (n ≡ max p q)
         by_order true f = inl (lesser n p q e (at_most_of p q f))
-        by_order false f = let low : q < p = above_of p q f in inr (greater n p q e (omega (arith, low)))
+        by_order false f = let low : q < p = above_of p q f in
+            inr (greater n p q e (omega (arith, low)))
 
     either_y : (n p q : ℕ) → n ≡ q → (n ≡ min p q) ⊎ (n ≡ max p q)
     either_y n p q e = by_order (nat_le p q) refl
       where
         by_order : (b : Bool) → nat_le p q ≡ b → (n ≡ min p q) ⊎ (n ≡ max p q)
         by_order true f = inr (greater_too n p q e (at_most_of p q f))
-        by_order false f = let low : q < p = above_of p q f in inl (lesser_too n p q e (omega (arith, low)))
+        by_order false f = let low : q < p = above_of p q f in
+            inl (lesser_too n p q e (omega (arith, low)))
 
-insert_pair_right : (h : Header) → h.subject ≡ Multiset → (k : Locals) (shown : Memory) (args : Args) → ((i : ℕ) → k.owned i ≡ false) → k.called ≡ Some (pair_of args)
-    → DoesRight (multiset h) (at [] false false (pair_of args)) k shown (find h Correct args.a (first_found h Correct args.a args.b))
+insert_pair_right : (h : Header) → h.subject ≡ Multiset → (k : Locals) (shown : Memory)
+    (args : Args) → ((i : ℕ) → k.owned i ≡ false) → k.called ≡ Some (pair_of args)
+    → DoesRight (multiset h) (at [] false false (pair_of args)) k shown
+    (find h Correct args.a (first_found h Correct args.a args.b))
 insert_pair_right h ours k shown args none is =
-    find_right h k shown args.a (pair_of args) (first_found h Correct args.a args.b) (bucket_low h ours args.a)
+    find_right h k shown args.a (pair_of args) (first_found h Correct args.a args.b)
+    (bucket_low h ours args.a)
     (λ x low_x of_x now one_x has_x keeps_x apart_x pending_x.
-    find_right h (with_slot k x pending_x) now args.b (pair_of args) (second_found h Correct args.a args.b x) (bucket_low h ours args.b)
+    find_right h (with_slot k x pending_x) now args.b (pair_of args)
+    (second_found h Correct args.a args.b x) (bucket_low h ours args.b)
     (λ y low_y of_y then_ one_y has_y keeps_y apart_y pending_y.
     let there = keeps_y.slots x (has_slot k x pending_x) one_x in
     pair_found_right h (with_slot (with_slot k x pending_x) y pending_y) then_ args x y
@@ -227,7 +290,8 @@ insert_pair_right h ours k shown args none is =
     is)
     (λ then_ keeps.
     let there = keeps.slots x (has_slot k x pending_x) one_x in
-    undo_right h (with_slot k x pending_x) then_ (pair_of args) args.a x low_x of_x (has_slot k x pending_x) there.0 is refl (λ state. refl)))
+    undo_right h (with_slot k x pending_x) then_ (pair_of args) args.a x low_x of_x
+    (has_slot k x pending_x) there.0 is refl (λ state. refl)))
     (λ now keeps. gives_up_right h k now (pair_of args) none is refl (λ state. refl))
 
 -- what is there and what isn't
@@ -238,11 +302,16 @@ isnt_there_test : (n : ℕ) → n ≡ 0 → not (n == 0) ≡ false
 isnt_there_test n none = grind (arith, nat_tests)
 
 -- a search under the lock of the bucket
-search_right : (h : Header) → h.subject ≡ Multiset → (k : Locals) (shown : Memory) (called : Called) (x : ℕ) (ended : Option ℕ → Script)
-    → ((j : ℕ) → j < 4 * h.size → j / 4 ≡ bucket_of h x → (now : Memory) → now (2 * j) ≡ 2 → now (2 * j + 1) ≡ x
-    → DoesRight (multiset h) (at (lock_of h (bucket_of h x) ∷ []) false false called) k now (ended (Some j)))
-    → ((now : Memory) → ((j : ℕ) → 4 * bucket_of h x ≤ j → j < 4 * bucket_of h x + 4 → now (2 * j) ≡ 2 → now (2 * j + 1) ≡ x → ⊥)
-    → DoesRight (multiset h) (at (lock_of h (bucket_of h x) ∷ []) false false called) k now (ended None))
+search_right : (h : Header) → h.subject ≡ Multiset → (k : Locals) (shown : Memory) (called : Called)
+    (x : ℕ) (ended : Option ℕ → Script)
+    → ((j : ℕ) → j < 4 * h.size → j / 4 ≡ bucket_of h x → (now : Memory) → now (2 * j) ≡ 2
+    → now (2 * j + 1) ≡ x
+    → DoesRight (multiset h) (at (lock_of h (bucket_of h x) ∷ []) false false called) k now
+    (ended (Some j)))
+    → ((now : Memory) → ((j : ℕ) → 4 * bucket_of h x ≤ j → j < 4 * bucket_of h x + 4 → now (2 * j)
+    ≡ 2 → now (2 * j + 1) ≡ x → ⊥)
+    → DoesRight (multiset h) (at (lock_of h (bucket_of h x) ∷ []) false false called) k now
+    (ended None))
     → DoesRight (multiset h) (at [] false false called) k shown (search_in h x ended)
 search_right h ours k shown called x ended some none =
     let b : ℕ = bucket_of h x in
@@ -250,21 +319,27 @@ search_right h ours k shown called x ended some none =
     (λ now rely.
     search_from_right h (at (lock_of h b ∷ []) false false called) k now 4 (4 * b) x ended refl
     (bucket_slots h b false false called [] (bucket_low h ours x))
-    (λ j from to last rely' valid has. some j (omega (arith, from, to, bucket_low h ours x)) (omega (arith, from, to)) last valid has)
+    (λ j from to last rely' valid has. some j (omega (arith, from, to, bucket_low h ours x))
+    (omega (arith, from, to)) last valid has)
     (λ last rely' nowhere. none last nowhere))
 
-delete_right : (h : Header) → h.subject ≡ Multiset → (k : Locals) (shown : Memory) (args : Args) → ((i : ℕ) → k.owned i ≡ false)
+delete_right : (h : Header) → h.subject ≡ Multiset → (k : Locals) (shown : Memory) (args : Args)
+    → ((i : ℕ) → k.owned i ≡ false)
     → k.called ≡ Some (record { method = OfMultiset Delete; args = args })
-    → DoesRight (multiset h) (at [] false false (record { method = OfMultiset Delete; args = args })) k shown (search_in h args.a (deleted h args.a))
+    → DoesRight (multiset h)
+    (at [] false false (record { method = OfMultiset Delete; args = args })) k shown
+    (search_in h args.a (deleted h args.a))
 delete_right h ours k shown args none is =
     search_right h ours k shown called args.a (deleted h args.a)
     (λ j low of now valid has.
-    commit_state_right h k now called (bucket_of h args.a) j 0 low of is refl (λ one. absurd (one_two (now (2 * j)) one valid))
+    commit_state_right h k now called (bucket_of h args.a) j 0 low of is refl
+    (λ one. absurd (one_two (now (2 * j)) one valid))
     (λ last same_state same_value before m.
     let some : 1 ≤ amount_of before args.a =
     is_there h last before j args.a m low (same_state ∙ valid) (same_value ∙ has) in (
       with_amount before args.a (amount_of before args.a - 1),
-      ap (λ b. then_some b (with_amount before args.a (amount_of before args.a - 1))) (is_there_test (amount_of before args.a) some),
+      ap (λ b. then_some b (with_amount before args.a (amount_of before args.a - 1)))
+          (is_there_test (amount_of before args.a) some),
       made_free h last (with_cell last (2 * j) 0) before j args.a m low
           (λ cell not_state not_value. other_cell last (2 * j) 0 cell not_state)
           (same_state ∙ valid) (same_value ∙ has)
@@ -279,48 +354,68 @@ delete_right h ours k shown args none is =
     zero_two n e f = omega (arith, e, f)
 
     absent : (now : Memory)
-        → ((j : ℕ) → 4 * bucket_of h args.a ≤ j → j < 4 * bucket_of h args.a + 4 → now (2 * j) ≡ 2 → now (2 * j + 1) ≡ args.a → ⊥)
-        → DoesRight (multiset h) (at (lock_of h (bucket_of h args.a) ∷ []) false false called) k now (deleted h args.a None)
+        → ((j : ℕ) → 4 * bucket_of h args.a ≤ j → j < 4 * bucket_of h args.a + 4 → now (2 * j) ≡ 2
+        → now (2 * j + 1) ≡ args.a → ⊥)
+        → DoesRight (multiset h) (at (lock_of h (bucket_of h args.a) ∷ []) false false called) k now
+        (deleted h args.a None)
     absent now nowhere =
-        lone_commit_right (multiset h) (lock_of h (bucket_of h args.a) ∷ []) k now called (unlock h (bucket_of h args.a) (returns 0))
+        lone_commit_right (multiset h) (lock_of h (bucket_of h args.a) ∷ []) k now called
+        (unlock h (bucket_of h args.a) (returns 0))
         (λ before m. record {
           called = called;
           is_called = is;
           reply = 0;
           returns = λ answer is'. refl;
           next = before;
-          allowed = ap (λ b. then_some (not b) before) (isnt_there_test (amount_of before args.a) (isnt_there h now before args.a m nowhere));
+          allowed = ap (λ b. then_some (not b) before)
+              (isnt_there_test (amount_of before args.a)
+              (isnt_there h now before args.a m nowhere));
           means = m;
         })
         (λ then_ rely. give_last h k then_ (bucket_of h args.a) true called (returns 0)
-        (λ last keeps. returns_right (multiset h) k last true called 0 none (mutates k called 0 is refl)))
+        (λ last keeps. returns_right (multiset h) k last true called 0 none
+        (mutates k called 0 is refl)))
 
 -- a lookup has its answer when it gives the lock back
-lookup_right : (h : Header) → h.subject ≡ Multiset → (k : Locals) (shown : Memory) (args : Args) → ((i : ℕ) → k.owned i ≡ false)
+lookup_right : (h : Header) → h.subject ≡ Multiset → (k : Locals) (shown : Memory) (args : Args)
+    → ((i : ℕ) → k.owned i ≡ false)
     → k.called ≡ Some (record { method = OfMultiset Lookup; args = args })
-    → DoesRight (multiset h) (at [] false false (record { method = OfMultiset Lookup; args = args })) k shown (search_in h args.a (looked_up h args.a))
+    → DoesRight (multiset h)
+    (at [] false false (record { method = OfMultiset Lookup; args = args })) k shown
+    (search_in h args.a (looked_up h args.a))
 lookup_right h ours k shown args none is =
     search_right h ours k shown called args.a (looked_up h args.a)
     (λ j low of now valid has. sees now 1 (λ state m.
-    ap (λ b. if b then 1 else 0) (is_there_test (amount_of state args.a) (is_there h now state j args.a m low valid has))))
+    ap (λ b. if b then 1 else 0)
+    (is_there_test (amount_of state args.a) (is_there h now state j args.a m low valid has))))
     (λ now nowhere. sees now 0 (λ state m.
-    ap (λ b. if b then 1 else 0) (isnt_there_test (amount_of state args.a) (isnt_there h now state args.a m nowhere))))
+    ap (λ b. if b then 1 else 0)
+    (isnt_there_test (amount_of state args.a) (isnt_there h now state args.a m nowhere))))
   where
     called : Called
     called = record { method = OfMultiset Lookup; args = args }
 
-    sees : (now : Memory) (reply : ℕ) → ((state : Amounts) → IsMultiset h now state → answer_in state (OfMultiset Lookup) args ≡ reply)
-        → DoesRight (multiset h) (at (lock_of h (bucket_of h args.a) ∷ []) false false called) k now (unlock h (bucket_of h args.a) (returns reply))
-    sees now reply seen = answer_right (multiset h) k now (lock_of h (bucket_of h args.a)) called reply none is seen
+    sees : (now : Memory) (reply : ℕ)
+        → ((state : Amounts) → IsMultiset h now state → answer_in state (OfMultiset Lookup) args
+        ≡ reply)
+        → DoesRight (multiset h) (at (lock_of h (bucket_of h args.a) ∷ []) false false called) k now
+        (unlock h (bucket_of h args.a) (returns reply))
+    sees now reply seen = answer_right (multiset h) k now (lock_of h (bucket_of h args.a)) called
+        reply none is seen
 
 -- the procedure of each operation
-procedure_right : (h : Header) → h.subject ≡ Multiset → (k : Locals) (shown : Memory) (method : Method) (args : Args) → subject_of method ≡ Multiset → ((i : ℕ) → k.owned i ≡ false)
+procedure_right : (h : Header) → h.subject ≡ Multiset → (k : Locals) (shown : Memory)
+    (method : Method) (args : Args) → subject_of method ≡ Multiset → ((i : ℕ) → k.owned i ≡ false)
     → k.called ≡ Some (record { method = method; args = args })
     → DoesRight (multiset h) (just_called method) k shown (procedure_of h Correct method args)
-procedure_right h ours k shown (OfMultiset Insert) args of none is = insert_right h ours k shown args none is
-procedure_right h ours k shown (OfMultiset InsertPair) args of none is = insert_pair_right h ours k shown args none is
-procedure_right h ours k shown (OfMultiset Delete) args of none is = delete_right h ours k shown args none is
-procedure_right h ours k shown (OfMultiset Lookup) args of none is = lookup_right h ours k shown args none is
+procedure_right h ours k shown (OfMultiset Insert) args of none is = insert_right h ours k shown
+    args none is
+procedure_right h ours k shown (OfMultiset InsertPair) args of none is = insert_pair_right h ours k
+    shown args none is
+procedure_right h ours k shown (OfMultiset Delete) args of none is = delete_right h ours k shown
+    args none is
+procedure_right h ours k shown (OfMultiset Lookup) args of none is = lookup_right h ours k shown
+    args none is
 procedure_right h ours k shown (OfCache other) args of none is = cc
 procedure_right h ours k shown (OfTree other) args of none is = cc
 procedure_right h ours k shown (OfBuffers other) args of none is = cc
@@ -329,6 +424,7 @@ procedure_right h ours k shown (OwnAtMostOnce i) args of none is = cc
 procedure_right h ours k shown (OwnOnce i) args of none is = cc
 
 -- so each operation that may be called does right
-pub multiset_right : (h : Header) (op : Op) → h.subject ≡ Multiset → is_callable h op ≡ true → IsRight (multiset h) (multiset_procedure h Correct) op
+pub multiset_right : (h : Header) (op : Op) → h.subject ≡ Multiset → is_callable h op ≡ true
+    → IsRight (multiset h) (multiset_procedure h Correct) op
 multiset_right h op is callable k shown none called =
     procedure_right h is k shown op.method op.args (callable_method h op callable ∙ is) none called

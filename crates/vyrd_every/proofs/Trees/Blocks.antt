@@ -1,5 +1,7 @@
 -- A block that writes other entries into a node whose lock is held.
-use Rattle.std.proofs.Common.{◌≡◌, ◌≢◌, ℕ, ◌+◌, ◌*◌, ◌<◌, ◌≤◌, ◌⊎◌, inl, inr, Bool, true, false, cond, List, [], ◌∷◌, ◌++◌, Some, length, refl, ap, ◌∙◌, sym, subst, arith}
+use Rattle.std.proofs.Common.{◌≡◌, ◌≢◌, ℕ, ◌+◌, ◌*◌, ◌<◌, ◌≤◌, ◌⊎◌, inl, inr, Bool, true, false}
+use Rattle.std.proofs.Common.{cond, List, [], ◌∷◌, ◌++◌, Some, length, refl, ap, ◌∙◌, sym, subst}
+use Rattle.std.proofs.Common.{arith}
 use Rattle.std.specs.Prelude.{◌==◌}
 use Rattle.std.specs.List.{AllByRecursion}
 use Rattle.vyrd_base.specs.declared.header.Header.{Header}
@@ -27,20 +29,36 @@ use Rattle.vyrd_every.specs.Trees.Others.{Grows}
 use Rattle.vyrd_every.specs.Trees.Locals.{TreeLocals}
 use Rattle.vyrd_every.specs.Trees.Others.{TreeRely, TreeLeaves}
 use Rattle.vyrd_every.specs.Trees.RightScripts.{TreeRight}
-use Rattle.vyrd_every.proofs.Trees.Parts.{OwnsUnseen, unseen_stays, tree_rely_more, Changeless, changeless}
+use Rattle.vyrd_every.proofs.Trees.Parts.{OwnsUnseen, unseen_stays, tree_rely_more, Changeless}
+use Rattle.vyrd_every.proofs.Trees.Parts.{changeless}
 use Rattle.vyrd_every.proofs.Trees.Walks.{AtNode}
-use Rattle.vyrd_every.proofs.Trees.Kept.{StaysShaped, stays_shaped, linked_low, other_word, rewritten_grows, rewritten_linked, rewritten_hangs}
+use Rattle.vyrd_every.proofs.Trees.Kept.{StaysShaped, stays_shaped, linked_low, other_word}
+use Rattle.vyrd_every.proofs.Trees.Kept.{rewritten_grows, rewritten_linked, rewritten_hangs}
 
 -- the locals with these writes in an open block
 abbrev pub with_pending : TreeLocals → List (ℕ × ℕ) → TreeLocals
-with_pending k ws = record { fresh = k.fresh; hanging = k.hanging; pending = ws; out = false; called = k.called; answered = k.answered }
+with_pending k ws = record {
+  fresh = k.fresh;
+  hanging = k.hanging;
+  pending = ws;
+  out = false;
+  called = k.called;
+  answered = k.answered;
+}
 
-pub unseen_with : (h : Header) (k : TreeLocals) (ws : List (ℕ × ℕ)) (g : Shape) (m : Memory) → OwnsUnseen h k g m → OwnsUnseen h (with_pending k ws) g m
-unseen_with h k ws g m unseen = record { fresh = unseen.fresh; hanging = unseen.hanging; quiet = refl }
+pub unseen_with : (h : Header) (k : TreeLocals) (ws : List (ℕ × ℕ)) (g : Shape) (m : Memory)
+    → OwnsUnseen h k g m → OwnsUnseen h (with_pending k ws) g m
+unseen_with h k ws g m unseen = record {
+  fresh = unseen.fresh;
+  hanging = unseen.hanging;
+  quiet = refl;
+}
 
 -- what is relied upon doesn't depend on the writes, nor on whether a block is open
-pub rely_with : (h : Header) (locks : List ℕ) (method : Method) (committed a b : Bool) (k : TreeLocals) (ws : List (ℕ × ℕ)) (g g' : Shape) (m m' : Memory)
-    → TreeRely h (holding locks method committed a) (with_pending k ws) g m g' m' → TreeRely h (holding locks method committed b) k g m g' m'
+pub rely_with : (h : Header) (locks : List ℕ) (method : Method) (committed a b : Bool)
+    (k : TreeLocals) (ws : List (ℕ × ℕ)) (g g' : Shape) (m m' : Memory)
+    → TreeRely h (holding locks method committed a) (with_pending k ws) g m g' m'
+    → TreeRely h (holding locks method committed b) k g m g' m'
 rely_with h locks method committed a b k ws g g' m m' r = record {
   grows = r.grows;
   held = r.held;
@@ -53,13 +71,16 @@ rely_with h locks method committed a b k ws g g' m m' r = record {
   calm = λ held out. r.calm held refl;
 }
 
-pub tree_open : (h : Header) (locks : List ℕ) (method : Method) (committed : Bool) (k : TreeLocals) (g : Shape) (m : Memory) (later : Script) → IsLinked h.size g m
+pub tree_open : (h : Header) (locks : List ℕ) (method : Method) (committed : Bool) (k : TreeLocals)
+    (g : Shape) (m : Memory) (later : Script) → IsLinked h.size g m
     → OwnsUnseen h k g m
-    → ((g' : Shape) → (m' : Memory) → TreeRely h (holding locks method committed true) (with_pending k []) g m g' m'
+    → ((g' : Shape) → (m' : Memory) → TreeRely h (holding locks method committed true)
+    (with_pending k []) g m g' m'
     → TreeRight h (holding locks method committed true) (with_pending k []) g' m' later)
     → TreeRight h (holding locks method committed false) k g m (perform (Mark BlockOpen) later)
 tree_open h locks method committed k g m later tree unseen rest =
-    let c : Changeless h (holding locks method committed false) k g m = changeless h (holding locks method committed false) k g m unseen in (
+    let c : Changeless h (holding locks method committed false) k g m = changeless h
+    (holding locks method committed false) k g m unseen in (
       with_pending k [],
       g,
       record {
@@ -84,54 +105,74 @@ tree_open h locks method committed k g m later tree unseen rest =
       rest,
     )
 
--- In an open block of the caller, with the lock of node n held since memory m: what comes next does right, with these writes so
+-- In an open block of the caller, with the lock of node n held since memory m: what comes next does
+-- right, with these writes so
 -- far.
-abbrev pub InBlock : Header → Method → Bool → TreeLocals → Shape → Memory → ℕ → List (ℕ × ℕ) → Script → Type 0
-InBlock h method committed k g m n ws script = (g' : Shape) (m' : Memory) → TreeRely h (holding (lock_of h n ∷ []) method committed false) k g m g' m'
-    → TreeRight h (holding (lock_of h n ∷ []) method committed true) (with_pending k ws) g' m' script
+abbrev pub InBlock : Header → Method → Bool → TreeLocals → Shape → Memory → ℕ → List (ℕ × ℕ)
+    → Script → Type 0
+InBlock h method committed k g m n ws script = (g' : Shape) (m' : Memory)
+    → TreeRely h (holding (lock_of h n ∷ []) method committed false) k g m g' m'
+    → TreeRight h (holding (lock_of h n ∷ []) method committed true) (with_pending k ws) g' m'
+    script
 
 -- a word of the node, other than its level, is stored in the block
-pub store_in_node : (h : Header) (method : Method) (committed : Bool) (k : TreeLocals) (g : Shape) (m : Memory) (n place value : ℕ) (ws : List (ℕ × ℕ))
-    (later : Script) → IsLinked h.size g m → AtNode h (holding (lock_of h n ∷ []) method committed false) k g m n → level_at m n ≤ g.top
+pub store_in_node : (h : Header) (method : Method) (committed : Bool) (k : TreeLocals) (g : Shape)
+    (m : Memory) (n place value : ℕ) (ws : List (ℕ × ℕ))
+    (later : Script) → IsLinked h.size g m
+    → AtNode h (holding (lock_of h n ∷ []) method committed false) k g m n → level_at m n ≤ g.top
     → place < 12 → place ≢ 0
     → InBlock h method committed k g m n ((12 * n + place, value) ∷ ws) later
     → InBlock h method committed k g m n ws (perform (Store (12 * n + place) value) later)
-store_in_node h method committed k g m n place value ws later tree at high low some rest g' m' rely = (
-  with_pending k ((12 * n + place, value) ∷ ws),
-  g',
-  record {
-    reaches = inl (
-      refl,
-      refl,
-      inl (record {
-        node = n;
-        place = place;
-        is = refl;
-        low = low;
-        may = inr (linked', at.held, some, (let level = rely.grows.level n at.linked in let top = rely.grows.top in omega (arith, high)));
-      }),
-    );
-    grows = subst (λ x. Grows g' m' g' x) (sym same) c.grows;
-    leaves = subst (λ x. TreeLeaves h inside (with_pending k ws) g' m' g' x) (sym same) c.leaves;
-    tree = subst (IsLinked h.size g') (sym same) rely.tree;
-    top = λ quiet is quiet'. subst (λ x. g'.top ≡ level_at x (root_in h.size x)) (sym same) is;
-    closed = λ out quiet. cc;
-    alone = λ out. cc;
-    ahead = λ quiet out. cc;
-    wrote = λ quiet out. cc;
-    within = λ inside goes same. (refl, refl);
-    taken = λ x mine. let t = c.taken x mine in (t.0, subst (λ y. x ≤ last_in h.size y) (sym same) t.1, t.2);
-    hung = λ x mine. let t = c.hung x mine in (t.0, subst (λ y. Hangs g' y x) (sym same) t.1, t.2);
-    leads = λ state shows. subst (λ x. ShowsState g' x state) (sym same) shows;
-    pending = refl;
-    out = sym not_root;
-    called = refl;
-    answers = refl;
-  },
-  λ g'' m'' rely'. rest g'' m'' (tree_rely_more h s k g g' g'' m m' m'' rely
-      (rely_with h (lock_of h n ∷ []) method committed true false k ((12 * n + place, value) ∷ ws) g' g'' m' m''
-      (subst (λ x. TreeRely h inside (with_pending k ((12 * n + place, value) ∷ ws)) g' x g'' m'') same rely'))),
-)
+store_in_node h method committed k g m n place value ws later tree at high low some rest g' m'
+    rely = (
+      with_pending k ((12 * n + place, value) ∷ ws),
+      g',
+      record {
+        reaches = inl (
+          refl,
+          refl,
+          inl (record {
+            node = n;
+            place = place;
+            is = refl;
+            low = low;
+            may = inr (
+              linked',
+              at.held,
+              some,
+              (let level = rely.grows.level n at.linked in let top =
+                  rely.grows.top in omega (arith, high)),
+            );
+          }),
+        );
+        grows = subst (λ x. Grows g' m' g' x) (sym same) c.grows;
+        leaves = subst (λ x. TreeLeaves h inside (with_pending k ws) g' m' g' x)
+            (sym same) c.leaves;
+        tree = subst (IsLinked h.size g') (sym same) rely.tree;
+        top = λ quiet is quiet'. subst (λ x. g'.top ≡ level_at x (root_in h.size x)) (sym same) is;
+        closed = λ out quiet. cc;
+        alone = λ out. cc;
+        ahead = λ quiet out. cc;
+        wrote = λ quiet out. cc;
+        within = λ inside goes same. (refl, refl);
+        taken = λ x mine. let t = c.taken x mine in
+            (t.0, subst (λ y. x ≤ last_in h.size y) (sym same) t.1, t.2);
+        hung = λ x mine. let t = c.hung x mine in
+            (t.0, subst (λ y. Hangs g' y x) (sym same) t.1, t.2);
+        leads = λ state shows. subst (λ x. ShowsState g' x state) (sym same) shows;
+        pending = refl;
+        out = sym not_root;
+        called = refl;
+        answers = refl;
+      },
+      λ g'' m'' rely'. rest g'' m'' (tree_rely_more h s k g g' g'' m m' m'' rely
+          (rely_with h (lock_of h n ∷ []) method committed true false k
+          ((12 * n + place, value) ∷ ws)
+          g' g'' m' m''
+          (subst (λ x. TreeRely h inside (with_pending k ((12 * n + place, value) ∷ ws)) g' x g''
+          m'')
+          same rely'))),
+    )
   where
     s : Situation
     s = holding (lock_of h n ∷ []) method committed false
@@ -143,10 +184,12 @@ store_in_node h method committed k g m n place value ws later tree at high low s
     linked' = rely.grows.linked n at.linked
 
     c : Changeless h inside (with_pending k ws) g' m'
-    c = changeless h inside (with_pending k ws) g' m' (unseen_with h k ws g' m' (unseen_stays h s k g m g' m' at.unseen rely))
+    c = changeless h inside (with_pending k ws) g' m'
+        (unseen_with h k ws g' m' (unseen_stays h s k g m g' m' at.unseen rely))
 
     not_root : (12 * n + place == root_cell h) ≡ false
-    not_root = isnt_same (12 * n + place) (root_cell h) (λ e. (let lt = linked_low h.size g m tree n at.linked in omega (arith, low, e)))
+    not_root = isnt_same (12 * n + place) (root_cell h)
+        (λ e. (let lt = linked_low h.size g m tree n at.linked in omega (arith, low, e)))
 
     same : cond (12 * n + place == root_cell h) (written ((12 * n + place, value) ∷ ws) m') m' ≡ m'
     same = ap (λ b. cond b (written ((12 * n + place, value) ∷ ws) m') m') not_root
@@ -154,28 +197,36 @@ store_in_node h method committed k g m n place value ws later tree at high low s
 -- the writes of entries from a place on, the newest first
 abbrev pub entry_writes : ℕ → ℕ → Entries → List (ℕ × ℕ) → List (ℕ × ℕ)
 entry_writes n place [] ws = ws
-entry_writes n place ((key, value) ∷ xs) ws = entry_writes n (place + 1) xs ((12 * n + (8 + place), value) ∷ (12 * n + (4 + place), key) ∷ ws)
+entry_writes n place ((key, value) ∷ xs) ws = entry_writes n (place + 1) xs
+    ((12 * n + (8 + place), value) ∷ (12 * n + (4 + place), key) ∷ ws)
 
-pub store_entries : (h : Header) (method : Method) (committed : Bool) (k : TreeLocals) (g : Shape) (m : Memory) (n place : ℕ) (xs : Entries) (ws : List (ℕ × ℕ))
-    (later : Script) → IsLinked h.size g m → AtNode h (holding (lock_of h n ∷ []) method committed false) k g m n → level_at m n ≤ g.top
+pub store_entries : (h : Header) (method : Method) (committed : Bool) (k : TreeLocals) (g : Shape)
+    (m : Memory) (n place : ℕ) (xs : Entries) (ws : List (ℕ × ℕ))
+    (later : Script) → IsLinked h.size g m
+    → AtNode h (holding (lock_of h n ∷ []) method committed false) k g m n → level_at m n ≤ g.top
     → place + length xs ≤ 4
     → InBlock h method committed k g m n (entry_writes n place xs ws) later
     → InBlock h method committed k g m n ws (write_entries n place xs later)
 store_entries h method committed k g m n place [] ws later tree at high fits rest = rest
 store_entries h method committed k g m n place ((key, value) ∷ xs) ws later tree at high fits rest =
     store_in_node h method committed k g m n (4 + place) key ws
-    (perform (Store (12 * n + (8 + place)) value) (write_entries n (place + 1) xs later)) tree at high (omega (arith, fits)) (λ e. omega (arith, e))
-    (store_in_node h method committed k g m n (8 + place) value ((12 * n + (4 + place), key) ∷ ws) (write_entries n (place + 1) xs later) tree at high
+    (perform (Store (12 * n + (8 + place)) value) (write_entries n (place + 1) xs later)) tree at
+    high (omega (arith, fits)) (λ e. omega (arith, e))
+    (store_in_node h method committed k g m n (8 + place) value ((12 * n + (4 + place), key) ∷ ws)
+    (write_entries n (place + 1) xs later) tree at high
     (omega (arith, fits)) (λ e. omega (arith, e))
-    (store_entries h method committed k g m n (place + 1) xs ((12 * n + (8 + place), value) ∷ (12 * n + (4 + place), key) ∷ ws) later tree at high
+    (store_entries h method committed k g m n (place + 1) xs
+    ((12 * n + (8 + place), value) ∷ (12 * n + (4 + place), key) ∷ ws) later tree at high
     (omega (arith, fits)) rest))
 
 -- what these writes leave in memory
-pub entries_stand : (m : Memory) (n place : ℕ) (xs : Entries) (ws : List (ℕ × ℕ)) → place + length xs ≤ 4
+pub entries_stand : (m : Memory) (n place : ℕ) (xs : Entries) (ws : List (ℕ × ℕ))
+    → place + length xs ≤ 4
     → Written (written ws m) (written (entry_writes n place xs ws) m) n place xs
 entries_stand m n place [] ws fits = record { stand = refl; others = λ cell off. refl }
 entries_stand m n place ((key, value) ∷ xs) ws fits =
-    joined (entries_stand m n (place + 1) xs ((12 * n + (8 + place), value) ∷ (12 * n + (4 + place), key) ∷ ws) (omega (arith, fits)))
+    joined (entries_stand m n (place + 1) xs
+    ((12 * n + (8 + place), value) ∷ (12 * n + (4 + place), key) ∷ ws) (omega (arith, fits)))
   where
     m₀ : Memory
     m₀ = written ws m
@@ -187,21 +238,31 @@ entries_stand m n place ((key, value) ∷ xs) ws fits =
     m₂ = with_cell m₁ (12 * n + (8 + place)) value
 
     end : Memory
-    end = written (entry_writes n (place + 1) xs ((12 * n + (8 + place), value) ∷ (12 * n + (4 + place), key) ∷ ws)) m
+    end = written
+        (entry_writes n (place + 1) xs ((12 * n + (8 + place), value) ∷ (12 * n + (4 + place), key)
+        ∷ ws)) m
 
-    cons_same : (a b a' b' : ℕ) (xs ys : Entries) → a' ≡ a → b' ≡ b → xs ≡ ys → (a', b') ∷ xs ≡ (a, b) ∷ ys
-    cons_same a b a' b' xs ys e f g = ap (λ x. (x, b') ∷ xs) e ∙ ap (λ y. (a, y) ∷ xs) f ∙ ap (λ zs. (a, b) ∷ zs) g
+    cons_same : (a b a' b' : ℕ) (xs ys : Entries) → a' ≡ a → b' ≡ b → xs ≡ ys → (a', b') ∷ xs
+        ≡ (a, b) ∷ ys
+    cons_same a b a' b' xs ys e f g = ap (λ x. (x, b') ∷ xs) e ∙ ap (λ y. (a, y) ∷ xs) f
+        ∙ ap (λ zs. (a, b) ∷ zs) g
 
     joined : Written m₂ end n (place + 1) xs → Written m₀ end n place ((key, value) ∷ xs)
     joined w = record {
-      stand = cons_same key value (key_at end n place) (value_at end n place) (entries_from end n (place + 1) (length xs)) xs
-          (w.others (12 * n + (4 + place)) (λ j from to. (omega (arith, from, to), omega (arith, from, to, fits)))
-          ∙ other_cell m₁ (12 * n + (8 + place)) value (12 * n + (4 + place)) (omega arith) ∙ changed_cell m₀ (12 * n + (4 + place)) key)
-          (w.others (12 * n + (8 + place)) (λ j from to. (omega (arith, from, to, fits), omega (arith, from, to)))
+      stand = cons_same key value (key_at end n place) (value_at end n place)
+          (entries_from end n (place + 1) (length xs)) xs
+          (w.others (12 * n + (4 + place))
+          (λ j from to. (omega (arith, from, to), omega (arith, from, to, fits)))
+          ∙ other_cell m₁ (12 * n + (8 + place)) value (12 * n + (4 + place)) (omega arith)
+          ∙ changed_cell m₀ (12 * n + (4 + place)) key)
+          (w.others (12 * n + (8 + place))
+          (λ j from to. (omega (arith, from, to, fits), omega (arith, from, to)))
           ∙ changed_cell m₁ (12 * n + (8 + place)) value)
           w.stand;
-      others = λ cell off. w.others cell (λ j from to. off j (omega (arith, from)) (omega (arith, to)))
-          ∙ other_cell m₁ (12 * n + (8 + place)) value cell (off place (omega arith) (omega arith)).1
+      others = λ cell off. w.others cell
+          (λ j from to. off j (omega (arith, from)) (omega (arith, to)))
+          ∙ other_cell m₁ (12 * n + (8 + place)) value cell
+          (off place (omega arith) (omega arith)).1
           ∙ other_cell m₀ (12 * n + (4 + place)) key cell (off place (omega arith) (omega arith)).0;
     }
 
@@ -209,15 +270,20 @@ entries_stand m n place ((key, value) ∷ xs) ws fits =
 abbrev pub node_writes : ℕ → Entries → Entries → List (ℕ × ℕ)
 node_writes n front xs = (12 * n + 1, length (front ++ xs)) ∷ entry_writes n (length front) xs []
 
-pub node_rewritten : (size : ℕ) (m : Memory) (n many : ℕ) (front back xs : Entries) → n < size → entries_from m n 0 many ≡ front ++ back
+pub node_rewritten : (size : ℕ) (m : Memory) (n many : ℕ) (front back xs : Entries) → n < size
+    → entries_from m n 0 many ≡ front ++ back
     → length (front ++ xs) ≤ 4
     → Rewritten size m (written (node_writes n front xs) m) n (front ++ xs)
 node_rewritten size m n many front back xs fits before few = record {
-  others = λ cell small off. other_cell m' (12 * n + 1) (length (front ++ xs)) cell (not_count cell off)
+  others = λ cell small off. other_cell m' (12 * n + 1) (length (front ++ xs)) cell
+      (not_count cell off)
       ∙ w.others cell (λ j from to. not_entry cell off j (omega (arith, to, few, parts)));
-  bound_is = other_cell m' (12 * n + 1) (length (front ++ xs)) (12 * n + 2) (omega arith) ∙ w.others (12 * n + 2) (λ j from to. (omega arith, omega arith));
-  right_is = other_cell m' (12 * n + 1) (length (front ++ xs)) (12 * n + 3) (omega arith) ∙ w.others (12 * n + 3) (λ j from to. (omega arith, omega arith));
-  few = (let count = changed_cell m' (12 * n + 1) (length (front ++ xs)) in omega (arith, count, few));
+  bound_is = other_cell m' (12 * n + 1) (length (front ++ xs)) (12 * n + 2) (omega arith)
+      ∙ w.others (12 * n + 2) (λ j from to. (omega arith, omega arith));
+  right_is = other_cell m' (12 * n + 1) (length (front ++ xs)) (12 * n + 3) (omega arith)
+      ∙ w.others (12 * n + 3) (λ j from to. (omega arith, omega arith));
+  few = (let count = changed_cell m' (12 * n + 1) (length (front ++ xs)) in
+      omega (arith, count, few));
   entries = ap (entries_from end n 0) (changed_cell m' (12 * n + 1) (length (front ++ xs)) ∙ parts)
       ∙ entries_alike m' end n 0 (length front + length xs) (λ j from to. (
         other_cell m' (12 * n + 1) (length (front ++ xs)) (12 * n + (4 + j)) (omega arith),
@@ -242,48 +308,66 @@ node_rewritten size m n many front back xs fits before few = record {
     not_count cell (inl lt) = omega (arith, lt)
     not_count cell (inr le) = omega (arith, le)
 
-    not_entry : (cell : ℕ) → (cell < 12 * n + 1) ⊎ (12 * n + 12 ≤ cell) → (j : ℕ) → j < 4 → (cell ≢ 12 * n + (4 + j)) × (cell ≢ 12 * n + (8 + j))
+    not_entry : (cell : ℕ) → (cell < 12 * n + 1) ⊎ (12 * n + 12 ≤ cell) → (j : ℕ) → j < 4
+        → (cell ≢ 12 * n + (4 + j)) × (cell ≢ 12 * n + (8 + j))
     not_entry cell (inl lt) j low = (omega (arith, lt), omega (arith, lt))
     not_entry cell (inr le) j low = (omega (arith, le, low), omega (arith, le, low))
 
 -- the node's words are as they were when its lock was taken
-pub entries_kept : (h : Header) (s : Situation) (k : TreeLocals) (g : Shape) (m : Memory) (n : ℕ) (g' : Shape) (m' : Memory) → IsLinked h.size g m
+pub entries_kept : (h : Header) (s : Situation) (k : TreeLocals) (g : Shape) (m : Memory) (n : ℕ)
+    (g' : Shape) (m' : Memory) → IsLinked h.size g m
     → AtNode h s k g m n → TreeRely h s k g m g' m' → entries_at m' n ≡ entries_at m n
 entries_kept h s k g m n g' m' tree at rely =
-    ap (entries_from m' n 0) (rely.held n 1 at.linked at.held (omega arith)) ∙ entries_alike m m' n 0 (count_at m n)
-    (λ j from to. (let few = tree.few n at.linked in
-    (rely.held n (4 + j) at.linked at.held (omega arith), rely.held n (8 + j) at.linked at.held (omega arith))))
+    ap (entries_from m' n 0) (rely.held n 1 at.linked at.held (omega arith))
+    ∙ entries_alike m m' n 0 (count_at m n)
+    (λ j from to. (let few = tree.few n at.linked in (
+      rely.held n (4 + j) at.linked at.held (omega arith),
+      rely.held n (8 + j) at.linked at.held
+          (omega arith),
+    )))
 
--- What a block does that gives a node other entries, which lead to no node that hangs for another caller.
-pub record Rewrites (h : Header) (s : Situation) (k : TreeLocals) (g : Shape) (m m' : Memory) : Type 0 where
+-- What a block does that gives a node other entries, which lead to no node that hangs for another
+-- caller.
+pub record Rewrites (h : Header) (s : Situation) (k : TreeLocals) (g : Shape) (m m' : Memory) : Type
+    0 where
   pub grows : Grows g m g m'
   pub leaves : TreeLeaves h s k g m g m'
   pub tree : IsLinked h.size g m'
   pub top : g.top ≡ level_at m (root_in h.size m) → g.top ≡ level_at m' (root_in h.size m')
-  pub taken : (x : ℕ) → k.fresh ≡ Some x → (g.linked x ≡ false) × (x ≤ last_in h.size m') × ((k.fresh ≡ Some x) ⊎ (last_in h.size m < x))
+  pub taken : (x : ℕ) → k.fresh ≡ Some x → (g.linked x ≡ false) × (x ≤ last_in h.size m')
+      × ((k.fresh ≡ Some x) ⊎ (last_in h.size m < x))
 
-pub rewrites : (h : Header) (s : Situation) (k : TreeLocals) (g : Shape) (m m' : Memory) (n : ℕ) (xs : Entries) → IsLinked h.size g m → OwnsUnseen h k g m
-    → g.linked n ≡ true → holds s (lock_of h n) ≡ true → Rewritten h.size m m' n xs → HasEntries g m (level_at m n) (g.low n) (bound_at m n) xs
-    → ((x : ℕ) → g.linked x ≡ true → k.hanging ≢ Some x → Hangs g m x → level_at m n ≢ 0 → AllByRecursion (λ entry. entry.1 ≢ x) xs)
+pub rewrites : (h : Header) (s : Situation) (k : TreeLocals) (g : Shape) (m m' : Memory) (n : ℕ)
+    (xs : Entries) → IsLinked h.size g m → OwnsUnseen h k g m
+    → g.linked n ≡ true → holds s (lock_of h n) ≡ true → Rewritten h.size m m' n xs
+    → HasEntries g m (level_at m n) (g.low n) (bound_at m n) xs
+    → ((x : ℕ) → g.linked x ≡ true → k.hanging ≢ Some x → Hangs g m x → level_at m n ≢ 0
+    → AllByRecursion (λ entry. entry.1 ≢ x) xs)
     → Rewrites h s k g m m'
 rewrites h s k g m m' n xs tree unseen linked held r es off = record {
   grows = rewritten_grows h.size g m m' n xs tree linked r;
   leaves = record {
-    others = λ a place of_a free low. other_word h.size m m' n xs r a place (linked_low h.size g m tree a of_a) low (apart a free (apart_or a n));
+    others = λ a place of_a free low. other_word h.size m m' n xs r a place
+        (linked_low h.size g m tree a of_a) low (apart a free (apart_or a n));
     unlinked = λ x un other. un;
     used = (let same = shape.last_is in omega arith);
-    hanging = λ x of_x other hangs. rewritten_hangs h.size g m m' n xs x tree linked r hangs (off x of_x other hangs);
+    hanging = λ x of_x other hangs. rewritten_hangs h.size g m m' n xs x tree linked r hangs
+        (off x of_x other hangs);
     root = λ free. (shape.root_is, refl);
     count = λ free. shape.last_is;
   };
   tree = rewritten_linked h.size g m m' n xs tree linked r es;
-  top = λ is. is ∙ sym (ap (level_at m') shape.root_is ∙ shape.level_is (root_in h.size m) (linked_low h.size g m tree (root_in h.size m) tree.root_linked));
-  taken = λ x mine. let t = unseen.fresh x mine in (t.0, (let le = t.1 in let same = shape.last_is in omega arith), inl mine);
+  top = λ is. is
+      ∙ sym (ap (level_at m') shape.root_is ∙ shape.level_is (root_in h.size m)
+      (linked_low h.size g m tree (root_in h.size m) tree.root_linked));
+  taken = λ x mine. let t = unseen.fresh x mine in
+      (t.0, (let le = t.1 in let same = shape.last_is in omega arith), inl mine);
 }
   where
     shape : StaysShaped h.size m m'
     shape = stays_shaped h.size m m' n xs (linked_low h.size g m tree n linked) r
 
-    apart : (a : ℕ) → holds s (lock_of h a) ≡ false → (a ≡ n) ⊎ ((a < n) ⊎ (n < a)) → (a < n) ⊎ (n < a)
+    apart : (a : ℕ) → holds s (lock_of h a) ≡ false → (a ≡ n) ⊎ ((a < n) ⊎ (n < a)) → (a < n)
+        ⊎ (n < a)
     apart a free (inl at) = absurd (never free (ap (λ x. holds s (lock_of h x)) at ∙ held))
     apart a free (inr off) = off

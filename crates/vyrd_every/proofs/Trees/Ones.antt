@@ -1,12 +1,15 @@
--- What holds of one caller of the tree between any two events, and how one more event keeps it: its own, or another caller's.
-use Rattle.std.proofs.Common.{◌≡◌, ◌≢◌, ℕ, ◌<◌, ◌≤◌, ◌⊎◌, inl, inr, Bool, true, false, cond, not, List, ◌∷◌, Some, None, refl, ap, ◌∙◌, sym, subst, arith}
+-- What holds of one caller of the tree between any two events, and how one more event keeps it: its
+-- own, or another caller's.
+use Rattle.std.proofs.Common.{◌≡◌, ◌≢◌, ℕ, ◌<◌, ◌≤◌, ◌⊎◌, inl, inr, Bool, true, false, cond, not}
+use Rattle.std.proofs.Common.{List, ◌∷◌, Some, None, refl, ap, ◌∙◌, sym, subst, arith}
 use Rattle.std.specs.Prelude.{◌==◌, ◌&&◌, ◌||◌, is_some, is_none, unwrap_or}
 use Rattle.std.specs.Option.{option_or}
 use Rattle.std.specs.List.{cons_option}
 use Rattle.std.proofs.lemmas.Bool.{not-true, or_right}
 use Rattle.std.proofs.Math.Bool.{or-true}
 use Rattle.vyrd_base.specs.declared.header.Header.{Header}
-use Rattle.vyrd_base.specs.declared.log.Kind.TheVariants.{Call, Return, Write, Commit, BlockOpen, BlockClose, BlockCommit}
+use Rattle.vyrd_base.specs.declared.log.Kind.TheVariants.{Call, Return, Write, Commit, BlockOpen}
+use Rattle.vyrd_base.specs.declared.log.Kind.TheVariants.{BlockClose, BlockCommit}
 use Rattle.vyrd_base.specs.declared.log.Entry.{Entry}
 use Rattle.vyrd_base.specs.declared.history.Did.{Did}
 use Rattle.vyrd_base.specs.declared.history.Did.TheVariants.{Read, Wrote, Took, Gave, Marked}
@@ -20,8 +23,10 @@ use Rattle.vyrd_base.proofs.TestLaws.{second_true, same_of, same_number, both_of
 use Rattle.vyrd_memory.specs.declared.act.Act.{Act}
 use Rattle.vyrd_memory.specs.declared.act.Act.TheVariants.{Load, Store, Take, Give, Mark, Done}
 use Rattle.vyrd_memory.specs.Alone.{Memory, with_cell}
-use Rattle.vyrd_memory.specs.Scripts.{Script, stop, step, next_act, after_answer, event_of, answer_of, left_after}
-use Rattle.vyrd_memory.specs.Soundness.{Situation, holds, holds_none, observes, is_at_rest, may_act, after_act}
+use Rattle.vyrd_memory.specs.Scripts.{Script, stop, step, next_act, after_answer, event_of}
+use Rattle.vyrd_memory.specs.Scripts.{answer_of, left_after}
+use Rattle.vyrd_memory.specs.Soundness.{Situation, holds, holds_none, observes, is_at_rest, may_act}
+use Rattle.vyrd_memory.specs.Soundness.{after_act}
 use Rattle.vyrd_memory.proofs.Situations.{act_of_event, situation_after, event_act}
 use Rattle.vyrd_memory.proofs.Agreements.{Agrees, four_true}
 use Rattle.vyrd_tree.specs.Cells.{root_cell, lock_of, root_lock}
@@ -34,14 +39,17 @@ use Rattle.vyrd_every.specs.Trees.Others.{TreeRely}
 use Rattle.vyrd_every.specs.Trees.RightScripts.{TreeReaches, TreeDoes, TreeRight}
 use Rattle.vyrd_every.specs.Trees.Between.{MayHold, OfTreeCaller}
 use Rattle.vyrd_every.proofs.Acts.{never}
-use Rattle.vyrd_every.proofs.Logs.{pending_step, pending_other, called_step, called_other, word_other}
+use Rattle.vyrd_every.proofs.Logs.{pending_step, pending_other, called_step, called_other}
+use Rattle.vyrd_every.proofs.Logs.{word_other}
 use Rattle.vyrd_every.proofs.Trees.Parts.{grows_same, tree_rely_more}
 use Rattle.vyrd_every.proofs.Trees.Others.{still_owns, owns_after}
 use Rattle.vyrd_every.proofs.Trees.Written.{given_by, all_given, when_out}
 
 -- nothing was done by others
-pub rely_none : (h : Header) (s : Situation) (k : TreeLocals) (g : Shape) (m : Memory) → IsLinked h.size g m
-    → (holds s (root_lock h) ≡ true → k.out ≡ false → g.top ≡ level_at m (root_in h.size m)) → TreeRely h s k g m g m
+pub rely_none : (h : Header) (s : Situation) (k : TreeLocals) (g : Shape) (m : Memory)
+    → IsLinked h.size g m
+    → (holds s (root_lock h) ≡ true → k.out ≡ false → g.top ≡ level_at m (root_in h.size m))
+    → TreeRely h s k g m g m
 rely_none h s k g m tree calm = record {
   grows = grows_same g m;
   held = λ n place linked held low. refl;
@@ -55,14 +63,18 @@ rely_none h s k g m tree calm = record {
 }
 
 -- what an event of a script that does right does
-pub record TreeStepped (h : Header) (s : Situation) (k : TreeLocals) (g : Shape) (m : Memory) (did : Did) (script : Script) : Type 0 where
+pub record TreeStepped (h : Header) (s : Situation) (k : TreeLocals) (g : Shape) (m : Memory)
+    (did : Did) (script : Script) : Type 0 where
   pub next : TreeLocals
   pub grown : Shape
   pub does : TreeDoes h s k g m (act_of_event did) (after_answer script 0) next grown
-  pub later : (g' : Shape) (now : Memory) → TreeRely h (after_act s (act_of_event did)) next grown (seen_after h s k m (act_of_event did)) g' now
-      → TreeRight h (after_act s (act_of_event did)) next g' now (after_answer script (answer_at m (act_of_event did)))
+  pub later : (g' : Shape) (now : Memory) → TreeRely h (after_act s (act_of_event did)) next grown
+      (seen_after h s k m (act_of_event did)) g' now
+      → TreeRight h (after_act s (act_of_event did)) next g' now
+      (after_answer script (answer_at m (act_of_event did)))
 
-pub tree_stepped : (h : Header) (s : Situation) (k : TreeLocals) (g : Shape) (m : Memory) (did : Did) (script : Script) → TreeRight h s k g m script
+pub tree_stepped : (h : Header) (s : Situation) (k : TreeLocals) (g : Shape) (m : Memory)
+    (did : Did) (script : Script) → TreeRight h s k g m script
     → event_of (next_act script) (answer_of did) ≡ Some did → TreeStepped h s k g m did script
 tree_stepped h s k g m did stop right e = cc
 tree_stepped h s k g m did (step act rest) right e =
@@ -71,14 +83,17 @@ tree_stepped h s k g m did (step act rest) right e =
   where
     Of : Act → Type 0
     Of a = (next : TreeLocals) × (grown : Shape) × TreeDoes h s k g m a (rest 0) next grown
-        × ((g' : Shape) → (now : Memory) → TreeRely h (after_act s a) next grown (seen_after h s k m a) g' now
+        × ((g' : Shape) → (now : Memory) → TreeRely h (after_act s a) next grown
+        (seen_after h s k m a) g' now
         → TreeRight h (after_act s a) next g' now (rest (answer_at m a)))
 
 -- a word that was held may be held still, where neither the shape nor the memory changes
 holds_on : (h : Header) (s s' : Situation) (k next : TreeLocals) (g g' : Shape) (m : Memory) (w : ℕ)
-    → ((lock : ℕ) → holds s lock ≡ true → holds s' lock ≡ true) → g' ≡ g → next.fresh ≡ k.fresh → next.out ≡ k.out
+    → ((lock : ℕ) → holds s lock ≡ true → holds s' lock ≡ true) → g' ≡ g → next.fresh ≡ k.fresh
+    → next.out ≡ k.out
     → MayHold h s k g m w → MayHold h s' next g' m w
-holds_on h s s' k next g g' m w more same fresh out hold = subst (λ g. MayHold h s' next g m w) (sym same) (by_out hold)
+holds_on h s s' k next g g' m w more same fresh out hold = subst (λ g. MayHold h s' next g m w)
+    (sym same) (by_out hold)
   where
     by_out : MayHold h s k g m w → MayHold h s' next g m w
     by_out (inl quiet) = inl (
@@ -93,14 +108,19 @@ holds_on h s s' k next g g' m w more same fresh out hold = subst (λ g. MayHold 
     )
       where
         by_may : (node place : ℕ)
-            → (k.fresh ≡ Some node) ⊎ ((g.linked node ≡ true) × (holds s (lock_of h node) ≡ true) × (place ≢ 0) × (level_at m node ≤ g.top))
-            → (next.fresh ≡ Some node) ⊎ ((g.linked node ≡ true) × (holds s' (lock_of h node) ≡ true) × (place ≢ 0) × (level_at m node ≤ g.top))
+            → (k.fresh ≡ Some node) ⊎ ((g.linked node ≡ true) × (holds s (lock_of h node) ≡ true)
+            × (place ≢ 0) × (level_at m node ≤ g.top))
+            → (next.fresh ≡ Some node)
+            ⊎ ((g.linked node ≡ true) × (holds s' (lock_of h node) ≡ true) × (place ≢ 0)
+            × (level_at m node ≤ g.top))
         by_may node place (inl mine) = inl (fresh ∙ mine)
-        by_may node place (inr linked) = inr (linked.0, more (lock_of h node) linked.1, linked.2, linked.3)
+        by_may node place (inr linked) =
+            inr (linked.0, more (lock_of h node) linked.1, linked.2, linked.3)
     by_out (inr seen) = inr (out ∙ seen.0, seen.1)
 
 -- where a block's writes are seen and it goes on, its caller changes nothing
-pub still_out : (h : Header) (s : Situation) (k : TreeLocals) (g : Shape) (m : Memory) (act : Act) → k.out ≡ true → s.in_block ≡ true
+pub still_out : (h : Header) (s : Situation) (k : TreeLocals) (g : Shape) (m : Memory) (act : Act)
+    → k.out ≡ true → s.in_block ≡ true
     → TreeReaches h s k g m act → seen_after h s k m act ≡ m
 still_out h s k g m (Load cell) out inside reaches = refl
 still_out h s k g m (Take lock) out inside reaches = refl
@@ -113,26 +133,37 @@ still_out h s k g m (Mark (Return reply)) out inside reaches = refl
 still_out h s k g m (Mark (Write word value)) out inside reaches = refl
 still_out h s k g m (Mark Commit) out inside reaches = refl
 still_out h s k g m (Mark BlockOpen) out inside reaches = refl
-still_out h s k g m (Mark BlockClose) out inside reaches = ap (λ b. cond b m (written k.pending m)) out
-still_out h s k g m (Mark BlockCommit) out inside reaches = ap (λ b. cond b m (written k.pending m)) out
+still_out h s k g m (Mark BlockClose) out inside reaches = ap (λ b. cond b m (written k.pending m))
+    out
+still_out h s k g m (Mark BlockCommit) out inside reaches = ap (λ b. cond b m (written k.pending m))
+    out
 
 -- where its writes are seen after the act, the caller is in the block still, with the root's lock
-pub alone_after : (h : Header) (s : Situation) (k : TreeLocals) (g : Shape) (m : Memory) (act : Act) (rest : Script) (next : TreeLocals) (g' : Shape)
+pub alone_after : (h : Header) (s : Situation) (k : TreeLocals) (g : Shape) (m : Memory) (act : Act)
+    (rest : Script) (next : TreeLocals) (g' : Shape)
     → TreeDoes h s k g m act rest next g' → may_act h s act ≡ true → next.out ≡ true
     → (holds (after_act s act) (root_lock h) ≡ true) × ((after_act s act).in_block ≡ true)
 alone_after h s k g m (Load cell) rest next g' does may out = does.alone out
 alone_after h s k g m (Store cell value) rest next g' does may out = does.alone out
 alone_after h s k g m (Take lock) rest next g' does may out =
-    let both = does.alone out in (or_right (lock == root_lock h) (holds s (root_lock h)) both.0, both.1)
-alone_after h s k g m (Give lock) rest next g' does may out = absurd (never does.reaches (does.alone out).1)
+    let both = does.alone out in
+    (or_right (lock == root_lock h) (holds s (root_lock h)) both.0, both.1)
+alone_after h s k g m (Give lock) rest next g' does may out = absurd
+    (never does.reaches (does.alone out).1)
 alone_after h s k g m Done rest next g' does may out = absurd does.reaches
 alone_after h s k g m (Mark (Call method args)) rest next g' does may out =
-    absurd (never (at_rest_out (second_true (same_subject (subject_of method) h.subject && are_args h.size method args) (is_at_rest s) may)) (does.alone out).1)
+    absurd (never
+    (at_rest_out
+    (second_true (same_subject (subject_of method) h.subject && are_args h.size method args)
+    (is_at_rest s) may)) (does.alone out).1)
   where
     at_rest_out : is_at_rest s ≡ true → s.in_block ≡ false
-    at_rest_out e = not-true s.in_block (four_true (holds_none s) (is_none s.called) (not s.committed) (not s.in_block) e).3
+    at_rest_out e = not-true s.in_block
+        (four_true (holds_none s) (is_none s.called) (not s.committed) (not s.in_block) e).3
 alone_after h s k g m (Mark (Return reply)) rest next g' does may out =
-    absurd (never (not-true s.in_block (four_true (is_some s.called) (not s.in_block) (observes s || s.committed) (holds_none s) may).1) (does.alone out).1)
+    absurd (never
+    (not-true s.in_block (four_true (is_some s.called) (not s.in_block) (observes s || s.committed)
+    (holds_none s) may).1) (does.alone out).1)
 alone_after h s k g m (Mark (Write word value)) rest next g' does may out = absurd does.reaches
 alone_after h s k g m (Mark Commit) rest next g' does may out = does.alone out
 alone_after h s k g m (Mark BlockOpen) rest next g' does may out = absurd (never does.out out)
@@ -140,26 +171,33 @@ alone_after h s k g m (Mark BlockClose) rest next g' does may out = absurd (neve
 alone_after h s k g m (Mark BlockCommit) rest next g' does may out = absurd (never does.out out)
 
 -- and the root is above the one that the log shows
-pub ahead_after : (h : Header) (s : Situation) (k : TreeLocals) (g : Shape) (m : Memory) (act : Act) (rest : Script) (next : TreeLocals) (g' : Shape)
-    → TreeDoes h s k g m act rest next g' → may_act h s act ≡ true → (k.out ≡ true → g.top < level_at m (root_in h.size m)) → next.out ≡ true
+pub ahead_after : (h : Header) (s : Situation) (k : TreeLocals) (g : Shape) (m : Memory) (act : Act)
+    (rest : Script) (next : TreeLocals) (g' : Shape)
+    → TreeDoes h s k g m act rest next g' → may_act h s act ≡ true
+    → (k.out ≡ true → g.top < level_at m (root_in h.size m)) → next.out ≡ true
     → g'.top < level_at (seen_after h s k m act) (root_in h.size (seen_after h s k m act))
 ahead_after h s k g m act rest next g' does may ahead out = by_before k.out refl
   where
-    by_before : (b : Bool) → k.out ≡ b → g'.top < level_at (seen_after h s k m act) (root_in h.size (seen_after h s k m act))
+    by_before : (b : Bool) → k.out ≡ b → g'.top < level_at (seen_after h s k m act)
+        (root_in h.size (seen_after h s k m act))
     by_before false e = (does.ahead e out).1
     by_before true e =
         let inside = (does.alone out).1 in
-        let within = does.within inside (alone_after h s k g m act rest next g' does may out).1 (out ∙ sym e) in
-        subst (λ x. g'.top < level_at x (root_in h.size x)) (sym (still_out h s k g m act e inside does.reaches))
+        let within = does.within inside (alone_after h s k g m act rest next g' does may out).1
+        (out ∙ sym e) in
+        subst (λ x. g'.top < level_at x (root_in h.size x))
+        (sym (still_out h s k g m act e inside does.reaches))
         (subst (λ g. g.top < level_at m (root_in h.size m)) (sym within.0) (ahead e))
 
 -- the caller's own store in its block
-store_holds : (h : Header) (s : Situation) (k : TreeLocals) (g : Shape) (m : Memory) (cell value : ℕ) (rest : Script) (next : TreeLocals) (g' : Shape)
+store_holds : (h : Header) (s : Situation) (k : TreeLocals) (g : Shape) (m : Memory)
+    (cell value : ℕ) (rest : Script) (next : TreeLocals) (g' : Shape)
     → TreeDoes h s k g m (Store cell value) rest next g' → IsLinked h.size g m → s.in_block ≡ true
     → MayHold h s next g' (seen_after h s k m (Store cell value)) cell
 store_holds h s k g m cell value rest next g' does tree inside = by_out next.out refl
   where
-    by_out : (b : Bool) → next.out ≡ b → MayHold h s next g' (seen_after h s k m (Store cell value)) cell
+    by_out : (b : Bool) → next.out ≡ b → MayHold h s next g' (seen_after h s k m (Store cell value))
+        cell
     by_out true e = inr (e, inl (is_root (k.out) does.reaches e))
       where
         is_root : (b : Bool) → MayStore h s k g m cell → next.out ≡ true → cell ≡ root_cell h
@@ -171,12 +209,14 @@ store_holds h s k g m cell value rest next g' does tree inside = by_out next.out
             cell_in (Store cell value) = cell
             cell_in _ = 0
 
-            same_cell : (act : Act) (cell value : ℕ) → act ≡ Store cell value → {v : ℕ} → act ≡ Store (root_cell h) v → cell ≡ root_cell h
+            same_cell : (act : Act) (cell value : ℕ) → act ≡ Store cell value → {v : ℕ}
+                → act ≡ Store (root_cell h) v → cell ≡ root_cell h
             same_cell act cell value f g = sym (ap cell_in f) ∙ ap cell_in g
         is_root b (inr outside) out = absurd (never outside.0 inside)
     by_out false e = by_reach does.reaches
       where
-        by_reach : MayStore h s k g m cell → MayHold h s next g' (seen_after h s k m (Store cell value)) cell
+        by_reach : MayStore h s k g m cell
+            → MayHold h s next g' (seen_after h s k m (Store cell value)) cell
         by_reach (inr outside) = absurd (never outside.0 inside)
         by_reach (inl within) = by_word within.2
           where
@@ -185,31 +225,46 @@ store_holds h s k g m cell value rest next g' does tree inside = by_out next.out
 
             not_root : (r : Bool) → (cell == root_cell h) ≡ r → r ≡ false
             not_root false f = refl
-            not_root true f = absurd (never e (does.out ∙ ap (λ b. k.out || (b && cell == root_cell h)) inside ∙ ap (λ r. k.out || r) f ∙ or-true k.out))
+            not_root true f = absurd
+                (never e (does.out ∙ ap (λ b. k.out || (b && cell == root_cell h)) inside
+                ∙ ap (λ r. k.out || r) f ∙ or-true k.out))
 
             same : seen_after h s k m (Store cell value) ≡ m
             same =
-                ap (λ b. cond b (cond (cell == root_cell h) (written ((cell, value) ∷ k.pending) m) m) (with_cell m cell value)) inside
-                ∙ ap (λ r. cond r (written ((cell, value) ∷ k.pending) m) m) (not_root (cell == root_cell h) refl)
+                ap (λ b. cond b
+                (cond (cell == root_cell h) (written ((cell, value) ∷ k.pending) m) m)
+                (with_cell m cell value)) inside
+                ∙ ap (λ r. cond r (written ((cell, value) ∷ k.pending) m) m)
+                (not_root (cell == root_cell h) refl)
 
-            by_word : InNode h s k g m cell ⊎ ((cell ≡ root_cell h) × (holds s (root_lock h) ≡ true))
+            by_word : InNode h s k g m cell
+                ⊎ ((cell ≡ root_cell h) × (holds s (root_lock h) ≡ true))
                 → MayHold h s next g' (seen_after h s k m (Store cell value)) cell
             by_word (inl i) = subst (λ x. MayHold h s next g' x cell) (sym same)
-                (holds_on h s s k next g g' m cell (λ lock held. held) now.0 now.1 (e ∙ sym within.1) (inl (within.1, i)))
-            by_word (inr root) = absurd (never (not_root (cell == root_cell h) refl) (ap (λ x. x == root_cell h) root.0 ∙ same_number (root_cell h)))
+                (holds_on h s s k next g g' m cell (λ lock held. held) now.0 now.1
+                (e ∙ sym within.1) (inl (within.1, i)))
+            by_word (inr root) = absurd
+                (never (not_root (cell == root_cell h) refl) (ap (λ x. x == root_cell h) root.0
+                ∙ same_number (root_cell h)))
 
 -- a word that the caller's block has written before its own act
-earlier_holds : (h : Header) (c : ℕ) (s : Situation) (k : TreeLocals) (g : Shape) (m : Memory) (act : Act) (rest : Script) (next : TreeLocals) (g' : Shape)
+earlier_holds : (h : Header) (c : ℕ) (s : Situation) (k : TreeLocals) (g : Shape) (m : Memory)
+    (act : Act) (rest : Script) (next : TreeLocals) (g' : Shape)
     (log : List Entry) (w : ℕ)
-    → TreeDoes h s k g m act rest next g' → may_act h s act ≡ true → k.pending ≡ block_writes c log → has_block c log ≡ s.in_block → s.in_block ≡ true
-    → (after_act s act).in_block ≡ true → ((lock : ℕ) → holds s lock ≡ true → holds (after_act s act) lock ≡ true)
+    → TreeDoes h s k g m act rest next g' → may_act h s act ≡ true → k.pending ≡ block_writes c log
+    → has_block c log ≡ s.in_block → s.in_block ≡ true
+    → (after_act s act).in_block ≡ true
+    → ((lock : ℕ) → holds s lock ≡ true → holds (after_act s act) lock ≡ true)
     → ((o : Bool) → k.out ≡ o → next.out ≡ o → seen_after h s k m act ≡ m)
     → (k.out ≡ true → next.out ≡ true)
-    → holds_word c w log ≡ true → MayHold h s k g m w → MayHold h (after_act s act) next g' (seen_after h s k m act) w
-earlier_holds h c s k g m act rest next g' log w does may pending agree inside goes more same stays wrote_it hold =
+    → holds_word c w log ≡ true → MayHold h s k g m w → MayHold h (after_act s act) next g'
+    (seen_after h s k m act) w
+earlier_holds h c s k g m act rest next g' log w does may pending agree inside goes more same stays
+    wrote_it hold =
     by_out k.out refl next.out refl
   where
-    on : (o : Bool) → k.out ≡ o → next.out ≡ o → MayHold h (after_act s act) next g' (seen_after h s k m act) w
+    on : (o : Bool) → k.out ≡ o → next.out ≡ o → MayHold h (after_act s act) next g'
+        (seen_after h s k m act) w
     on o e f =
         let within = does.within inside goes (f ∙ sym e) in
         subst (λ x. MayHold h (after_act s act) next g' x w) (sym (same o e f))
@@ -219,16 +274,24 @@ earlier_holds h c s k g m act rest next g' log w does may pending agree inside g
     given = ap (λ ws. is_some (given_by w ws)) pending ∙ sym (wrote_is c w log (agree ∙ inside))
         ∙ (both_of (has_block c log) (wrote c w log) wrote_it).1
 
-    by_out : (a : Bool) → k.out ≡ a → (b : Bool) → next.out ≡ b → MayHold h (after_act s act) next g' (seen_after h s k m act) w
+    by_out : (a : Bool) → k.out ≡ a → (b : Bool) → next.out ≡ b
+        → MayHold h (after_act s act) next g' (seen_after h s k m act) w
     by_out false e false f = on false e f
     by_out true e true f = on true e f
     by_out true e false f = absurd (never f (stays e))
     by_out false e true f =
-        inr (f, inr (all_given (IsWordOf (root_in h.size (seen_after h s k m act))) k.pending w (does.wrote e f) given))
+        inr (
+          f,
+          inr (all_given (IsWordOf (root_in h.size (seen_after h s k m act))) k.pending w
+              (does.wrote e f) given),
+        )
 
-tree_covers : (h : Header) (c : ℕ) (did : Did) (s : Situation) (k : TreeLocals) (g : Shape) (m : Memory) (rest : Script) (next : TreeLocals) (g' : Shape)
-    (log : List Entry) → Agrees c s log → Agrees c (after_act s (act_of_event did)) (cons_option (logged c did) log)
-    → may_act h s (act_of_event did) ≡ true → TreeDoes h s k g m (act_of_event did) rest next g' → IsLinked h.size g m → k.pending ≡ block_writes c log
+tree_covers : (h : Header) (c : ℕ) (did : Did) (s : Situation) (k : TreeLocals) (g : Shape)
+    (m : Memory) (rest : Script) (next : TreeLocals) (g' : Shape)
+    (log : List Entry) → Agrees c s log → Agrees c (after_act s (act_of_event did))
+    (cons_option (logged c did) log)
+    → may_act h s (act_of_event did) ≡ true → TreeDoes h s k g m (act_of_event did) rest next g'
+    → IsLinked h.size g m → k.pending ≡ block_writes c log
     → ((w : ℕ) → holds_word c w log ≡ true → MayHold h s k g m w)
     → (w : ℕ) → holds_word c w (cons_option (logged c did) log) ≡ true
     → MayHold h (after_act s (act_of_event did)) next g' (seen_after h s k m (act_of_event did)) w
@@ -236,68 +299,100 @@ tree_covers h c (Read cell value) s k g m rest next g' log a b may does tree pen
     absurd (never (a.in_block ∙ does.reaches.1) (both_of (has_block c log) (wrote c w log) e).0)
 tree_covers h c (Took lock) s k g m rest next g' log a b may does tree pending covers w e =
     let inside = sym a.in_block ∙ (both_of (has_block c log) (wrote c w log) e).0 in
-    earlier_holds h c s k g m (Take lock) rest next g' log w does may pending a.in_block inside inside
-    (λ other held. or_right (lock == other) (holds s other) held) (λ o e f. refl) (λ out. does.out ∙ ap (λ b. b || false) out) e (covers w e)
+    earlier_holds h c s k g m (Take lock) rest next g' log w does may pending a.in_block inside
+    inside
+    (λ other held. or_right (lock == other) (holds s other) held) (λ o e f. refl)
+    (λ out. does.out ∙ ap (λ b. b || false) out) e (covers w e)
 tree_covers h c (Gave lock) s k g m rest next g' log a b may does tree pending covers w e =
     absurd (never (a.in_block ∙ does.reaches) (both_of (has_block c log) (wrote c w log) e).0)
 tree_covers h c (Wrote cell value) s k g m rest next g' log a b may does tree pending covers w e =
-    let parts = both_of (has_block c (entry c (Write cell value) ∷ log)) (wrote c w (entry c (Write cell value) ∷ log)) e in
-    by_place (sym (own_block c (Write cell value) log) ∙ parts.0) (cell == w) refl (sym (own_wrote c w (Write cell value) log) ∙ parts.1)
+    let parts = both_of (has_block c (entry c (Write cell value) ∷ log))
+    (wrote c w (entry c (Write cell value) ∷ log)) e in
+    by_place (sym (own_block c (Write cell value) log) ∙ parts.0) (cell == w) refl
+    (sym (own_wrote c w (Write cell value) log) ∙ parts.1)
   where
     quiet_of : s.in_block ≡ true → MayStore h s k g m cell → k.out ≡ false
     quiet_of inside (inl within) = within.1
     quiet_of inside (inr outside) = absurd (never outside.0 inside)
 
-    same : s.in_block ≡ true → (o : Bool) → k.out ≡ o → next.out ≡ o → seen_after h s k m (Store cell value) ≡ m
+    same : s.in_block ≡ true → (o : Bool) → k.out ≡ o → next.out ≡ o
+        → seen_after h s k m (Store cell value) ≡ m
     same inside true f g = absurd (never (quiet_of inside does.reaches) f)
     same inside false f g =
-        ap (λ b. cond b (cond (cell == root_cell h) (written ((cell, value) ∷ k.pending) m) m) (with_cell m cell value)) inside
+        ap (λ b. cond b (cond (cell == root_cell h) (written ((cell, value) ∷ k.pending) m) m)
+        (with_cell m cell value)) inside
         ∙ by_root (cell == root_cell h) refl
       where
-        by_root : (r : Bool) → (cell == root_cell h) ≡ r → cond (cell == root_cell h) (written ((cell, value) ∷ k.pending) m) m ≡ m
+        by_root : (r : Bool) → (cell == root_cell h) ≡ r → cond (cell == root_cell h)
+            (written ((cell, value) ∷ k.pending) m) m ≡ m
         by_root false e = ap (λ r. cond r (written ((cell, value) ∷ k.pending) m) m) e
-        by_root true e = absurd (never g (does.out ∙ ap (λ b. k.out || (b && cell == root_cell h)) inside ∙ ap (λ r. k.out || r) e ∙ or-true k.out))
+        by_root true e = absurd
+            (never g (does.out ∙ ap (λ b. k.out || (b && cell == root_cell h)) inside
+            ∙ ap (λ r. k.out || r) e ∙ or-true k.out))
 
     by_place : has_block c log ≡ true → (t : Bool) → (cell == w) ≡ t
-        → unwrap_or (option_or (cond t (Some true) None) (first_answer (by_caller c (write_or_open w)) log)) false ≡ true
+        → unwrap_or (option_or (cond t (Some true) None)
+        (first_answer (by_caller c (write_or_open w)) log)) false ≡ true
         → MayHold h s next g' (seen_after h s k m (Store cell value)) w
-    by_place inside true f last = subst (MayHold h s next g' (seen_after h s k m (Store cell value))) (same_of cell w f)
+    by_place inside true f last =
+        subst (MayHold h s next g' (seen_after h s k m (Store cell value))) (same_of cell w f)
         (store_holds h s k g m cell value rest next g' does tree (sym a.in_block ∙ inside))
     by_place inside false f last =
         let within = sym a.in_block ∙ inside in
         let before : holds_word c w log ≡ true = (λ i. inside i && wrote c w log) ∙ last in
-        earlier_holds h c s k g m (Store cell value) rest next g' log w does may pending a.in_block within within (λ lock held. held) (same within)
+        earlier_holds h c s k g m (Store cell value) rest next g' log w does may pending a.in_block
+        within within (λ lock held. held) (same within)
         (λ out. absurd (never (quiet_of within does.reaches) out)) before (covers w before)
-tree_covers h c (Marked (Call method args)) s k g m rest next g' log a b may does tree pending covers w e =
-    absurd (never b.in_block (both_of (has_block c (entry c (Call method args) ∷ log)) (wrote c w (entry c (Call method args) ∷ log)) e).0)
-tree_covers h c (Marked (Return reply)) s k g m rest next g' log a b may does tree pending covers w e =
-    absurd (never b.in_block (both_of (has_block c (entry c (Return reply) ∷ log)) (wrote c w (entry c (Return reply) ∷ log)) e).0)
-tree_covers h c (Marked (Write word value)) s k g m rest next g' log a b may does tree pending covers w e = absurd does.reaches
+tree_covers h c (Marked (Call method args)) s k g m rest next g' log a b may does tree pending
+    covers w e =
+    absurd (never b.in_block
+    (both_of (has_block c (entry c (Call method args) ∷ log))
+    (wrote c w (entry c (Call method args) ∷ log)) e).0)
+tree_covers h c (Marked (Return reply)) s k g m rest next g' log a b may does tree pending covers w
+    e =
+    absurd (never b.in_block
+    (both_of (has_block c (entry c (Return reply) ∷ log)) (wrote c w (entry c (Return reply) ∷ log))
+    e).0)
+tree_covers h c (Marked (Write word value)) s k g m rest next g' log a b may does tree pending
+    covers w e = absurd does.reaches
 tree_covers h c (Marked Commit) s k g m rest next g' log a b may does tree pending covers w e =
-    absurd (never (b.in_block ∙ not-true s.in_block (four_true (is_some s.called) (not (observes s)) (not s.committed) (not s.in_block) may).3)
+    absurd (never
+    (b.in_block ∙ not-true s.in_block
+    (four_true (is_some s.called) (not (observes s)) (not s.committed) (not s.in_block) may).3)
     (both_of (has_block c (entry c Commit ∷ log)) (wrote c w (entry c Commit ∷ log)) e).0)
 tree_covers h c (Marked BlockOpen) s k g m rest next g' log a b may does tree pending covers w e =
-    absurd (never (own_wrote c w BlockOpen log) (both_of (has_block c (entry c BlockOpen ∷ log)) (wrote c w (entry c BlockOpen ∷ log)) e).1)
+    absurd (never (own_wrote c w BlockOpen log)
+    (both_of (has_block c (entry c BlockOpen ∷ log)) (wrote c w (entry c BlockOpen ∷ log)) e).1)
 tree_covers h c (Marked BlockClose) s k g m rest next g' log a b may does tree pending covers w e =
-    absurd (never b.in_block (both_of (has_block c (entry c BlockClose ∷ log)) (wrote c w (entry c BlockClose ∷ log)) e).0)
+    absurd (never b.in_block
+    (both_of (has_block c (entry c BlockClose ∷ log)) (wrote c w (entry c BlockClose ∷ log)) e).0)
 tree_covers h c (Marked BlockCommit) s k g m rest next g' log a b may does tree pending covers w e =
-    absurd (never b.in_block (both_of (has_block c (entry c BlockCommit ∷ log)) (wrote c w (entry c BlockCommit ∷ log)) e).0)
+    absurd (never b.in_block
+    (both_of (has_block c (entry c BlockCommit ∷ log)) (wrote c w (entry c BlockCommit ∷ log)) e).0)
 
 -- the caller's own event
-pub record TreeOwnStep (h : Header) (script : Script) (part : List Did) (log : List Entry) (c : ℕ) (did : Did) (k : TreeLocals) (g : Shape) (m : Memory)
+pub record TreeOwnStep (h : Header) (script : Script) (part : List Did) (log : List Entry) (c : ℕ)
+    (did : Did) (k : TreeLocals) (g : Shape) (m : Memory)
     : Type 0 where
   pub next : TreeLocals
   pub grown : Shape
-  pub does : TreeDoes h (situation_after part) k g m (act_of_event did) (after_answer (left_after script part) 0) next grown
-  pub one : OfTreeCaller h script (did ∷ part) (cons_option (logged c did) log) c next grown (seen_after h (situation_after part) k m (act_of_event did))
+  pub does : TreeDoes h (situation_after part) k g m (act_of_event did)
+      (after_answer (left_after script part) 0) next grown
+  pub one : OfTreeCaller h script (did ∷ part) (cons_option (logged c did) log) c next grown
+      (seen_after h (situation_after part) k m (act_of_event did))
 
-pub tree_own_step : (h : Header) (script : Script) (part : List Did) (log : List Entry) (c : ℕ) (did : Did) (k : TreeLocals) (g : Shape) (m : Memory)
+pub tree_own_step : (h : Header) (script : Script) (part : List Did) (log : List Entry) (c : ℕ)
+    (did : Did) (k : TreeLocals) (g : Shape) (m : Memory)
     → OfTreeCaller h script part log c k g m → IsLinked h.size g m
-    → (holds (situation_after part) (root_lock h) ≡ true → k.out ≡ false → g.top ≡ level_at m (root_in h.size m))
-    → Agrees c (situation_after part) log → Agrees c (after_act (situation_after part) (act_of_event did)) (cons_option (logged c did) log)
+    → (holds (situation_after part) (root_lock h) ≡ true → k.out ≡ false
+    → g.top ≡ level_at m (root_in h.size m))
+    → Agrees c (situation_after part) log
+    → Agrees c (after_act (situation_after part) (act_of_event did))
+    (cons_option (logged c did) log)
     → may_act h (situation_after part) (act_of_event did) ≡ true
     → event_of (next_act (left_after script part)) (answer_of did) ≡ Some did
-    → (TreeReaches h (situation_after part) k g m (act_of_event did) → answer_of did ≡ answer_at m (act_of_event did))
+    → (TreeReaches h (situation_after part) k g m (act_of_event did) → answer_of did
+    ≡ answer_at m (act_of_event did))
     → TreeOwnStep h script part log c did k g m
 tree_own_step h script part log c did k g m one tree calm agrees agrees' may plays found = record {
   next = end.next;
@@ -305,14 +400,21 @@ tree_own_step h script part log c did k g m one tree calm agrees agrees' may pla
   does = end.does;
   one = record {
     right = λ g' now rely.
-        subst (λ answer. TreeRight h (after_act s (act_of_event did)) end.next g' now (after_answer (left_after script part) answer))
+        subst (λ answer. TreeRight h (after_act s (act_of_event did)) end.next g' now
+        (after_answer (left_after script part) answer))
         (sym (found end.does.reaches)) (end.later g' now rely);
-    pending = end.does.pending ∙ ap (λ ws. pending_after (act_of_event did) ws) one.pending ∙ sym (pending_step c did log);
-    called = end.does.called ∙ ap (λ o. called_after (act_of_event did) o) one.called ∙ sym (called_step c did log);
-    covers = tree_covers h c did s k g m (after_answer (left_after script part) 0) end.next end.grown log agrees agrees' may end.does tree one.pending one.covers;
-    owns = owns_after h s k g m (act_of_event did) (after_answer (left_after script part) 0) end.next end.grown end.does;
-    alone = alone_after h s k g m (act_of_event did) (after_answer (left_after script part) 0) end.next end.grown end.does may;
-    ahead = ahead_after h s k g m (act_of_event did) (after_answer (left_after script part) 0) end.next end.grown end.does may one.ahead;
+    pending = end.does.pending ∙ ap (λ ws. pending_after (act_of_event did) ws) one.pending
+        ∙ sym (pending_step c did log);
+    called = end.does.called ∙ ap (λ o. called_after (act_of_event did) o) one.called
+        ∙ sym (called_step c did log);
+    covers = tree_covers h c did s k g m (after_answer (left_after script part) 0) end.next
+        end.grown log agrees agrees' may end.does tree one.pending one.covers;
+    owns = owns_after h s k g m (act_of_event did) (after_answer (left_after script part) 0)
+        end.next end.grown end.does;
+    alone = alone_after h s k g m (act_of_event did) (after_answer (left_after script part) 0)
+        end.next end.grown end.does may;
+    ahead = ahead_after h s k g m (act_of_event did) (after_answer (left_after script part) 0)
+        end.next end.grown end.does may one.ahead;
   };
 }
   where
@@ -320,11 +422,14 @@ tree_own_step h script part log c did k g m one tree calm agrees agrees' may pla
     s = situation_after part
 
     end : TreeStepped h s k g m did (left_after script part)
-    end = tree_stepped h s k g m did (left_after script part) (one.right g m (rely_none h s k g m tree calm)) plays
+    end = tree_stepped h s k g m did (left_after script part)
+        (one.right g m (rely_none h s k g m tree calm)) plays
 
 -- another caller's event
-pub tree_other_step : (h : Header) (script : Script) (part : List Did) (log : List Entry) (c d : ℕ) (did : Did) (k : TreeLocals) (g : Shape) (m : Memory)
-    (g' : Shape) (m' : Memory) → OfTreeCaller h script part log d k g m → IsLinked h.size g m → (c == d) ≡ false
+pub tree_other_step : (h : Header) (script : Script) (part : List Did) (log : List Entry) (c d : ℕ)
+    (did : Did) (k : TreeLocals) (g : Shape) (m : Memory)
+    (g' : Shape) (m' : Memory) → OfTreeCaller h script part log d k g m → IsLinked h.size g m
+    → (c == d) ≡ false
     → TreeRely h (situation_after part) k g m g' m'
     → OfTreeCaller h script part (cons_option (logged c did) log) d k g' m'
 tree_other_step h script part log c d did k g m g' m' one tree apart rely = record {
@@ -334,15 +439,18 @@ tree_other_step h script part log c d did k g m g' m' one tree apart rely = reco
   covers = λ w e. still_held w (one.covers w (sym (word_other d c w did log apart) ∙ e));
   owns = still_owns h s k g m g' m' one.owns rely;
   alone = one.alone;
-  ahead = λ out. (let held = (one.alone out).0 in let above = one.ahead out in let top = (rely.root held).1 in let level = same_level held in
+  ahead = λ out. (let held = (one.alone out).0 in let above = one.ahead out in let top =
+      (rely.root held).1 in let level = same_level held in
       omega (arith, above, top, level));
 }
   where
     s : Situation
     s = situation_after part
 
-    same_level : holds s (root_lock h) ≡ true → level_at m' (root_in h.size m') ≡ level_at m (root_in h.size m)
-    same_level held = ap (level_at m') (rely.root held).0 ∙ rely.grows.level (root_in h.size m) tree.root_linked
+    same_level : holds s (root_lock h) ≡ true → level_at m' (root_in h.size m')
+        ≡ level_at m (root_in h.size m)
+    same_level held = ap (level_at m') (rely.root held).0
+        ∙ rely.grows.level (root_in h.size m) tree.root_linked
 
     still_held : (w : ℕ) → MayHold h s k g m w → MayHold h s k g' m' w
     still_held w (inl quiet) = inl (
@@ -357,16 +465,26 @@ tree_other_step h script part log c d did k g m g' m' one tree apart rely = reco
     )
       where
         by_may : (node place : ℕ)
-            → (k.fresh ≡ Some node) ⊎ ((g.linked node ≡ true) × (holds s (lock_of h node) ≡ true) × (place ≢ 0) × (level_at m node ≤ g.top))
-            → (k.fresh ≡ Some node) ⊎ ((g'.linked node ≡ true) × (holds s (lock_of h node) ≡ true) × (place ≢ 0) × (level_at m' node ≤ g'.top))
+            → (k.fresh ≡ Some node) ⊎ ((g.linked node ≡ true) × (holds s (lock_of h node) ≡ true)
+            × (place ≢ 0) × (level_at m node ≤ g.top))
+            → (k.fresh ≡ Some node) ⊎ ((g'.linked node ≡ true) × (holds s (lock_of h node) ≡ true)
+            × (place ≢ 0) × (level_at m' node ≤ g'.top))
         by_may node place (inl mine) = inl mine
         by_may node place (inr linked) =
             let level = rely.grows.level node linked.0 in
             let top = rely.grows.top in
             let low = linked.3 in
-            inr (rely.grows.linked node linked.0, linked.1, linked.2, omega (arith, level, top, low))
+            inr (
+              rely.grows.linked node linked.0,
+              linked.1,
+              linked.2,
+              omega
+                  (arith, level, top, low),
+            )
     still_held w (inr seen) = inr (seen.0, by_word seen.1)
       where
-        by_word : (w ≡ root_cell h) ⊎ IsWordOf (root_in h.size m) w → (w ≡ root_cell h) ⊎ IsWordOf (root_in h.size m') w
+        by_word : (w ≡ root_cell h) ⊎ IsWordOf (root_in h.size m) w → (w ≡ root_cell h)
+            ⊎ IsWordOf (root_in h.size m') w
         by_word (inl root) = inl root
-        by_word (inr word) = inr (subst (λ n. IsWordOf n w) (sym (rely.root (one.alone seen.0).0).0) word)
+        by_word (inr word) =
+            inr (subst (λ n. IsWordOf n w) (sym (rely.root (one.alone seen.0).0).0) word)

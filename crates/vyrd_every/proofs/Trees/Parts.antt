@@ -1,5 +1,7 @@
--- Single acts of a script of the tree that change nothing, and what a caller knows still, whatever the others do.
-use Rattle.std.proofs.Common.{◌≡◌, ℕ, ◌<◌, ◌≤◌, ◌⊎◌, inl, Bool, true, false, List, [], ◌∷◌, Some, refl, ◌∙◌, sym, subst, arith}
+-- Single acts of a script of the tree that change nothing, and what a caller knows still, whatever
+-- the others do.
+use Rattle.std.proofs.Common.{◌≡◌, ℕ, ◌<◌, ◌≤◌, ◌⊎◌, inl, Bool, true, false, List, [], ◌∷◌, Some}
+use Rattle.std.proofs.Common.{refl, ◌∙◌, sym, subst, arith}
 use Rattle.std.specs.Prelude.{◌||◌}
 use Rattle.vyrd_base.specs.declared.header.Header.{Header}
 use Rattle.vyrd_base.specs.declared.subject.Method.{Method}
@@ -18,23 +20,32 @@ use Rattle.vyrd_every.specs.Trees.Locals.{TreeLocals, MayLoad}
 use Rattle.vyrd_every.specs.Trees.Others.{TreeRely, TreeLeaves}
 use Rattle.vyrd_every.specs.Trees.RightScripts.{TreeRight}
 
--- What a caller's locals say between two of its acts, but while a new root is seen before its block is closed: they own what
+-- What a caller's locals say between two of its acts, but while a new root is seen before its block
+-- is closed: they own what
 -- they name, and no write of an open block is seen.
 pub record OwnsUnseen (h : Header) (k : TreeLocals) (g : Shape) (m : Memory) : Type 0 where
   pub fresh : (n : ℕ) → k.fresh ≡ Some n → (g.linked n ≡ false) × (n ≤ last_in h.size m)
   pub hanging : (n : ℕ) → k.hanging ≡ Some n → (g.linked n ≡ true) × Hangs g m n
   pub quiet : k.out ≡ false
 
-pub unseen_stays : (h : Header) (s : Situation) (k : TreeLocals) (g : Shape) (m : Memory) (g' : Shape) (m' : Memory) → OwnsUnseen h k g m
+pub unseen_stays : (h : Header) (s : Situation) (k : TreeLocals) (g : Shape) (m : Memory)
+    (g' : Shape) (m' : Memory) → OwnsUnseen h k g m
     → TreeRely h s k g m g' m' → OwnsUnseen h k g' m'
 unseen_stays h s k g m g' m' unseen rely = record {
-  fresh = λ n mine. let was = unseen.fresh n mine in (rely.fresh n mine ∙ was.0, rely.used n mine was.1);
-  hanging = λ n mine. let was = unseen.hanging n mine in (rely.grows.linked n was.0, rely.hanging n mine was.1);
+  fresh = λ n mine. let was = unseen.fresh n mine in
+      (rely.fresh n mine ∙ was.0, rely.used n mine was.1);
+  hanging = λ n mine. let was = unseen.hanging n mine in
+      (rely.grows.linked n was.0, rely.hanging n mine was.1);
   quiet = unseen.quiet;
 }
 
 pub grows_same : (g : Shape) (m : Memory) → Grows g m g m
-grows_same g m = record { linked = λ n l. l; low = λ n l. refl; level = λ n l. refl; top = omega arith }
+grows_same g m = record {
+  linked = λ n l. l;
+  low = λ n l. refl;
+  level = λ n l. refl;
+  top = omega arith;
+}
 
 pub grows_more : (a b c : Shape) (x y z : Memory) → Grows a x b y → Grows b y c z → Grows a x c z
 grows_more a b c x y z one two = record {
@@ -45,11 +56,13 @@ grows_more a b c x y z one two = record {
 }
 
 -- the others do one thing after the other
-pub tree_rely_more : (h : Header) (s : Situation) (k : TreeLocals) (a b c : Shape) (x y z : Memory) → TreeRely h s k a x b y → TreeRely h s k b y c z
+pub tree_rely_more : (h : Header) (s : Situation) (k : TreeLocals) (a b c : Shape) (x y z : Memory)
+    → TreeRely h s k a x b y → TreeRely h s k b y c z
     → TreeRely h s k a x c z
 tree_rely_more h s k a b c x y z one two = record {
   grows = grows_more a b c x y z one.grows two.grows;
-  held = λ n place linked held low. two.held n place (one.grows.linked n linked) held low ∙ one.held n place linked held low;
+  held = λ n place linked held low. two.held n place (one.grows.linked n linked) held low
+      ∙ one.held n place linked held low;
   fresh = λ n mine. two.fresh n mine ∙ one.fresh n mine;
   used = λ n mine le. two.used n mine (one.used n mine le);
   hanging = λ n mine hangs. two.hanging n mine (one.hanging n mine hangs);
@@ -60,7 +73,8 @@ tree_rely_more h s k a b c x y z one two = record {
 }
 
 -- with fewer locks held, less is relied upon
-pub tree_rely_less : (h : Header) (s s' : Situation) (k : TreeLocals) (a b : Shape) (x y : Memory) → ((lock : ℕ) → holds s' lock ≡ true → holds s lock ≡ true)
+pub tree_rely_less : (h : Header) (s s' : Situation) (k : TreeLocals) (a b : Shape) (x y : Memory)
+    → ((lock : ℕ) → holds s' lock ≡ true → holds s lock ≡ true)
     → TreeRely h s k a x b y → TreeRely h s' k a x b y
 tree_rely_less h s s' k a b x y fewer r = record {
   grows = r.grows;
@@ -74,7 +88,8 @@ tree_rely_less h s s' k a b x y fewer r = record {
   calm = λ held out. r.calm (fewer (root_lock h) held) out;
 }
 
-leaves_same : (h : Header) (s : Situation) (k : TreeLocals) (g : Shape) (m : Memory) → TreeLeaves h s k g m g m
+leaves_same : (h : Header) (s : Situation) (k : TreeLocals) (g : Shape) (m : Memory)
+    → TreeLeaves h s k g m g m
 leaves_same h s k g m = record {
   others = λ n place linked free low. refl;
   unlinked = λ n un other. un;
@@ -85,16 +100,21 @@ leaves_same h s k g m = record {
 }
 
 -- what an act does that changes nothing
-pub record Changeless (h : Header) (s : Situation) (k : TreeLocals) (g : Shape) (m : Memory) : Type 0 where
+pub record Changeless (h : Header) (s : Situation) (k : TreeLocals) (g : Shape)
+    (m : Memory) : Type 0 where
   pub grows : Grows g m g m
   pub leaves : TreeLeaves h s k g m g m
-  pub taken : (n : ℕ) → k.fresh ≡ Some n → (g.linked n ≡ false) × (n ≤ last_in h.size m) × ((k.fresh ≡ Some n) ⊎ (last_in h.size m < n))
-  pub hung : (n : ℕ) → k.hanging ≡ Some n → (g.linked n ≡ true) × Hangs g m n × ((k.hanging ≡ Some n) ⊎ (g.linked n ≡ false))
+  pub taken : (n : ℕ) → k.fresh ≡ Some n → (g.linked n ≡ false) × (n ≤ last_in h.size m)
+      × ((k.fresh ≡ Some n) ⊎ (last_in h.size m < n))
+  pub hung : (n : ℕ) → k.hanging ≡ Some n → (g.linked n ≡ true) × Hangs g m n
+      × ((k.hanging ≡ Some n) ⊎ (g.linked n ≡ false))
   pub alone : k.out ≡ true → (holds s (root_lock h) ≡ true) × (s.in_block ≡ true)
   pub closed : k.out ≡ true → k.out ≡ false → g.top ≡ level_at m (root_in h.size m)
-  pub top : k.out ≡ false → g.top ≡ level_at m (root_in h.size m) → k.out ≡ false → g.top ≡ level_at m (root_in h.size m)
+  pub top : k.out ≡ false → g.top ≡ level_at m (root_in h.size m) → k.out ≡ false
+      → g.top ≡ level_at m (root_in h.size m)
 
-pub changeless : (h : Header) (s : Situation) (k : TreeLocals) (g : Shape) (m : Memory) → OwnsUnseen h k g m → Changeless h s k g m
+pub changeless : (h : Header) (s : Situation) (k : TreeLocals) (g : Shape) (m : Memory)
+    → OwnsUnseen h k g m → Changeless h s k g m
 changeless h s k g m unseen = record {
   grows = grows_same g m;
   leaves = leaves_same h s k g m;
@@ -105,9 +125,11 @@ changeless h s k g m unseen = record {
   top = λ out is quiet. is;
 }
 
-pub tree_load : (h : Header) (s : Situation) (k : TreeLocals) (g : Shape) (m : Memory) (cell : ℕ) (rest : ℕ → Script) → IsLinked h.size g m → OwnsUnseen h k g m
+pub tree_load : (h : Header) (s : Situation) (k : TreeLocals) (g : Shape) (m : Memory) (cell : ℕ)
+    (rest : ℕ → Script) → IsLinked h.size g m → OwnsUnseen h k g m
     → MayLoad h s g cell → s.in_block ≡ false
-    → ((g' : Shape) → (now : Memory) → TreeRely h s k g m g' now → TreeRight h s k g' now (rest (m cell)))
+    → ((g' : Shape) → (now : Memory) → TreeRely h s k g m g' now
+    → TreeRight h s k g' now (rest (m cell)))
     → TreeRight h s k g m (step (Load cell) rest)
 tree_load h s k g m cell rest tree unseen may out later =
     let c : Changeless h s k g m = changeless h s k g m unseen in (
@@ -139,9 +161,11 @@ tree_load h s k g m cell rest tree unseen may out later =
     or_false true = refl
     or_false false = refl
 
-pub tree_take : (h : Header) (s : Situation) (k : TreeLocals) (g : Shape) (m : Memory) (lock : ℕ) (rest : Script) → IsLinked h.size g m → OwnsUnseen h k g m
+pub tree_take : (h : Header) (s : Situation) (k : TreeLocals) (g : Shape) (m : Memory) (lock : ℕ)
+    (rest : Script) → IsLinked h.size g m → OwnsUnseen h k g m
     → ((held : ℕ) → holds s held ≡ true → held < lock)
-    → ((g' : Shape) → (now : Memory) → TreeRely h (after_act s (Take lock)) k g m g' now → TreeRight h (after_act s (Take lock)) k g' now rest)
+    → ((g' : Shape) → (now : Memory) → TreeRely h (after_act s (Take lock)) k g m g' now
+    → TreeRight h (after_act s (Take lock)) k g' now rest)
     → TreeRight h s k g m (perform (Take lock) rest)
 tree_take h s k g m lock rest tree unseen above later =
     let c : Changeless h s k g m = changeless h s k g m unseen in (
@@ -173,9 +197,11 @@ tree_take h s k g m lock rest tree unseen above later =
     or_false true = refl
     or_false false = refl
 
-pub tree_give : (h : Header) (s : Situation) (k : TreeLocals) (g : Shape) (m : Memory) (lock : ℕ) (rest : Script) → IsLinked h.size g m → OwnsUnseen h k g m
+pub tree_give : (h : Header) (s : Situation) (k : TreeLocals) (g : Shape) (m : Memory) (lock : ℕ)
+    (rest : Script) → IsLinked h.size g m → OwnsUnseen h k g m
     → s.in_block ≡ false
-    → ((g' : Shape) → (now : Memory) → TreeRely h (after_act s (Give lock)) k g m g' now → TreeRight h (after_act s (Give lock)) k g' now rest)
+    → ((g' : Shape) → (now : Memory) → TreeRely h (after_act s (Give lock)) k g m g' now
+    → TreeRight h (after_act s (Give lock)) k g' now rest)
     → TreeRight h s k g m (perform (Give lock) rest)
 tree_give h s k g m lock rest tree unseen out later =
     let c : Changeless h s k g m = changeless h s k g m unseen in (
@@ -208,14 +234,17 @@ tree_give h s k g m lock rest tree unseen out later =
     or_false false = refl
 
 -- the only lock is given back
-pub tree_give_last : (h : Header) (method : Method) (committed : Bool) (k : TreeLocals) (g : Shape) (m : Memory) (lock : ℕ) (rest : Script) → IsLinked h.size g m
+pub tree_give_last : (h : Header) (method : Method) (committed : Bool) (k : TreeLocals) (g : Shape)
+    (m : Memory) (lock : ℕ) (rest : Script) → IsLinked h.size g m
     → OwnsUnseen h k g m
-    → ((g' : Shape) → (now : Memory) → TreeRely h (holding [] method committed false) k g m g' now → TreeRight h (holding [] method committed false) k g' now rest)
+    → ((g' : Shape) → (now : Memory) → TreeRely h (holding [] method committed false) k g m g' now
+    → TreeRight h (holding [] method committed false) k g' now rest)
     → TreeRight h (holding (lock ∷ []) method committed false) k g m (perform (Give lock) rest)
 tree_give_last h method committed k g m lock rest tree unseen later =
     tree_give h (holding (lock ∷ []) method committed false) k g m lock rest tree unseen refl
     (subst Later (sym (gone lock [])) later)
   where
     Later : List ℕ → Type 0
-    Later locks = (g' : Shape) → (now : Memory) → TreeRely h (holding locks method committed false) k g m g' now
+    Later locks = (g' : Shape) → (now : Memory) → TreeRely h (holding locks method committed false)
+        k g m g' now
         → TreeRight h (holding locks method committed false) k g' now rest

@@ -1,5 +1,7 @@
--- A new root does right: it is seen from the moment on when the root's word is stored, and shown when its block is closed.
-use Rattle.std.proofs.Common.{◌≡◌, ◌≢◌, ℕ, ◌+◌, ◌*◌, ◌<◌, ◌≤◌, ◌⊎◌, inl, inr, Bool, true, false, cond, List, [], ◌∷◌, Some, None, refl, ap, ◌∙◌, sym, subst, arith}
+-- A new root does right: it is seen from the moment on when the root's word is stored, and shown
+-- when its block is closed.
+use Rattle.std.proofs.Common.{◌≡◌, ◌≢◌, ℕ, ◌+◌, ◌*◌, ◌<◌, ◌≤◌, ◌⊎◌, inl, inr, Bool, true, false}
+use Rattle.std.proofs.Common.{cond, List, [], ◌∷◌, Some, None, refl, ap, ◌∙◌, sym, subst, arith}
 use Rattle.std.specs.Prelude.{◌==◌, ◌||◌}
 use Rattle.std.specs.List.{AllByRecursion as Each}
 use Rattle.vyrd_base.specs.declared.header.Header.{Header}
@@ -25,13 +27,15 @@ use Rattle.vyrd_tree.specs.Laws.Alone.SplitKeepsTree.{new_low, old_low, off_word
 use Rattle.vyrd_tree.specs.Laws.Alone.SplitWrites.{NodeWritten}
 use Rattle.vyrd_every.proofs.Acts.{never}
 use Rattle.vyrd_every.specs.Locals.{written}
-use Rattle.vyrd_every.specs.Trees.Shapes.{Shape, HasEntries, LeadsRight, HasNeighbour, IsLinked, Hangs}
+use Rattle.vyrd_every.specs.Trees.Shapes.{Shape, HasEntries, LeadsRight, HasNeighbour, IsLinked}
+use Rattle.vyrd_every.specs.Trees.Shapes.{Hangs}
 use Rattle.vyrd_every.specs.Trees.States.{ShowsState}
 use Rattle.vyrd_every.specs.Trees.Others.{Grows}
 use Rattle.vyrd_every.specs.Trees.Locals.{TreeLocals, IsWordOf}
 use Rattle.vyrd_every.specs.Trees.Others.{TreeRely, TreeLeaves}
 use Rattle.vyrd_every.specs.Trees.RightScripts.{TreeRight}
-use Rattle.vyrd_every.proofs.Trees.Parts.{OwnsUnseen, unseen_stays, tree_rely_more, Changeless, changeless}
+use Rattle.vyrd_every.proofs.Trees.Parts.{OwnsUnseen, unseen_stays, tree_rely_more, Changeless}
+use Rattle.vyrd_every.proofs.Trees.Parts.{changeless}
 use Rattle.vyrd_every.proofs.Trees.Kept.{entries_grow, linked_low}
 use Rattle.vyrd_every.proofs.Trees.Blocks.{with_pending, unseen_with, rely_with, tree_open}
 use Rattle.vyrd_every.proofs.Trees.Splits.{with_node}
@@ -41,19 +45,23 @@ use Rattle.vyrd_every.proofs.Trees.Fulls.{Ascending}
 use Rattle.vyrd_every.proofs.Trees.Ascents.{insert_of, unlocked_end, still_ascending}
 use Rattle.vyrd_every.proofs.Trees.Rounds.{GrowthRight}
 
--- Node u is a new root, one level above the old one, with two children: the old root, and another node of its level.
+-- Node u is a new root, one level above the old one, with two children: the old root, and another
+-- node of its level.
 pub record IsGrownAt (size : ℕ) (m m' : Memory) (u key child : ℕ) : Type 0 where
   pub last_is : last_in size m' ≡ last_in size m
   pub root_is : root_in size m' ≡ u
-  pub others : (cell : ℕ) → cell < 12 * size → (cell < 12 * u) ⊎ (12 * u + 12 ≤ cell) → m' cell ≡ m cell
+  pub others : (cell : ℕ) → cell < 12 * size → (cell < 12 * u) ⊎ (12 * u + 12 ≤ cell)
+      → m' cell ≡ m cell
   pub new_level : level_at m' u ≡ level_at m (root_in size m) + 1
   pub new_bound : bound_at m' u ≡ 0
   pub new_right : right_at m' u ≡ 0
   pub new_few : count_at m' u ≤ 4
   pub new_entries : entries_at m' u ≡ (0, root_in size m) ∷ (key, child) ∷ []
 
-module _ (size : ℕ) (g : Shape) (m m' : Memory) (u key child : ℕ) (t : IsLinked size g m) (gr : IsGrownAt size m m' u key child) (un : g.linked u ≡ false)
-    (fit : u ≤ last_in size m) (linked : g.linked child ≡ true) (same_level : level_at m child ≡ level_at m (root_in size m)) (low_is : g.low child ≡ key)
+module _ (size : ℕ) (g : Shape) (m m' : Memory) (u key child : ℕ) (t : IsLinked size g m)
+    (gr : IsGrownAt size m m' u key child) (un : g.linked u ≡ false)
+    (fit : u ≤ last_in size m) (linked : g.linked child ≡ true)
+    (same_level : level_at m child ≡ level_at m (root_in size m)) (low_is : g.low child ≡ key)
     (some : key ≢ 0) where
   abbrev g' : Shape
   g' = with_node g u 0
@@ -73,7 +81,8 @@ module _ (size : ℕ) (g : Shape) (m m' : Memory) (u key child : ℕ) (t : IsLin
   new_or : (x : ℕ) → g'.linked x ≡ true → (g.linked x ≡ true) ⊎ (x ≡ u)
   new_or x linked = by_test (x == u) refl linked
     where
-      by_test : (b : Bool) → (x == u) ≡ b → cond b true (g.linked x) ≡ true → (g.linked x ≡ true) ⊎ (x ≡ u)
+      by_test : (b : Bool) → (x == u) ≡ b → cond b true (g.linked x) ≡ true → (g.linked x ≡ true)
+          ⊎ (x ≡ u)
       by_test true e l = inr (same_of x u e)
       by_test false e l = inl l
 
@@ -84,34 +93,49 @@ module _ (size : ℕ) (g : Shape) (m m' : Memory) (u key child : ℕ) (t : IsLin
   low_new = new_low g.low u 0
 
   word_same : (x i : ℕ) → g.linked x ≡ true → i < 12 → m' (12 * x + i) ≡ m (12 * x + i)
-  word_same x i old small = gr.others (12 * x + i) (let fits = low x old in omega (arith, small)) (off_words x u i (not_new old) small)
+  word_same x i old small = gr.others (12 * x + i) (let fits = low x old in omega (arith, small))
+      (off_words x u i (not_new old) small)
 
   level_same : (x : ℕ) → g.linked x ≡ true → level_at m' x ≡ level_at m x
   level_same x old = word_same x 0 old (omega arith)
 
   entries_same : (x : ℕ) → g.linked x ≡ true → entries_at m' x ≡ entries_at m x
   entries_same x old =
-      ap (entries_from m' x 0) (word_same x 1 old (omega arith)) ∙ entries_alike m m' x 0 (count_at m x)
-      (λ j from to. (let few = t.few x old in (word_same x (4 + j) old (omega arith), word_same x (8 + j) old (omega arith))))
+      ap (entries_from m' x 0) (word_same x 1 old (omega arith))
+      ∙ entries_alike m m' x 0 (count_at m x)
+      (λ j from to.
+      (let few = t.few x old in
+      (word_same x (4 + j) old (omega arith), word_same x (8 + j) old (omega arith))))
 
   top : level_at m' (root_in size m') ≡ level_at m (root_in size m) + 1
   top = ap (level_at m') gr.root_is ∙ gr.new_level
 
   pub grown_grows : Grows g m (with_node g u 0) m'
-  grown_grows = record { linked = λ x old. still old; low = low_same; level = level_same; top = omega arith }
+  grown_grows = record {
+    linked = λ x old. still old;
+    low = low_same;
+    level = level_same;
+    top = omega arith;
+  }
 
-  put : (level from bound : ℕ) (xs : Entries) (x : ℕ) → level_at m' x ≡ level → g'.low x ≡ from → bound_at m' x ≡ bound → entries_at m' x ≡ xs
-      → HasEntries g' m' level from bound xs → HasEntries g' m' (level_at m' x) (g'.low x) (bound_at m' x) (entries_at m' x)
+  put : (level from bound : ℕ) (xs : Entries) (x : ℕ) → level_at m' x ≡ level → g'.low x ≡ from
+      → bound_at m' x ≡ bound → entries_at m' x ≡ xs
+      → HasEntries g' m' level from bound xs → HasEntries g' m' (level_at m' x) (g'.low x)
+      (bound_at m' x) (entries_at m' x)
   put level from bound xs x a b d e es =
       subst (λ level. HasEntries g' m' level (g'.low x) (bound_at m' x) (entries_at m' x)) (sym a)
       (subst (λ from. HasEntries g' m' level from (bound_at m' x) (entries_at m' x)) (sym b)
       (subst (λ bound. HasEntries g' m' level from bound (entries_at m' x)) (sym d)
       (subst (HasEntries g' m' level from bound) (sym e) es)))
 
-  new_entries_are : HasEntries g' m' (level_at m (root_in size m) + 1) 0 0 ((0, root_in size m) ∷ (key, child) ∷ [])
+  new_entries_are : HasEntries g' m' (level_at m (root_in size m) + 1) 0 0
+      ((0, root_in size m) ∷ (key, child) ∷ [])
   new_entries_are = record {
     rise = ((omega (arith, some), tt), (tt, tt));
-    in_range = ((omega arith, λ none. absurd (none refl)), ((omega arith, λ none. absurd (none refl)), tt));
+    in_range = (
+      (omega arith, λ none. absurd (none refl)),
+      ((omega arith, λ none. absurd (none refl)), tt),
+    );
     leaf = λ none. absurd (omega (arith, none));
     inner = λ some. record {
       two = omega arith;
@@ -122,18 +146,31 @@ module _ (size : ℕ) (g : Shape) (m m' : Memory) (u key child : ℕ) (t : IsLin
           lower = ap (λ n. n + 1) (level_same (root_in size m) t.root_linked);
           key_is = low_same (root_in size m) t.root_linked ∙ t.root_first;
         },
-        (record { linked = still linked; lower = ap (λ n. n + 1) (level_same child linked ∙ same_level); key_is = low_same child linked ∙ low_is }, tt),
+        (
+          record {
+            linked = still linked;
+            lower = ap (λ n. n + 1)
+                (level_same child linked ∙ same_level);
+            key_is = low_same child linked ∙ low_is;
+          },
+          tt,
+        ),
       );
     };
   }
 
-  entries_are : (x : ℕ) → (g.linked x ≡ true) ⊎ (x ≡ u) → HasEntries g' m' (level_at m' x) (g'.low x) (bound_at m' x) (entries_at m' x)
+  entries_are : (x : ℕ) → (g.linked x ≡ true) ⊎ (x ≡ u) → HasEntries g' m' (level_at m' x)
+      (g'.low x) (bound_at m' x) (entries_at m' x)
   entries_are x (inl old) =
-      put (level_at m x) (g.low x) (bound_at m x) (entries_at m x) x (level_same x old) (low_same x old) (word_same x 2 old (omega arith)) (entries_same x old)
-      (entries_grow g g' m m' (level_at m x) (g.low x) (bound_at m x) (entries_at m x) grown_grows (t.entries x old))
+      put (level_at m x) (g.low x) (bound_at m x) (entries_at m x) x (level_same x old)
+      (low_same x old) (word_same x 2 old (omega arith)) (entries_same x old)
+      (entries_grow g g' m m' (level_at m x) (g.low x) (bound_at m x) (entries_at m x) grown_grows
+      (t.entries x old))
   entries_are x (inr at) =
-      subst (λ x. HasEntries g' m' (level_at m' x) (g'.low x) (bound_at m' x) (entries_at m' x)) (sym at)
-      (put (level_at m (root_in size m) + 1) 0 0 ((0, root_in size m) ∷ (key, child) ∷ []) u gr.new_level low_new gr.new_bound gr.new_entries new_entries_are)
+      subst (λ x. HasEntries g' m' (level_at m' x) (g'.low x) (bound_at m' x) (entries_at m' x))
+      (sym at)
+      (put (level_at m (root_in size m) + 1) 0 0 ((0, root_in size m) ∷ (key, child) ∷ []) u
+      gr.new_level low_new gr.new_bound gr.new_entries new_entries_are)
 
   link_is : (x : ℕ) → g.linked x ≡ true → right_at m' x ≢ 0 → LeadsRight g' m' x
   link_is x old on =
@@ -142,19 +179,24 @@ module _ (size : ℕ) (g : Shape) (m m' : Memory) (u key child : ℕ) (t : IsLin
       let l = t.link x old (λ none. on (right ∙ none)) in
       record {
         linked = ap g'.linked right ∙ still l.linked;
-        same_level = ap (level_at m') right ∙ level_same (right_at m x) l.linked ∙ l.same_level ∙ sym (level_same x old);
+        same_level = ap (level_at m') right ∙ level_same (right_at m x) l.linked ∙ l.same_level
+            ∙ sym (level_same x old);
         begins = ap g'.low right ∙ low_same (right_at m x) l.linked ∙ l.begins ∙ sym bound;
         above = (let a = low_same x old in let above = l.above in omega (arith, a, bound, above));
       }
 
-  one_first_is : (a b : ℕ) → (g.linked a ≡ true) ⊎ (a ≡ u) → (g.linked b ≡ true) ⊎ (b ≡ u) → level_at m' a ≡ level_at m' b
+  one_first_is : (a b : ℕ) → (g.linked a ≡ true) ⊎ (a ≡ u) → (g.linked b ≡ true) ⊎ (b ≡ u)
+      → level_at m' a ≡ level_at m' b
       → g'.low a ≡ 0 → g'.low b ≡ 0 → a ≡ b
   one_first_is a b (inl old_a) (inl old_b) level zero_a zero_b =
-      t.one_first a b old_a old_b (sym (level_same a old_a) ∙ level ∙ level_same b old_b) (sym (low_same a old_a) ∙ zero_a) (sym (low_same b old_b) ∙ zero_b)
+      t.one_first a b old_a old_b (sym (level_same a old_a) ∙ level ∙ level_same b old_b)
+      (sym (low_same a old_a) ∙ zero_a) (sym (low_same b old_b) ∙ zero_b)
   one_first_is a b (inl old_a) (inr at) level zero_a zero_b =
-      absurd (let high = t.highest a old_a in let same = level_same a old_a in let new = ap (level_at m') at ∙ gr.new_level in omega (arith, high, same, new, level))
+      absurd (let high = t.highest a old_a in let same = level_same a old_a in let new =
+      ap (level_at m') at ∙ gr.new_level in omega (arith, high, same, new, level))
   one_first_is a b (inr at) (inl old_b) level zero_a zero_b =
-      absurd (let high = t.highest b old_b in let same = level_same b old_b in let new = ap (level_at m') at ∙ gr.new_level in omega (arith, high, same, new, level))
+      absurd (let high = t.highest b old_b in let same = level_same b old_b in let new =
+      ap (level_at m') at ∙ gr.new_level in omega (arith, high, same, new, level))
   one_first_is a b (inr at) (inr at') level zero_a zero_b = at ∙ sym at'
 
   pub grown_linked : IsLinked size (with_node g u 0) m'
@@ -179,12 +221,16 @@ module _ (size : ℕ) (g : Shape) (m m' : Memory) (u key child : ℕ) (t : IsLin
       taken_is x (inl old) = (let le = t.taken x old in let e = gr.last_is in omega (arith, e))
       taken_is x (inr at) = (let e = gr.last_is in omega (arith, e, at, fit))
 
-      highest_is : (x : ℕ) → (g.linked x ≡ true) ⊎ (x ≡ u) → level_at m' x ≤ level_at m' (root_in size m')
-      highest_is x (inl old) = let high = t.highest x old in let same = level_same x old in omega (arith, top, high, same)
-      highest_is x (inr at) = let same = ap (level_at m') at ∙ gr.new_level in omega (arith, top, same)
+      highest_is : (x : ℕ) → (g.linked x ≡ true) ⊎ (x ≡ u) → level_at m' x
+          ≤ level_at m' (root_in size m')
+      highest_is x (inl old) = let high = t.highest x old in let same = level_same x old in
+          omega (arith, top, high, same)
+      highest_is x (inr at) = let same = ap (level_at m') at
+          ∙ gr.new_level in omega (arith, top, same)
 
       ends_is : (x : ℕ) → (g.linked x ≡ true) ⊎ (x ≡ u) → right_at m' x ≡ 0 → bound_at m' x ≡ 0
-      ends_is x (inl old) none = word_same x 2 old (omega arith) ∙ t.ends x old (sym (word_same x 3 old (omega arith)) ∙ none)
+      ends_is x (inl old) none = word_same x 2 old (omega arith)
+          ∙ t.ends x old (sym (word_same x 3 old (omega arith)) ∙ none)
       ends_is x (inr at) none = ap (bound_at m') at ∙ gr.new_bound
 
       by_new_link : (x : ℕ) → (g.linked x ≡ true) ⊎ (x ≡ u) → right_at m' x ≢ 0 → LeadsRight g' m' x
@@ -194,15 +240,25 @@ module _ (size : ℕ) (g : Shape) (m m' : Memory) (u key child : ℕ) (t : IsLin
       left_is : (x : ℕ) → (g.linked x ≡ true) ⊎ (x ≡ u) → g'.low x ≢ 0 → HasNeighbour g' m' x
       left_is x (inl old) some =
           let l = t.left x old (λ none. some (low_same x old ∙ none)) in
-          record { node = l.node; linked = still l.linked; leads = word_same l.node 3 l.linked (omega arith) ∙ l.leads; some = l.some }
+          record {
+            node = l.node;
+            linked = still l.linked;
+            leads = word_same l.node 3 l.linked
+                (omega arith) ∙ l.leads;
+            some = l.some;
+          }
       left_is x (inr at) some = absurd (some (ap g'.low at ∙ low_new))
 
       few_is : (x : ℕ) → (g.linked x ≡ true) ⊎ (x ≡ u) → count_at m' x ≤ 4
-      few_is x (inl old) = let same = word_same x 1 old (omega arith) in let few = t.few x old in omega arith
+      few_is x (inl old) = let same = word_same x 1 old (omega arith) in let few = t.few x old in
+          omega arith
       few_is x (inr at) = subst (λ x. count_at m' x ≤ 4) (sym at) gr.new_few
 
   pub grown_state : (s : Amounts) → ShowsState g m s → ShowsState (with_node g u 0) m' s
-  grown_state s st = record { shows = λ q a l leaf over. shows' q a leaf over (new_or a l); formed = st.formed }
+  grown_state s st = record {
+    shows = λ q a l leaf over. shows' q a leaf over (new_or a l);
+    formed = st.formed;
+  }
     where
       shows' : (q a : ℕ) → level_at m' a ≡ 0 → Covers m' g'.low a q → (g.linked a ≡ true) ⊎ (a ≡ u)
           → amount_of s q ≡ gives q (entries_at m' a)
@@ -211,15 +267,21 @@ module _ (size : ℕ) (g : Shape) (m m' : Memory) (u key child : ℕ) (t : IsLin
             from = (let from = over.from in let e = low_same a old in omega (arith, from, e));
             to = subst (λ b. b ≢ 0 → q < b) (word_same a 2 old (omega arith)) over.to;
           } in
-          st.shows q a old (sym (level_same a old) ∙ leaf) over_a ∙ ap (gives q) (sym (entries_same a old))
-      shows' q a leaf over (inr at) = absurd (let same = ap (level_at m') at ∙ gr.new_level in omega (arith, same, leaf))
+          st.shows q a old (sym (level_same a old) ∙ leaf) over_a
+          ∙ ap (gives q) (sym (entries_same a old))
+      shows' q a leaf over (inr at) = absurd
+          (let same = ap (level_at m') at ∙ gr.new_level in omega (arith, same, leaf))
 
   -- what hangs does so still, except for the new root's child
-  pub grown_hangs : (y : ℕ) → g.linked y ≡ true → y ≢ child → Hangs g m y → Hangs (with_node g u 0) m' y
-  grown_hangs y old apart hangs = ((λ e. hangs.0 (sym (low_same y old) ∙ e)), λ p l some. unnamed p (new_or p l) some)
+  pub grown_hangs : (y : ℕ) → g.linked y ≡ true → y ≢ child → Hangs g m y
+      → Hangs (with_node g u 0) m' y
+  grown_hangs y old apart hangs =
+      ((λ e. hangs.0 (sym (low_same y old) ∙ e)), λ p l some. unnamed p (new_or p l) some)
     where
-      unnamed : (p : ℕ) → (g.linked p ≡ true) ⊎ (p ≡ u) → level_at m' p ≢ 0 → Each (λ entry. entry.1 ≢ y) (entries_at m' p)
-      unnamed p (inl old) some = subst (Each (λ entry. entry.1 ≢ y)) (sym (entries_same p old)) (hangs.1 p old (λ none. some (level_same p old ∙ none)))
+      unnamed : (p : ℕ) → (g.linked p ≡ true) ⊎ (p ≡ u) → level_at m' p ≢ 0
+          → Each (λ entry. entry.1 ≢ y) (entries_at m' p)
+      unnamed p (inl old) some = subst (Each (λ entry. entry.1 ≢ y)) (sym (entries_same p old))
+          (hangs.1 p old (λ none. some (level_same p old ∙ none)))
       unnamed p (inr at) some =
           subst (λ x. Each (λ entry. entry.1 ≢ y) (entries_at m' x)) (sym at)
           (subst (Each (λ entry. entry.1 ≢ y)) (sym gr.new_entries)
@@ -230,9 +292,15 @@ abbrev pub with_top : Shape → ℕ → Shape
 with_top g top = record { linked = g.linked; low = g.low; top = top }
 
 pub top_grows : (g : Shape) (m : Memory) (t : ℕ) → g.top ≤ t → Grows g m (with_top g t) m
-top_grows g m t more = record { linked = λ n l. l; low = λ n l. refl; level = λ n l. refl; top = more }
+top_grows g m t more = record {
+  linked = λ n l. l;
+  low = λ n l. refl;
+  level = λ n l. refl;
+  top = more;
+}
 
-pub top_linked : (size : ℕ) (g : Shape) (m : Memory) → IsLinked size g m → IsLinked size (with_top g (level_at m (root_in size m))) m
+pub top_linked : (size : ℕ) (g : Shape) (m : Memory) → IsLinked size g m
+    → IsLinked size (with_top g (level_at m (root_in size m))) m
 top_linked size g m t = record {
   last_low = t.last_low;
   taken = t.taken;
@@ -243,27 +311,44 @@ top_linked size g m t = record {
   highest = t.highest;
   shown_top = omega arith;
   ends = t.ends;
-  link = λ n l on. let was = t.link n l on in record { linked = was.linked; same_level = was.same_level; begins = was.begins; above = was.above };
-  left = λ n l some. let was = t.left n l some in record { node = was.node; linked = was.linked; leads = was.leads; some = was.some };
+  link = λ n l on. let was = t.link n l on in
+      record {
+        linked = was.linked;
+        same_level = was.same_level;
+        begins = was.begins;
+        above = was.above;
+      };
+  left = λ n l some. let was = t.left n l some in
+      record { node = was.node; linked = was.linked; leads = was.leads; some = was.some };
   one_first = t.one_first;
   few = t.few;
-  entries = λ n l. entries_grow g (with_top g (level_at m (root_in size m))) m m (level_at m n) (g.low n) (bound_at m n) (entries_at m n)
+  entries = λ n l. entries_grow g (with_top g (level_at m (root_in size m))) m m (level_at m n)
+      (g.low n) (bound_at m n) (entries_at m n)
       (top_grows g m (level_at m (root_in size m)) t.shown_top) (t.entries n l);
 }
 
--- In an open block of the caller, with this lock held since memory m: what comes next does right, with these writes so far.
+-- In an open block of the caller, with this lock held since memory m: what comes next does right,
+-- with these writes so far.
 abbrev pub Inside : Header → TreeLocals → Shape → Memory → ℕ → List (ℕ × ℕ) → Script → Type 0
-Inside h k g m lock ws script = (g' : Shape) (m' : Memory) → TreeRely h (holding (lock ∷ []) (OfTree Insert) true false) k g m g' m'
+Inside h k g m lock ws script = (g' : Shape) (m' : Memory)
+    → TreeRely h (holding (lock ∷ []) (OfTree Insert) true false) k g m g' m'
     → TreeRight h (holding (lock ∷ []) (OfTree Insert) true true) (with_pending k ws) g' m' script
 
-pub store_word : (h : Header) (k : TreeLocals) (g : Shape) (m : Memory) (lock u place value : ℕ) (ws : List (ℕ × ℕ)) (later : Script) → OwnsUnseen h k g m
+pub store_word : (h : Header) (k : TreeLocals) (g : Shape) (m : Memory) (lock u place value : ℕ)
+    (ws : List (ℕ × ℕ)) (later : Script) → OwnsUnseen h k g m
     → k.fresh ≡ Some u → u < h.size → place < 12
-    → Inside h k g m lock ((12 * u + place, value) ∷ ws) later → Inside h k g m lock ws (perform (Store (12 * u + place) value) later)
+    → Inside h k g m lock ((12 * u + place, value) ∷ ws) later
+    → Inside h k g m lock ws (perform (Store (12 * u + place) value) later)
 store_word h k g m lock u place value ws later unseen mine fits low rest g' m' rely = (
   with_pending k ((12 * u + place, value) ∷ ws),
   g',
   record {
-    reaches = inl (refl, refl, inl (record { node = u; place = place; is = refl; low = low; may = inl mine }));
+    reaches = inl (
+      refl,
+      refl,
+      inl
+          (record { node = u; place = place; is = refl; low = low; may = inl mine }),
+    );
     grows = subst (λ x. Grows g' m' g' x) (sym same) c.grows;
     leaves = subst (λ x. TreeLeaves h inside (with_pending k ws) g' m' g' x) (sym same) c.leaves;
     tree = subst (IsLinked h.size g') (sym same) rely.tree;
@@ -273,7 +358,8 @@ store_word h k g m lock u place value ws later unseen mine fits low rest g' m' r
     ahead = λ quiet out. cc;
     wrote = λ quiet out. cc;
     within = λ inside goes same. (refl, refl);
-    taken = λ x mine. let t = c.taken x mine in (t.0, subst (λ y. x ≤ last_in h.size y) (sym same) t.1, t.2);
+    taken = λ x mine. let t = c.taken x mine in
+        (t.0, subst (λ y. x ≤ last_in h.size y) (sym same) t.1, t.2);
     hung = λ x mine. let t = c.hung x mine in (t.0, subst (λ y. Hangs g' y x) (sym same) t.1, t.2);
     leads = λ state shows. subst (λ x. ShowsState g' x state) (sym same) shows;
     pending = refl;
@@ -282,8 +368,10 @@ store_word h k g m lock u place value ws later unseen mine fits low rest g' m' r
     answers = refl;
   },
   λ g'' m'' rely'. rest g'' m'' (tree_rely_more h s k g g' g'' m m' m'' rely
-      (rely_with h (lock ∷ []) (OfTree Insert) true true false k ((12 * u + place, value) ∷ ws) g' g'' m' m''
-      (subst (λ x. TreeRely h inside (with_pending k ((12 * u + place, value) ∷ ws)) g' x g'' m'') same rely'))),
+      (rely_with h (lock ∷ []) (OfTree Insert) true true false k ((12 * u + place, value) ∷ ws) g'
+      g'' m' m''
+      (subst (λ x. TreeRely h inside (with_pending k ((12 * u + place, value) ∷ ws)) g' x g'' m'')
+      same rely'))),
 )
   where
     s : Situation
@@ -293,7 +381,8 @@ store_word h k g m lock u place value ws later unseen mine fits low rest g' m' r
     inside = holding (lock ∷ []) (OfTree Insert) true true
 
     c : Changeless h inside (with_pending k ws) g' m'
-    c = changeless h inside (with_pending k ws) g' m' (unseen_with h k ws g' m' (unseen_stays h s k g m g' m' unseen rely))
+    c = changeless h inside (with_pending k ws) g' m'
+        (unseen_with h k ws g' m' (unseen_stays h s k g m g' m' unseen rely))
 
     not_root : (12 * u + place == root_cell h) ≡ false
     not_root = isnt_same (12 * u + place) (root_cell h) (λ e. omega (arith, low, e, fits))
@@ -302,18 +391,27 @@ store_word h k g m lock u place value ws later unseen mine fits low rest g' m' r
     same = ap (λ b. cond b (written ((12 * u + place, value) ∷ ws) m') m') not_root
 
 -- what the stores of a new root leave
-grown_stands : (size : ℕ) (m : Memory) (u level key child root : ℕ) → u < size → root_in size m ≡ root → level_at m root ≡ level
-    → IsGrownAt size m (with_cell (written (new_writes u (level + 1) 0 0 ((0, root) ∷ (key, child) ∷ [])) m) (12 * size) u) u key child
+grown_stands : (size : ℕ) (m : Memory) (u level key child root : ℕ) → u < size → root_in size m
+    ≡ root → level_at m root ≡ level
+    → IsGrownAt size m
+    (with_cell (written (new_writes u (level + 1) 0 0 ((0, root) ∷ (key, child) ∷ [])) m)
+    (12 * size) u) u key child
 grown_stands size m u level key child root fits root_is level_is = record {
-  last_is = other_cell m₂ (12 * size) u (12 * size + 1) (omega arith) ∙ w.others (12 * size + 1) (inr (omega (arith, fits)));
+  last_is = other_cell m₂ (12 * size) u (12 * size + 1) (omega arith) ∙ w.others (12 * size + 1)
+      (inr (omega (arith, fits)));
   root_is = changed_cell m₂ (12 * size) u;
-  others = λ cell small off. other_cell m₂ (12 * size) u cell (omega (arith, small)) ∙ w.others cell off;
-  new_level = at_u 0 (omega arith) ∙ w.level_is ∙ ap (λ n. n + 1) (sym (ap (level_at m) root_is ∙ level_is));
+  others = λ cell small off. other_cell m₂ (12 * size) u cell (omega (arith, small))
+      ∙ w.others cell off;
+  new_level = at_u 0 (omega arith) ∙ w.level_is
+      ∙ ap (λ n. n + 1) (sym (ap (level_at m) root_is ∙ level_is));
   new_bound = at_u 2 (omega arith) ∙ w.bound_is;
   new_right = at_u 3 (omega arith) ∙ w.right_is;
   new_few = (let e = at_u 1 (omega arith) ∙ w.count_is in omega (arith, e));
-  new_entries = ap (entries_from end u 0) (at_u 1 (omega arith)) ∙ entries_alike m₂ end u 0 (count_at m₂ u)
-      (λ j from to. (let few = w.count_is in (at_u (4 + j) (omega (arith, to, few)), at_u (8 + j) (omega (arith, to, few))))) ∙ w.entries
+  new_entries = ap (entries_from end u 0) (at_u 1 (omega arith)) ∙ entries_alike m₂ end u 0
+      (count_at m₂ u)
+      (λ j from to.
+      (let few = w.count_is in
+      (at_u (4 + j) (omega (arith, to, few)), at_u (8 + j) (omega (arith, to, few))))) ∙ w.entries
       ∙ ap (λ root. (0, root) ∷ (key, child) ∷ []) (sym root_is);
 }
   where
@@ -342,14 +440,23 @@ growth_right h args = record { right = grow }
     root_held : holds (holding (root_lock h ∷ []) (OfTree Insert) true true) (root_lock h) ≡ true
     root_held = ap (λ b. b || false) (same_number (root_lock h))
 
-    grow : (k : TreeLocals) (g : Shape) (m : Memory) (level key node root : ℕ) → IsLinked h.size g m → OwnsUnseen h k g m
-        → Ascending k g m (insert_of args) level key node → m (root_cell h) ≡ root → level_at m root ≡ level → g.top ≡ level_at m (root_in h.size m)
+    grow : (k : TreeLocals) (g : Shape) (m : Memory) (level key node root : ℕ) → IsLinked h.size g m
+        → OwnsUnseen h k g m
+        → Ascending k g m (insert_of args) level key node → m (root_cell h) ≡ root → level_at m root
+        ≡ level → g.top ≡ level_at m (root_in h.size m)
         → TreeRight h s k g m (grow_root h level key node root (returns 1))
     grow k g m level key node root tree unseen up is level_is calm =
-        unused_right h (OfTree Insert) true (root_lock h) k g m (unlock_root h (returns 1)) growing (omega arith) tree unseen up.fresh
-        (λ b y r. unlocked_end h args k b y (root_lock h) r.tree (unseen_stays h s k g m b y unseen r) up.called_is)
+        unused_right h (OfTree Insert) true (root_lock h) k g m (unlock_root h (returns 1)) growing
+        (omega arith) tree unseen up.fresh
+        (λ b y r. unlocked_end h args k b y (root_lock h) r.tree
+        (unseen_stays h s k g m b y unseen r) up.called_is)
         some_right g m (record {
-          grows = record { linked = λ n l. l; low = λ n l. refl; level = λ n l. refl; top = omega arith };
+          grows = record {
+            linked = λ n l. l;
+            low = λ n l. refl;
+            level = λ n l. refl;
+            top = omega arith;
+          };
           held = λ n place linked held low. refl;
           fresh = λ n mine. refl;
           used = λ n mine le. le;
@@ -361,22 +468,28 @@ growth_right h args = record { right = grow }
         })
       where
         closing : ℕ → Script
-        closing u = perform (Store (root_cell h) u) (perform (Mark BlockClose) (unlock_root h (returns 1)))
+        closing u = perform (Store (root_cell h) u)
+            (perform (Mark BlockClose) (unlock_root h (returns 1)))
 
         growing : ℕ → Script
-        growing u = perform (Mark BlockOpen) (write_node u (level + 1) 0 0 ((0, root) ∷ (key, node) ∷ []) (closing u))
+        growing u = perform (Mark BlockOpen)
+            (write_node u (level + 1) 0 0 ((0, root) ∷ (key, node) ∷ []) (closing u))
 
-        some_right : (u : ℕ) (ws : List (ℕ × ℕ)) (b : Shape) (y : Memory) → TreeRely h s k g m b y → OwnsUnseen h (with_fresh k u ws) b y
+        some_right : (u : ℕ) (ws : List (ℕ × ℕ)) (b : Shape) (y : Memory) → TreeRely h s k g m b y
+            → OwnsUnseen h (with_fresh k u ws) b y
             → TreeRight h s (with_fresh k u ws) b y (growing u)
         some_right u ws b y r unseen' =
-            tree_open h (root_lock h ∷ []) (OfTree Insert) true k' b y (write_node u (level + 1) 0 0 ((0, root) ∷ (key, node) ∷ []) (closing u)) r.tree unseen'
-            (λ c z r'. block c z (rely_with h (root_lock h ∷ []) (OfTree Insert) true true false k' [] b c y z r'))
+            tree_open h (root_lock h ∷ []) (OfTree Insert) true k' b y
+            (write_node u (level + 1) 0 0 ((0, root) ∷ (key, node) ∷ []) (closing u)) r.tree unseen'
+            (λ c z r'. block c z (rely_with h (root_lock h ∷ []) (OfTree Insert) true true false k'
+            [] b c y z r'))
           where
             k' : TreeLocals
             k' = with_fresh k u ws
 
             u_low : u < h.size
-            u_low = (let fit = (unseen'.fresh u refl).1 in let last = r.tree.last_low in omega arith)
+            u_low = (let fit = (unseen'.fresh u refl).1 in let last = r.tree.last_low in
+                omega arith)
 
             writes : List (ℕ × ℕ)
             writes = new_writes u (level + 1) 0 0 ((0, root) ∷ (key, node) ∷ [])
@@ -384,35 +497,53 @@ growth_right h args = record { right = grow }
             up' : Ascending k b y (insert_of args) level key node
             up' = still_ascending h s k g m b y (insert_of args) level key node unseen up r
 
-            store_root : Inside h k' b y (root_lock h) (new_writes u (level + 1) 0 0 ((0, root) ∷ (key, node) ∷ [])) (closing u)
+            store_root : Inside h k' b y (root_lock h)
+                (new_writes u (level + 1) 0 0 ((0, root) ∷ (key, node) ∷ [])) (closing u)
             store_root c z r' = (
               out_locals,
               with_node c u 0,
               record {
                 reaches = inl (refl, refl, inr (refl, root_held));
-                grows = subst (λ x. Grows c z (with_node c u 0) x) (sym seen) (grown_grows h.size c z end u key node r'.tree gr un fit linked same_level low_is some);
-                leaves = subst (λ x. TreeLeaves h inside (with_pending k' writes) c z (with_node c u 0) x) (sym seen) (record {
-                  others = λ a place of_a free low. gr.others (12 * a + place) (let fits = linked_low h.size c z r'.tree a of_a in omega (arith, low))
-                      (off_words a u place (λ e. never un (sym (ap c.linked e) ∙ of_a)) low);
-                  unlinked = λ x was other. ap (λ b. cond b true (c.linked x)) (isnt_same x u (λ e. other (sym (ap Some e)))) ∙ was;
-                  used = (let e = gr.last_is in omega arith);
-                  hanging = λ x of_x other hangs. grown_hangs h.size c z end u key node r'.tree gr un fit linked same_level low_is some x of_x
-                      (λ e. other (up.hanging ∙ sym (ap Some e))) hangs;
-                  root = λ free. absurd (never free root_held);
-                  count = λ free. gr.last_is;
-                });
-                tree = subst (IsLinked h.size (with_node c u 0)) (sym seen) (grown_linked h.size c z end u key node r'.tree gr un fit linked same_level low_is some);
+                grows = subst (λ x. Grows c z (with_node c u 0) x) (sym seen)
+                    (grown_grows h.size c z end u key node r'.tree gr un fit linked same_level
+                    low_is some);
+                leaves = subst
+                    (λ x. TreeLeaves h inside (with_pending k' writes) c z (with_node c u 0) x)
+                    (sym seen) (record {
+                      others = λ a place of_a free low. gr.others (12 * a + place)
+                          (let fits = linked_low h.size c z r'.tree a of_a in omega (arith, low))
+                          (off_words a u place (λ e. never un (sym (ap c.linked e) ∙ of_a)) low);
+                      unlinked = λ x was other. ap (λ b. cond b true (c.linked x))
+                          (isnt_same x u (λ e. other (sym (ap Some e)))) ∙ was;
+                      used = (let e = gr.last_is in omega arith);
+                      hanging = λ x of_x other hangs. grown_hangs h.size c z end u key node r'.tree
+                          gr
+                          un fit linked same_level low_is some x of_x
+                          (λ e. other (up.hanging ∙ sym (ap Some e))) hangs;
+                      root = λ free. absurd (never free root_held);
+                      count = λ free. gr.last_is;
+                    });
+                tree = subst (IsLinked h.size (with_node c u 0)) (sym seen)
+                    (grown_linked h.size c z end u key node r'.tree gr un fit linked same_level
+                    low_is some);
                 top = λ quiet is quiet'. cc;
                 closed = λ out quiet. cc;
                 alone = λ out. (root_held, refl);
-                ahead = λ quiet out. subst (λ x. (Some u ≡ Some (root_in h.size x)) × (c.top < level_at x (root_in h.size x))) (sym seen)
-                    (ap Some (sym gr.root_is), (let shown = r'.tree.shown_top in let new = ap (level_at end) gr.root_is ∙ gr.new_level in omega arith));
-                wrote = λ quiet out. subst (λ x. Each (λ write. IsWordOf (root_in h.size x) write.0) writes) (sym seen) written_new;
+                ahead = λ quiet out. subst (λ x. (Some u ≡ Some (root_in h.size x))
+                    × (c.top < level_at x (root_in h.size x))) (sym seen) (
+                      ap Some (sym gr.root_is),
+                      (let shown = r'.tree.shown_top in let new =
+                          ap (level_at end) gr.root_is ∙ gr.new_level in omega arith),
+                    );
+                wrote = λ quiet out. subst
+                    (λ x. Each (λ write. IsWordOf (root_in h.size x) write.0) writes)
+                    (sym seen) written_new;
                 within = λ inside goes same. cc;
                 taken = λ v mine. cc;
                 hung = λ v mine. cc;
                 leads = λ state shows. subst (λ x. ShowsState (with_node c u 0) x state) (sym seen)
-                    (grown_state h.size c z end u key node r'.tree gr un fit linked same_level low_is some state shows);
+                    (grown_state h.size c z end u key node r'.tree gr un fit linked same_level
+                    low_is some state shows);
                 pending = refl;
                 out = sym (same_number (root_cell h));
                 called = refl;
@@ -425,18 +556,26 @@ growth_right h args = record { right = grow }
                 out_locals = record {
                   fresh = None;
                   hanging = None;
-                  pending = (root_cell h, u) ∷ new_writes u (level + 1) 0 0 ((0, root) ∷ (key, node) ∷ []);
+                  pending = (root_cell h, u) ∷ new_writes u (level + 1) 0 0
+                      ((0, root) ∷ (key, node) ∷ []);
                   out = true;
                   called = k.called;
                   answered = k.answered;
                 }
 
                 end : Memory
-                end = with_cell (written (new_writes u (level + 1) 0 0 ((0, root) ∷ (key, node) ∷ [])) z) (12 * h.size) u
+                end = with_cell
+                    (written (new_writes u (level + 1) 0 0 ((0, root) ∷ (key, node) ∷ [])) z)
+                    (12 * h.size) u
 
-                seen : cond (root_cell h == root_cell h) (written ((root_cell h, u) ∷ new_writes u (level + 1) 0 0 ((0, root) ∷ (key, node) ∷ [])) z) z
-                    ≡ with_cell (written (new_writes u (level + 1) 0 0 ((0, root) ∷ (key, node) ∷ [])) z) (12 * h.size) u
-                seen = ap (λ b. cond b (written ((root_cell h, u) ∷ new_writes u (level + 1) 0 0 ((0, root) ∷ (key, node) ∷ [])) z) z) (same_number (root_cell h))
+                seen : cond (root_cell h == root_cell h)
+                    (written ((root_cell h, u) ∷ new_writes u (level + 1) 0 0
+                    ((0, root) ∷ (key, node) ∷ [])) z) z
+                    ≡ with_cell (written
+                    (new_writes u (level + 1) 0 0 ((0, root) ∷ (key, node) ∷ [])) z) (12 * h.size) u
+                seen = ap (λ b. cond b
+                    (written ((root_cell h, u) ∷ new_writes u (level + 1) 0 0
+                    ((0, root) ∷ (key, node) ∷ [])) z) z) (same_number (root_cell h))
 
                 unseen_c : OwnsUnseen h k' c z
                 unseen_c = unseen_stays h s k' b y c z unseen' r'
@@ -457,10 +596,12 @@ growth_right h args = record { right = grow }
                 root_linked = ap g.linked (sym is) ∙ tree.root_linked
 
                 root_level : level_at z root ≡ level
-                root_level = r'.grows.level root (r.grows.linked root root_linked) ∙ r.grows.level root root_linked ∙ level_is
+                root_level = r'.grows.level root (r.grows.linked root root_linked)
+                    ∙ r.grows.level root root_linked ∙ level_is
 
                 same_level : level_at z node ≡ level_at z (root_in h.size z)
-                same_level = r'.grows.level node (unseen'.hanging node up.hanging).0 ∙ up'.level_is ∙ sym (ap (level_at z) root_is ∙ root_level)
+                same_level = r'.grows.level node (unseen'.hanging node up.hanging).0 ∙ up'.level_is
+                    ∙ sym (ap (level_at z) root_is ∙ root_level)
 
                 low_is : c.low node ≡ key
                 low_is = r'.grows.low node (unseen'.hanging node up.hanging).0 ∙ up'.low_is
@@ -468,29 +609,41 @@ growth_right h args = record { right = grow }
                 some : key ≢ 0
                 some e = (unseen_c.hanging node up.hanging).1.0 (low_is ∙ e)
 
-                gr : IsGrownAt h.size z (with_cell (written (new_writes u (level + 1) 0 0 ((0, root) ∷ (key, node) ∷ [])) z) (12 * h.size) u) u key node
+                gr : IsGrownAt h.size z
+                    (with_cell (written
+                    (new_writes u (level + 1) 0 0 ((0, root) ∷ (key, node) ∷ [])) z)
+                    (12 * h.size) u) u key node
                 gr = grown_stands h.size z u level key node root u_low root_is root_level
 
                 written_new : Each (λ write. IsWordOf (root_in h.size end) write.0) writes
-                written_new = subst (λ n. Each (λ write. IsWordOf n write.0) writes) (sym gr.root_is) (
-                  word_of 9 (omega arith),
-                  (
-                    word_of 5 (omega arith),
-                    (
-                      word_of 8 (omega arith),
+                written_new = subst (λ n. Each (λ write. IsWordOf n write.0) writes)
+                    (sym gr.root_is) (
+                      word_of 9 (omega arith),
                       (
-                        word_of 4 (omega arith),
-                        (word_of 3 (omega arith), (word_of 2 (omega arith), (word_of 1 (omega arith), (word_of 0 (omega arith), tt)))),
+                        word_of 5 (omega arith),
+                        (
+                          word_of 8 (omega arith),
+                          (
+                            word_of 4 (omega arith),
+                            (
+                              word_of 3 (omega arith),
+                              (
+                                word_of 2
+                                    (omega arith),
+                                (word_of 1 (omega arith), (word_of 0 (omega arith), tt)),
+                              ),
+                            ),
+                          ),
+                        ),
                       ),
-                    ),
-                  ),
-                )
+                    )
                   where
                     word_of : (place : ℕ) → place < 12 → IsWordOf u (12 * u + place)
                     word_of place low = record { place = place; low = low; is = refl }
 
                 closed : (d : Shape) (v : Memory) → IsLinked h.size d v
-                    → TreeRight h inside out_locals d v (perform (Mark BlockClose) (unlock_root h (returns 1)))
+                    → TreeRight h inside out_locals d v
+                    (perform (Mark BlockClose) (unlock_root h (returns 1)))
                 closed d v t = (
                   done_locals,
                   with_top d (level_at v (root_in h.size v)),
@@ -521,7 +674,8 @@ growth_right h args = record { right = grow }
                     answers = refl;
                   },
                   λ e x r3. unlocked_end h args done_locals e x (root_lock h) r3.tree
-                      (unseen_stays h s done_locals (with_top d (level_at v (root_in h.size v))) v e x (record { fresh = λ x mine. cc; hanging = λ x mine. cc; quiet = refl }) r3)
+                      (unseen_stays h s done_locals (with_top d (level_at v (root_in h.size v))) v e
+                      x (record { fresh = λ x mine. cc; hanging = λ x mine. cc; quiet = refl }) r3)
                       up.called_is,
                 )
                   where
@@ -529,19 +683,23 @@ growth_right h args = record { right = grow }
                     done_locals = record {
                       fresh = None;
                       hanging = None;
-                      pending = (root_cell h, u) ∷ new_writes u (level + 1) 0 0 ((0, root) ∷ (key, node) ∷ []);
+                      pending = (root_cell h, u) ∷ new_writes u (level + 1) 0 0
+                          ((0, root) ∷ (key, node) ∷ []);
                       out = false;
                       called = k.called;
                       answered = k.answered;
                     }
 
-            block : Inside h k' b y (root_lock h) [] (write_node u (level + 1) 0 0 ((0, root) ∷ (key, node) ∷ []) (closing u))
+            block : Inside h k' b y (root_lock h) []
+                (write_node u (level + 1) 0 0 ((0, root) ∷ (key, node) ∷ []) (closing u))
             block =
-                store_word h k' b y (root_lock h) u 0 (level + 1) [] _ unseen' refl u_low (omega arith)
+                store_word h k' b y (root_lock h) u 0 (level + 1) [] _ unseen' refl u_low
+                (omega arith)
                 (store_word h k' b y (root_lock h) u 1 2 _ _ unseen' refl u_low (omega arith)
                 (store_word h k' b y (root_lock h) u 2 0 _ _ unseen' refl u_low (omega arith)
                 (store_word h k' b y (root_lock h) u 3 0 _ _ unseen' refl u_low (omega arith)
                 (store_word h k' b y (root_lock h) u 4 0 _ _ unseen' refl u_low (omega arith)
                 (store_word h k' b y (root_lock h) u 8 root _ _ unseen' refl u_low (omega arith)
                 (store_word h k' b y (root_lock h) u 5 key _ _ unseen' refl u_low (omega arith)
-                (store_word h k' b y (root_lock h) u 9 node _ _ unseen' refl u_low (omega arith) store_root)))))))
+                (store_word h k' b y (root_lock h) u 9 node _ _ unseen' refl u_low
+                (omega arith) store_root)))))))

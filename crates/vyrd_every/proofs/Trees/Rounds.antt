@@ -1,5 +1,6 @@
 -- The rounds of an ascent, where a new root does right.
-use Rattle.std.proofs.Common.{◌≡◌, ℕ, zero, suc, ◌+◌, ◌<◌, ◌≤◌, ◌⊎◌, inl, inr, Bool, true, false, cond, [], ◌∷◌, length, refl, ap, ◌∙◌, sym, subst, arith}
+use Rattle.std.proofs.Common.{◌≡◌, ℕ, zero, suc, ◌+◌, ◌<◌, ◌≤◌, ◌⊎◌, inl, inr, Bool, true, false}
+use Rattle.std.proofs.Common.{cond, [], ◌∷◌, length, refl, ap, ◌∙◌, sym, subst, arith}
 use Rattle.std.specs.Prelude.{◌||◌, nat_lt, nat_le}
 use Rattle.vyrd_base.specs.declared.header.Header.{Header}
 use Rattle.vyrd_base.specs.declared.subject.Method.TheVariants.{Tree as OfTree}
@@ -12,7 +13,8 @@ use Rattle.vyrd_memory.specs.declared.op.Variant.TheVariants.{Correct}
 use Rattle.vyrd_memory.specs.Alone.{Memory}
 use Rattle.vyrd_memory.specs.Scripts.{Script, step, returns}
 use Rattle.vyrd_memory.specs.Soundness.{Situation, holds}
-use Rattle.vyrd_tree.specs.Cells.{level_cell, root_cell, root_lock, lock_of, unlock_node, unlock_root}
+use Rattle.vyrd_tree.specs.Cells.{level_cell, root_cell, root_lock, lock_of, unlock_node}
+use Rattle.vyrd_tree.specs.Cells.{unlock_root}
 use Rattle.vyrd_tree.specs.Procedures.Walk.{walk_from}
 use Rattle.vyrd_tree.specs.Procedures.Split.{with_unused, add_entry, split_entry, split_key}
 use Rattle.vyrd_tree.specs.Procedures.Ascent.{grow_root, add_child, ascend_once, ascend}
@@ -25,51 +27,69 @@ use Rattle.vyrd_every.specs.Trees.Shapes.{Shape, IsLinked}
 use Rattle.vyrd_every.specs.Trees.Locals.{TreeLocals}
 use Rattle.vyrd_every.specs.Trees.Others.{TreeRely}
 use Rattle.vyrd_every.specs.Trees.RightScripts.{TreeRight}
-use Rattle.vyrd_every.proofs.Trees.Parts.{OwnsUnseen, unseen_stays, tree_load, tree_take, tree_give_last}
+use Rattle.vyrd_every.proofs.Trees.Parts.{OwnsUnseen, unseen_stays, tree_load, tree_take}
+use Rattle.vyrd_every.proofs.Trees.Parts.{tree_give_last}
 use Rattle.vyrd_every.proofs.Trees.Walks.{Onward, walk_right}
 use Rattle.vyrd_every.proofs.Trees.Kept.{linked_low}
 use Rattle.vyrd_every.proofs.Trees.Fulls.{Ascending}
-use Rattle.vyrd_every.proofs.Trees.Ascents.{insert_of, ended_right, still_ascending, Above, room_right, RoundsRight, full_above}
+use Rattle.vyrd_every.proofs.Trees.Ascents.{insert_of, ended_right, still_ascending, Above}
+use Rattle.vyrd_every.proofs.Trees.Ascents.{room_right, RoundsRight, full_above}
 
--- With the root's lock held, where the root is on the level of the node that hangs: a new root does right.
+-- With the root's lock held, where the root is on the level of the node that hangs: a new root does
+-- right.
 pub record GrowthRight (h : Header) (args : Args) : Type 0 where
-  pub right : (k : TreeLocals) (g : Shape) (m : Memory) (level key node root : ℕ) → IsLinked h.size g m → OwnsUnseen h k g m
-      → Ascending k g m (insert_of args) level key node → m (root_cell h) ≡ root → level_at m root ≡ level → g.top ≡ level_at m (root_in h.size m)
-      → TreeRight h (holding (root_lock h ∷ []) (OfTree Insert) true false) k g m (grow_root h level key node root (returns 1))
+  pub right : (k : TreeLocals) (g : Shape) (m : Memory) (level key node root : ℕ)
+      → IsLinked h.size g m → OwnsUnseen h k g m
+      → Ascending k g m (insert_of args) level key node → m (root_cell h) ≡ root → level_at m root
+      ≡ level → g.top ≡ level_at m (root_in h.size m)
+      → TreeRight h (holding (root_lock h ∷ []) (OfTree Insert) true false) k g m
+      (grow_root h level key node root (returns 1))
 
 -- where the walk of a round has arrived
-arrived_right : (h : Header) (args : Args) (k : TreeLocals) (g : Shape) (m : Memory) (level key node n : ℕ) (next : ℕ → ℕ → ℕ → Script)
+arrived_right : (h : Header) (args : Args) (k : TreeLocals) (g : Shape) (m : Memory)
+    (level key node n : ℕ) (next : ℕ → ℕ → ℕ → Script)
     → Above h args k g m level key node n → RoundsRight h args next
-    → Onward h (holding (lock_of h n ∷ []) (OfTree Insert) true false) k g m (add_child h level key node (loaded_at m n) (returns 1) next)
+    → Onward h (holding (lock_of h n ∷ []) (OfTree Insert) true false) k g m
+    (add_child h level key node (loaded_at m n) (returns 1) next)
 arrived_right h args k g m level key node n next ab rounds =
-    subst (Goal (nat_lt (length (entries_at m n)) 4)) (sym (isnt_at_most (level_at m n) level (let e = ab.is.level_is in omega arith)))
+    subst (Goal (nat_lt (length (entries_at m n)) 4))
+    (sym (isnt_at_most (level_at m n) level (let e = ab.is.level_is in omega arith)))
     (by_room (le_or 4 (length (entries_at m n))))
   where
     s : Situation
     s = holding (lock_of h n ∷ []) (OfTree Insert) true false
 
     Goal : Bool → Bool → Type 0
-    Goal room low = Onward h s k g m (cond low (unlock_node h n (returns 1)) (cond room (add_entry h (loaded_at m n) key node BlockClose (returns 1))
+    Goal room low = Onward h s k g m
+        (cond low (unlock_node h n (returns 1))
+        (cond room (add_entry h (loaded_at m n) key node BlockClose (returns 1))
         (with_unused h (unlock_node h n (returns 1)) (λ new.
-        split_entry h (loaded_at m n) key node new BlockClose (next (level + 1) (split_key (loaded_at m n) key node) new)))))
+        split_entry h (loaded_at m n) key node new BlockClose
+        (next (level + 1) (split_key (loaded_at m n) key node) new)))))
 
     few : length (entries_at m n) ≤ 4
-    few = (let few = ab.tree.few n ab.at.linked in let e = length-entries m n 0 (count_at m n) in omega arith)
+    few = (let few = ab.tree.few n ab.at.linked in let e = length-entries m n 0 (count_at m n) in
+        omega arith)
 
-    by_room : (4 ≤ length (entries_at m n)) ⊎ (length (entries_at m n) < 4) → Goal (nat_lt (length (entries_at m n)) 4) false
-    by_room (inl more) = subst (λ b. Goal b false) (sym (isnt_below (length (entries_at m n)) 4 more))
+    by_room : (4 ≤ length (entries_at m n)) ⊎ (length (entries_at m n) < 4)
+        → Goal (nat_lt (length (entries_at m n)) 4) false
+    by_room (inl more) = subst (λ b. Goal b false)
+        (sym (isnt_below (length (entries_at m n)) 4 more))
         (full_above h args k g m level key node n next ab (omega (arith, more, few)) rounds)
     by_room (inr less) = subst (λ b. Goal b false) (sym (is_below (length (entries_at m n)) 4 less))
         (room_right h args k g m level key node n ab less)
 
 -- one round
-round_right : (h : Header) (args : Args) (next : ℕ → ℕ → ℕ → Script) → GrowthRight h args → RoundsRight h args next
+round_right : (h : Header) (args : Args) (next : ℕ → ℕ → ℕ → Script) → GrowthRight h args
+    → RoundsRight h args next
     → RoundsRight h args (λ level key node. ascend_once h Correct level key node (returns 1) next)
 round_right h args next growth rounds = record { right = begin }
   where
-    begin : (k : TreeLocals) (g : Shape) (m : Memory) (level key node : ℕ) → IsLinked h.size g m → OwnsUnseen h k g m
+    begin : (k : TreeLocals) (g : Shape) (m : Memory) (level key node : ℕ) → IsLinked h.size g m
+        → OwnsUnseen h k g m
         → Ascending k g m (insert_of args) level key node
-        → TreeRight h (holding [] (OfTree Insert) true false) k g m (ascend_once h Correct level key node (returns 1) next)
+        → TreeRight h (holding [] (OfTree Insert) true false) k g m
+        (ascend_once h Correct level key node (returns 1) next)
     begin k g m level key node tree unseen up =
         tree_take h free k g m (root_lock h) under tree unseen (λ held e. cc)
         (λ a x r.
@@ -77,7 +97,8 @@ round_right h args next growth rounds = record { right = begin }
         let up_a = still_ascending h s k g m a x (insert_of args) level key node unseen up r in
         tree_load h s k a x (root_cell h) by_root r.tree unseen_a (inr (inl refl)) refl
         (λ b y r'. rooted b y (x (root_cell h)) r'.tree (unseen_stays h s k a x b y unseen_a r')
-        (still_ascending h s k a x b y (insert_of args) level key node unseen_a up_a r') (r'.root root_held).0))
+        (still_ascending h s k a x b y (insert_of args) level key node unseen_a up_a r')
+        (r'.root root_held).0))
       where
         free : Situation
         free = holding [] (OfTree Insert) true false
@@ -89,38 +110,55 @@ round_right h args next growth rounds = record { right = begin }
         root_held = ap (λ b. b || false) (same_number (root_lock h))
 
         walk : ℕ → Script
-        walk root = walk_from h Correct key (level + 1) h.size root (returns 1) (λ at. add_child h level key node at (returns 1) next)
+        walk root = walk_from h Correct key (level + 1) h.size root (returns 1)
+            (λ at. add_child h level key node at (returns 1) next)
 
         by_top : ℕ → ℕ → Script
-        by_top root top = cond (nat_le top level) (grow_root h level key node root (returns 1)) (unlock_root h (walk root))
+        by_top root top = cond (nat_le top level) (grow_root h level key node root (returns 1))
+            (unlock_root h (walk root))
 
         by_root : ℕ → Script
-        by_root root = cond (nat_lt root h.size) (step (Load (level_cell root)) (by_top root)) (unlock_root h (returns 1))
+        by_root root = cond (nat_lt root h.size) (step (Load (level_cell root)) (by_top root))
+            (unlock_root h (returns 1))
 
         under : Script
         under = step (Load (root_cell h)) by_root
 
-        rooted : (b : Shape) (y : Memory) (root : ℕ) → IsLinked h.size b y → OwnsUnseen h k b y → Ascending k b y (insert_of args) level key node
+        rooted : (b : Shape) (y : Memory) (root : ℕ) → IsLinked h.size b y → OwnsUnseen h k b y
+            → Ascending k b y (insert_of args) level key node
             → y (root_cell h) ≡ root → TreeRight h s k b y (by_root root)
         rooted b y root tree unseen up is =
-            subst (λ t. TreeRight h s k b y (cond t (step (Load (level_cell root)) (by_top root)) (unlock_root h (returns 1))))
+            subst (λ t. TreeRight h s k b y
+            (cond t (step (Load (level_cell root)) (by_top root)) (unlock_root h (returns 1))))
             (sym (is_below root h.size (linked_low h.size b y tree root linked)))
             (tree_load h s k b y (level_cell root) (by_top root) tree unseen
-            (inl (record { node = root; place = 0; is = refl; low = omega arith; linked = linked; may = inr refl })) refl
+            (inl (record {
+              node = root;
+              place = 0;
+              is = refl;
+              low = omega arith;
+              linked = linked;
+              may = inr refl;
+            })) refl
             (λ c z r. topped c z (level_at y root) r.tree (unseen_stays h s k b y c z unseen r)
             (still_ascending h s k b y c z (insert_of args) level key node unseen up r)
-            ((r.root root_held).0 ∙ is) (r.grows.level root linked) (r.calm root_held unseen.quiet)))
+            ((r.root root_held).0 ∙ is) (r.grows.level root linked)
+            (r.calm root_held unseen.quiet)))
           where
             linked : b.linked root ≡ true
             linked = ap b.linked (sym is) ∙ tree.root_linked
 
-            topped : (c : Shape) (z : Memory) (top : ℕ) → IsLinked h.size c z → OwnsUnseen h k c z → Ascending k c z (insert_of args) level key node
-                → z (root_cell h) ≡ root → level_at z root ≡ top → c.top ≡ level_at z (root_in h.size z)
+            topped : (c : Shape) (z : Memory) (top : ℕ) → IsLinked h.size c z → OwnsUnseen h k c z
+                → Ascending k c z (insert_of args) level key node
+                → z (root_cell h) ≡ root → level_at z root ≡ top
+                → c.top ≡ level_at z (root_in h.size z)
                 → TreeRight h s k c z (by_top root top)
             topped c z top tree unseen up is top_is calm = by_level (le_or top level)
               where
                 Goal : Bool → Type 0
-                Goal low = TreeRight h s k c z (cond low (grow_root h level key node root (returns 1)) (unlock_root h (walk root)))
+                Goal low = TreeRight h s k c z
+                    (cond low (grow_root h level key node root (returns 1))
+                    (unlock_root h (walk root)))
 
                 root_linked : c.linked root ≡ true
                 root_linked = ap c.linked (sym is) ∙ tree.root_linked
@@ -131,30 +169,45 @@ round_right h args next growth rounds = record { right = begin }
                 by_level : (top ≤ level) ⊎ (level < top) → Goal (nat_le top level)
                 by_level (inl low) = subst Goal (sym (is_at_most top level low))
                     (growth.right k c z level key node root tree unseen up is
-                    (let high = tree.highest node (unseen.hanging node up.hanging).0 in let at = up.level_is in omega (arith, low, root_level, top_is, high, at)) calm)
+                    (let high = tree.highest node (unseen.hanging node up.hanging).0 in let at =
+                    up.level_is in omega (arith, low, root_level, top_is, high, at)) calm)
                 by_level (inr above) = subst Goal (sym (isnt_at_most top level above))
-                    (tree_give_last h (OfTree Insert) true k c z (root_lock h) (walk root) tree unseen
-                    (λ d w r. walk_right h (OfTree Insert) true key (level + 1) k d w (returns 1) (λ at. add_child h level key node at (returns 1) next)
+                    (tree_give_last h (OfTree Insert) true k c z (root_lock h)
+                    (walk root) tree unseen
+                    (λ d w r. walk_right h (OfTree Insert) true key (level + 1) k d w (returns 1)
+                    (λ at. add_child h level key node at (returns 1) next)
                     (unseen_stays h free k c z d w unseen r)
-                    (λ n e v r' at level_is over. arrived_right h args k e v level key node n next (record {
+                    (λ n e v r' at level_is over. arrived_right h args k e v level key node n next
+                    (record {
                       tree = r'.tree;
                       at = at;
                       is = record { linked = at.linked; level_is = level_is; covers = over };
-                      up = still_ascending h free k d w e v (insert_of args) level key node (unseen_stays h free k c z d w unseen r)
-                          (still_ascending h free k c z d w (insert_of args) level key node unseen up r) r';
-                      low_level = (let one = r.grows.top in let two = r'.grows.top in omega (arith, level_is, above, root_level, calm, one, two));
+                      up = still_ascending h free k d w e v (insert_of args) level key node
+                          (unseen_stays h free k c z d w unseen r)
+                          (still_ascending h free k c z d w (insert_of args) level key node unseen
+                          up r) r';
+                      low_level = (let one = r.grows.top in let two = r'.grows.top in
+                          omega (arith, level_is, above, root_level, calm, one, two));
                     }) rounds)
                     h.size root (λ x. false) d w (same d w r) (record {
                       linked = r.grows.linked root root_linked;
-                      from = (let low = r.grows.low root root_linked in let first = tree.root_first in let here = ap c.low is in omega arith);
-                      high = (let here = r.grows.level root root_linked in omega (arith, above, top_is, here));
+                      from = (let low = r.grows.low root root_linked in let first =
+                          tree.root_first in let here = ap c.low is in omega arith);
+                      high = (let here = r.grows.level root root_linked in
+                          omega (arith, above, top_is, here));
                       behind = λ x e. cc;
                       enough = omega arith;
                     })))
                   where
-                    same : (d : Shape) (w : Memory) → TreeRely h free k c z d w → TreeRely h free k d w d w
+                    same : (d : Shape) (w : Memory) → TreeRely h free k c z d w
+                        → TreeRely h free k d w d w
                     same d w r = record {
-                      grows = record { linked = λ n l. l; low = λ n l. refl; level = λ n l. refl; top = omega arith };
+                      grows = record {
+                        linked = λ n l. l;
+                        low = λ n l. refl;
+                        level = λ n l. refl;
+                        top = omega arith;
+                      };
                       held = λ n place linked held low. refl;
                       fresh = λ n mine. refl;
                       used = λ n mine le. le;
@@ -168,6 +221,11 @@ round_right h args next growth rounds = record { right = begin }
 -- an ascent with this many rounds left
 pub rounds_right : (h : Header) (args : Args) → GrowthRight h args → (left : ℕ)
     → RoundsRight h args (λ level key node. ascend h Correct left level key node (returns 1))
-rounds_right h args growth zero = record { right = λ k g m level key node tree unseen up. ended_right h args k g m tree unseen up.called_is }
+rounds_right h args growth zero =
+    record {
+      right = λ k g m level key node tree unseen up. ended_right h args k g m tree unseen
+          up.called_is;
+    }
 rounds_right h args growth (suc left) =
-    round_right h args (λ level key node. ascend h Correct left level key node (returns 1)) growth (rounds_right h args growth left)
+    round_right h args (λ level key node. ascend h Correct left level key node (returns 1)) growth
+    (rounds_right h args growth left)

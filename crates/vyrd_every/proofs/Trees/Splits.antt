@@ -1,5 +1,6 @@
 -- The linked nodes after one of them was split, and the new node is linked on its right.
-use Rattle.std.proofs.Common.{◌≡◌, ◌≢◌, ℕ, ◌+◌, ◌*◌, ◌<◌, ◌≤◌, ◌⊎◌, inl, inr, Bool, true, false, cond, refl, ap, ◌∙◌, sym, subst, arith}
+use Rattle.std.proofs.Common.{◌≡◌, ◌≢◌, ℕ, ◌+◌, ◌*◌, ◌<◌, ◌≤◌, ◌⊎◌, inl, inr, Bool, true, false}
+use Rattle.std.proofs.Common.{cond, refl, ap, ◌∙◌, sym, subst, arith}
 use Rattle.std.specs.Prelude.{◌==◌}
 use Rattle.std.specs.List.{AllByRecursion as Each}
 use Rattle.vyrd_base.specs.Amounts.{Amounts, IsAmounts, amount_of}
@@ -14,18 +15,25 @@ use Rattle.vyrd_tree.specs.Laws.Alone.SplitKeepsTree.{with_low, new_low, old_low
 use Rattle.vyrd_tree.specs.Laws.Alone.SplitKeepsTree.{off_words}
 use Rattle.vyrd_tree.specs.Procedures.Split.{lower_half, upper_half, first_key}
 use Rattle.vyrd_every.proofs.Acts.{never}
-use Rattle.vyrd_every.specs.Trees.Shapes.{Shape, LeadsDown, HasEntries, LeadsRight, HasNeighbour, IsLinked, Unnamed, Hangs}
+use Rattle.vyrd_every.specs.Trees.Shapes.{Shape, LeadsDown, HasEntries, LeadsRight, HasNeighbour}
+use Rattle.vyrd_every.specs.Trees.Shapes.{IsLinked, Unnamed, Hangs}
 use Rattle.vyrd_every.specs.Trees.States.{ShowsState}
 use Rattle.vyrd_every.specs.Trees.Others.{Grows}
 use Rattle.vyrd_every.proofs.Trees.Kept.{coded, uncode, entries_grow, linked_low}
 
 -- the nodes with one more linked
 abbrev pub with_node : Shape → ℕ → ℕ → Shape
-with_node g u key = record { linked = λ x. cond (x == u) true (g.linked x); low = with_low g.low u key; top = g.top }
+with_node g u key = record {
+  linked = λ x. cond (x == u) true (g.linked x);
+  low = with_low g.low u key;
+  top = g.top;
+}
 
 -- Node n was split: node u takes over its bound and its right link, and stands on its right.
-pub record IsSplitAt (size : ℕ) (m m' : Memory) (n u : ℕ) (lower upper : Entries) (key : ℕ) : Type 0 where
-  pub others : (cell : ℕ) → cell < 12 * size + 2 → (cell < 12 * n + 1) ⊎ (12 * n + 12 ≤ cell) → (cell < 12 * u) ⊎ (12 * u + 12 ≤ cell) → m' cell ≡ m cell
+pub record IsSplitAt (size : ℕ) (m m' : Memory) (n u : ℕ) (lower upper : Entries)
+    (key : ℕ) : Type 0 where
+  pub others : (cell : ℕ) → cell < 12 * size + 2 → (cell < 12 * n + 1) ⊎ (12 * n + 12 ≤ cell)
+      → (cell < 12 * u) ⊎ (12 * u + 12 ≤ cell) → m' cell ≡ m cell
   pub bound_is : bound_at m' n ≡ key
   pub right_is : right_at m' n ≡ u
   pub few : count_at m' n ≤ 4
@@ -36,10 +44,12 @@ pub record IsSplitAt (size : ℕ) (m m' : Memory) (n u : ℕ) (lower upper : Ent
   pub new_few : count_at m' u ≤ 4
   pub new_entries : entries_at m' u ≡ upper
 
-module _ (size : ℕ) (g : Shape) (m m' : Memory) (n u : ℕ) (five : Entries) (t : IsLinked size g m) (used : g.linked n ≡ true) (un : g.linked u ≡ false)
+module _ (size : ℕ) (g : Shape) (m m' : Memory) (n u : ℕ) (five : Entries) (t : IsLinked size g m)
+    (used : g.linked n ≡ true) (un : g.linked u ≡ false)
     (fit : u ≤ last_in size m)
     (sp : IsSplitAt size m m' n u (lower_half five) (upper_half five) (first_key (upper_half five)))
-    (ha : AreHalves size (coded g m (level_at m n)) g.low (level_at m n) (g.low n) (bound_at m n) five) where
+    (ha : AreHalves size (coded g m (level_at m n)) g.low (level_at m n) (g.low n)
+    (bound_at m n) five) where
   abbrev key : ℕ
   key = first_key (upper_half five)
 
@@ -67,7 +77,8 @@ module _ (size : ℕ) (g : Shape) (m m' : Memory) (n u : ℕ) (five : Entries) (
   new_or : (x : ℕ) → g'.linked x ≡ true → (g.linked x ≡ true) ⊎ (x ≡ u)
   new_or x linked = by_test (x == u) refl linked
     where
-      by_test : (b : Bool) → (x == u) ≡ b → cond b true (g.linked x) ≡ true → (g.linked x ≡ true) ⊎ (x ≡ u)
+      by_test : (b : Bool) → (x == u) ≡ b → cond b true (g.linked x) ≡ true → (g.linked x ≡ true)
+          ⊎ (x ≡ u)
       by_test true e l = inr (same_of x u e)
       by_test false e l = inl l
 
@@ -80,9 +91,11 @@ module _ (size : ℕ) (g : Shape) (m m' : Memory) (n u : ℕ) (five : Entries) (
   -- the words of other nodes
   word_same : (x i : ℕ) → g.linked x ≡ true → x ≢ n → i < 12 → m' (12 * x + i) ≡ m (12 * x + i)
   word_same x i old apart small =
-      sp.others (12 * x + i) (let fits = low x old in omega arith) (one_more (off_words x n i apart small)) (off_words x u i (not_new old) small)
+      sp.others (12 * x + i) (let fits = low x old in omega arith)
+      (one_more (off_words x n i apart small)) (off_words x u i (not_new old) small)
     where
-      one_more : (12 * x + i < 12 * n) ⊎ (12 * n + 12 ≤ 12 * x + i) → (12 * x + i < 12 * n + 1) ⊎ (12 * n + 12 ≤ 12 * x + i)
+      one_more : (12 * x + i < 12 * n) ⊎ (12 * n + 12 ≤ 12 * x + i) → (12 * x + i < 12 * n + 1)
+          ⊎ (12 * n + 12 ≤ 12 * x + i)
       one_more (inl lt) = inl (omega arith)
       one_more (inr le) = inr le
 
@@ -92,29 +105,45 @@ module _ (size : ℕ) (g : Shape) (m m' : Memory) (n u : ℕ) (five : Entries) (
       by_place : (x ≡ n) ⊎ (x ≢ n) → level_at m' x ≡ level_at m x
       by_place (inl at) =
           subst (λ x. level_at m' x ≡ level_at m x) (sym at)
-          (sp.others (12 * n + 0) (let fits = low n used in omega arith) (inl (omega arith)) (off_words n u 0 (not_new used) (omega arith)))
+          (sp.others (12 * n + 0) (let fits = low n used in omega arith) (inl (omega arith))
+          (off_words n u 0 (not_new used) (omega arith)))
       by_place (inr apart) = word_same x 0 old apart (omega arith)
 
-  entries_same : (x : ℕ) → g.linked x ≡ true → x ≢ n → (entries_at m' x ≡ entries_at m x) × (count_at m' x ≡ count_at m x)
+  entries_same : (x : ℕ) → g.linked x ≡ true → x ≢ n → (entries_at m' x ≡ entries_at m x)
+      × (count_at m' x ≡ count_at m x)
   entries_same x old apart = (
-    ap (entries_from m' x 0) (word_same x 1 old apart (omega arith)) ∙ entries_alike m m' x 0 (count_at m x)
-        (λ j from to. (let few = t.few x old in (word_same x (4 + j) old apart (omega arith), word_same x (8 + j) old apart (omega arith)))),
+    ap (entries_from m' x 0) (word_same x 1 old apart (omega arith))
+        ∙ entries_alike m m' x 0 (count_at m x)
+        (λ j from to.
+        (let few = t.few x old in (
+          word_same x (4 + j) old apart (omega arith),
+          word_same x (8 + j) old apart
+              (omega arith),
+        ))),
     word_same x 1 old apart (omega arith),
   )
 
   root_same : root_in size m' ≡ root_in size m
-  root_same = sp.others (12 * size) (omega arith) (inr (let fits = low n used in omega arith)) (inr (omega (arith, u_low)))
+  root_same = sp.others (12 * size) (omega arith) (inr (let fits = low n used in omega arith))
+      (inr (omega (arith, u_low)))
 
   last_same : last_in size m' ≡ last_in size m
-  last_same = sp.others (12 * size + 1) (omega arith) (inr (let fits = low n used in omega arith)) (inr (omega (arith, u_low)))
+  last_same = sp.others (12 * size + 1) (omega arith) (inr (let fits = low n used in omega arith))
+      (inr (omega (arith, u_low)))
 
   above_n : g.low n < key
   above_n = ha.higher
 
   pub split_grows : Grows g m (with_node g u (first_key (upper_half five))) m'
-  split_grows = record { linked = λ x old. still old; low = low_same; level = level_same; top = omega arith }
+  split_grows = record {
+    linked = λ x old. still old;
+    low = low_same;
+    level = level_same;
+    top = omega arith;
+  }
 
-  keep : (above from bound : ℕ) (xs : Entries) → HasEntries g m above from bound xs → HasEntries g' m' above from bound xs
+  keep : (above from bound : ℕ) (xs : Entries) → HasEntries g m above from bound xs
+      → HasEntries g' m' above from bound xs
   keep above from bound xs es = entries_grow g g' m m' above from bound xs split_grows es
 
   lower_entries : HasEntries g m (level_at m n) (g.low n) key (lower_half five)
@@ -128,11 +157,13 @@ module _ (size : ℕ) (g : Shape) (m m' : Memory) (n u : ℕ) (five : Entries) (
     where
       by_place : g.linked x ≡ true → (x ≡ n) ⊎ (x ≢ n) → bound_at m' x ≡ 0
       by_place old (inl at) = absurd (u_some (sym sp.right_is ∙ sym (ap (right_at m') at) ∙ none))
-      by_place old (inr apart) = word_same x 2 old apart (omega arith) ∙ t.ends x old (sym (word_same x 3 old apart (omega arith)) ∙ none)
+      by_place old (inr apart) = word_same x 2 old apart (omega arith)
+          ∙ t.ends x old (sym (word_same x 3 old apart (omega arith)) ∙ none)
 
       by_new : (g.linked x ≡ true) ⊎ (x ≡ u) → bound_at m' x ≡ 0
       by_new (inl old) = by_place old (same_or x n)
-      by_new (inr at) = ap (bound_at m') at ∙ sp.new_bound ∙ t.ends n used (sym sp.new_right ∙ sym (ap (right_at m') at) ∙ none)
+      by_new (inr at) = ap (bound_at m') at ∙ sp.new_bound
+          ∙ t.ends n used (sym sp.new_right ∙ sym (ap (right_at m') at) ∙ none)
 
   link_is : (x : ℕ) → g'.linked x ≡ true → right_at m' x ≢ 0 → LeadsRight g' m' x
   link_is x linked on = by_new (new_or x linked)
@@ -151,9 +182,12 @@ module _ (size : ℕ) (g : Shape) (m m' : Memory) (n u : ℕ) (five : Entries) (
           let l = t.link n used (λ none. on (right ∙ none)) in
           record {
             linked = ap g'.linked right ∙ still l.linked;
-            same_level = ap (level_at m') right ∙ level_same (right_at m n) l.linked ∙ l.same_level ∙ sym sp.new_level;
-            begins = ap g'.low right ∙ low_same (right_at m n) l.linked ∙ l.begins ∙ sym sp.new_bound;
-            above = (let bound = sp.new_bound in let above = l.above in let within = ha.within (omega (arith, above)) in
+            same_level = ap (level_at m') right ∙ level_same (right_at m n) l.linked ∙ l.same_level
+                ∙ sym sp.new_level;
+            begins = ap g'.low right ∙ low_same (right_at m n) l.linked ∙ l.begins
+                ∙ sym sp.new_bound;
+            above = (let bound = sp.new_bound in let above = l.above in let within = ha.within
+                (omega (arith, above)) in
                 omega (arith, low_new, bound, within));
           }
 
@@ -164,9 +198,11 @@ module _ (size : ℕ) (g : Shape) (m m' : Memory) (n u : ℕ) (five : Entries) (
           let l = t.link x old (λ none. on (right ∙ none)) in
           record {
             linked = ap g'.linked right ∙ still l.linked;
-            same_level = ap (level_at m') right ∙ level_same (right_at m x) l.linked ∙ l.same_level ∙ sym (level_same x old);
+            same_level = ap (level_at m') right ∙ level_same (right_at m x) l.linked ∙ l.same_level
+                ∙ sym (level_same x old);
             begins = ap g'.low right ∙ low_same (right_at m x) l.linked ∙ l.begins ∙ sym bound;
-            above = (let a = low_same x old in let above = l.above in omega (arith, a, bound, above));
+            above = (let a = low_same x old in let above = l.above in
+                omega (arith, a, bound, above));
           }
 
       by_place : g.linked x ≡ true → (x ≡ n) ⊎ (x ≢ n) → LeadsRight g' m' x
@@ -175,13 +211,20 @@ module _ (size : ℕ) (g : Shape) (m m' : Memory) (n u : ℕ) (five : Entries) (
 
       by_new : (g.linked x ≡ true) ⊎ (x ≡ u) → LeadsRight g' m' x
       by_new (inl old) = by_place old (same_or x n)
-      by_new (inr at) = subst (LeadsRight g' m') (sym at) (at_u (λ none. on (ap (right_at m') at ∙ none)))
+      by_new (inr at) = subst (LeadsRight g' m') (sym at)
+          (at_u (λ none. on (ap (right_at m') at ∙ none)))
 
   left_is : (x : ℕ) → g'.linked x ≡ true → g'.low x ≢ 0 → HasNeighbour g' m' x
   left_is x linked some = by_new (new_or x linked)
     where
       by_left : (l : HasNeighbour g m x) → (l.node ≡ n) ⊎ (l.node ≢ n) → HasNeighbour g' m' x
-      by_left l (inl at) = record { node = u; linked = u_linked; leads = sp.new_right ∙ sym (ap (right_at m) at) ∙ l.leads; some = l.some }
+      by_left l (inl at) = record {
+        node = u;
+        linked = u_linked;
+        leads = sp.new_right
+            ∙ sym (ap (right_at m) at) ∙ l.leads;
+        some = l.some;
+      }
       by_left l (inr apart) = record {
         node = l.node;
         linked = still l.linked;
@@ -190,56 +233,76 @@ module _ (size : ℕ) (g : Shape) (m m' : Memory) (n u : ℕ) (five : Entries) (
       }
 
       by_new : (g.linked x ≡ true) ⊎ (x ≡ u) → HasNeighbour g' m' x
-      by_new (inl old) = let l = t.left x old (λ none. some (low_same x old ∙ none)) in by_left l (same_or l.node n)
-      by_new (inr at) = record { node = n; linked = still used; leads = sp.right_is ∙ sym at; some = λ none. u_some (sym at ∙ none) }
+      by_new (inl old) = let l = t.left x old (λ none. some (low_same x old ∙ none)) in by_left l
+          (same_or l.node n)
+      by_new (inr at) = record {
+        node = n;
+        linked = still used;
+        leads = sp.right_is
+            ∙ sym at;
+        some = λ none. u_some (sym at ∙ none);
+      }
 
   first_is_old : (x : ℕ) → g'.linked x ≡ true → g'.low x ≡ 0 → g.linked x ≡ true
   first_is_old x linked none = by_new (new_or x linked)
     where
       by_new : (g.linked x ≡ true) ⊎ (x ≡ u) → g.linked x ≡ true
       by_new (inl old) = old
-      by_new (inr at) = absurd (let e = sym (ap g'.low at) ∙ none in omega (arith, low_new, above_n, e))
+      by_new (inr at) = absurd
+          (let e = sym (ap g'.low at) ∙ none in omega (arith, low_new, above_n, e))
 
   few_is : (x : ℕ) → g'.linked x ≡ true → count_at m' x ≤ 4
   few_is x linked = by_new (new_or x linked)
     where
       by_place : g.linked x ≡ true → (x ≡ n) ⊎ (x ≢ n) → count_at m' x ≤ 4
       by_place old (inl at) = subst (λ x. count_at m' x ≤ 4) (sym at) sp.few
-      by_place old (inr apart) = let same = (entries_same x old apart).1 in let few = t.few x old in omega arith
+      by_place old (inr apart) = let same = (entries_same x old apart).1 in let few = t.few x old in
+          omega arith
 
       by_new : (g.linked x ≡ true) ⊎ (x ≡ u) → count_at m' x ≤ 4
       by_new (inl old) = by_place old (same_or x n)
       by_new (inr at) = subst (λ x. count_at m' x ≤ 4) (sym at) sp.new_few
 
   EntriesAt : ℕ → Type 0
-  EntriesAt x = HasEntries (with_node g u (first_key (upper_half five))) m' (level_at m' x) ((with_node g u (first_key (upper_half five))).low x) (bound_at m' x) (entries_at m' x)
+  EntriesAt x = HasEntries (with_node g u (first_key (upper_half five))) m' (level_at m' x)
+      ((with_node g u (first_key (upper_half five))).low x) (bound_at m' x) (entries_at m' x)
 
-  put : (level from bound : ℕ) (xs : Entries) (x : ℕ) → level_at m' x ≡ level → g'.low x ≡ from → bound_at m' x ≡ bound → entries_at m' x ≡ xs
-      → HasEntries g' m' level from bound xs → HasEntries g' m' (level_at m' x) (g'.low x) (bound_at m' x) (entries_at m' x)
+  put : (level from bound : ℕ) (xs : Entries) (x : ℕ) → level_at m' x ≡ level → g'.low x ≡ from
+      → bound_at m' x ≡ bound → entries_at m' x ≡ xs
+      → HasEntries g' m' level from bound xs → HasEntries g' m' (level_at m' x) (g'.low x)
+      (bound_at m' x) (entries_at m' x)
   put level from bound xs x a b d e es =
       subst (λ level. HasEntries g' m' level (g'.low x) (bound_at m' x) (entries_at m' x)) (sym a)
       (subst (λ from. HasEntries g' m' level from (bound_at m' x) (entries_at m' x)) (sym b)
       (subst (λ bound. HasEntries g' m' level from bound (entries_at m' x)) (sym d)
       (subst (HasEntries g' m' level from bound) (sym e) es)))
 
-  entries_are : (x : ℕ) → g'.linked x ≡ true → HasEntries g' m' (level_at m' x) (g'.low x) (bound_at m' x) (entries_at m' x)
+  entries_are : (x : ℕ) → g'.linked x ≡ true → HasEntries g' m' (level_at m' x) (g'.low x)
+      (bound_at m' x) (entries_at m' x)
   entries_are x linked = by_new (new_or x linked)
     where
-      by_place : g.linked x ≡ true → (x ≡ n) ⊎ (x ≢ n) → HasEntries g' m' (level_at m' x) (g'.low x) (bound_at m' x) (entries_at m' x)
+      by_place : g.linked x ≡ true → (x ≡ n) ⊎ (x ≢ n) → HasEntries g' m' (level_at m' x) (g'.low x)
+          (bound_at m' x) (entries_at m' x)
       by_place old (inl at) =
-          subst (λ x. HasEntries g' m' (level_at m' x) (g'.low x) (bound_at m' x) (entries_at m' x)) (sym at)
-          (put (level_at m n) (g.low n) key (lower_half five) n (level_same n used) (low_same n used) sp.bound_is sp.entries
+          subst (λ x. HasEntries g' m' (level_at m' x) (g'.low x) (bound_at m' x) (entries_at m' x))
+          (sym at)
+          (put (level_at m n) (g.low n) key (lower_half five) n (level_same n used)
+          (low_same n used) sp.bound_is sp.entries
           (keep (level_at m n) (g.low n) key (lower_half five) lower_entries))
       by_place old (inr apart) =
-          put (level_at m x) (g.low x) (bound_at m x) (entries_at m x) x (level_same x old) (low_same x old) (word_same x 2 old apart (omega arith))
+          put (level_at m x) (g.low x) (bound_at m x) (entries_at m x) x (level_same x old)
+          (low_same x old) (word_same x 2 old apart (omega arith))
           (entries_same x old apart).0
           (keep (level_at m x) (g.low x) (bound_at m x) (entries_at m x) (t.entries x old))
 
-      by_new : (g.linked x ≡ true) ⊎ (x ≡ u) → HasEntries g' m' (level_at m' x) (g'.low x) (bound_at m' x) (entries_at m' x)
+      by_new : (g.linked x ≡ true) ⊎ (x ≡ u) → HasEntries g' m' (level_at m' x) (g'.low x)
+          (bound_at m' x) (entries_at m' x)
       by_new (inl old) = by_place old (same_or x n)
       by_new (inr at) =
-          subst (λ x. HasEntries g' m' (level_at m' x) (g'.low x) (bound_at m' x) (entries_at m' x)) (sym at)
-          (put (level_at m n) key (bound_at m n) (upper_half five) u sp.new_level low_new sp.new_bound sp.new_entries
+          subst (λ x. HasEntries g' m' (level_at m' x) (g'.low x) (bound_at m' x) (entries_at m' x))
+          (sym at)
+          (put (level_at m n) key (bound_at m n) (upper_half five) u sp.new_level low_new
+          sp.new_bound sp.new_entries
           (keep (level_at m n) key (bound_at m n) (upper_half five) upper_entries))
 
   root_level : level_at m' (root_in size m') ≡ level_at m (root_in size m)
@@ -261,7 +324,8 @@ module _ (size : ℕ) (g : Shape) (m m' : Memory) (n u : ℕ) (five : Entries) (
     left = left_is;
     one_first = λ a b la lb level zero_a zero_b.
         (let old_a = first_is_old a la zero_a in let old_b = first_is_old b lb zero_b in
-        t.one_first a b old_a old_b (sym (level_same a old_a) ∙ level ∙ level_same b old_b) (sym (low_same a old_a) ∙ zero_a) (sym (low_same b old_b) ∙ zero_b));
+        t.one_first a b old_a old_b (sym (level_same a old_a) ∙ level ∙ level_same b old_b)
+        (sym (low_same a old_a) ∙ zero_a) (sym (low_same b old_b) ∙ zero_b));
     few = few_is;
     entries = entries_are;
   }
@@ -270,98 +334,136 @@ module _ (size : ℕ) (g : Shape) (m m' : Memory) (n u : ℕ) (five : Entries) (
       taken_is x (inl old) = (let le = t.taken x old in omega (arith, last_same))
       taken_is x (inr at) = omega (arith, last_same, at, fit)
 
-      highest_is : (x : ℕ) → (g.linked x ≡ true) ⊎ (x ≡ u) → level_at m' x ≤ level_at m' (root_in size m')
-      highest_is x (inl old) = let high = t.highest x old in let same = level_same x old in omega (arith, root_level, high, same)
-      highest_is x (inr at) = let high = t.highest n used in let same = ap (level_at m') at ∙ sp.new_level in omega (arith, root_level, high, same)
+      highest_is : (x : ℕ) → (g.linked x ≡ true) ⊎ (x ≡ u) → level_at m' x
+          ≤ level_at m' (root_in size m')
+      highest_is x (inl old) = let high = t.highest x old in let same = level_same x old in
+          omega (arith, root_level, high, same)
+      highest_is x (inr at) = let high = t.highest n used in let same = ap (level_at m') at
+          ∙ sp.new_level in omega (arith, root_level, high, same)
 
   pub split_top : g.top ≡ level_at m (root_in size m) → g.top ≡ level_at m' (root_in size m')
   split_top is = is ∙ sym root_level
 
   above_all : (q : ℕ) → q < key → Each (λ x. x.0 ≢ q) (upper_half five)
-  above_all q lt = each_more (InRange key (bound_at m n)) (λ x. x.0 ≢ q) (λ x is e. (let le = is.0 in omega (arith, le, lt, e)))
+  above_all q lt = each_more (InRange key (bound_at m n)) (λ x. x.0 ≢ q)
+      (λ x is e. (let le = is.0 in omega (arith, le, lt, e)))
       (upper_half five) ha.upper.in_range
 
   below_all : (q : ℕ) → key ≤ q → Each (λ x. x.0 ≢ q) (lower_half five)
-  below_all q le = each_more (InRange (g.low n) key) (λ x. x.0 ≢ q) (λ x is e. (let lt = is.1 (omega (arith, above_n)) in omega (arith, le, lt, e)))
+  below_all q le = each_more (InRange (g.low n) key) (λ x. x.0 ≢ q)
+      (λ x is e. (let lt = is.1 (omega (arith, above_n)) in omega (arith, le, lt, e)))
       (lower_half five) ha.lower.in_range
 
   -- the state is the one that differs where the five entries say so
   pub split_state : (s s' : Amounts) → IsAmounts s' → ShowsState g m s
       → (level_at m n ≡ 0 → (q : ℕ) → Covers m g.low n q → amount_of s' q ≡ gives q five)
-      → ((q a : ℕ) → g.linked a ≡ true → level_at m a ≡ 0 → a ≢ n → Covers m g.low a q → amount_of s' q ≡ amount_of s q)
+      → ((q a : ℕ) → g.linked a ≡ true → level_at m a ≡ 0 → a ≢ n → Covers m g.low a q
+      → amount_of s' q ≡ amount_of s q)
       → ShowsState (with_node g u (first_key (upper_half five))) m' s'
   split_state s s' formed st inside outside = record { shows = shows'; formed = formed }
     where
       lower_gives : level_at m n ≡ 0 → (q : ℕ) → q < key → gives q five ≡ gives q (lower_half five)
-      lower_gives leaf q lt = ap (gives q) ha.whole ∙ gives-append q (lower_half five) (upper_half five)
-          ∙ plus (gives q (lower_half five)) (gives_none q (upper_half five) (ha.upper.leaf leaf) (above_all q lt))
+      lower_gives leaf q lt = ap (gives q) ha.whole ∙ gives-append q (lower_half five)
+          (upper_half five)
+          ∙ plus (gives q (lower_half five))
+          (gives_none q (upper_half five) (ha.upper.leaf leaf) (above_all q lt))
         where
           plus : {b : ℕ} (a : ℕ) → b ≡ 0 → a + b ≡ a
           plus a e = omega arith
 
       upper_gives : level_at m n ≡ 0 → (q : ℕ) → key ≤ q → gives q five ≡ gives q (upper_half five)
-      upper_gives leaf q le = ap (gives q) ha.whole ∙ gives-append q (lower_half five) (upper_half five)
-          ∙ plus (gives q (upper_half five)) (gives_none q (lower_half five) (ha.lower.leaf leaf) (below_all q le))
+      upper_gives leaf q le = ap (gives q) ha.whole ∙ gives-append q (lower_half five)
+          (upper_half five)
+          ∙ plus (gives q (upper_half five))
+          (gives_none q (lower_half five) (ha.lower.leaf leaf) (below_all q le))
         where
           plus : {b : ℕ} (a : ℕ) → b ≡ 0 → b + a ≡ a
           plus a e = omega arith
 
-      shows' : (q a : ℕ) → g'.linked a ≡ true → level_at m' a ≡ 0 → Covers m' g'.low a q → amount_of s' q ≡ gives q (entries_at m' a)
+      shows' : (q a : ℕ) → g'.linked a ≡ true → level_at m' a ≡ 0 → Covers m' g'.low a q
+          → amount_of s' q ≡ gives q (entries_at m' a)
       shows' q a linked leaf over = by_new (new_or a linked)
         where
-          by_place : g.linked a ≡ true → (a ≡ n) ⊎ (a ≢ n) → amount_of s' q ≡ gives q (entries_at m' a)
+          by_place : g.linked a ≡ true → (a ≡ n) ⊎ (a ≢ n) → amount_of s' q
+              ≡ gives q (entries_at m' a)
           by_place old (inl at) =
-              let leaf_n : level_at m n ≡ 0 = sym (level_same n used) ∙ sym (ap (level_at m') at) ∙ leaf in
-              let from : g.low n ≤ q = (let from = over.from in let e = low_same n used in let f = ap g'.low at in omega (arith, from, e, f)) in
+              let leaf_n : level_at m n ≡ 0 = sym (level_same n used) ∙ sym (ap (level_at m') at)
+              ∙ leaf in
+              let from : g.low n
+              ≤ q = (let from = over.from in let e = low_same n used in let f = ap g'.low at in
+              omega (arith, from, e, f)) in
               let lt : q < key = (let to = over.to in let bound = ap (bound_at m') at
               ∙ sp.bound_is in let less = to (omega (arith, bound, above_n)) in
               omega (arith, less, bound)) in
-              let over_n : Covers m g.low n q = record { from = from; to = λ some. (let within = ha.within some in omega (arith, lt, within)) } in
-              inside leaf_n q over_n ∙ lower_gives leaf_n q lt ∙ ap (gives q) (sym sp.entries) ∙ ap (λ x. gives q (entries_at m' x)) (sym at)
+              let over_n : Covers m g.low n q =
+              record {
+                from = from;
+                to = λ some.
+                    (let within = ha.within some in omega (arith, lt, within));
+              } in
+              inside leaf_n q over_n ∙ lower_gives leaf_n q lt ∙ ap (gives q) (sym sp.entries)
+              ∙ ap (λ x. gives q (entries_at m' x)) (sym at)
           by_place old (inr apart) =
               let over_a : Covers m g.low a q = record {
                 from = (let from = over.from in let e = low_same a old in omega (arith, from, e));
                 to = subst (λ b. b ≢ 0 → q < b) (word_same a 2 old apart (omega arith)) over.to;
               } in
               let leaf_a = sym (level_same a old) ∙ leaf in
-              outside q a old leaf_a apart over_a ∙ st.shows q a old leaf_a over_a ∙ ap (gives q) (sym (entries_same a old apart).0)
+              outside q a old leaf_a apart over_a ∙ st.shows q a old leaf_a over_a
+              ∙ ap (gives q) (sym (entries_same a old apart).0)
 
           by_new : (g.linked a ≡ true) ⊎ (a ≡ u) → amount_of s' q ≡ gives q (entries_at m' a)
           by_new (inl old) = by_place old (same_or a n)
           by_new (inr at) =
               let leaf_n : level_at m n ≡ 0 = sym sp.new_level ∙ sym (ap (level_at m') at) ∙ leaf in
-              let le : key ≤ q = (let from = over.from in let e = ap g'.low at ∙ low_new in omega (arith, from, e)) in
+              let le : key ≤ q = (let from = over.from in let e = ap g'.low at
+              ∙ low_new in omega (arith, from, e)) in
               let bound : bound_at m' a ≡ bound_at m n = ap (bound_at m') at ∙ sp.new_bound in
-              let over_n : Covers m g.low n q = record { from = omega (arith, le, above_n); to = subst (λ b. b ≢ 0 → q < b) bound over.to } in
-              inside leaf_n q over_n ∙ upper_gives leaf_n q le ∙ ap (gives q) (sym sp.new_entries) ∙ ap (λ x. gives q (entries_at m' x)) (sym at)
+              let over_n : Covers m g.low n q =
+              record {
+                from = omega (arith, le, above_n);
+                to = subst (λ b. b ≢ 0 → q < b) bound
+                    over.to;
+              } in
+              inside leaf_n q over_n ∙ upper_gives leaf_n q le ∙ ap (gives q) (sym sp.new_entries)
+              ∙ ap (λ x. gives q (entries_at m' x)) (sym at)
 
   -- what hangs does so still, if none of the five entries leads to it
-  pub split_unnamed : (y : ℕ) → Unnamed g m y → (level_at m n ≢ 0 → Each (λ entry. entry.1 ≢ y) (lower_half five))
-      → (level_at m n ≢ 0 → Each (λ entry. entry.1 ≢ y) (upper_half five)) → Unnamed (with_node g u (first_key (upper_half five))) m' y
+  pub split_unnamed : (y : ℕ) → Unnamed g m y
+      → (level_at m n ≢ 0 → Each (λ entry. entry.1 ≢ y) (lower_half five))
+      → (level_at m n ≢ 0 → Each (λ entry. entry.1 ≢ y) (upper_half five))
+      → Unnamed (with_node g u (first_key (upper_half five))) m' y
   split_unnamed y hangs lower upper p linked some = by_new (new_or p linked)
     where
-      by_place : g.linked p ≡ true → (p ≡ n) ⊎ (p ≢ n) → Each (λ entry. entry.1 ≢ y) (entries_at m' p)
+      by_place : g.linked p ≡ true → (p ≡ n) ⊎ (p ≢ n) → Each (λ entry. entry.1 ≢ y)
+          (entries_at m' p)
       by_place old (inl at) =
           subst (λ x. Each (λ entry. entry.1 ≢ y) (entries_at m' x)) (sym at)
-          (subst (Each (λ entry. entry.1 ≢ y)) (sym sp.entries) (lower (λ none. some (ap (level_at m') at ∙ level_same n used ∙ none))))
+          (subst (Each (λ entry. entry.1 ≢ y)) (sym sp.entries)
+          (lower (λ none. some (ap (level_at m') at ∙ level_same n used ∙ none))))
       by_place old (inr apart) =
-          subst (Each (λ entry. entry.1 ≢ y)) (sym (entries_same p old apart).0) (hangs p old (λ none. some (level_same p old ∙ none)))
+          subst (Each (λ entry. entry.1 ≢ y)) (sym (entries_same p old apart).0)
+          (hangs p old (λ none. some (level_same p old ∙ none)))
 
       by_new : (g.linked p ≡ true) ⊎ (p ≡ u) → Each (λ entry. entry.1 ≢ y) (entries_at m' p)
       by_new (inl old) = by_place old (same_or p n)
       by_new (inr at) =
           subst (λ x. Each (λ entry. entry.1 ≢ y) (entries_at m' x)) (sym at)
-          (subst (Each (λ entry. entry.1 ≢ y)) (sym sp.new_entries) (upper (λ none. some (ap (level_at m') at ∙ sp.new_level ∙ none))))
+          (subst (Each (λ entry. entry.1 ≢ y)) (sym sp.new_entries)
+          (upper (λ none. some (ap (level_at m') at ∙ sp.new_level ∙ none))))
 
-  leads_old : (above from bound : ℕ) (xs : Entries) → above ≢ 0 → HasEntries g m above from bound xs → Each (λ entry. entry.1 ≢ u) xs
+  leads_old : (above from bound : ℕ) (xs : Entries) → above ≢ 0 → HasEntries g m above from bound xs
+      → Each (λ entry. entry.1 ≢ u) xs
   leads_old above from bound xs some es =
-      each_more (LeadsDown g m above) (λ entry. entry.1 ≢ u) (λ entry is. not_new is.linked) xs (es.inner some).child
+      each_more (LeadsDown g m above) (λ entry. entry.1 ≢ u) (λ entry is. not_new is.linked) xs
+      (es.inner some).child
 
   -- and the new node hangs on the one that was split
   pub split_hangs_new : Hangs (with_node g u (first_key (upper_half five))) m' u
   split_hangs_new = (
     (λ e. omega (arith, low_new, above_n, e)),
-    split_unnamed u (λ p old some. leads_old (level_at m p) (g.low p) (bound_at m p) (entries_at m p) some (t.entries p old))
+    split_unnamed u (λ p old some. leads_old (level_at m p) (g.low p) (bound_at m p)
+        (entries_at m p) some (t.entries p old))
         (λ some. leads_old (level_at m n) (g.low n) key (lower_half five) some lower_entries)
         (λ some. leads_old (level_at m n) key (bound_at m n) (upper_half five) some upper_entries),
   )

@@ -22,9 +22,16 @@ starts_linked size some = record {
   left = λ n l some. absurd (some refl);
   one_first = λ a b la lb level zero_a zero_b. same_of a 0 la ∙ sym (same_of b 0 lb);
   few = λ n l. omega arith;
-  entries = λ n l. record { rise = tt; in_range = tt; leaf = λ e. tt; inner = λ some. absurd (some refl) };
+  entries = λ n l. record {
+    rise = tt;
+    in_range = tt;
+    leaf = λ e. tt;
+    inner = λ some. absurd
+        (some refl);
+  };
 }
 
 -- and it shows the empty state
 pub starts_state : ShowsState first_shape (shown_by []) start.shown
-starts_state = record { shows = λ q n l leaf over. refl; formed = record { rising = tt; some = tt } }
+starts_state =
+    record { shows = λ q n l leaf over. refl; formed = record { rising = tt; some = tt } }

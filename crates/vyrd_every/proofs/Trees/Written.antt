@@ -1,12 +1,15 @@
--- What writes make of a memory, word by word, and what an act makes of the memory that the log shows and of the one that
+-- What writes make of a memory, word by word, and what an act makes of the memory that the log
+-- shows and of the one that
 -- callers see.
-use Rattle.std.proofs.Common.{◌≡◌, ℕ, Bool, true, false, cond, List, [], ◌∷◌, ◌++◌, Option, Some, None, refl, ap, ◌∙◌, sym, subst, arith}
+use Rattle.std.proofs.Common.{◌≡◌, ℕ, Bool, true, false, cond, List, [], ◌∷◌, ◌++◌, Option, Some}
+use Rattle.std.proofs.Common.{None, refl, ap, ◌∙◌, sym, subst, arith}
 use Rattle.std.specs.Prelude.{◌==◌, ◌&&◌, ◌||◌, is_some, unwrap_or}
 use Rattle.std.specs.Option.{option_or}
 use Rattle.std.specs.List.{cons_option, AllByRecursion}
 use Rattle.std.proofs.lemmas.Bool.Decides.{nat_tests}
 use Rattle.vyrd_base.specs.declared.header.Header.{Header}
-use Rattle.vyrd_base.specs.declared.log.Kind.TheVariants.{Call, Return, Write, Commit, BlockOpen, BlockClose, BlockCommit}
+use Rattle.vyrd_base.specs.declared.log.Kind.TheVariants.{Call, Return, Write, Commit, BlockOpen}
+use Rattle.vyrd_base.specs.declared.log.Kind.TheVariants.{BlockClose, BlockCommit}
 use Rattle.vyrd_base.specs.declared.log.Entry.{Entry}
 use Rattle.vyrd_base.specs.declared.history.Did.{Did}
 use Rattle.vyrd_base.specs.declared.history.Did.TheVariants.{Read, Wrote, Took, Gave, Marked}
@@ -34,7 +37,8 @@ use Rattle.vyrd_every.proofs.Logs.{one_more, more}
 abbrev pub given_by : ℕ → List (ℕ × ℕ) → Option ℕ
 given_by w ws = first_answer (given_to w) ws
 
-pub written_at : (ws : List (ℕ × ℕ)) (m : Memory) (w : ℕ) → written ws m w ≡ unwrap_or (given_by w ws) (m w)
+pub written_at : (ws : List (ℕ × ℕ)) (m : Memory) (w : ℕ) → written ws m w
+    ≡ unwrap_or (given_by w ws) (m w)
 written_at [] m w = refl
 written_at ((word, value) ∷ ws) m w = by_place (word == w) refl (written_at ws m w)
   where
@@ -43,7 +47,8 @@ written_at ((word, value) ∷ ws) m w = by_place (word == w) refl (written_at ws
     flip a b false e = grind (arith, nat_tests)
 
     by_place : (b : Bool) → (word == w) ≡ b → written ws m w ≡ unwrap_or (given_by w ws) (m w)
-        → cond (w == word) value (written ws m w) ≡ unwrap_or (option_or (cond (word == w) (Some value) None) (given_by w ws)) (m w)
+        → cond (w == word) value (written ws m w)
+        ≡ unwrap_or (option_or (cond (word == w) (Some value) None) (given_by w ws)) (m w)
     by_place true e later =
         ap (λ t. cond t value (written ws m w)) (flip word w true e)
         ∙ sym (ap (λ t. unwrap_or (option_or (cond t (Some value) None) (given_by w ws)) (m w)) e)
@@ -51,7 +56,8 @@ written_at ((word, value) ∷ ws) m w = by_place (word == w) refl (written_at ws
         ap (λ t. cond t value (written ws m w)) (flip word w false e) ∙ later
         ∙ sym (ap (λ t. unwrap_or (option_or (cond t (Some value) None) (given_by w ws)) (m w)) e)
 
-pub not_written : (ws : List (ℕ × ℕ)) (m : Memory) (w : ℕ) → is_some (given_by w ws) ≡ false → written ws m w ≡ m w
+pub not_written : (ws : List (ℕ × ℕ)) (m : Memory) (w : ℕ) → is_some (given_by w ws) ≡ false
+    → written ws m w ≡ m w
 not_written ws m w none = written_at ws m w ∙ by_given (given_by w ws) none
   where
     by_given : (o : Option ℕ) → is_some o ≡ false → unwrap_or o (m w) ≡ m w
@@ -59,18 +65,23 @@ not_written ws m w none = written_at ws m w ∙ by_given (given_by w ws) none
     by_given (Some v) e = cc
 
 -- writes of other words may come in either order
-pub either_order : (a b : List (ℕ × ℕ)) (m : Memory) → ((w : ℕ) → is_some (given_by w a) ≡ true → is_some (given_by w b) ≡ true → ⊥)
+pub either_order : (a b : List (ℕ × ℕ)) (m : Memory)
+    → ((w : ℕ) → is_some (given_by w a) ≡ true → is_some (given_by w b) ≡ true → ⊥)
     → written a (written b m) ≡ written b (written a m)
-either_order a b m apart = λ i w. (written_at a (written b m) w ∙ ap (unwrap_or (given_by w a)) (written_at b m w)
-    ∙ swap (given_by w a) (given_by w b) (m w) (apart w) ∙ sym (ap (unwrap_or (given_by w b)) (written_at a m w)) ∙ sym (written_at b (written a m) w)) i
+either_order a b m apart = λ i w. (written_at a (written b m) w ∙ ap (unwrap_or (given_by w a))
+    (written_at b m w)
+    ∙ swap (given_by w a) (given_by w b) (m w) (apart w)
+    ∙ sym (ap (unwrap_or (given_by w b)) (written_at a m w)) ∙ sym (written_at b (written a m) w)) i
   where
-    swap : (x y : Option ℕ) (v : ℕ) → (is_some x ≡ true → is_some y ≡ true → ⊥) → unwrap_or x (unwrap_or y v) ≡ unwrap_or y (unwrap_or x v)
+    swap : (x y : Option ℕ) (v : ℕ) → (is_some x ≡ true → is_some y ≡ true → ⊥)
+        → unwrap_or x (unwrap_or y v) ≡ unwrap_or y (unwrap_or x v)
     swap None y v e = refl
     swap (Some x) None v e = refl
     swap (Some x) (Some y) v e = absurd (e refl refl)
 
 -- what holds of all words that are written
-pub all_given : (P : ℕ → Type 0) (ws : List (ℕ × ℕ)) (w : ℕ) → AllByRecursion (λ write. P write.0) ws → is_some (given_by w ws) ≡ true → P w
+pub all_given : (P : ℕ → Type 0) (ws : List (ℕ × ℕ)) (w : ℕ)
+    → AllByRecursion (λ write. P write.0) ws → is_some (given_by w ws) ≡ true → P w
 all_given P [] w all e = cc
 all_given P ((word, value) ∷ ws) w all e = by_place (all_given P ws w all.1) (word == w) refl e
   where
@@ -86,16 +97,21 @@ takes_effect inside pending (Mark BlockClose) = pending
 takes_effect inside pending (Mark BlockCommit) = pending
 takes_effect inside pending _ = []
 
-pub shown_more : (h : Header) (s : Situation) (k : TreeLocals) (g : Shape) (m : Memory) (c : ℕ) (did : Did) (log : List Entry) → has_block c log ≡ s.in_block
+pub shown_more : (h : Header) (s : Situation) (k : TreeLocals) (g : Shape) (m : Memory) (c : ℕ)
+    (did : Did) (log : List Entry) → has_block c log ≡ s.in_block
     → k.pending ≡ block_writes c log → TreeReaches h s k g m (act_of_event did)
-    → shown_by (cons_option (logged c did) log) ≡ written (takes_effect s.in_block k.pending (act_of_event did)) (shown_by log)
+    → shown_by (cons_option (logged c did) log)
+    ≡ written (takes_effect s.in_block k.pending (act_of_event did)) (shown_by log)
 shown_more h s k g m c (Read cell value) log block pending reaches = refl
 shown_more h s k g m c (Took lock) log block pending reaches = refl
 shown_more h s k g m c (Gave lock) log block pending reaches = refl
 shown_more h s k g m c (Wrote cell value) log block pending reaches =
-    ap (λ b. (λ w. old_value_after (cond b [] ((cell, value) ∷ []) ++ old_effects log) w)) block ∙ by_block s.in_block
+    ap (λ b. (λ w. old_value_after (cond b [] ((cell, value) ∷ []) ++ old_effects log) w)) block
+    ∙ by_block s.in_block
   where
-    by_block : (b : Bool) → (λ w. old_value_after (cond b [] ((cell, value) ∷ []) ++ old_effects log) w) ≡ written (cond b [] ((cell, value) ∷ [])) (shown_by log)
+    by_block : (b : Bool)
+        → (λ w. old_value_after (cond b [] ((cell, value) ∷ []) ++ old_effects log) w)
+        ≡ written (cond b [] ((cell, value) ∷ [])) (shown_by log)
     by_block true = refl
     by_block false = λ i w. one_more cell value (old_effects log) w i
 shown_more h s k g m c (Marked (Call method args)) log block pending reaches = refl
@@ -109,17 +125,20 @@ shown_more h s k g m c (Marked BlockCommit) log block pending reaches =
     more (block_writes c log) (old_effects log) ∙ ap (λ ws. written ws (shown_by log)) (sym pending)
 
 -- Callers see the same writes, where the caller's own weren't seen before and aren't after.
-pub seen_more : (h : Header) (s : Situation) (k : TreeLocals) (m : Memory) (act : Act) → k.out ≡ false → out_after h s act k.out ≡ false
+pub seen_more : (h : Header) (s : Situation) (k : TreeLocals) (m : Memory) (act : Act)
+    → k.out ≡ false → out_after h s act k.out ≡ false
     → seen_after h s k m act ≡ written (takes_effect s.in_block k.pending act) m
 seen_more h s k m (Load cell) quiet still = refl
 seen_more h s k m (Take lock) quiet still = refl
 seen_more h s k m (Give lock) quiet still = refl
 seen_more h s k m Done quiet still = refl
 seen_more h s k m (Store cell value) quiet still =
-    by_block s.in_block (cell == root_cell h) (sym (ap (λ o. o || (s.in_block && cell == root_cell h)) quiet) ∙ still)
+    by_block s.in_block (cell == root_cell h)
+    (sym (ap (λ o. o || (s.in_block && cell == root_cell h)) quiet) ∙ still)
   where
     by_block : (b r : Bool) → (false || (b && r)) ≡ false
-        → cond b (cond r (written ((cell, value) ∷ k.pending) m) m) (with_cell m cell value) ≡ written (cond b [] ((cell, value) ∷ [])) m
+        → cond b (cond r (written ((cell, value) ∷ k.pending) m) m) (with_cell m cell value)
+        ≡ written (cond b [] ((cell, value) ∷ [])) m
     by_block false r e = refl
     by_block true false e = refl
     by_block true true e = cc
@@ -132,29 +151,33 @@ seen_more h s k m (Mark BlockClose) quiet still = ap (λ b. cond b m (written k.
 seen_more h s k m (Mark BlockCommit) quiet still = ap (λ b. cond b m (written k.pending m)) quiet
 
 -- the store from which on a block's writes are seen
-pub record ComesOut (h : Header) (s : Situation) (k : TreeLocals) (m : Memory) (act : Act) : Type 0 where
-  pub value : ℕ
-  pub stores : act ≡ Store (root_cell h) value
-  pub inside : s.in_block ≡ true
-  pub seen : seen_after h s k m act ≡ written (pending_after act k.pending) m
-  pub none : takes_effect s.in_block k.pending act ≡ []
+pub record ComesOut (h : Header) (s : Situation) (k : TreeLocals) (m : Memory) (act : Act) : Type 0
+  where
+    pub value : ℕ
+    pub stores : act ≡ Store (root_cell h) value
+    pub inside : s.in_block ≡ true
+    pub seen : seen_after h s k m act ≡ written (pending_after act k.pending) m
+    pub none : takes_effect s.in_block k.pending act ≡ []
 
 never_out : (b : Bool) → b ≡ false → (b || false) ≡ true → ⊥
 never_out true e f = cc
 never_out false e f = cc
 
-pub when_out : (h : Header) (s : Situation) (k : TreeLocals) (m : Memory) (act : Act) → k.out ≡ false → out_after h s act k.out ≡ true → ComesOut h s k m act
+pub when_out : (h : Header) (s : Situation) (k : TreeLocals) (m : Memory) (act : Act)
+    → k.out ≡ false → out_after h s act k.out ≡ true → ComesOut h s k m act
 when_out h s k m (Load cell) quiet out = absurd (never_out k.out quiet out)
 when_out h s k m (Take lock) quiet out = absurd (never_out k.out quiet out)
 when_out h s k m (Give lock) quiet out = absurd (never_out k.out quiet out)
 when_out h s k m Done quiet out = absurd (never_out k.out quiet out)
 when_out h s k m (Store cell value) quiet out =
-    let both = split s.in_block (cell == root_cell h) (sym (ap (λ o. o || (s.in_block && cell == root_cell h)) quiet) ∙ out) in
+    let both = split s.in_block (cell == root_cell h)
+    (sym (ap (λ o. o || (s.in_block && cell == root_cell h)) quiet) ∙ out) in
     record {
       value = value;
       stores = ap (λ c. Store c value) (same_of cell (root_cell h) both.1);
       inside = both.0;
-      seen = ap (λ b. cond b (cond (cell == root_cell h) (written ((cell, value) ∷ k.pending) m) m) (with_cell m cell value)) both.0
+      seen = ap (λ b. cond b (cond (cell == root_cell h) (written ((cell, value) ∷ k.pending) m) m)
+          (with_cell m cell value)) both.0
           ∙ ap (λ r. cond r (written ((cell, value) ∷ k.pending) m) m) both.1;
       none = ap (λ b. cond b [] ((cell, value) ∷ [])) both.0;
     }

@@ -15,16 +15,20 @@ returns-in_default-clause-never g c = λ e.
 
 pub returns-in_default-clause-short : goal.returns-in_default-clause-short
 returns-in_default-clause-short g c = λ e.
-    short_front most_left (ended_line first_word) c.args.bytes.now c.after.result (omega arith) c.after.ensures (sym c.is_some.ensures ∙ e)
+    short_front most_left (ended_line first_word) c.args.bytes.now c.after.result
+    (omega arith) c.after.ensures (sym c.is_some.ensures ∙ e)
 
 pub returns-then-is_some-clause-short : goal.returns-then-is_some-clause-short
 returns-then-is_some-clause-short g c = λ e.
-    short_front most_left last_line c.args.bytes.now c.after-2.result (omega arith) c.after-2.ensures (sym c.is_some-2.ensures ∙ c.if-is_some.true)
+    short_front most_left last_line c.args.bytes.now c.after-2.result
+    (omega arith) c.after-2.ensures (sym c.is_some-2.ensures ∙ c.if-is_some.true)
 
 pub returns-in_default-clause-ever : goal.returns-in_default-clause-ever
 returns-in_default-clause-ever g c = λ e never.
-    short_front longest_line (ended_line first_word) c.args.bytes.now c.after.result (omega arith) c.after.ensures (sym c.is_some.ensures ∙ e)
+    short_front longest_line (ended_line first_word) c.args.bytes.now c.after.result
+    (omega arith) c.after.ensures (sym c.is_some.ensures ∙ e)
 
 pub returns-then-is_some-clause-ever : goal.returns-then-is_some-clause-ever
 returns-then-is_some-clause-ever g c = λ e never.
-    short_front longest_line last_line c.args.bytes.now c.after-2.result (omega arith) c.after-2.ensures (sym c.is_some-2.ensures ∙ c.if-is_some.true)
+    short_front longest_line last_line c.args.bytes.now c.after-2.result
+    (omega arith) c.after-2.ensures (sym c.is_some-2.ensures ∙ c.if-is_some.true)

@@ -11,10 +11,12 @@ use Rattle.vyrd_every.proofs.Workloads.{not_stuck}
 use Rattle.vyrd_every.proofs.laws.workloads_have_schedules.Goals as goal
 
 pub returns : goal.returns
-returns c = λ w limits correct. by_end w limits correct (run_ends_or_sticks (work_scripts w) w.turns)
+returns c = λ w limits correct. by_end w limits correct
+    (run_ends_or_sticks (work_scripts w) w.turns)
   where
     by_end : (w : Workload) → KeepsLimits w → IsCorrect w
-        → ((history : List Stamped) × RunsTo (work_scripts w) w.turns history) ⊎ GetsStuck (work_scripts w) w.turns
+        → ((history : List Stamped) × RunsTo (work_scripts w) w.turns history)
+        ⊎ GetsStuck (work_scripts w) w.turns
         → ∥ ((history : List Stamped) × IsSchedule w history) ∥₁
     by_end w limits correct (inl ends) = ∣ (ends.0, run_is_schedule w ends.0 limits ends.1) ∣₁
     by_end w limits correct (inr stuck) = absurd (not_stuck w limits correct stuck)

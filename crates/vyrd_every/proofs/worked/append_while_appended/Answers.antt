@@ -10,4 +10,5 @@ limits = search rules
 -- some rounds to spare: once all is done they leave the history as it is
 pub returns-clause-schedule : goal.returns-clause-schedule
 returns-clause-schedule c =
-    run_is_schedule appends appends_history limits (record { rounds = 30; history_is = refl; done = refl })
+    run_is_schedule appends appends_history limits
+    (record { rounds = 30; history_is = refl; done = refl })

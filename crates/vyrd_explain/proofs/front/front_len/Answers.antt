@@ -3,7 +3,8 @@ use Rattle.std.proofs.Math.Seq.{take-length}
 use Rattle.vyrd_base.specs.Places.{newest_first}
 use Rattle.vyrd_base.specs.Front.{first_break}
 use Rattle.vyrd_shape.specs.Following.{HasFollowed}
-use Rattle.vyrd_base.proofs.FrontLaws.{kept_next, newest_next, front_at, kept_all, front_of_all, nothing_broken}
+use Rattle.vyrd_base.proofs.FrontLaws.{kept_next, newest_next, front_at, kept_all, front_of_all}
+use Rattle.vyrd_base.proofs.FrontLaws.{nothing_broken}
 use Rattle.vyrd_explain.proofs.front.front_len.Goals as goal
 
 pub loop-i-init : goal.loop-i-init

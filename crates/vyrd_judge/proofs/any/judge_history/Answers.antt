@@ -6,6 +6,8 @@ use Rattle.vyrd_base.specs.Histories.{log_of}
 use Rattle.vyrd_judge.proofs.any.judge_history.Goals as goal
 
 pub returns : goal.returns
-returns c = subst (λ l. IfOk c.finish.result (λ v. v ≡ verdict (rules_by l) [] (log_of c.args.history.now)))
+returns c = subst
+    (λ l. IfOk c.finish.result (λ v. v ≡ verdict (rules_by l) [] (log_of c.args.history.now)))
     (c.follow_history.ensures.charter ∙ c.in_ok-judge.ensures.charter)
-    (c.finish.ensures.verdict [] (log_of c.args.history.now) (c.in_ok-follow_history.ensures.followed [] [] c.in_ok-judge.ensures.followed))
+    (c.finish.ensures.verdict [] (log_of c.args.history.now)
+    (c.in_ok-follow_history.ensures.followed [] [] c.in_ok-judge.ensures.followed))

@@ -10,5 +10,6 @@ abbrev pub invariant-loop-caller : goal.invariant-loop-caller
 invariant-loop-caller g l = record {
   count : length l.machines.items ≡ l.caller;
   made : All (λ m. g.M.Machine.header_of m ≡ l.work.header) l.machines.items;
-  scripts : map g.M.Machine.script l.machines.items ≡ map (work_script (workload_of l.work)) (numbers_below l.caller);
+  scripts : map g.M.Machine.script l.machines.items ≡ map (work_script (workload_of l.work))
+      (numbers_below l.caller);
 }

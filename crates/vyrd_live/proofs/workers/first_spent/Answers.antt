@@ -14,10 +14,12 @@ use Rattle.vyrd_live.proofs.workers.first_spent.Goals as goal
 abbrev endings : List Stopped → List Ending
 endings stopped = map (λ (s : Stopped). s.ending) stopped
 
-ending_here : (stopped : List Stopped) (i : ℕ) (one : Stopped) (ending : Ending) → i < length stopped → one ≡ get_or stopped i one
+ending_here : (stopped : List Stopped) (i : ℕ) (one : Stopped) (ending : Ending)
+    → i < length stopped → one ≡ get_or stopped i one
     → one.ending ≡ ending
     → get_or (endings stopped) i Finished ≡ ending
-ending_here stopped i one ending low is e = get_or-map (λ (s : Stopped). s.ending) stopped i one Finished low
+ending_here stopped i one ending low is e = get_or-map (λ (s : Stopped). s.ending) stopped i one
+    Finished low
     ∙ ap (λ (s : Stopped). s.ending) (sym is) ∙ e
 
 pub loop-caller-preserved : goal.loop-caller-preserved
@@ -27,10 +29,13 @@ loop-caller-preserved c =
     let one = c.index-stopped-caller.result in
     elim c.match-one.branch [
       | in-Finished w ↦ subst (IsFirstSpent all (n + 1)) (sym w.first-is)
-          (first_finished all n c.loop-caller.first (ending_here c.args.stopped.now n one Finished c.loop-caller-test.true c.index-stopped-caller.is
+          (first_finished all n c.loop-caller.first
+          (ending_here c.args.stopped.now n one Finished c.loop-caller-test.true
+          c.index-stopped-caller.is
           w.in-Finished.is) c.loop-caller.invariant)
       | in-Spent w ↦ subst (IsFirstSpent all (n + 1)) (sym (w.first-is ∙ w.or-first.ensures))
           (first_spent all n c.loop-caller.first
-          (ending_here c.args.stopped.now n one Spent c.loop-caller-test.true c.index-stopped-caller.is w.in-Spent.is)
+          (ending_here c.args.stopped.now n one Spent c.loop-caller-test.true
+          c.index-stopped-caller.is w.in-Spent.is)
           c.loop-caller.invariant)
     ]

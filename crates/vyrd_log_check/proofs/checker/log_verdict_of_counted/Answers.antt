@@ -8,9 +8,12 @@ pub returns-clause-verdict : goal.returns-clause-verdict
 returns-clause-verdict g c =
     let bytes = c.args.bytes.now in
     let limit = c.in_ok-feed_counted.ensures.limit ∙ c.new-checker.ensures.limit in
-    IfOk-weaker c.finish_counted.result (λ v. v ≡ log_verdict c.feed_counted.new.self.max_lines bytes) (λ v. v ≡ log_verdict c.args.max_lines bytes)
+    IfOk-weaker c.finish_counted.result
+    (λ v. v ≡ log_verdict c.feed_counted.new.self.max_lines bytes)
+    (λ v. v ≡ log_verdict c.args.max_lines bytes)
     (λ v e. e ∙ ap (λ m. log_verdict m bytes) limit)
-    (c.finish_counted.ensures.verdict bytes (c.in_ok-feed_counted.ensures.checked [] c.new-checker.ensures.checked))
+    (c.finish_counted.ensures.verdict bytes
+    (c.in_ok-feed_counted.ensures.checked [] c.new-checker.ensures.checked))
 
 pub returns-clause-steps : goal.returns-clause-steps
 returns-clause-steps g c =

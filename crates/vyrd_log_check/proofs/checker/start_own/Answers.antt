@@ -6,12 +6,15 @@ use Rattle.vyrd_log_check.proofs.CostLaws.{started_steps}
 use Rattle.vyrd_log_check.proofs.checker.start_own.Goals as goal
 
 pub returns-clause-checked : goal.returns-clause-checked
-returns-clause-checked g c = c.in_ok-verdict.ensures.checked own_beginning (c.in_ok-feed_counted.ensures.checked [] c.new-own.ensures.checked)
+returns-clause-checked g c = c.in_ok-verdict.ensures.checked own_beginning
+    (c.in_ok-feed_counted.ensures.checked [] c.new-own.ensures.checked)
 
 pub returns-clause-answer : goal.returns-clause-answer
 returns-clause-answer g c =
-    c.in_ok-verdict.ensures.answer own_beginning (c.in_ok-feed_counted.ensures.checked [] c.new-own.ensures.checked)
-    ∙ ap (λ m. own_text_verdict_so_far m (own_beginning ++ c.args.rest.now)) (c.in_ok-feed_counted.ensures.limit ∙ c.new-own.ensures.limit)
+    c.in_ok-verdict.ensures.answer own_beginning
+    (c.in_ok-feed_counted.ensures.checked [] c.new-own.ensures.checked)
+    ∙ ap (λ m. own_text_verdict_so_far m (own_beginning ++ c.args.rest.now))
+    (c.in_ok-feed_counted.ensures.limit ∙ c.new-own.ensures.limit)
 
 pub returns-clause-steps : goal.returns-clause-steps
 returns-clause-steps g c =

@@ -1,4 +1,5 @@
-use Rattle.std.proofs.Common.{◌<◌, List, Some, None, length, set, drop, refl, subst, ap, sym, ◌∙◌, arith}
+use Rattle.std.proofs.Common.{◌<◌, List, Some, None, length, set, drop, refl, subst, ap, sym, ◌∙◌}
+use Rattle.std.proofs.Common.{arith}
 use Rattle.std.proofs.lemmas.List.{map-set, length-set}
 use Rattle.std.proofs.lemmas.Option.{slice_get_within, none-some}
 use Rattle.vyrd_base.proofs.ChangedLists.{written_back}
@@ -11,29 +12,38 @@ use Rattle.vyrd_observers.proofs.leaving.close.Goals as goal
 
 pub let_go-requires-clause-trail : goal.let_go-requires-clause-trail
 let_go-requires-clause-trail g c =
-    let here = slice_get-is c.args.watches.now.items c.args.caller c.index.result.now c.requires.caller c.index.ensures ∙ ap Some c.in-Some.is in
+    let here = slice_get-is c.args.watches.now.items c.args.caller c.index.result.now
+    c.requires.caller c.index.ensures ∙ ap Some c.in-Some.is in
     let was = c.requires.on c.args.caller c.in-Some.watch here in
     subst (λ (ts : List Asked). c.in-Some.watch.trail < length ts) (sym c.deref_mut.ensures.value)
     (slice_get_within c.args.trails.now.items c.in-Some.watch.trail was.asked was.there)
 
 pub let_go-requires-clause-on : goal.let_go-requires-clause-on
 let_go-requires-clause-on g c =
-    subst (λ (ts : List Asked). AreOn ts (set c.args.watches.now.items c.args.caller None)) (sym c.deref_mut.ensures.value)
-    (on_set c.args.trails.now.items c.args.watches.now.items c.args.caller None c.requires.caller (λ w is. absurd (none-some _ is)) c.requires.on)
+    subst (λ (ts : List Asked). AreOn ts (set c.args.watches.now.items c.args.caller None))
+    (sym c.deref_mut.ensures.value)
+    (on_set c.args.trails.now.items c.args.watches.now.items c.args.caller None c.requires.caller
+    (λ w is. absurd (none-some _ is)) c.requires.on)
 
 pub let_go-requires-clause-used : goal.let_go-requires-clause-used
 let_go-requires-clause-used g c =
     let watches = c.args.watches.now.items in
-    let here = slice_get-is watches c.args.caller c.index.result.now c.requires.caller c.index.ensures ∙ ap Some c.in-Some.is in
-    subst (λ (ts : List Asked). OthersAreUsed ts (set watches c.args.caller None) c.in-Some.watch.trail) (sym c.deref_mut.ensures.value)
-    (used_without c.args.trails.now.items watches c.args.caller c.in-Some.watch here c.requires.used)
+    let here = slice_get-is watches c.args.caller c.index.result.now c.requires.caller
+    c.index.ensures ∙ ap Some c.in-Some.is in
+    subst (λ (ts : List Asked). OthersAreUsed ts (set watches c.args.caller None)
+    c.in-Some.watch.trail) (sym c.deref_mut.ensures.value)
+    (used_without c.args.trails.now.items watches c.args.caller c.in-Some.watch here
+    c.requires.used)
 
 pub let_go-requires-clause-counted : goal.let_go-requires-clause-counted
 let_go-requires-clause-counted g c =
     let watches = c.args.watches.now.items in
-    let here = slice_get-is watches c.args.caller c.index.result.now c.requires.caller c.index.ensures ∙ ap Some c.in-Some.is in
-    subst (λ (ts : List Asked). AreCountedBefore c.in-Some.watch.trail ts (set watches c.args.caller None)) (sym c.deref_mut.ensures.value)
-    (counted_without c.args.trails.now.items watches c.args.caller c.in-Some.watch here c.requires.counted)
+    let here = slice_get-is watches c.args.caller c.index.result.now c.requires.caller
+    c.index.ensures ∙ ap Some c.in-Some.is in
+    subst (λ (ts : List Asked). AreCountedBefore c.in-Some.watch.trail ts
+    (set watches c.args.caller None)) (sym c.deref_mut.ensures.value)
+    (counted_without c.args.trails.now.items watches c.args.caller c.in-Some.watch here
+    c.requires.counted)
 
 pub reach_of-requires-clause-free : goal.reach_of-requires-clause-free
 reach_of-requires-clause-free g c =
@@ -41,7 +51,8 @@ reach_of-requires-clause-free g c =
     (drop (length c.let_go.new.trails) c.args.trails.now.items)
     (c.let_go.auto.trails ∙ c.deref_mut.ensures.len) in
     subst (AreFreeFrom c.args.reach.now) (sym (c.deref.ensures.value ∙ back))
-    (free_closed c.args.reach.now c.deref_mut.result.now c.let_go.new.trails c.let_go.ensures.stay c.let_go.auto.trails
+    (free_closed c.args.reach.now c.deref_mut.result.now c.let_go.new.trails c.let_go.ensures.stay
+    c.let_go.auto.trails
     (subst (AreFreeFrom c.args.reach.now) (sym c.deref_mut.ensures.value) c.requires.free))
 
 pub returns-in-Some-clause-closes : goal.returns-in-Some-clause-closes
@@ -50,25 +61,38 @@ returns-in-Some-clause-closes g c =
     let back = written_back c.args.trails.now.len c.let_go.new.trails
     (drop (length c.let_go.new.trails) c.args.trails.now.items)
     (c.let_go.auto.trails ∙ c.deref_mut.ensures.len) in
-    subst (λ (ts : List Asked). Closes c.args.caller c.args.trails.now.items ts watches c.let_go.new.watches.items c.reach_of.result) (sym back)
-    (subst (λ (ts : List Asked). Closes c.args.caller ts c.let_go.new.trails watches c.let_go.new.watches.items c.reach_of.result)
+    subst (λ (ts : List Asked). Closes c.args.caller c.args.trails.now.items ts watches
+    c.let_go.new.watches.items c.reach_of.result) (sym back)
+    (subst (λ (ts : List Asked). Closes c.args.caller ts c.let_go.new.trails watches
+    c.let_go.new.watches.items c.reach_of.result)
     c.deref_mut.ensures.value (record {
-      seen = c.let_go.ensures.seen ∙ map-set (seen_by c.deref_mut.result.now) watches c.args.caller None;
-      none = c.let_go.ensures.closed c.args.caller (slice_get-set_same watches c.args.caller None c.requires.caller);
+      seen = c.let_go.ensures.seen ∙ map-set (seen_by c.deref_mut.result.now) watches c.args.caller
+          None;
+      none = c.let_go.ensures.closed c.args.caller
+          (slice_get-set_same watches c.args.caller None c.requires.caller);
       on = c.let_go.ensures.on;
       used = c.let_go.ensures.used;
       counted = c.let_go.ensures.counted;
       asking = c.let_go.ensures.asking;
       stay = c.let_go.ensures.stay;
       trails = c.let_go.auto.trails;
-      within = omega (arith, c.reach_of.ensures.within, c.requires.within, c.let_go.auto.trails, ap length c.deref_mut.ensures.value);
-      free = subst (AreFreeFrom c.reach_of.result) (c.deref.ensures.value ∙ back) c.reach_of.ensures.free;
+      within = omega (
+        arith,
+        c.reach_of.ensures.within,
+        c.requires.within,
+        c.let_go.auto.trails,
+        ap length
+            c.deref_mut.ensures.value,
+      );
+      free = subst (AreFreeFrom c.reach_of.result) (c.deref.ensures.value ∙ back)
+          c.reach_of.ensures.free;
     }))
 
 pub returns-in_default-clause-closes : goal.returns-in_default-clause-closes
 returns-in_default-clause-closes g c =
     let watches = c.args.watches.now.items in
-    let here = slice_get-is watches c.args.caller c.index.result.now c.requires.caller c.index.ensures
+    let here = slice_get-is watches c.args.caller c.index.result.now c.requires.caller
+    c.index.ensures
     ∙ ap Some (is_none c.index.result.now (λ w is. c.in_default.not-Some w is)) in
     record {
       seen = closed_stays c.args.trails.now.items watches c.args.caller here;

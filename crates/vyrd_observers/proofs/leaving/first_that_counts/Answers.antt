@@ -1,4 +1,5 @@
-use Rattle.std.proofs.Common.{◌≡◌, ◌+◌, ◌<◌, ℕ, false, Option, None, Some, slice_get, ⊎_elim, refl, ap, sym, ◌∙◌, arith}
+use Rattle.std.proofs.Common.{◌≡◌, ◌+◌, ◌<◌, ℕ, false, Option, None, Some, slice_get, ⊎_elim, refl}
+use Rattle.std.proofs.Common.{ap, sym, ◌∙◌, arith}
 use Rattle.std.specs.Prelude.{◌==◌, unwrap_or, IfSome}
 use Rattle.std.proofs.lemmas.Option.{slice_get_within, slice_get-get_or, unwrap_or-slice_get}
 use Rattle.vyrd_base.proofs.BlockLaws.{by_same}
@@ -22,15 +23,19 @@ loop-watch-preserved g c = record {
       (λ was. c.loop-watch.invariant.asks n was)
       (λ own. (
         c.loop-watch.watch-index,
-        slice_get-get_or c.args.watches.now c.loop-watch.watch-index None c.loop-watch-test.true ∙ ap Some own,
+        slice_get-get_or c.args.watches.now c.loop-watch.watch-index None c.loop-watch-test.true
+            ∙ ap Some own,
       ))
       (c.earlier-first.ensures.either n is);
   counts = λ d w low here same. by_same c.loop-watch.watch-index d
       (λ now. c.earlier-first.ensures.counts w
-      (sym (unwrap_or-slice_get c.args.watches.now c.loop-watch.watch-index None) ∙ ap (λ o. unwrap_or o None) (ap (slice_get c.args.watches.now) now ∙ here))
+      (sym (unwrap_or-slice_get c.args.watches.now c.loop-watch.watch-index None)
+      ∙ ap (λ o. unwrap_or o None) (ap (slice_get c.args.watches.now) now ∙ here))
       same)
-      (λ other. let was = c.loop-watch.invariant.counts d w (lower c.loop-watch.watch-index d low other) here same in
-      let more = c.earlier-first.ensures.before was.0 was.1 in (more.0, more.1, omega (arith, more.2, was.2)));
+      (λ other. let was = c.loop-watch.invariant.counts d w
+      (lower c.loop-watch.watch-index d low other) here same in
+      let more = c.earlier-first.ensures.before was.0 was.1 in
+      (more.0, more.1, omega (arith, more.2, was.2)));
   steps = omega (arith, c.tick.ensures, c.loop-watch.invariant.steps);
 }
   where
@@ -46,4 +51,5 @@ returns-clause-asks g c = if_some c.loop-watch.first c.loop-watch.invariant.asks
 
 pub returns-clause-counts : goal.returns-clause-counts
 returns-clause-counts g c = λ d w here same.
-    c.loop-watch.invariant.counts d w (omega (arith, slice_get_within c.args.watches.now d _ here, c.loop-watch-test.false)) here same
+    c.loop-watch.invariant.counts d w
+    (omega (arith, slice_get_within c.args.watches.now d _ here, c.loop-watch-test.false)) here same

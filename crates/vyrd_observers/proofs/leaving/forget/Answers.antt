@@ -18,7 +18,8 @@ returns-clause-seen g c =
     c.forget.ensures.dropped
     ∙ ap (map (seen_by (set trails c.args.trail (record t { others = drop c.args.n t.others }))))
     c.move_all.ensures.moved
-    ∙ seen_moved trails c.args.watches.now.items c.args.trail c.args.n t (slice_get-get_or trails c.args.trail c.index-trails-trail.result c.requires.trail)
+    ∙ seen_moved trails c.args.watches.now.items c.args.trail c.args.n t
+    (slice_get-get_or trails c.args.trail c.index-trails-trail.result c.requires.trail)
     c.requires.uncounted
 
 pub returns-clause-on : goal.returns-clause-on
@@ -29,7 +30,8 @@ returns-clause-on g c =
     (sym c.forget.ensures.dropped)
     (subst (AreOn (set trails c.args.trail (record t { others = drop c.args.n t.others })))
     (sym c.move_all.ensures.moved)
-    (on_moved trails c.args.watches.now.items c.args.trail c.args.n t (slice_get-get_or trails c.args.trail c.index-trails-trail.result c.requires.trail)
+    (on_moved trails c.args.watches.now.items c.args.trail c.args.n t
+    (slice_get-get_or trails c.args.trail c.index-trails-trail.result c.requires.trail)
     c.requires.uncounted c.requires.on))
 
 pub returns-clause-asking : goal.returns-clause-asking
@@ -37,7 +39,8 @@ returns-clause-asking g c = λ h all.
     let trails = c.args.trails.now in
     let t = get_or trails c.args.trail c.index-trails-trail.result in
     asking_set h trails c.args.trail c.forget.new.self c.requires.trail
-    (λ is. let was = all c.args.trail t (slice_get-get_or trails c.args.trail c.index-trails-trail.result c.requires.trail)
+    (λ is. let was = all c.args.trail t
+    (slice_get-get_or trails c.args.trail c.index-trails-trail.result c.requires.trail)
     (ap (λ u. u.is_asked) (sym c.forget.ensures.dropped) ∙ is) in (
       ap (λ u. has_method h u.method u.args) c.forget.ensures.dropped ∙ was.0,
       ap (λ u. must_commit u.method) c.forget.ensures.dropped ∙ was.1,
@@ -51,7 +54,8 @@ pub returns-clause-stay : goal.returns-clause-stay
 returns-clause-stay g c =
     let trails = c.args.trails.now in
     let t = get_or trails c.args.trail c.index-trails-trail.result in
-    stay_set trails c.args.trail t c.forget.new.self (slice_get-get_or trails c.args.trail c.index-trails-trail.result c.requires.trail)
+    stay_set trails c.args.trail t c.forget.new.self
+    (slice_get-get_or trails c.args.trail c.index-trails-trail.result c.requires.trail)
     (λ is. (
       ap (λ u. u.is_asked) (sym c.forget.ensures.dropped) ∙ is,
       ap (λ u. u.method) c.forget.ensures.dropped,

@@ -3,20 +3,25 @@ use Rattle.std.specs.Prelude.{option_map}
 use Rattle.std.proofs.lemmas.Option.{slice_get-map}
 use Rattle.vyrd_observers.specs.declared.watch.Watch.{Watch}
 use Rattle.vyrd_observers.specs.Trails.{Asked, AreOn, AreUsed, moved}
-use Rattle.vyrd_observers.proofs.TrailLaws.{used_moved, used_still, stay_all, counted_within, read_is}
+use Rattle.vyrd_observers.proofs.TrailLaws.{used_moved, used_still, stay_all, counted_within}
+use Rattle.vyrd_observers.proofs.TrailLaws.{read_is}
 use Rattle.vyrd_observers.proofs.leaving.forget_some.Goals as goal
 
 pub forget-requires-clause-within : goal.forget-requires-clause-within
 forget-requires-clause-within g c = let one = c.in-Some.ensures.asks in
     counted_within c.args.trails.now c.args.watches.now.items c.args.trail c.in-Some.n one.0
-    (ap (λ (ws : List (Option Watch)). slice_get ws one.0) (sym c.deref.ensures.value) ∙ one.1) c.requires.on
+    (ap (λ (ws : List (Option Watch)). slice_get ws one.0) (sym c.deref.ensures.value) ∙ one.1)
+    c.requires.on
 
 pub returns-then-len-n-clause-used : goal.returns-then-len-n-clause-used
 returns-then-len-n-clause-used g c = let one = c.in-Some.ensures.asks in
-    subst (λ (ws : List (Option Watch)). AreUsed c.forget.new.trails ws) (sym c.forget.ensures.moved)
-    (used_moved c.args.trails.now c.forget.new.trails c.args.watches.now.items c.args.trail c.in-Some.n one.0
+    subst (λ (ws : List (Option Watch)). AreUsed c.forget.new.trails ws)
+    (sym c.forget.ensures.moved)
+    (used_moved c.args.trails.now c.forget.new.trails c.args.watches.now.items c.args.trail
+    c.in-Some.n one.0
     (ap (λ (ws : List (Option Watch)). slice_get ws one.0) (sym c.deref.ensures.value) ∙ one.1)
-    c.forget.ensures.only (subst (AreOn c.forget.new.trails) c.forget.ensures.moved c.forget.ensures.on) c.requires.used)
+    c.forget.ensures.only
+    (subst (AreOn c.forget.new.trails) c.forget.ensures.moved c.forget.ensures.on) c.requires.used)
 
 pub returns-then-len-n-clause-closed : goal.returns-then-len-n-clause-closed
 returns-then-len-n-clause-closed g c = λ d here.
@@ -28,7 +33,8 @@ pub returns-else-len-n-clause-used : goal.returns-else-len-n-clause-used
 returns-else-len-n-clause-used g c = let one = c.in-Some.ensures.asks in
     used_still c.args.trails.now c.args.watches.now.items c.args.trail c.in-Some.n one.0
     (ap (λ (ws : List (Option Watch)). slice_get ws one.0) (sym c.deref.ensures.value) ∙ one.1)
-    (λ t there. let it = read_is c.args.trails.now c.args.trail t c.index-trails-trail.result there c.index-trails-trail.is
+    (λ t there. let it = read_is c.args.trails.now c.args.trail t c.index-trails-trail.result there
+    c.index-trails-trail.is
     ∙ c.index-trails-trail.is in
     omega (arith, c.if-len-n.false, c.len.ensures, ap (λ (u : Asked). length u.others) it))
     c.requires.on c.requires.used

@@ -22,7 +22,8 @@ forget_some-requires g c =
     c.leave.ensures.left
     c.requires.on c.requires.used c.requires.counted in
     let read = c.index-trails-trail-2 in
-    let it : u ≡ get_or now i read.result = read_is now i u read.result so.there read.is ∙ read.is in
+    let it : u ≡ get_or now i read.result = read_is now i u read.result so.there read.is
+    ∙ read.is in
     let long = ap (λ (t : Asked). length t.others) it in
     record {
       trail = omega (arith, c.requires.trail, length-set trails i u);
@@ -67,7 +68,8 @@ returns-else-len-gt0 g c =
     c.leave.ensures.left
     c.requires.on c.requires.used c.requires.counted in
     let read = c.index-trails-trail-2 in
-    let it : u ≡ get_or now i read.result = read_is now i u read.result so.there read.is ∙ read.is in
+    let it : u ≡ get_or now i read.result = read_is now i u read.result so.there read.is
+    ∙ read.is in
     let long = ap (λ (t : Asked). length t.others) it in
     record {
       seen = so.seen;

@@ -12,7 +12,8 @@ moved-requires g c = λ w is same.
     let here : get_or old i None ≡ Some w =
     sym (unchanged_at (moved c.args.trail c.args.n) i old None)
     ∙ sym (ap (λ xs. get_or xs i None) c.loop-watch.invariant.moved) ∙ is in
-    let kept : slice_get old i ≡ Some (Some w) = slice_get-get_or old i None c.loop-watch-test.true ∙ ap Some here in
+    let kept : slice_get old i ≡ Some (Some w) = slice_get-get_or old i None c.loop-watch-test.true
+    ∙ ap Some here in
     c.requires i w (rw c.deref_mut-watch-items.ensures.value at kept) same
 
 pub loop-watch-preserved : goal.loop-watch-preserved
@@ -26,8 +27,10 @@ loop-watch-preserved g c = record {
 
 pub returns-clause-moved : goal.returns-clause-moved
 returns-clause-moved g c =
-    written_back c.args.watches.now.len c.loop-watch.watch-items (drop (length c.loop-watch.watch-items) c.args.watches.now.items)
+    written_back c.args.watches.now.len c.loop-watch.watch-items
+    (drop (length c.loop-watch.watch-items) c.args.watches.now.items)
     (c.loop-watch.auto.watch-items ∙ c.deref_mut-watch-items.ensures.len)
     ∙ c.loop-watch.invariant.moved
-    ∙ changed_all (moved c.args.trail c.args.n) c.loop-watch.watch-index c.deref_mut-watch-items.result.now c.loop-watch-test.false
+    ∙ changed_all (moved c.args.trail c.args.n) c.loop-watch.watch-index
+    c.deref_mut-watch-items.result.now c.loop-watch-test.false
     ∙ ap (map (moved c.args.trail c.args.n)) c.deref_mut-watch-items.ensures.value

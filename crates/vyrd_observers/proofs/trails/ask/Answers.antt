@@ -14,12 +14,18 @@ returns-in_err-i-clause-asking g c = λ h may answers all. c.free.ensures.asking
 
 pub index_mut-requires : goal.index_mut-requires
 index_mut-requires g c = let there = c.in_ok-i.ensures.free in
-    omega (arith, slice_get_within c.free.new.trails.items c.in_ok-i.i there.0 there.1, c.free.new.trails.ok.0)
+    omega (
+      arith,
+      slice_get_within c.free.new.trails.items c.in_ok-i.i there.0
+          there.1,
+      c.free.new.trails.ok.0,
+    )
 
 pub returns-clause-asked : goal.returns-clause-asked
 returns-clause-asked g c = let there = c.in_ok-i.ensures.free in (
   c.begin.new.self,
-  slice_get-set_same c.free.new.trails.items c.in_ok-i.i c.begin.new.self (slice_get_within c.free.new.trails.items c.in_ok-i.i there.0 there.1),
+  slice_get-set_same c.free.new.trails.items c.in_ok-i.i c.begin.new.self
+      (slice_get_within c.free.new.trails.items c.in_ok-i.i there.0 there.1),
   (
     ap (λ t. t.is_asked) c.begin.ensures.question,
     ap (λ t. t.method) c.begin.ensures.question,
@@ -30,11 +36,13 @@ returns-clause-asked g c = let there = c.in_ok-i.ensures.free in (
 
 pub returns-clause-kept : goal.returns-clause-kept
 returns-clause-kept g c = λ i t here is_asked. let there = c.in_ok-i.ensures.free in
-    keeps_set c.free.new.trails.items c.in_ok-i.i there.0 c.begin.new.self there.1 there.2 i t (c.free.ensures.kept i t here is_asked) is_asked
+    keeps_set c.free.new.trails.items c.in_ok-i.i there.0 c.begin.new.self there.1 there.2 i t
+    (c.free.ensures.kept i t here is_asked) is_asked
 
 pub returns-clause-asking : goal.returns-clause-asking
 returns-clause-asking g c = λ h may answers all. let there = c.in_ok-i.ensures.free in
-    asking_set h c.free.new.trails.items c.in_ok-i.i c.begin.new.self (slice_get_within c.free.new.trails.items c.in_ok-i.i there.0 there.1)
+    asking_set h c.free.new.trails.items c.in_ok-i.i c.begin.new.self
+    (slice_get_within c.free.new.trails.items c.in_ok-i.i there.0 there.1)
     (λ is. (
       ap (λ t. has_method h t.method t.args) c.begin.ensures.question ∙ may,
       ap (λ t. must_commit t.method) c.begin.ensures.question ∙ answers,

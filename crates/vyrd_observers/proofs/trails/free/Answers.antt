@@ -12,20 +12,24 @@ pub returns-clause-free : goal.returns-clause-free
 returns-clause-free g c = (
   c.new.result,
   ap (λ xs. slice_get xs c.len-i.result) c.in_ok-push.ensures.items
-      ∙ ap (slice_get (c.args.trails.now.items ++ c.new.result ∷ [])) (c.len-i.ensures ∙ c.args.trails.now.ok.0)
+      ∙ ap (slice_get (c.args.trails.now.items ++ c.new.result ∷ []))
+      (c.len-i.ensures ∙ c.args.trails.now.ok.0)
       ∙ slice_get-last c.args.trails.now.items c.new.result,
   c.new.ensures.free,
 )
 
 pub returns-clause-kept : goal.returns-clause-kept
 returns-clause-kept g c = λ i t here is_asked.
-    ap (λ xs. slice_get xs i) c.in_ok-push.ensures.items ∙ before_pushed c.args.trails.now.items c.new.result i t here
+    ap (λ xs. slice_get xs i) c.in_ok-push.ensures.items
+    ∙ before_pushed c.args.trails.now.items c.new.result i t here
 
 pub returns-clause-asking : goal.returns-clause-asking
 returns-clause-asking g c = λ h all.
-    subst (AreAsking h) (sym c.in_ok-push.ensures.items) (asking_pushed h c.args.trails.now.items c.new.result c.new.ensures.free all)
+    subst (AreAsking h) (sym c.in_ok-push.ensures.items)
+    (asking_pushed h c.args.trails.now.items c.new.result c.new.ensures.free all)
 
 pub returns-clause-only : goal.returns-clause-only
 returns-clause-only g c = λ i t there. ⊎_elim (λ was. inl was)
     (λ last. inr (last ∙ sym (c.len-i.ensures ∙ c.args.trails.now.ok.0)))
-    (pushed_only c.args.trails.now.items c.new.result i t (ap (λ xs. slice_get xs i) (sym c.in_ok-push.ensures.items) ∙ there))
+    (pushed_only c.args.trails.now.items c.new.result i t
+    (ap (λ xs. slice_get xs i) (sym c.in_ok-push.ensures.items) ∙ there))

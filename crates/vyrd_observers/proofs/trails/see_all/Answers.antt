@@ -8,7 +8,8 @@ use Rattle.vyrd_observers.proofs.CostLaws.{answers_changed, kept_changed}
 use Rattle.vyrd_observers.specs.Order.{AreInOrder}
 use Rattle.vyrd_base.specs.Rules.{rules_by}
 use Rattle.vyrd_base.proofs.ChangedLists.{changed_next}
-use Rattle.vyrd_observers.proofs.TrailLaws.{asking_after, order_after, length-changed, changed_none, changed_enough, free_stays, unaffected_stays}
+use Rattle.vyrd_observers.proofs.TrailLaws.{asking_after, order_after, length-changed, changed_none}
+use Rattle.vyrd_observers.proofs.TrailLaws.{changed_enough, free_stays, unaffected_stays}
 use Rattle.vyrd_observers.proofs.trails.see_all.Goals as goal
 
 pub loop-i-init : goal.loop-i-init
@@ -28,7 +29,8 @@ loop-i-init g c =
 
 pub see-requires-clause-allowed : goal.see-requires-clause-allowed
 see-requires-clause-allowed g c = λ is_asked.
-    let f = after_state (g.S.Spec.affects c.args.spec.now) ((rules_by (g.S.Spec.charter c.args.spec.now)).answer (g.S.Spec.state c.args.spec.now)) in
+    let f = after_state (g.S.Spec.affects c.args.spec.now)
+    ((rules_by (g.S.Spec.charter c.args.spec.now)).answer (g.S.Spec.state c.args.spec.now)) in
     let old = c.args.trails.now.items in
     let i = c.loop-i.i in
     let within : i < length c.loop-i.trails.items = omega (
@@ -40,13 +42,18 @@ see-requires-clause-allowed g c = λ is_asked.
     ) in
     ((subst (AreAsking (rules_by (g.S.Spec.charter c.args.spec.now)).header)
     (sym c.loop-i.invariant.changed)
-    (asking_after (rules_by (g.S.Spec.charter c.args.spec.now)).header (g.S.Spec.affects c.args.spec.now) ((rules_by (g.S.Spec.charter c.args.spec.now)).answer (g.S.Spec.state c.args.spec.now)) i old c.requires.asking))
+    (asking_after (rules_by (g.S.Spec.charter c.args.spec.now)).header
+    (g.S.Spec.affects c.args.spec.now)
+    ((rules_by (g.S.Spec.charter c.args.spec.now)).answer (g.S.Spec.state c.args.spec.now)) i old
+    c.requires.asking))
     i c.index_mut.result.now
-    (slice_get-get_or c.loop-i.trails.items i c.index_mut.result.now within ∙ ap Some (sym c.index_mut.ensures.value)) is_asked).0
+    (slice_get-get_or c.loop-i.trails.items i c.index_mut.result.now within
+    ∙ ap Some (sym c.index_mut.ensures.value)) is_asked).0
 
 pub see-requires-clause-may_answer : goal.see-requires-clause-may_answer
 see-requires-clause-may_answer g c = λ is_asked.
-    let f = after_state (g.S.Spec.affects c.args.spec.now) ((rules_by (g.S.Spec.charter c.args.spec.now)).answer (g.S.Spec.state c.args.spec.now)) in
+    let f = after_state (g.S.Spec.affects c.args.spec.now)
+    ((rules_by (g.S.Spec.charter c.args.spec.now)).answer (g.S.Spec.state c.args.spec.now)) in
     let old = c.args.trails.now.items in
     let i = c.loop-i.i in
     let within : i < length c.loop-i.trails.items = omega (
@@ -58,9 +65,13 @@ see-requires-clause-may_answer g c = λ is_asked.
     ) in
     ((subst (AreAsking (rules_by (g.S.Spec.charter c.args.spec.now)).header)
     (sym c.loop-i.invariant.changed)
-    (asking_after (rules_by (g.S.Spec.charter c.args.spec.now)).header (g.S.Spec.affects c.args.spec.now) ((rules_by (g.S.Spec.charter c.args.spec.now)).answer (g.S.Spec.state c.args.spec.now)) i old c.requires.asking))
+    (asking_after (rules_by (g.S.Spec.charter c.args.spec.now)).header
+    (g.S.Spec.affects c.args.spec.now)
+    ((rules_by (g.S.Spec.charter c.args.spec.now)).answer (g.S.Spec.state c.args.spec.now)) i old
+    c.requires.asking))
     i c.index_mut.result.now
-    (slice_get-get_or c.loop-i.trails.items i c.index_mut.result.now within ∙ ap Some (sym c.index_mut.ensures.value)) is_asked).1
+    (slice_get-get_or c.loop-i.trails.items i c.index_mut.result.now within
+    ∙ ap Some (sym c.index_mut.ensures.value)) is_asked).1
 
 pub returns-in_err-see-clause-order : goal.returns-in_err-see-clause-order
 returns-in_err-see-clause-order g c = λ h watches order.
@@ -69,12 +80,16 @@ returns-in_err-see-clause-order g c = λ h watches order.
     ∙ set-get_or c.loop-i.trails.items c.loop-i.i c.index_mut.result.now
     ∙ c.loop-i.invariant.changed in
     subst (λ ts. AreInOrder h c.args.reach ts watches) (sym unchanged)
-    (order_after h c.args.reach (g.S.Spec.affects c.args.spec.now) ((rules_by (g.S.Spec.charter c.args.spec.now)).answer (g.S.Spec.state c.args.spec.now)) c.loop-i.i c.args.trails.now.items watches order)
+    (order_after h c.args.reach (g.S.Spec.affects c.args.spec.now)
+    ((rules_by (g.S.Spec.charter c.args.spec.now)).answer (g.S.Spec.state c.args.spec.now))
+    c.loop-i.i c.args.trails.now.items watches order)
 
 pub loop-i-preserved : goal.loop-i-preserved
 loop-i-preserved g c =
-    let f = after_state (g.S.Spec.affects c.args.spec.now) ((rules_by (g.S.Spec.charter c.args.spec.now)).answer (g.S.Spec.state c.args.spec.now)) in
-    let within : c.loop-i.i < length c.args.trails.now.items = omega (arith, c.loop-i-test.true, c.requires.within) in
+    let f = after_state (g.S.Spec.affects c.args.spec.now)
+    ((rules_by (g.S.Spec.charter c.args.spec.now)).answer (g.S.Spec.state c.args.spec.now)) in
+    let within : c.loop-i.i < length c.args.trails.now.items =
+    omega (arith, c.loop-i-test.true, c.requires.within) in
     record {
       changed = changed_next f c.loop-i.i c.args.trails.now.items c.loop-i.trails.items
           c.index_mut.result.now c.see.new.trail within c.loop-i.invariant.changed
@@ -90,12 +105,15 @@ returns-clause-saw g c =
     (g.S.Spec.state c.args.spec.now) in
     c.loop-i.invariant.changed ∙ changed_enough (after_state affects told) c.loop-i.i
     c.args.trails.now.items
-    (λ i t high there. free_stays affects told t (c.requires.free i t (omega (arith, high, c.loop-i-test.false)) there))
+    (λ i t high there. free_stays affects told t
+    (c.requires.free i t (omega (arith, high, c.loop-i-test.false)) there))
 
 pub returns-clause-order : goal.returns-clause-order
 returns-clause-order g c = λ h watches order. subst (λ ts. AreInOrder h c.args.reach ts watches)
     (sym c.loop-i.invariant.changed)
-    (order_after h c.args.reach (g.S.Spec.affects c.args.spec.now) ((rules_by (g.S.Spec.charter c.args.spec.now)).answer (g.S.Spec.state c.args.spec.now)) c.loop-i.i c.args.trails.now.items watches order)
+    (order_after h c.args.reach (g.S.Spec.affects c.args.spec.now)
+    ((rules_by (g.S.Spec.charter c.args.spec.now)).answer (g.S.Spec.state c.args.spec.now))
+    c.loop-i.i c.args.trails.now.items watches order)
 
 pub returns-clause-answers : goal.returns-clause-answers
 returns-clause-answers g c = λ watches.

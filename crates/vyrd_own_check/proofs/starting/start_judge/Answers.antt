@@ -14,13 +14,15 @@ use Rattle.vyrd_own_check.proofs.starting.start_judge.Goals as goal
 
 pub start-requires-clause-count : goal.start-requires-clause-count
 start-requires-clause-count c =
-    ap length (c.deref.ensures.value ∙ c.in_ok-words.ensures) ∙ length-words_at_start c.args.header c.args.start.now
+    ap length (c.deref.ensures.value ∙ c.in_ok-words.ensures)
+    ∙ length-words_at_start c.args.header c.args.start.now
     ∙ own_plain c.args.header c.requires.own
 
 pub returns-in_default : goal.returns-in_default
 returns-in_default c =
     let spelled = c.in_ok-shared.ensures.ok ∙ c.in_ok-specification.ensures in
-    stands_for_none c.args.header (texts c.args.lines.now) c.args.start.now c.deref.result.now (c.deref.ensures.value ∙ c.in_ok-words.ensures)
+    stands_for_none c.args.header (texts c.args.lines.now) c.args.start.now c.deref.result.now
+    (c.deref.ensures.value ∙ c.in_ok-words.ensures)
     (sym (ap is_none c.in_default.is) ∙ c.in_ok-spec.ensures.none
     ∙ ap (λ (lines : List (List ℕ)). not (may_stand (written_in lines) c.deref.result.now)) spelled)
 
@@ -29,9 +31,12 @@ begin-requires-clause-state c =
     let spec = c.in-Some.spec in
     let known = rw c.in-Some.is at c.in_ok-spec.ensures in
     let spelled = c.in_ok-shared.ensures.ok ∙ c.in_ok-specification.ensures in
-    (λ i. state_at_start (rules_by (own (known.header i) ((known.lines ∙ spelled) i))) c.args.start.now)
-    ∙ stands_for c.args.header (texts c.args.lines.now) c.args.start.now c.deref.result.now (c.deref.ensures.value ∙ c.in_ok-words.ensures)
-    (known.none ∙ ap (λ (lines : List (List ℕ)). not (may_stand (written_in lines) c.deref.result.now)) spelled)
+    (λ i. state_at_start (rules_by (own (known.header i) ((known.lines ∙ spelled) i)))
+    c.args.start.now)
+    ∙ stands_for c.args.header (texts c.args.lines.now) c.args.start.now c.deref.result.now
+    (c.deref.ensures.value ∙ c.in_ok-words.ensures)
+    (known.none ∙ ap
+    (λ (lines : List (List ℕ)). not (may_stand (written_in lines) c.deref.result.now)) spelled)
     ∙ sym (ap Some (known.state
     ∙ ap (λ (lines : List (List ℕ)). own_start (written_in lines) c.deref.result.now) spelled))
 

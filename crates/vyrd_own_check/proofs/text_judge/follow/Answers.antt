@@ -16,25 +16,34 @@ returns-then-ended-clause-answer g c = λ read log ready.
     let h = rules_by c.args.judge.now.kept.charter in
     let h' = rules_by c.follow_counted.new.self.kept.charter in
     let followed = ready.before.followed in
-    let none : verdict_so_far h read.starting log' ≡ None = sym (c.in_ok-verdict.ensures.answer read.starting log followed) ∙ c.in_default.is in
-    let none' : verdict_so_far h' read.starting log' ≡ None = ap (λ l. verdict_so_far (rules_by l) read.starting log') c.in_ok-verdict.ensures.charter ∙ none in
+    let none : verdict_so_far h read.starting log'
+    ≡ None = sym (c.in_ok-verdict.ensures.answer read.starting log followed) ∙ c.in_default.is in
+    let none' : verdict_so_far h' read.starting log'
+    ≡ None = ap (λ l. verdict_so_far (rules_by l) read.starting log')
+    c.in_ok-verdict.ensures.charter ∙ none in
     let whole : end_verdict h' read.starting log' ≡ untold_in read =
     ap (λ l. end_verdict (rules_by l) read.starting log') c.in_ok-verdict.ensures.charter
-    ∙ sym (λ i. option_or (none i) (if (c.if-ended.true i) then end_verdict h read.starting log' else None))
+    ∙ sym (λ i. option_or (none i)
+    (if (c.if-ended.true i) then end_verdict h read.starting log' else None))
     ∙ sym (wrong_by c.args.judge.now read log c.args.entries.now c.args.ended ready) in
     where_same (end_verdict h' read.starting log') (untold_in read) whole c.open_call.result
-    (c.open_call.ensures.verdict read.starting log' (c.in_ok-verdict.ensures.followed read.starting log followed) none')
+    (c.open_call.ensures.verdict read.starting log'
+    (c.in_ok-verdict.ensures.followed read.starting log followed) none')
 
 pub returns-then-ended-clause-judging : goal.returns-then-ended-clause-judging
 returns-then-ended-clause-judging g c = λ read log ready.
     where_none c.open_call.result (IsJudging (Some c.follow_counted.new.self) read)
-    (judging_on c.args.judge.now c.follow_counted.new.self read log c.args.entries.now c.args.ended ready c.in_ok-verdict.ensures.charter
-    (c.in_ok-verdict.ensures.followed read.starting log ready.before.followed) (c.in_ok-verdict.ensures.so_far ∙ c.in_default.is))
+    (judging_on c.args.judge.now c.follow_counted.new.self read log c.args.entries.now c.args.ended
+    ready c.in_ok-verdict.ensures.charter
+    (c.in_ok-verdict.ensures.followed read.starting log ready.before.followed)
+    (c.in_ok-verdict.ensures.so_far ∙ c.in_default.is))
 
 pub returns-else-ended-clause-judging : goal.returns-else-ended-clause-judging
 returns-else-ended-clause-judging g c = λ read log ready none.
-    judging_on c.args.judge.now c.follow_counted.new.self read log c.args.entries.now c.args.ended ready c.in_ok-verdict.ensures.charter
-    (c.in_ok-verdict.ensures.followed read.starting log ready.before.followed) (c.in_ok-verdict.ensures.so_far ∙ c.in_default.is)
+    judging_on c.args.judge.now c.follow_counted.new.self read log c.args.entries.now c.args.ended
+    ready c.in_ok-verdict.ensures.charter
+    (c.in_ok-verdict.ensures.followed read.starting log ready.before.followed)
+    (c.in_ok-verdict.ensures.so_far ∙ c.in_default.is)
 
 pub returns-in-Some-clause-steps : goal.returns-in-Some-clause-steps
 returns-in-Some-clause-steps g c = λ read log ready.

@@ -4,4 +4,5 @@ use Rattle.vyrd_own_spec.proofs.stepping.put_set.Given as goal
 
 abbrev pub invariant-loop-effect : goal.invariant-loop-effect
 invariant-loop-effect l =
-    l.touched.items ++ shown_keys (drop l.effect-index l.effects) ≡ l.fn.touched.items ++ shown_keys l.effects
+    l.touched.items ++ shown_keys (drop l.effect-index l.effects) ≡ l.fn.touched.items
+    ++ shown_keys l.effects

@@ -11,7 +11,8 @@ pub loop-part-preserved : goal.loop-part-preserved
 loop-part-preserved g c =
     let d = g.D.Decode in
     let decoder = c.args.decoder.now in
-    let pairs = part_pairs (d.width decoder) (d.places decoder) (d.gives decoder) c.args.words.now in
+    let pairs = part_pairs (d.width decoder) (d.places decoder)
+    (d.gives decoder) c.args.words.now in
     let part = c.loop-part.part in
     one_more (λ i. told i (given c.args.key (pairs i))) part c.args.parts.now.items
     c.loop-part.parts.items c.put_part.new.parts.items (told part c.amount_of_part.result)
@@ -21,7 +22,8 @@ pub returns : goal.returns
 returns g c =
     let d = g.D.Decode in
     let decoder = c.args.decoder.now in
-    let pairs = part_pairs (d.width decoder) (d.places decoder) (d.gives decoder) c.args.words.now in
+    let pairs = part_pairs (d.width decoder) (d.places decoder)
+    (d.gives decoder) c.args.words.now in
     let key = c.args.key in
     let old = c.args.parts.now.items in
     let end : c.loop-part.part ≡ d.parts decoder =

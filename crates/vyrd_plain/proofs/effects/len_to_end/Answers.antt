@@ -1,7 +1,8 @@
 use Rattle.std.proofs.lemmas.Option.{slice_get-get_or}
 use Rattle.vyrd_plain.proofs.EffectFacts.{goes_on_past, ahead_next}
 use Rattle.vyrd_plain.proofs.effects.len_to_end.Goals as goal
-use Rattle.vyrd_plain.proofs.effects.len_to_end.Goals.{then-entry-caller+in_default, else-entry-caller}
+use Rattle.vyrd_plain.proofs.effects.len_to_end.Goals.{then-entry-caller+in_default}
+use Rattle.vyrd_plain.proofs.effects.len_to_end.Goals.{else-entry-caller}
 
 pub loop-i-preserved : goal.loop-i-preserved
 loop-i-preserved c = elim c.if-entry-caller.branch [

@@ -1,4 +1,5 @@
-use Rattle.std.proofs.Common.{◌≡◌, ◌<◌, Some, None, length, map, drop, get_or, slice_get, sym, ap, ◌∙◌, arith}
+use Rattle.std.proofs.Common.{◌≡◌, ◌<◌, Some, None, length, map, drop, get_or, slice_get, sym, ap}
+use Rattle.std.proofs.Common.{◌∙◌, arith}
 use Rattle.std.proofs.lemmas.Option.{slice_get-get_or}
 use Rattle.vyrd_plain.specs.Executions.{seeing}
 use Rattle.vyrd_base.specs.Rules.{rules_by}
@@ -11,8 +12,11 @@ seeing-requires g c = record {
       let old = c.deref_mut-execution-items.result.now in
       let i = c.loop-execution.execution-index in
       let here : get_or old i None ≡ Some x =
-      sym (unchanged_at (seeing (rules_by (g.S.Spec.charter c.args.spec.now)) (g.S.Spec.state c.args.spec.now)) i old None) ∙ sym (ap (λ xs. get_or xs i None) c.loop-execution.invariant) ∙ is in
-      let kept : slice_get old i ≡ Some (Some x) = slice_get-get_or old i None c.loop-execution-test.true ∙ ap Some here in
+      sym (unchanged_at
+      (seeing (rules_by (g.S.Spec.charter c.args.spec.now)) (g.S.Spec.state c.args.spec.now)) i old
+      None) ∙ sym (ap (λ xs. get_or xs i None) c.loop-execution.invariant) ∙ is in
+      let kept : slice_get old i ≡ Some (Some x) = slice_get-get_or old i None
+      c.loop-execution-test.true ∙ ap Some here in
       let within : i < (rules_by (g.S.Spec.charter c.args.spec.now)).header.callers = omega (
         arith,
         c.loop-execution-test.true,
@@ -24,7 +28,10 @@ seeing-requires g c = record {
 
 pub loop-execution-preserved : goal.loop-execution-preserved
 loop-execution-preserved g c =
-    changed_next (seeing (rules_by (g.S.Spec.charter c.args.spec.now)) (g.S.Spec.state c.args.spec.now)) c.loop-execution.execution-index c.deref_mut-execution-items.result.now c.loop-execution.execution-items None c.seeing.result
+    changed_next
+    (seeing (rules_by (g.S.Spec.charter c.args.spec.now)) (g.S.Spec.state c.args.spec.now))
+    c.loop-execution.execution-index c.deref_mut-execution-items.result.now
+    c.loop-execution.execution-items None c.seeing.result
     c.loop-execution-test.true c.loop-execution.invariant c.seeing.ensures
 
 pub returns-clause-seen : goal.returns-clause-seen
@@ -33,5 +40,9 @@ returns-clause-seen g c =
     (drop (length c.loop-execution.execution-items) c.args.executions.now.items)
     (c.loop-execution.auto.execution-items ∙ c.deref_mut-execution-items.ensures.len)
     ∙ c.loop-execution.invariant
-    ∙ changed_all (seeing (rules_by (g.S.Spec.charter c.args.spec.now)) (g.S.Spec.state c.args.spec.now)) c.loop-execution.execution-index c.deref_mut-execution-items.result.now c.loop-execution-test.false
-    ∙ ap (map (seeing (rules_by (g.S.Spec.charter c.args.spec.now)) (g.S.Spec.state c.args.spec.now))) c.deref_mut-execution-items.ensures.value
+    ∙ changed_all
+    (seeing (rules_by (g.S.Spec.charter c.args.spec.now)) (g.S.Spec.state c.args.spec.now))
+    c.loop-execution.execution-index c.deref_mut-execution-items.result.now
+    c.loop-execution-test.false
+    ∙ ap (map (seeing (rules_by (g.S.Spec.charter c.args.spec.now))
+    (g.S.Spec.state c.args.spec.now))) c.deref_mut-execution-items.ensures.value

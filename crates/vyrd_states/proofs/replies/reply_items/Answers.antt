@@ -7,11 +7,13 @@ use Rattle.vyrd_states.specs.Running.{called_by}
 use Rattle.vyrd_states.proofs.CallLaws.{execution_allowed}
 use Rattle.vyrd_states.proofs.ReplyLaws.{allowed_below, replies_to, no_replies}
 use Rattle.vyrd_states.proofs.replies.reply_items.Goals as goal
-use Rattle.vyrd_states.proofs.replies.reply_items.Goals.{in-Some+in_ok-push_before+in_ok-push_allowed, in_default}
+use Rattle.vyrd_states.proofs.replies.reply_items.Goals.{in-Some+in_ok-push_before+in_ok-push_allowed}
+use Rattle.vyrd_states.proofs.replies.reply_items.Goals.{in_default}
 
 pub push_allowed-requires-clause-has : goal.push_allowed-requires-clause-has
 push_allowed-requires-clause-has c =
-    execution_allowed c.args.begins.now.header c.args.front.now c.args.at c.entry_at-caller.result.caller
+    execution_allowed c.args.begins.now.header c.args.front.now c.args.at
+    c.entry_at-caller.result.caller
     c.in-Some.call c.requires.kept (sym c.execution_of.ensures ∙ c.in-Some.is)
 
 pub returns : goal.returns

@@ -26,7 +26,8 @@ answer-reply-requires-clause-subject g c =
     let run = run_by of.charter of.state of.made in
     let spec = c.loop-position.spec in
     let charter = g.B.Begins.charter c.args.begins.now in
-    let state = state_past (rules_by (of.charter spec)) c.args.front.now c.loop-position.position (of.state spec) in
+    let state = state_past (rules_by (of.charter spec)) c.args.front.now c.loop-position.position
+    (of.state spec) in
     method_subject (rules_by charter).header c.args.call.method c.args.call.args c.requires.has
     ∙ ap (λ d. (rules_by d).header.subject) (sym (ours charter c.args.starting.now c.args.front.now
     c.loop-position.position (run spec) (run c.in-Some-2.next) state c.loop-position.invariant.0
@@ -39,7 +40,8 @@ answer-reply-requires-clause-args g c =
     let run = run_by of.charter of.state of.made in
     let spec = c.loop-position.spec in
     let charter = g.B.Begins.charter c.args.begins.now in
-    let state = state_past (rules_by (of.charter spec)) c.args.front.now c.loop-position.position (of.state spec) in
+    let state = state_past (rules_by (of.charter spec)) c.args.front.now c.loop-position.position
+    (of.state spec) in
     ap (λ d. are_args (rules_by d).header.size c.args.call.method c.args.call.args)
     (ours charter c.args.starting.now c.args.front.now c.loop-position.position (run spec)
     (run c.in-Some-2.next) state c.loop-position.invariant.0
@@ -104,7 +106,8 @@ loop-position-preserved g c =
     let known = known_next charter starting front position (run spec) (run c.in-Some-2.next)
     (omega arith) c.loop-position.invariant.0 leads in (
       known,
-      answers_more called.method (answer_after r starting front called) c.loop-position.last position c.args.at
+      answers_more called.method (answer_after r starting front called) c.loop-position.last
+          position c.args.at
           c.answer-reply.result c.loop-position.items.items c.push_answer.new.items.items
           (answers_along called.method (answer_after r starting front called) None
           (numbers_from from (c.args.at - from))) c.loop-position-test.true

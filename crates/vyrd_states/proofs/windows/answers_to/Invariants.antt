@@ -12,5 +12,7 @@ invariant-loop-position g l =
     IsKnown charter l.fn.starting l.fn.front l.position
     (Some (run_by of.charter of.state of.made l.spec))
     × (let f = answer_after (rules_by charter) l.fn.starting l.fn.front (called_by l.fn.call) in
-    l.items.items ++ answers_along l.fn.call.method f l.last (numbers_from l.position (l.fn.at - l.position))
-    ≡ answers_along l.fn.call.method f None (numbers_from l.fn.call.called_at (l.fn.at - l.fn.call.called_at)))
+    l.items.items ++ answers_along l.fn.call.method f l.last
+    (numbers_from l.position (l.fn.at - l.position))
+    ≡ answers_along l.fn.call.method f None
+    (numbers_from l.fn.call.called_at (l.fn.at - l.fn.call.called_at)))

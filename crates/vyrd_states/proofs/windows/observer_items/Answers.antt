@@ -11,5 +11,6 @@ answers_to-requires-clause-before g c =
 
 pub answers_to-requires-clause-has : goal.answers_to-requires-clause-has
 answers_to-requires-clause-has g c =
-    execution_allowed (rules_by (g.B.Begins.charter c.args.begins.now)).header c.args.front.now c.args.at c.entry_at-caller.result.caller
+    execution_allowed (rules_by (g.B.Begins.charter c.args.begins.now)).header c.args.front.now
+    c.args.at c.entry_at-caller.result.caller
     c.in-Some.call c.requires.kept (sym c.execution_of.ensures ∙ c.in-Some.is)

@@ -9,7 +9,8 @@ loop-more-preserved g c =
     let e = c.in_ok-more.ensures in record {
       taking = λ taken t. e.followed taken (inv.taking taken t);
       had = λ n. c.advance.ensures.had n ∙ inv.had n;
-      missing = λ p. let m = c.advance.ensures.missing (c.in_ok-more.was ∙ ap Ok p) in subst (λ (k : Kept). held k k.next ≡ None) (sym m.0) m.1;
+      missing = λ p. let m = c.advance.ensures.missing (c.in_ok-more.was ∙ ap Ok p) in
+          subst (λ (k : Kept). held k k.next ≡ None) (sym m.0) m.1;
       counted = e.counted;
       fixed = e.fixed ∙ inv.fixed;
     }
@@ -20,7 +21,9 @@ returns-in_err-place-clause-had g c = on_error c.from_residual.result c.place.en
 pub returns-in_err-more-clause-had : goal.returns-in_err-more-clause-had
 returns-in_err-more-clause-had g c =
     on_error c.from_residual-in_err-more.result
-    (λ (n : ℕ) (apart : n ≢ c.args.item.number). c.advance.ensures.had n ∙ c.loop-more.invariant.had n ∙ c.place.ensures.had n apart)
+    (λ (n : ℕ) (apart : n ≢ c.args.item.number). c.advance.ensures.had n
+    ∙ c.loop-more.invariant.had n ∙ c.place.ensures.had n apart)
 
 pub returns-clause-followed : goal.returns-clause-followed
-returns-clause-followed g c = λ taken t. c.loop-more.invariant.taking _ (c.in_ok-place.ensures.followed taken t)
+returns-clause-followed g c = λ taken t. c.loop-more.invariant.taking _
+    (c.in_ok-place.ensures.followed taken t)

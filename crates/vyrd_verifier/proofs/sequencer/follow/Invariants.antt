@@ -7,7 +7,8 @@ use Rattle.vyrd_verifier.proofs.sequencer.follow.Given as goal
 
 abbrev pub invariant-loop-more : goal.invariant-loop-more
 invariant-loop-more g l = record {
-  taking : (taken : List Stamped) → IsTaking g.S.EventSink.has_taken l.initial.sink l.initial.reorder taken
+  taking : (taken : List Stamped) → IsTaking g.S.EventSink.has_taken l.initial.sink
+      l.initial.reorder taken
       → IsTaking g.S.EventSink.has_taken l.sink l.reorder taken;
   had : (n : ℕ) → has l.reorder n ≡ has l.initial.reorder n;
   missing : l.more ≡ false → held l.reorder l.reorder.next ≡ None;

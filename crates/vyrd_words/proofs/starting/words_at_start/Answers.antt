@@ -11,7 +11,8 @@ loop-s-init c = c.in_ok-words.ensures.items_if_clones_equal (λ y e. e)
 
 pub index_mut-requires : goal.index_mut-requires
 index_mut-requires c =
-    let fits = word_fits c.args.header c.args.start.now c.loop-s.s-index (record { word = 0; value = 0 }) c.requires c.loop-s-test.true in
+    let fits = word_fits c.args.header c.args.start.now c.loop-s.s-index
+    (record { word = 0; value = 0 }) c.requires c.loop-s-test.true in
     omega (
       arith,
       fits,
@@ -24,4 +25,5 @@ pub loop-s-preserved : goal.loop-s-preserved
 loop-s-preserved c =
     let s = get_or c.args.start.now c.loop-s.s-index (record { word = 0; value = 0 }) in
     ap (λ ws. set ws s.word s.value) c.loop-s.invariant
-    ∙ started_more c.args.header c.args.start.now c.loop-s.s-index (record { word = 0; value = 0 }) c.requires c.loop-s-test.true
+    ∙ started_more c.args.header c.args.start.now c.loop-s.s-index (record { word = 0; value = 0 })
+    c.requires c.loop-s-test.true

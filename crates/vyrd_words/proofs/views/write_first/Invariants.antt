@@ -7,7 +7,8 @@ abbrev pub invariant-loop : goal.invariant-loop
 invariant-loop g l = record {
   left : l.count - l.counter ≤ length l.writes.items;
   in_range : AreInRange (vec_len l.initial.words) l.writes.items;
-  words : with_writes l.words.items (take (l.count - l.counter) l.writes.items) ≡ with_writes l.initial.words.items (take l.count l.initial.writes.items);
+  words : with_writes l.words.items (take (l.count - l.counter) l.writes.items)
+      ≡ with_writes l.initial.words.items (take l.count l.initial.writes.items);
   changed : l.changed.items ++ map (λ write. write.0) (take (l.count - l.counter) l.writes.items)
       ≡ l.initial.changed.items ++ map (λ write. write.0) (take l.count l.initial.writes.items);
   writes : drop (l.count - l.counter) l.writes.items ≡ drop l.count l.initial.writes.items;

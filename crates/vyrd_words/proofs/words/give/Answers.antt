@@ -1,9 +1,11 @@
-use Rattle.std.proofs.Common.{◌≡◌, ℕ, List, ◌+◌, ◌∷◌, ◌++◌, [], ◌≤◌, length, take, get_or, arith, refl, ap, subst, sym, ◌∙◌}
+use Rattle.std.proofs.Common.{◌≡◌, ℕ, List, ◌+◌, ◌∷◌, ◌++◌, [], ◌≤◌, length, take, get_or, arith}
+use Rattle.std.proofs.Common.{refl, ap, subst, sym, ◌∙◌}
 use Rattle.std.proofs.lemmas.List.{take_more, take_all}
 use Rattle.std.specs.List.{sum_by}
 use Rattle.std.proofs.lemmas.List.Sums.{sum_by_push, sum_by-take-le}
 use Rattle.vyrd_words.specs.Cuts.{first_with, with_part, begun_with, written}
-use Rattle.vyrd_words.proofs.CutLaws.{first_with_nothing, with_part_nothing, first_with_twice, with_part_twice, length-with_part, written_more}
+use Rattle.vyrd_words.proofs.CutLaws.{first_with_nothing, with_part_nothing, first_with_twice}
+use Rattle.vyrd_words.proofs.CutLaws.{with_part_twice, length-with_part, written_more}
 use Rattle.vyrd_words.proofs.FewLaws.{begun_grows, begun_twice}
 use Rattle.vyrd_words.proofs.words.give.Goals as goal
 
@@ -29,7 +31,8 @@ loop-word-preserved g c =
     let one : List (ℕ × ℕ) = (w, get_or words w 0) ∷ [] in
     let sofar = written words (take i all) in
     let more : sofar ++ one ≡ written words (take (i + 1) all) =
-    sym (written_more words (take i all) w) ∙ ap (written words) (sym (take_more all i 0 c.loop-word-test.true)) in
+    sym (written_more words (take i all) w)
+    ∙ ap (written words) (sym (take_more all i 0 c.loop-word-test.true)) in
     record {
       first = c.in_ok-effect.ensures.first
           ∙ (λ j. first_with 0 one (c.loop-word.invariant.first j) (c.loop-word.invariant.since j))
@@ -40,8 +43,10 @@ loop-word-preserved g c =
           ∙ sym (with_part_twice 0 sofar one before.since)
           ∙ ap (λ ws. with_part 0 ws before.since) more;
       begun = subst (λ ws. c.effect.new.self.begun ≤ begun_with 0 ws before.begun before.since) more
-          (begun_twice 0 sofar one before.begun c.loop-word.views.begun c.effect.new.self.begun before.since c.loop-word.views.since
-          c.loop-word.invariant.begun (ap length c.loop-word.invariant.since ∙ length-with_part 0 sofar before.since)
+          (begun_twice 0 sofar one before.begun c.loop-word.views.begun c.effect.new.self.begun
+          before.since c.loop-word.views.since
+          c.loop-word.invariant.begun (ap length c.loop-word.invariant.since
+          ∙ length-with_part 0 sofar before.since)
           c.in_ok-effect.ensures.begun);
       specified = c.in_ok-effect.ensures.specified ∙ c.loop-word.invariant.specified;
       sound = c.in_ok-effect.ensures.sound;
@@ -61,7 +66,8 @@ loop-word-preserved g c =
 pub returns-clause-first : goal.returns-clause-first
 returns-clause-first g c =
     c.loop-word.invariant.first
-    ∙ ap (λ xs. first_with 0 (written c.args.words.now xs) c.args.views.now.first c.args.views.now.since)
+    ∙ ap (λ xs. first_with 0 (written c.args.words.now xs) c.args.views.now.first
+    c.args.views.now.since)
     (take_all c.loop-word.word-index c.args.changed.now c.loop-word-test.false)
 
 pub returns-clause-since : goal.returns-clause-since
@@ -72,8 +78,10 @@ returns-clause-since g c =
 
 pub returns-clause-begun : goal.returns-clause-begun
 returns-clause-begun g c =
-    subst (λ xs. c.loop-word.views.begun ≤ begun_with 0 (written c.args.words.now xs) c.args.views.now.begun c.args.views.now.since)
-    (take_all c.loop-word.word-index c.args.changed.now c.loop-word-test.false) c.loop-word.invariant.begun
+    subst (λ xs. c.loop-word.views.begun ≤ begun_with 0 (written c.args.words.now xs)
+    c.args.views.now.begun c.args.views.now.since)
+    (take_all c.loop-word.word-index c.args.changed.now c.loop-word-test.false)
+    c.loop-word.invariant.begun
 
 pub returns-clause-steps : goal.returns-clause-steps
 returns-clause-steps g c =

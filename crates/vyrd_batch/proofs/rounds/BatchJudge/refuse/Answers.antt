@@ -8,8 +8,11 @@ returns-clause-judged g c = λ input j.
     let s = c.self.inside in
     let verdicts = s.verdicts.items in
     let bytes = c.args.bytes.now.items in
-    let judged : AreJudgedTo s.place input verdicts bytes = subst (λ b. AreJudgedTo b.place input b.verdicts bytes) (sym c.self.view_is) j in
+    let judged : AreJudgedTo s.place input verdicts bytes =
+    subst (λ b. AreJudgedTo b.place input b.verdicts bytes) (sym c.self.view_is) j in
     let count : c.len.result ≡ length verdicts = omega (arith, c.len.ensures) in
-    let never : IsNothingEver s.place c.len.result c.deref.result.now = c.may_go_on.ensures.never c.if-may_go_on.false in
+    let never : IsNothingEver s.place c.len.result c.deref.result.now =
+    c.may_go_on.ensures.never c.if-may_go_on.false in
     judged_never s.place input bytes verdicts judged
-    (subst (λ log. IsNothingEver s.place log bytes) count (subst (IsNothingEver s.place c.len.result) c.deref.ensures.value never))
+    (subst (λ log. IsNothingEver s.place log bytes) count
+    (subst (IsNothingEver s.place c.len.result) c.deref.ensures.value never))

@@ -5,7 +5,8 @@ use Rattle.vyrd_check.proofs.checker.Checker.new.Goals as goal
 
 pub invariant_of-result : goal.invariant_of-result
 invariant_of-result c = record {
-  limit = subst IsLimit (sym c.new.ensures.limit) (record { low = c.requires.low; high = c.requires.high });
+  limit = subst IsLimit (sym c.new.ensures.limit)
+      (record { low = c.requires.low; high = c.requires.high });
   somewhere = λ works none. ∣ ([], c.new.ensures.undecided) ∣₁;
 }
 

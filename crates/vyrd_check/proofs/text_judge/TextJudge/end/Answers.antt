@@ -18,7 +18,8 @@ pub returns-in-Err-Malformed-clause-verdict : goal.returns-in-Err-Malformed-clau
 returns-in-Err-Malformed-clause-verdict g c = λ bytes u.
     let max = c.self.inside.reader.max_lines in
     let before = subst (λ k. IsUndecided k bytes) (sym c.self.view_is) u in
-    let fault = rw c.in-Err-Malformed.field-0-is at (c.in-Err-Malformed.ensures.answer bytes before.read) in
+    let fault = rw c.in-Err-Malformed.field-0-is at
+    (c.in-Err-Malformed.ensures.answer bytes before.read) in
     (λ i. Malformed (c.in-Err-Malformed.line-is i) (c.in-Err-Malformed.rule-is i))
     ∙ whole_faulty max bytes c.in-Err-Malformed.line c.in-Err-Malformed.rule before.nothing fault
     ∙ ap (λ (k : Kept). text_verdict k.reader.max_lines bytes) c.self.view_is
@@ -41,7 +42,8 @@ returns-clause-verdict g c = λ bytes u.
     let whole = ap (λ l. verdict (rules_by l) read.starting read.entries) (sym h.2)
     ∙ whole_accepted max bytes h.0 before.nothing
     (c.in-Ok.ensures.answer bytes before.read) (c.in-Ok.ensures.ended bytes before.read) h.1 in
-    where_same (verdict (rules_by c.in-Some.judge.kept.charter) read.starting read.entries) (text_verdict c.args.self.now.reader.max_lines bytes)
+    where_same (verdict (rules_by c.in-Some.judge.kept.charter) read.starting read.entries)
+    (text_verdict c.args.self.now.reader.max_lines bytes)
     (whole ∙ ap (λ (k : Kept). text_verdict k.reader.max_lines bytes) c.self.view_is)
     c.finish_counted.result
     (c.finish_counted.ensures.verdict read.starting read.entries has.followed)

@@ -15,8 +15,10 @@ begin-requires g c =
     let old : Kept = record { reader = c.self.inside.reader; judge = c.self.inside.judge } in
     let somewhere = subst IsSomewhere (sym c.self.view_is) c.requires.somewhere in
     record {
-      may_start = fed_start old c.read.new.reader c.args.piece.now c.in_ok-fault.ensures.read somewhere;
-      built_in = fed_built_in old c.read.new.reader c.args.piece.now c.in_ok-fault.ensures.read somewhere;
+      may_start = fed_start old c.read.new.reader c.args.piece.now c.in_ok-fault.ensures.read
+          somewhere;
+      built_in = fed_built_in old c.read.new.reader c.args.piece.now c.in_ok-fault.ensures.read
+          somewhere;
     }
 
 pub judge_entries-requires : goal.judge_entries-requires
@@ -34,7 +36,8 @@ judge_entries-requires g c =
     } in
     let limit : IsLimit old.reader.max_lines =
     subst (λ (k : Kept). IsLimit k.reader.max_lines) (sym c.self.view_is) c.requires.limit in
-    fed_room old c.read.new.reader c.begin.new.judge c.args.piece.now entries c.in_ok-fault.fault fed
+    fed_room old c.read.new.reader c.begin.new.judge c.args.piece.now entries c.in_ok-fault.fault
+    fed
     limit (subst IsSomewhere (sym c.self.view_is) c.requires.somewhere)
 
 pub returns-clause-answer : goal.returns-clause-answer
@@ -60,7 +63,8 @@ returns-clause-answer g c = λ bytes u.
     let log = (read_so_far old.reader.max_lines bytes).entries in
     let wrong_is = c.in_ok-wrong.ensures.answer all log (rw c.ended-ended.ensures.kept ready) in
     c.or.ensures
-    ∙ fed_answer old c.read.new.reader c.begin.new.judge piece entries c.in_ok-fault.fault c.in_ok-wrong.wrong fed bytes before.read wrong_is
+    ∙ fed_answer old c.read.new.reader c.begin.new.judge piece entries c.in_ok-fault.fault
+    c.in_ok-wrong.wrong fed bytes before.read wrong_is
     ∙ ap (λ (k : Kept). text_verdict_so_far k.reader.max_lines (bytes ++ piece)) c.self.view_is
 
 pub returns-clause-undecided : goal.returns-clause-undecided
@@ -86,9 +90,11 @@ returns-clause-undecided g c = λ bytes u none.
     let log = (read_so_far old.reader.max_lines bytes).entries in
     let wrong_is = c.in_ok-wrong.ensures.answer all log (rw c.ended-ended.ensures.kept ready) in
     let known =
-    fed_answer old c.read.new.reader c.begin.new.judge piece entries c.in_ok-fault.fault c.in_ok-wrong.wrong fed bytes before.read wrong_is in
+    fed_answer old c.read.new.reader c.begin.new.judge piece entries c.in_ok-fault.fault
+    c.in_ok-wrong.wrong fed bytes before.read wrong_is in
     let nothing = sym c.or.ensures ∙ none in
-    fed_undecided old c.read.new.reader c.begin.new.judge c.judge_entries.new.judge piece entries c.in_ok-fault.fault fed bytes before.read
+    fed_undecided old c.read.new.reader c.begin.new.judge c.judge_entries.new.judge piece entries
+    c.in_ok-fault.fault fed bytes before.read
     (c.in_ok-wrong.ensures.judging all log (rw c.ended-ended.ensures.kept ready)
     (first_none c.in_ok-wrong.wrong c.in_ok-fault.fault nothing)) (sym known ∙ nothing)
 

@@ -6,7 +6,8 @@ use Rattle.vyrd_explain.specs.Explained.{is_settled}
 use Rattle.vyrd_explain.specs.Explaining.{ExplainerState, HasTaken, own_limit}
 use Rattle.vyrd_explain.proofs.TakenLaws.{Fed, fed_taken, settled_is}
 use Rattle.vyrd_explain.proofs.explainer.Explainer.feed.Goals as goal
-use Rattle.vyrd_explain.proofs.explainer.Explainer.feed.Goals.{then-is_some, else-is_some, then-stops, else-stops}
+use Rattle.vyrd_explain.proofs.explainer.Explainer.feed.Goals.{then-is_some, else-is_some}
+use Rattle.vyrd_explain.proofs.explainer.Explainer.feed.Goals.{then-stops, else-stops}
 
 pub invariant_of-self-2 : goal.invariant_of-self-2
 invariant_of-self-2 c =
@@ -74,7 +75,8 @@ returns-clause-settled c = λ bytes given.
     let inside = c.self.inside in
     let all = bytes ++ c.args.piece.now in
     let max = inside.checker.max_lines in
-    let settled : (is_some c.in_ok-verdict.verdict && (c.in_ok-stops.stops && c.in_ok-own_stops.own_stops))
+    let settled : (is_some c.in_ok-verdict.verdict
+    && (c.in_ok-stops.stops && c.in_ok-own_stops.own_stops))
     ≡ is_settled max all =
     settled_is max inside.reader.max_lines (own_limit inside.own) all c.in_ok-verdict.verdict
     c.in_ok-stops.stops c.in_ok-own_stops.own_stops c.self.invariant.limit c.self.invariant.own

@@ -3,7 +3,8 @@ use Rattle.vyrd_base.specs.VerdictText.{verdict_text}
 use Rattle.vyrd_explain.specs.ExplainerView.{explainer_in}
 use Rattle.vyrd_explain.specs.Explained.{explained}
 use Rattle.vyrd_explain.specs.Explaining.{ExplainerState, HasTaken, own_limit}
-use Rattle.vyrd_explain.proofs.TakenLaws.{explained_is, kept_built_in, kept_may_start, kept_few, kept_own, kept_own_few}
+use Rattle.vyrd_explain.proofs.TakenLaws.{explained_is, kept_built_in, kept_may_start, kept_few}
+use Rattle.vyrd_explain.proofs.TakenLaws.{kept_own, kept_own_few}
 use Rattle.vyrd_explain.proofs.explainer.Explainer.finish.Goals as goal
 
 pub said_about-requires : goal.said_about-requires
@@ -44,7 +45,8 @@ returns-clause-text c = λ bytes given.
     ∙ c.in_ok-own_said.ensures bytes t.own_read (c.deref-2.ensures.value ∙ t.own_entries)
     (c.deref-3.ensures.value ∙ t.numbers) in
     c.in_ok-text.ensures ∙ (λ i. verdict_text c.in_ok-verdict.verdict ++ said i ++ own_said i)
-    ∙ explained_is c.args.about inside.checker.max_lines inside.reader.max_lines (own_limit inside.own) bytes
+    ∙ explained_is c.args.about inside.checker.max_lines inside.reader.max_lines
+    (own_limit inside.own) bytes
     c.in_ok-verdict.verdict c.self.invariant.limit c.self.invariant.own
     (c.in_ok-verdict.ensures.verdict bytes t.checked)
     ∙ ap (λ (e : ExplainerState). explained c.args.about e.checker.max_lines bytes) c.self.view_is

@@ -41,7 +41,8 @@ invariant_of-self-else-word-parts c =
     let w = c.args.effect.word in
     let v = c.args.effect.value in
     let past : parts.parts * parts.width ≤ w =
-    past_whole c.parts.result c.width.result parts.parts parts.width c.args.effect.word c.parts.ensures
+    past_whole c.parts.result c.width.result parts.parts parts.width c.args.effect.word
+    c.parts.ensures
     c.width.ensures (omega (arith, c.if-word-parts.false)) in (
       known.0,
       known.1,
@@ -76,7 +77,8 @@ returns-else-word-parts-clause-items c =
     let e = c.args.effect in
     let w = written_in (arc_value parts.specification) in
     let past : parts.parts * parts.width ≤ e.word =
-    past_whole c.parts.result c.width.result parts.parts parts.width c.args.effect.word c.parts.ensures
+    past_whole c.parts.result c.width.result parts.parts parts.width c.args.effect.word
+    c.parts.ensures
     c.width.ensures (omega (arith, c.if-word-parts.false)) in
     no_items e (slice_index words e.word) (own_view w words)
     (own_view w (set words e.word e.value)) c.args.items.now.items

@@ -13,7 +13,9 @@ invariant-loop-next g l = record {
   header : l.self.charter ≡ l.initial.self.charter;
   shows : l.self.views.shows ≡ l.initial.self.views.shows;
   entries : l.self.entries ≡ l.initial.self.entries;
-  going : (starting : List StartWord) (log : List Entry) → IsCatchingUp l.fn.first l.initial.self starting log → IsCatchingUp l.next l.self starting log;
+  going : (starting : List StartWord) (log : List Entry)
+      → IsCatchingUp l.fn.first l.initial.self starting log
+      → IsCatchingUp l.next l.self starting log;
   may : MayCatchUp l.next l.self;
   can_leave : IfSome l.next CanLeave;
   paid : (starting : List StartWord) (log : List Entry)

@@ -15,14 +15,18 @@ pub returns-clause-taken_in : goal.returns-clause-taken_in
 returns-clause-taken_in g c =
     let r = rules_by (g.S.Spec.charter c.args.spec) in
     let named = sym c.requires.spec_header in
-    first_taken_in _ r c.args.start.now (ap (λ s. rules_by (g.S.Spec.charter s)) c.in_ok-replay.ensures.spec) refl
+    first_taken_in _ r c.args.start.now
+    (ap (λ s. rules_by (g.S.Spec.charter s)) c.in_ok-replay.ensures.spec) refl
     (c.requires.state ∙ ap (λ s. Some (g.S.Spec.state s)) (sym c.in_ok-replay.ensures.spec))
     c.in_ok-shape.ensures.followed (c.in_ok-shape.ensures.header ∙ named)
     c.in_ok-words.ensures.words (c.in_ok-words.ensures.header ∙ named)
-    (c.in_ok-words.ensures.views_header ∙ named) (subst (λ h. HasQueued h c.in_ok-queue.queue.waiting.items c.in_ok-queue.queue.taken c.in_ok-queue.queue.callers.items []) named c.in_ok-queue.ensures.queued)
+    (c.in_ok-words.ensures.views_header ∙ named)
+    (subst (λ h. HasQueued h c.in_ok-queue.queue.waiting.items c.in_ok-queue.queue.taken
+    c.in_ok-queue.queue.callers.items []) named c.in_ok-queue.ensures.queued)
     (ap g.S.Spec.made c.in_ok-replay.ensures.spec ∙ c.requires.made)
     (c.in_ok-replay.ensures.unwatched ∙ ap (λ (h : Header). replicate h.callers unwatched) named)
-    c.in_ok-queue.ensures.waiting (c.in_ok-words.ensures.first ∙ c.requires.words ∙ ap (λ h. words_at_start h c.args.start.now) named) c.in_ok-words.ensures.since refl refl refl
+    c.in_ok-queue.ensures.waiting (c.in_ok-words.ensures.first ∙ c.requires.words
+    ∙ ap (λ h. words_at_start h c.args.start.now) named) c.in_ok-words.ensures.since refl refl refl
     (c.in_ok-words.ensures.specified, c.in_ok-words.ensures.sound)
     c.in_ok-replay.replay.few.kept c.in_ok-words.ensures.begun
 
@@ -31,11 +35,17 @@ returns-clause-charter g c = ap g.S.Spec.charter c.in_ok-replay.ensures.spec
 
 pub invariant_of-result : goal.invariant_of-result
 invariant_of-result g c =
-    let named = sym c.requires.spec_header ∙ ap (λ s. (rules_by (g.S.Spec.charter s)).header) (sym c.in_ok-replay.ensures.spec) in (
+    let named = sym c.requires.spec_header ∙ ap (λ s. (rules_by (g.S.Spec.charter s)).header)
+    (sym c.in_ok-replay.ensures.spec) in (
       c.in_ok-shape.ensures.header ∙ named,
       c.in_ok-words.ensures.header ∙ named,
       c.in_ok-queue.ensures.header ∙ named,
-      omega (arith, start_few c.args.header c.args.start.now c.requires.follows, few_words c.args.header),
+      omega (
+        arith,
+        start_few c.args.header c.args.start.now c.requires.follows,
+        few_words
+            c.args.header,
+      ),
       omega arith,
       c.in_ok-words.ensures.views_header ∙ named,
       c.in_ok-words.ensures.shows,

@@ -7,14 +7,17 @@ use Rattle.vyrd_judge.specs.Following.{JudgeView, HasFollowed}
 use Rattle.vyrd_base.proofs.FrontLaws.{take_past}
 use Rattle.vyrd_judge.specs.Costs.{judge_debt, log_cost}
 use Rattle.vyrd_judge.proofs.CostLaws.{stands_paid, first_paid, entry_paid, verdict_paid}
-use Rattle.vyrd_judge.proofs.OnlineLaws.{stands_on, followed_on, decided, none_stands, so_far_is_known}
+use Rattle.vyrd_judge.proofs.OnlineLaws.{stands_on, followed_on, decided, none_stands}
+use Rattle.vyrd_judge.proofs.OnlineLaws.{so_far_is_known}
 use Rattle.vyrd_judge.proofs.online.Judge.follow_counted.Goals as goal
 
 pub returns-in-Some-clause-answer : goal.returns-in-Some-clause-answer
-returns-in-Some-clause-answer g c = λ starting log f. stands_on c.args.entries.now (ap (λ (j : JudgeView). j.so_far) (sym c.self.view_is) ∙ c.in-Some.is) f
+returns-in-Some-clause-answer g c = λ starting log f. stands_on c.args.entries.now
+    (ap (λ (j : JudgeView). j.so_far) (sym c.self.view_is) ∙ c.in-Some.is) f
 
 pub returns-in-Some-clause-followed : goal.returns-in-Some-clause-followed
-returns-in-Some-clause-followed g c = λ starting log f. followed_on c.args.entries.now (ap (λ (j : JudgeView). j.so_far) (sym c.self.view_is) ∙ c.in-Some.is) f
+returns-in-Some-clause-followed g c = λ starting log f. followed_on c.args.entries.now
+    (ap (λ (j : JudgeView). j.so_far) (sym c.self.view_is) ∙ c.in-Some.is) f
 
 pub loop-entry-init : goal.loop-entry-init
 loop-entry-init g c = record {
@@ -37,7 +40,8 @@ loop-entry-preserved g c =
       followed = λ starting log f. subst (HasFollowed c.take.new.self starting)
           (append_assoc log (take i es) _ ∙ ap (λ xs. log ++ xs) (sym
           (take_more es i _ c.loop-entry-test.true)))
-          (c.in_ok-verdict.ensures.followed starting (log ++ take i es) (c.loop-entry.invariant.followed starting log f));
+          (c.in_ok-verdict.ensures.followed starting (log ++ take i es)
+          (c.loop-entry.invariant.followed starting log f));
       header = c.take.ensures.charter ∙ c.loop-entry.invariant.header;
       counted = omega (arith, c.take.ensures.counted, c.loop-entry.invariant.counted);
       works = c.in_ok-verdict.ensures.has_failed;
@@ -58,19 +62,24 @@ pub returns-in-Some-2-clause-followed : goal.returns-in-Some-2-clause-followed
 returns-in-Some-2-clause-followed g c = λ starting log f.
     let es = c.args.entries.now in
     let i = c.loop-entry.entry-index in
-    decided log (take (i + 1) es) (drop (i + 1) es) (take-append-drop (i + 1) es) (c.in_ok-verdict.ensures.so_far ∙ c.in-Some-2.is)
+    decided log (take (i + 1) es) (drop (i + 1) es) (take-append-drop (i + 1) es)
+    (c.in_ok-verdict.ensures.so_far ∙ c.in-Some-2.is)
     (subst (HasFollowed c.take.new.self starting)
-    (append_assoc log (take i es) _ ∙ ap (λ xs. log ++ xs) (sym (take_more es i _ c.loop-entry-test.true)))
-    (c.in_ok-verdict.ensures.followed starting (log ++ take i es) (c.loop-entry.invariant.followed starting log f)))
+    (append_assoc log (take i es) _
+    ∙ ap (λ xs. log ++ xs) (sym (take_more es i _ c.loop-entry-test.true)))
+    (c.in_ok-verdict.ensures.followed starting (log ++ take i es)
+    (c.loop-entry.invariant.followed starting log f)))
 
 pub returns-in-Some-2-clause-answer : goal.returns-in-Some-2-clause-answer
 returns-in-Some-2-clause-answer g c = λ starting log f.
     sym (c.in_ok-verdict.ensures.so_far ∙ c.in-Some-2.is)
     ∙ so_far_is_known (returns-in-Some-2-clause-followed g c starting log f)
-    ∙ ap (λ l. verdict_so_far (rules_by l) starting (log ++ c.args.entries.now)) (c.take.ensures.charter ∙ c.loop-entry.invariant.header)
+    ∙ ap (λ l. verdict_so_far (rules_by l) starting (log ++ c.args.entries.now))
+    (c.take.ensures.charter ∙ c.loop-entry.invariant.header)
 
 pub returns-clause-followed : goal.returns-clause-followed
-returns-clause-followed g c = λ starting log f. subst (λ xs. HasFollowed c.loop-entry.self starting (log ++ xs))
+returns-clause-followed g c = λ starting log f. subst
+    (λ xs. HasFollowed c.loop-entry.self starting (log ++ xs))
     (take_past c.args.entries.now c.loop-entry.entry-index c.loop-entry.auto.entry-index-end
     c.loop-entry-test.false)
     (c.loop-entry.invariant.followed starting log f)
@@ -78,7 +87,8 @@ returns-clause-followed g c = λ starting log f. subst (λ xs. HasFollowed c.loo
 pub returns-clause-answer : goal.returns-clause-answer
 returns-clause-answer g c = λ starting log f.
     sym (none_stands c.loop-entry.invariant.undecided (returns-clause-followed g c starting log f))
-    ∙ ap (λ g. verdict_so_far (rules_by g) starting (log ++ c.args.entries.now)) c.loop-entry.invariant.header
+    ∙ ap (λ g. verdict_so_far (rules_by g) starting (log ++ c.args.entries.now))
+    c.loop-entry.invariant.header
 
 pub returns-in-Some-clause-steps : goal.returns-in-Some-clause-steps
 returns-in-Some-clause-steps g c = λ starting log f.

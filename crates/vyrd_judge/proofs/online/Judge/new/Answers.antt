@@ -15,4 +15,5 @@ begin-requires-clause-state g c =
 
 pub returns-clause-charter : goal.returns-clause-charter
 returns-clause-charter g c =
-    subst (λ l. IfOk c.begin.result (λ j. j.kept.charter ≡ l)) c.in_ok-spec.ensures.charter c.begin.ensures.charter
+    subst (λ l. IfOk c.begin.result (λ j. j.kept.charter ≡ l)) c.in_ok-spec.ensures.charter
+    c.begin.ensures.charter

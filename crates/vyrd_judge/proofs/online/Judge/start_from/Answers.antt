@@ -24,31 +24,39 @@ begin-requires-clause-follows g c = may_follow c.args.header c.args.start.now c.
 
 pub start_from-requires-clause-count : goal.start_from-requires-clause-count
 start_from-requires-clause-count g c =
-    ap length (c.deref.ensures.value ∙ c.in_ok-words.ensures) ∙ length-words_at_start c.args.header c.args.start.now
+    ap length (c.deref.ensures.value ∙ c.in_ok-words.ensures)
+    ∙ length-words_at_start c.args.header c.args.start.now
 
 pub start_from-requires-clause-small : goal.start_from-requires-clause-small
 start_from-requires-clause-small g c =
     subst (All (λ value. value < 2 ^ 63)) (sym (c.deref.ensures.value ∙ c.in_ok-words.ensures))
-    (small_at_start c.args.header c.args.start.now (may_follow c.args.header c.args.start.now c.requires.may_start))
+    (small_at_start c.args.header c.args.start.now
+    (may_follow c.args.header c.args.start.now c.requires.may_start))
 
 pub returns-in_default-clause-none : goal.returns-in_default-clause-none
 returns-in_default-clause-none g c =
-    sym (ap is_none (state_found c.args.header c.args.start.now c.deref.result.now _ (c.deref.ensures.value ∙ c.in_ok-words.ensures)
+    sym (ap is_none (state_found c.args.header c.args.start.now c.deref.result.now _
+    (c.deref.ensures.value ∙ c.in_ok-words.ensures)
     c.in_ok-spec.ensures.state ∙ ap (option_map g.S.Spec.state) c.in_default.is))
 
 pub begin-requires-clause-spec_header : goal.begin-requires-clause-spec_header
-begin-requires-clause-spec_header g c = ap (λ l. (rules_by l).header) (rw c.in-Some.is at c.in_ok-spec.ensures.charter)
+begin-requires-clause-spec_header g c = ap (λ l. (rules_by l).header)
+    (rw c.in-Some.is at c.in_ok-spec.ensures.charter)
 
 pub begin-requires-clause-state : goal.begin-requires-clause-state
 begin-requires-clause-state g c =
-    ap (λ l. state_at_start (rules_by l) c.args.start.now) (rw c.in-Some.is at c.in_ok-spec.ensures.charter)
-    ∙ state_found c.args.header c.args.start.now c.deref.result.now _ (c.deref.ensures.value ∙ c.in_ok-words.ensures)
+    ap (λ l. state_at_start (rules_by l) c.args.start.now)
+    (rw c.in-Some.is at c.in_ok-spec.ensures.charter)
+    ∙ state_found c.args.header c.args.start.now c.deref.result.now _
+    (c.deref.ensures.value ∙ c.in_ok-words.ensures)
     c.in_ok-spec.ensures.state ∙ ap (option_map g.S.Spec.state) c.in-Some.is
 
 pub returns-clause-none : goal.returns-clause-none
 returns-clause-none g c =
-    sym (ap is_none (state_found c.args.header c.args.start.now c.deref.result.now _ (c.deref.ensures.value ∙ c.in_ok-words.ensures)
+    sym (ap is_none (state_found c.args.header c.args.start.now c.deref.result.now _
+    (c.deref.ensures.value ∙ c.in_ok-words.ensures)
     c.in_ok-spec.ensures.state ∙ ap (option_map g.S.Spec.state) c.in-Some.is))
 
 pub returns-clause-charter : goal.returns-clause-charter
-returns-clause-charter g c = c.in_ok-begin.ensures.charter ∙ (rw c.in-Some.is at c.in_ok-spec.ensures.charter)
+returns-clause-charter g c = c.in_ok-begin.ensures.charter
+    ∙ (rw c.in-Some.is at c.in_ok-spec.ensures.charter)

@@ -14,4 +14,5 @@ returns-clause-left g c = λ x earlier can q. queue_left x _ refl can q
 pub returns-then-awaits_return-clause-awaits : goal.returns-then-awaits_return-clause-awaits
 returns-then-awaits_return-clause-awaits g c = λ none.
     let rest = c.first.ensures.some c.in_ok-x.x c.in_ok-x.was in
-    first_awaits c.args.self.now.waiting.items c.in_ok-x.x rest.0 rest.1 (sym c.awaits_return.ensures ∙ c.if-awaits_return.true)
+    first_awaits c.args.self.now.waiting.items c.in_ok-x.x rest.0 rest.1
+    (sym c.awaits_return.ensures ∙ c.if-awaits_return.true)

@@ -11,5 +11,6 @@ loop-init g c = record {
 pub loop-preserved : goal.loop-preserved
 loop-preserved g c = record {
   sent = c.send.ensures.sent;
-  goes_on = goes_on_then g.S.EventSink.has_taken g.S.EventSink.fixed _ _ _ c.loop.invariant.goes_on c.take_next.ensures.goes_on;
+  goes_on = goes_on_then g.S.EventSink.has_taken g.S.EventSink.fixed _ _ _ c.loop.invariant.goes_on
+      c.take_next.ensures.goes_on;
 }

@@ -23,12 +23,14 @@ loop-outbox-preserved g c =
     let s = c.settle.ensures.settled in
     let o = c.in-Some.outbox in
     let lane : Lane = lane_sent o.sender in record {
-      left = All-rest (λ (x : Outbox). x.sender.queue ≡ c.args.relay.now.queue) o c.next.new.self.rest.items c.loop-outbox.outbox-iterator.rest.items
+      left = All-rest (λ (x : Outbox). x.sender.queue ≡ c.args.relay.now.queue) o
+          c.next.new.self.rest.items c.loop-outbox.outbox-iterator.rest.items
           c.in-Some.ensures.steps.0 inv.left;
       queue = ap (λ (r : ReceiverView). r.queue) s ∙ inv.queue;
       senders = ap (λ (r : ReceiverView). r.senders) s ∙ inv.senders;
       had = ap (λ (r : ReceiverView). r.had) s ∙ inv.had;
       rest = inv.rest;
-      settled = ap (λ (r : ReceiverView). r.settled) s ∙ ap (λ (ls : List Lane). ls ++ lane ∷ []) inv.settled
+      settled = ap (λ (r : ReceiverView). r.settled) s
+          ∙ ap (λ (ls : List Lane). ls ++ lane ∷ []) inv.settled
           ∙ sym (map-append (λ (x : Outbox). lane_sent x.sender) c.loop-outbox.yielded (o ∷ []));
     }

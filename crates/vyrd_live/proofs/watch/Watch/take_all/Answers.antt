@@ -12,7 +12,10 @@ loop-event-preserved g c =
     let i = c.loop-event.event-index in
     let next : i + 1 ≡ suc i = omega arith in
     let t = c.take_in.ensures in
-    subst (HasTakenAll g.S.EventSink.has_taken g.S.EventSink.fixed c.args.self.now c.take_in.new.self)
-    (sym (ap (λ (n : ℕ). take n c.args.events.now) next ∙ take-suc c.args.events.now i _ c.loop-event-test.true))
-    (one_more g.S.EventSink.has_taken g.S.EventSink.fixed _ _ _ _ _ c.loop-event.invariant t.same t.watched t.fixed t.set_aside t.stays
+    subst (HasTakenAll g.S.EventSink.has_taken g.S.EventSink.fixed c.args.self.now
+    c.take_in.new.self)
+    (sym (ap (λ (n : ℕ). take n c.args.events.now) next
+    ∙ take-suc c.args.events.now i _ c.loop-event-test.true))
+    (one_more g.S.EventSink.has_taken g.S.EventSink.fixed _ _ _ _ _ c.loop-event.invariant t.same
+    t.watched t.fixed t.set_aside t.stays
     t.callers t.counted)

@@ -9,5 +9,6 @@ loop-preserved g c =
       queue = t.same.queue ∙ inv.queue;
       senders = t.same.senders ∙ inv.senders;
       settled = t.same.settled ∙ inv.settled;
-      takes_in = takes_in_then g.S.EventSink.has_taken g.S.EventSink.fixed _ _ _ inv.takes_in t.takes_in;
+      takes_in = takes_in_then g.S.EventSink.has_taken g.S.EventSink.fixed _ _ _ inv.takes_in
+          t.takes_in;
     }

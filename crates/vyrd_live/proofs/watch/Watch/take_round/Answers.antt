@@ -11,5 +11,6 @@ loop-taken-init g c = record {
 pub loop-taken-preserved : goal.loop-taken-preserved
 loop-taken-preserved g c = record {
   first = λ e. absurd (omega (arith, e));
-  goes_on = goes_on_then g.S.EventSink.has_taken g.S.EventSink.fixed _ _ _ c.loop-taken.invariant.goes_on c.take_when_allowed.ensures.goes_on;
+  goes_on = goes_on_then g.S.EventSink.has_taken g.S.EventSink.fixed _ _ _
+      c.loop-taken.invariant.goes_on c.take_when_allowed.ensures.goes_on;
 }

@@ -6,8 +6,10 @@ use Rattle.vyrd_live.proofs.watch.Watch.take_when_allowed.Goals as goal
 pub returns-clause-goes_on : goal.returns-clause-goes_on
 returns-clause-goes_on g c =
     let t = c.take_all_when_allowed.ensures in
-    goes_on_with g.S.EventSink.has_taken g.S.EventSink.fixed c.args.self.now c.take_all_when_allowed.new.self c.events.result.now
-    (t.same ∙ c.in-Some.ensures.events ∙ ap (with_popped c.args.self.now.receiver) (sym c.events.ensures))
+    goes_on_with g.S.EventSink.has_taken g.S.EventSink.fixed c.args.self.now
+    c.take_all_when_allowed.new.self c.events.result.now
+    (t.same ∙ c.in-Some.ensures.events ∙ ap (with_popped c.args.self.now.receiver)
+    (sym c.events.ensures))
     (t.watched c.args.self.now.receiver.had) t.fixed_is t.callers t.counted
 
 pub returns-clause-one : goal.returns-clause-one
@@ -15,7 +17,8 @@ returns-clause-one g c =
     let t = c.take_all_when_allowed.ensures in
     λ _. (
       c.events.result.now,
-      t.same ∙ c.in-Some.ensures.events ∙ ap (with_popped c.args.self.now.receiver) (sym c.events.ensures),
+      t.same ∙ c.in-Some.ensures.events ∙ ap (with_popped c.args.self.now.receiver)
+          (sym c.events.ensures),
       λ stood fell. let s = t.set_aside stood fell in record {
         front = s.front;
         event = s.event;

@@ -9,8 +9,10 @@ invariant-loop-self g l = record {
   header : g.M.Machine.header_of l.self.machine ≡ g.M.Machine.header_of l.initial.self.machine;
   hand_of : IsOf l.traced l.self.hand;
   caller : l.self.hand.caller ≡ l.initial.self.hand.caller;
-  falls : length l.self.hand.lane + g.M.Machine.ahead l.self.machine ≤ g.M.Machine.ahead l.initial.self.machine;
-  working : IsWorking (g.M.Machine.header_of l.initial.self.machine) (g.M.Machine.script l.initial.self.machine)
+  falls : length l.self.hand.lane + g.M.Machine.ahead l.self.machine
+      ≤ g.M.Machine.ahead l.initial.self.machine;
+  working : IsWorking (g.M.Machine.header_of l.initial.self.machine)
+      (g.M.Machine.script l.initial.self.machine)
       (g.M.Machine.script l.self.machine) l.self.hand;
   sent : HasSent l.relay l.outbox.sender l.outbox.place l.self.hand;
 }

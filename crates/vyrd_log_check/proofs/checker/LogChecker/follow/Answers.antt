@@ -6,7 +6,8 @@ use Rattle.vyrd_log_check.specs.Checking.{LogCheckerState, HasChecked}
 use Rattle.vyrd_log_check.specs.Beginnings.{Matches}
 use Rattle.vyrd_log_check.specs.CheckerView.{log_checker_in}
 use Rattle.vyrd_log_check.proofs.BeginningLaws.{other_longer}
-use Rattle.vyrd_log_check.proofs.CheckedLaws.{own_answers, own_follows, first_answers, first_follows, never_is}
+use Rattle.vyrd_log_check.proofs.CheckedLaws.{own_answers, own_follows, first_answers}
+use Rattle.vyrd_log_check.proofs.CheckedLaws.{first_follows, never_is}
 use Rattle.vyrd_log_check.specs.Costs.{bytes_cost}
 use Rattle.vyrd_log_check.specs.Owed.{checker_debt, debt_by}
 use Rattle.vyrd_log_check.proofs.CostLaws.{own_paid, first_paid}
@@ -15,36 +16,46 @@ use Rattle.vyrd_log_check.proofs.checker.LogChecker.follow.Goals as goal
 pub returns-in-Some-clause-answer : goal.returns-in-Some-clause-answer
 returns-in-Some-clause-answer g c =
     subst (λ (s : LogCheckerState). (bytes : List ℕ) → HasChecked s bytes
-    → IfOk c.feed_counted.result (λ v. v ≡ log_verdict_so_far s.max_lines (bytes ++ c.args.piece.now)))
+    → IfOk c.feed_counted.result
+    (λ v. v ≡ log_verdict_so_far s.max_lines (bytes ++ c.args.piece.now)))
     c.self.view_is
-    (λ bytes h. own_answers (log_checker_in c.self.inside) c.in-Some.own bytes c.self.invariant c.in-Some.is h c.feed_counted.result c.args.piece.now c.feed_counted.ensures.answer)
+    (λ bytes h. own_answers (log_checker_in c.self.inside) c.in-Some.own bytes c.self.invariant
+    c.in-Some.is h c.feed_counted.result c.args.piece.now c.feed_counted.ensures.answer)
 
 pub returns-in-Some-clause-checked : goal.returns-in-Some-clause-checked
 returns-in-Some-clause-checked g c = λ bytes checked.
     let h = subst (λ (s : LogCheckerState). HasChecked s bytes) (sym c.self.view_is) checked in
     on_ok_weaker c.feed_counted.result (λ f. record { follows = f })
-    (own_follows (log_checker_in c.self.inside) c.in-Some.own bytes c.self.invariant c.in-Some.is h c.feed_counted.result c.args.piece.now c.feed_counted.new.self c.feed_counted.ensures.checked)
+    (own_follows (log_checker_in c.self.inside) c.in-Some.own bytes c.self.invariant c.in-Some.is h
+    c.feed_counted.result c.args.piece.now c.feed_counted.new.self c.feed_counted.ensures.checked)
 
 pub returns-in-None-clause-answer : goal.returns-in-None-clause-answer
 returns-in-None-clause-answer g c =
     subst (λ (s : LogCheckerState). (bytes : List ℕ) → HasChecked s bytes
-    → IfOk c.feed_counted-in-None.result (λ v. v ≡ log_verdict_so_far s.max_lines (bytes ++ c.args.piece.now)))
+    → IfOk c.feed_counted-in-None.result
+    (λ v. v ≡ log_verdict_so_far s.max_lines (bytes ++ c.args.piece.now)))
     c.self.view_is
     (λ bytes h.
     let state = log_checker_in c.self.inside in
     let none = c.in_default.is in
-    first_answers state bytes c.self.invariant none h c.feed_counted-in-None.result c.args.piece.now None
-    (other_longer bytes c.args.piece.now (never_is state bytes c.self.invariant none h c.in-None.is)) c.feed_counted-in-None.ensures.answer)
+    first_answers state bytes c.self.invariant none h c.feed_counted-in-None.result c.args.piece.now
+    None
+    (other_longer bytes c.args.piece.now
+    (never_is state bytes c.self.invariant none h c.in-None.is))
+    c.feed_counted-in-None.ensures.answer)
 
 pub returns-in-None-clause-checked : goal.returns-in-None-clause-checked
 returns-in-None-clause-checked g c = λ bytes checked.
     let h = subst (λ (s : LogCheckerState). HasChecked s bytes) (sym c.self.view_is) checked in
     let state = log_checker_in c.self.inside in
     let none = c.in_default.is in
-    let never = other_longer bytes c.args.piece.now (never_is state bytes c.self.invariant none h c.in-None.is) in
+    let never = other_longer bytes c.args.piece.now
+    (never_is state bytes c.self.invariant none h c.in-None.is) in
     on_ok_weaker c.feed_counted-in-None.result (λ f. record { follows = f })
-    (first_follows state bytes c.self.invariant none h c.feed_counted-in-None.result c.args.piece.now c.self.inside.matched
-    (subst (λ x. Matches x (bytes ++ c.args.piece.now)) (sym c.in-None.is) never) c.feed_counted-in-None.new.self c.feed_counted-in-None.ensures.checked)
+    (first_follows state bytes c.self.invariant none h c.feed_counted-in-None.result
+    c.args.piece.now c.self.inside.matched
+    (subst (λ x. Matches x (bytes ++ c.args.piece.now)) (sym c.in-None.is) never)
+    c.feed_counted-in-None.new.self c.feed_counted-in-None.ensures.checked)
 
 pub returns-in-Some-clause-steps : goal.returns-in-Some-clause-steps
 returns-in-Some-clause-steps g c = λ bytes checked.
@@ -65,7 +76,8 @@ returns-in-None-clause-steps g c = λ bytes checked.
     let state = log_checker_in c.self.inside in
     let none = c.in_default.is in
     let piece = c.args.piece.now in
-    let never = other_longer bytes piece (never_is state bytes c.self.invariant none h c.in-None.is) in
+    let never = other_longer bytes piece
+    (never_is state bytes c.self.invariant none h c.in-None.is) in
     subst (λ (s : LogCheckerState). OnOk c.feed_counted-in-None.result
     (c.feed_counted-in-None.new.steps
     + debt_by c.feed_counted-in-None.new.self c.self.inside.own (bytes ++ piece)

@@ -14,33 +14,43 @@ use Rattle.std.proofs.lemmas.Option.{same_Some}
 pub index-requires-in-Some : goal.index-requires-in-Some
 index-requires-in-Some g c =
     let trails = c.self.inside.trails.items in
-    let here = watch_read trails c.self.inside.by_caller.items c.args.self.now.by_caller c.args.caller c.index.result.now (Some c.in-Some.watch)
+    let here = watch_read trails c.self.inside.by_caller.items c.args.self.now.by_caller
+    c.args.caller c.index.result.now (Some c.in-Some.watch)
     (ap (λ (k : Watched). k.by_caller) c.self.view_is) c.requires.caller c.index.ensures
     c.in-Some.is in
     let was = c.self.invariant.on c.args.caller c.in-Some.watch here in
-    omega (arith, slice_get_within trails c.in-Some.watch.trail was.asked was.there, c.self.inside.trails.ok.0)
+    omega (
+      arith,
+      slice_get_within trails c.in-Some.watch.trail was.asked
+          was.there,
+      c.self.inside.trails.ok.0,
+    )
 
 pub has_answer-answered-requires : goal.has_answer-answered-requires
 has_answer-answered-requires g c =
     let trails = c.self.inside.trails.items in
-    let here = watch_read trails c.self.inside.by_caller.items c.args.self.now.by_caller c.args.caller c.index.result.now (Some c.in-Some.watch)
+    let here = watch_read trails c.self.inside.by_caller.items c.args.self.now.by_caller
+    c.args.caller c.index.result.now (Some c.in-Some.watch)
     (ap (λ (k : Watched). k.by_caller) c.self.view_is) c.requires.caller c.index.ensures
     c.in-Some.is in
     let was = c.self.invariant.on c.args.caller c.in-Some.watch here in
-    let is : was.asked ≡ c.index-in-Some.result.now = read_is trails c.in-Some.watch.trail was.asked c.index-in-Some.result.now was.there c.index-in-Some.ensures in
+    let is : was.asked ≡ c.index-in-Some.result.now = read_is trails c.in-Some.watch.trail was.asked
+    c.index-in-Some.result.now was.there c.index-in-Some.ensures in
     subst (λ (t : Asked). c.in-Some.watch.since ≤ length t.others) is was.within
 
 pub returns-in-Some-clause-answered : goal.returns-in-Some-clause-answered
 returns-in-Some-clause-answered g c = λ seen there.
     let trails = c.self.inside.trails.items in
     let w = c.in-Some.watch in
-    let here = watch_read trails c.self.inside.by_caller.items c.args.self.now.by_caller c.args.caller c.index.result.now (Some w)
+    let here = watch_read trails c.self.inside.by_caller.items c.args.self.now.by_caller
+    c.args.caller c.index.result.now (Some w)
     (ap (λ (k : Watched). k.by_caller) c.self.view_is) c.requires.caller c.index.ensures
     c.in-Some.is in
     let was = c.self.invariant.on c.args.caller w here in
     let is : was.asked ≡ c.index-in-Some.result.now = read_is trails w.trail was.asked
     c.index-in-Some.result.now was.there c.index-in-Some.ensures in
-    let same : seen_from w.since (slice_get trails w.trail) ≡ seen = same_Some _ _ (sym (seen_there trails c.self.inside.by_caller.items c.args.caller (Some w) here)
+    let same : seen_from w.since (slice_get trails w.trail) ≡ seen = same_Some _ _
+    (sym (seen_there trails c.self.inside.by_caller.items c.args.caller (Some w) here)
     ∙ ap (λ (k : Watched). slice_get k.by_caller c.args.caller) c.self.view_is ∙ there) in
     c.has_answer-answered.ensures.answered
     ∙ ap (λ (t : Asked). has_answer (t.latest ∷ drop w.since t.others) c.args.reply) (sym is)
@@ -49,7 +59,8 @@ returns-in-Some-clause-answered g c = λ seen there.
 
 pub invariant_of-self : goal.invariant_of-self
 invariant_of-self g c =
-    order_closed c.self.inside.header c.args.caller c.self.inside.trails.items c.close.new.trails.items c.self.inside.by_caller.items
+    order_closed c.self.inside.header c.args.caller c.self.inside.trails.items
+    c.close.new.trails.items c.self.inside.by_caller.items
     c.close.new.watches.items c.self.inside.reach c.close.new.reach c.close.ensures.closes
     c.self.invariant
 
@@ -60,29 +71,37 @@ returns-in-Some-clause-watches g c = c.close.ensures.closes.seen
 pub returns-in-Some-clause-keeps_few : goal.returns-in-Some-clause-keeps_few
 returns-in-Some-clause-keeps_few g c = keeps_few c.self.inside.header c.close.new.reach
     c.close.new.trails.items c.close.new.watches.items
-    (order_closed c.self.inside.header c.args.caller c.self.inside.trails.items c.close.new.trails.items c.self.inside.by_caller.items
+    (order_closed c.self.inside.header c.args.caller c.self.inside.trails.items
+    c.close.new.trails.items c.self.inside.by_caller.items
     c.close.new.watches.items c.self.inside.reach c.close.new.reach c.close.ensures.closes
     c.self.invariant)
 
 pub returns-in-None-clause-answered : goal.returns-in-None-clause-answered
 returns-in-None-clause-answered g c = λ seen there.
-    let here = watch_read c.self.inside.trails.items c.self.inside.by_caller.items c.args.self.now.by_caller c.args.caller c.index.result.now None
-    (ap (λ (k : Watched). k.by_caller) c.self.view_is) c.requires.caller c.index.ensures c.in-None.is in
-    let is : unwatched ≡ seen = same_Some _ _ (sym (seen_there c.self.inside.trails.items c.self.inside.by_caller.items c.args.caller None here)
+    let here = watch_read c.self.inside.trails.items c.self.inside.by_caller.items
+    c.args.self.now.by_caller c.args.caller c.index.result.now None
+    (ap (λ (k : Watched). k.by_caller) c.self.view_is) c.requires.caller c.index.ensures
+    c.in-None.is in
+    let is : unwatched ≡ seen = same_Some _ _
+    (sym (seen_there c.self.inside.trails.items c.self.inside.by_caller.items c.args.caller None
+    here)
     ∙ ap (λ (k : Watched). slice_get k.by_caller c.args.caller) c.self.view_is ∙ there) in
     ap (λ (s : Seen). has_answer s.answers c.args.reply) is
 
 pub returns-in-None-clause-watches : goal.returns-in-None-clause-watches
 returns-in-None-clause-watches g c =
-    let here = watch_read c.self.inside.trails.items c.self.inside.by_caller.items c.args.self.now.by_caller c.args.caller c.index.result.now None
-    (ap (λ (k : Watched). k.by_caller) c.self.view_is) c.requires.caller c.index.ensures c.in-None.is in
+    let here = watch_read c.self.inside.trails.items c.self.inside.by_caller.items
+    c.args.self.now.by_caller c.args.caller c.index.result.now None
+    (ap (λ (k : Watched). k.by_caller) c.self.view_is) c.requires.caller c.index.ensures
+    c.in-None.is in
     ap (λ (k : Watched). k.by_caller) (sym c.self.view_is)
     ∙ closed_stays c.self.inside.trails.items c.self.inside.by_caller.items c.args.caller here
     ∙ ap (λ (k : Watched). set k.by_caller c.args.caller unwatched) c.self.view_is
 
 pub returns-in-None-clause-keeps_few : goal.returns-in-None-clause-keeps_few
 returns-in-None-clause-keeps_few g c = subst (λ (w : Watched). KeepsFew w) c.self.view_is
-    (keeps_few c.self.inside.header c.self.inside.reach c.self.inside.trails.items c.self.inside.by_caller.items c.self.invariant)
+    (keeps_few c.self.inside.header c.self.inside.reach c.self.inside.trails.items
+    c.self.inside.by_caller.items c.self.invariant)
 
 pub returns-in-Some-clause-steps : goal.returns-in-Some-clause-steps
 returns-in-Some-clause-steps g c =

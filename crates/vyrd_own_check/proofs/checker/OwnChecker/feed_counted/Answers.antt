@@ -1,4 +1,5 @@
-use Rattle.std.proofs.Common.{◌≡◌, [], ◌++◌, refl, append_assoc, append-nil, take-append-drop, ap, subst, sym, ◌∙◌}
+use Rattle.std.proofs.Common.{◌≡◌, [], ◌++◌, refl, append_assoc, append-nil, take-append-drop, ap}
+use Rattle.std.proofs.Common.{subst, sym, ◌∙◌}
 use Rattle.vyrd_base.specs.Own.LogVerdicts.{own_text_verdict_so_far}
 use Rattle.vyrd_own_check.specs.Checking.{HasChecked}
 use Rattle.vyrd_own_check.specs.CheckerView.{checker_in}
@@ -10,7 +11,8 @@ pub loop-rest-init : goal.loop-rest-init
 loop-rest-init g c = record {
   read = [];
   parted = refl;
-  checked = λ bytes checked. subst (HasChecked (checker_in c.args.self.now)) (sym (append-nil bytes)) checked;
+  checked = λ bytes checked. subst (HasChecked (checker_in c.args.self.now))
+      (sym (append-nil bytes)) checked;
   works = c.if-self.false;
   limit = refl;
   paid = λ bytes checked. first_part (checker_in c.args.self.now) bytes c.args.steps.now;
@@ -22,12 +24,16 @@ loop-rest-preserved g c =
     let part = c.split_at.result.0.now in
     let after = c.split_at.result.1.now in
     let rest : c.loop-rest.rest.now ≡ part ++ after =
-    sym ((λ i. c.split_at.ensures.front i ++ c.split_at.ensures.back i) ∙ take-append-drop c.min.result c.loop-rest.rest.now) in
+    sym ((λ i. c.split_at.ensures.front i ++ c.split_at.ensures.back i)
+    ∙ take-append-drop c.min.result c.loop-rest.rest.now) in
     record {
       read = read ++ part;
-      parted = c.loop-rest.invariant.parted ∙ ap (λ xs. read ++ xs) rest ∙ sym (append_assoc read part after);
-      checked = λ bytes checked. subst (HasChecked (checker_in c.feed_part.new.self)) (append_assoc bytes read part)
-          (c.in_ok-feed_part.ensures.checked (bytes ++ read) (c.loop-rest.invariant.checked bytes checked));
+      parted = c.loop-rest.invariant.parted ∙ ap (λ xs. read ++ xs) rest
+          ∙ sym (append_assoc read part after);
+      checked = λ bytes checked. subst (HasChecked (checker_in c.feed_part.new.self))
+          (append_assoc bytes read part)
+          (c.in_ok-feed_part.ensures.checked (bytes ++ read)
+          (c.loop-rest.invariant.checked bytes checked));
       works = c.in_ok-feed_part.ensures.has_failed;
       limit = c.in_ok-feed_part.ensures.limit ∙ c.loop-rest.invariant.limit;
       paid = λ bytes checked. parts_paid (checker_in c.args.self.now) (checker_in c.loop-rest.self)
@@ -40,7 +46,8 @@ loop-rest-preserved g c =
 
 pub returns-in-Some-clause-checked : goal.returns-in-Some-clause-checked
 returns-in-Some-clause-checked g c = λ bytes checked.
-    checked_stands (checker_in c.loop-rest.self) bytes c.args.piece.now c.loop-rest.invariant.read c.loop-rest.rest.now c.in-Some.verdict
+    checked_stands (checker_in c.loop-rest.self) bytes c.args.piece.now c.loop-rest.invariant.read
+    c.loop-rest.rest.now c.in-Some.verdict
     c.loop-rest.self.sound.limit c.in-Some.is
     c.loop-rest.invariant.parted (c.loop-rest.invariant.checked bytes checked)
 
@@ -48,21 +55,26 @@ pub returns-in-Some-clause-answer : goal.returns-in-Some-clause-answer
 returns-in-Some-clause-answer g c = λ bytes checked.
     sym c.in-Some.is
     ∙ so_far_is (checker_in c.loop-rest.self) (bytes ++ c.args.piece.now)
-    (checked_stands (checker_in c.loop-rest.self) bytes c.args.piece.now c.loop-rest.invariant.read c.loop-rest.rest.now c.in-Some.verdict
+    (checked_stands (checker_in c.loop-rest.self) bytes c.args.piece.now c.loop-rest.invariant.read
+    c.loop-rest.rest.now c.in-Some.verdict
     c.loop-rest.self.sound.limit c.in-Some.is
     c.loop-rest.invariant.parted (c.loop-rest.invariant.checked bytes checked))
     ∙ ap (λ m. own_text_verdict_so_far m (bytes ++ c.args.piece.now)) c.loop-rest.invariant.limit
 
 pub returns-clause-checked : goal.returns-clause-checked
 returns-clause-checked g c = λ bytes checked.
-    checked_all (checker_in c.loop-rest.self) bytes c.args.piece.now c.loop-rest.invariant.read c.loop-rest.rest.now
-    c.loop-rest.invariant.parted c.loop-rest-test.ensures (c.loop-rest.invariant.checked bytes checked)
+    checked_all (checker_in c.loop-rest.self) bytes c.args.piece.now c.loop-rest.invariant.read
+    c.loop-rest.rest.now
+    c.loop-rest.invariant.parted c.loop-rest-test.ensures
+    (c.loop-rest.invariant.checked bytes checked)
 
 pub returns-clause-answer : goal.returns-clause-answer
 returns-clause-answer g c = λ bytes checked.
     so_far_is (checker_in c.loop-rest.self) (bytes ++ c.args.piece.now)
-    (checked_all (checker_in c.loop-rest.self) bytes c.args.piece.now c.loop-rest.invariant.read c.loop-rest.rest.now
-    c.loop-rest.invariant.parted c.loop-rest-test.ensures (c.loop-rest.invariant.checked bytes checked))
+    (checked_all (checker_in c.loop-rest.self) bytes c.args.piece.now c.loop-rest.invariant.read
+    c.loop-rest.rest.now
+    c.loop-rest.invariant.parted c.loop-rest-test.ensures
+    (c.loop-rest.invariant.checked bytes checked))
     ∙ ap (λ m. own_text_verdict_so_far m (bytes ++ c.args.piece.now)) c.loop-rest.invariant.limit
 
 pub returns-in-Some-clause-steps : goal.returns-in-Some-clause-steps

@@ -10,7 +10,8 @@ abbrev pub invariant-loop-rest : goal.invariant-loop-rest
 invariant-loop-rest g l = record {
   read : List ℕ;
   parted : l.piece ≡ read ++ l.rest;
-  checked : (bytes : List ℕ) → HasChecked (checker_in l.initial.self) bytes → HasChecked (checker_in l.self) (bytes ++ read);
+  checked : (bytes : List ℕ) → HasChecked (checker_in l.initial.self) bytes
+      → HasChecked (checker_in l.self) (bytes ++ read);
   works : l.self.has_failed ≡ false;
   limit : limit_of (kept_in l.self.text) ≡ limit_of (kept_in l.initial.self.text);
   paid : (bytes : List ℕ) → HasChecked (checker_in l.initial.self) bytes

@@ -7,7 +7,8 @@ use Rattle.vyrd_own_check.proofs.checker.OwnChecker.new.Goals as goal
 pub invariant_of-result : goal.invariant_of-result
 invariant_of-result c = record {
   sound = record {
-    limit = subst IsLimit (sym c.new.ensures.limit) (record { low = c.requires.low; high = c.requires.high });
+    limit = subst IsLimit (sym c.new.ensures.limit)
+        (record { low = c.requires.low; high = c.requires.high });
     somewhere = λ works none. ∣ ([], c.new.ensures.undecided) ∣₁;
   };
 }

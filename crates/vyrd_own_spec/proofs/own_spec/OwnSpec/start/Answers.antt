@@ -14,6 +14,7 @@ invariant_of-result c = record {
       ∙ ap (λ (lines : List (List ℕ)). is_whole (written_in lines) (length c.args.words.now))
       (sym c.deref.ensures)
       ∙ sym c.if-not-is_whole.ensures);
-  registers = few_registers (written c.program.result.now) c.in_ok-new.field-0 c.with_shown-state.result _ c.program.ensures.small
+  registers = few_registers (written c.program.result.now) c.in_ok-new.field-0
+      c.with_shown-state.result _ c.program.ensures.small
       c.in_ok-new.ensures c.with_shown-state.ensures;
 }

@@ -13,10 +13,15 @@ invariant_of-result c =
     record {
       blank = c.in_ok-blank.ensures;
       width_is = c.width-width.ensures.is ∙ ap width_of says;
-      few = subst (λ (w : Written). AreFew w c.width-width.result c.max-places.result (c.size.result / c.width-width.result)) says
-          (subst (λ n. AreFew (written c.program-program.result.now) c.width-width.result c.max-places.result (n / c.width-width.result))
+      few = subst (λ (w : Written). AreFew w c.width-width.result c.max-places.result
+          (c.size.result / c.width-width.result)) says
+          (subst (λ n. AreFew (written c.program-program.result.now) c.width-width.result
+          c.max-places.result (n / c.width-width.result))
           (sym c.size.ensures)
-          (are_few c.args.header (written c.program-program.result.now) c.width-width.result c.max-places.result c.len.result
+          (are_few c.args.header (written c.program-program.result.now) c.width-width.result
+          c.max-places.result c.len.result
           c.program-program.ensures.small c.width-width.ensures.is c.width-width.ensures.some
-          (c.len.ensures ∙ c.program-program.result.now.shows.ok.0 ∙ sym (length-mapped show_of c.program-program.result.now.shows.items)) c.max-places.ensures));
+          (c.len.ensures ∙ c.program-program.result.now.shows.ok.0
+          ∙ sym (length-mapped show_of c.program-program.result.now.shows.items))
+          c.max-places.ensures));
     }

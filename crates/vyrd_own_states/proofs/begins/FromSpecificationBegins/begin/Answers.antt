@@ -22,5 +22,6 @@ returns-clause-state c =
     subst (λ (lines : List (List ℕ)). IfOk c.start.result
     (λ o. option_map (λ (s : OwnSpec). s.state) o
     ≡ state_at_start (rules_by (own h lines)) starting)) c.in_ok-specification.ensures
-    (begins_so h (arc_value c.in_ok-specification.specification) starting c.deref.result.now c.start.result
+    (begins_so h (arc_value c.in_ok-specification.specification) starting c.deref.result.now
+    c.start.result
     (c.deref.ensures.value ∙ c.in_ok-words.ensures) c.start.ensures.none c.start.ensures.state)

@@ -1,4 +1,5 @@
-use Rattle.std.proofs.Common.{◌≡◌, [], ◌++◌, ◌+◌, cond, Some, take, drop, refl, sym, subst, ap, ◌∙◌, arith}
+use Rattle.std.proofs.Common.{◌≡◌, [], ◌++◌, ◌+◌, cond, Some, take, drop, refl, sym, subst, ap, ◌∙◌}
+use Rattle.std.proofs.Common.{arith}
 use Rattle.std.proofs.lemmas.Bool.{not-false}
 use Rattle.std.proofs.lemmas.List.{length-take}
 use Rattle.vyrd_base.specs.Places.{newest_first}
@@ -12,7 +13,8 @@ write_all-requires-clause-order c =
     let block = c.requires.block _ c.entry_at-entry.ensures in
     omega (arith, block.before, length-take c.args.at c.args.front.now)
 
-pub write_all-requires-then-not-block-clause-order : goal.write_all-requires-then-not-block-clause-order
+pub write_all-requires-then-not-block-clause-order :
+    goal.write_all-requires-then-not-block-clause-order
 write_all-requires-then-not-block-clause-order c =
     let block = c.requires.block _ c.entry_at-entry.ensures in
     omega (arith, block.before, length-take c.args.at c.args.front.now)

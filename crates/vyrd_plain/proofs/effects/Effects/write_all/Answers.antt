@@ -2,7 +2,9 @@ use Rattle.std.proofs.Common.{◌<◌, sym, subst, ap, ◌∙◌}
 use Rattle.vyrd_base.specs.Layout.{plain_words}
 use Rattle.vyrd_plain.proofs.EffectFacts.{written_next, other_next, quiet_next, word_fits}
 use Rattle.vyrd_plain.proofs.effects.Effects.write_all.Goals as goal
-use Rattle.vyrd_plain.proofs.effects.Effects.write_all.Goals.{then-entry-caller+in-Write, then-entry-caller+in_default, else-entry-caller}
+use Rattle.vyrd_plain.proofs.effects.Effects.write_all.Goals.{then-entry-caller+in-Write}
+use Rattle.vyrd_plain.proofs.effects.Effects.write_all.Goals.{then-entry-caller+in_default}
+use Rattle.vyrd_plain.proofs.effects.Effects.write_all.Goals.{else-entry-caller}
 
 pub index_mut-requires : goal.index_mut-requires
 index_mut-requires c =

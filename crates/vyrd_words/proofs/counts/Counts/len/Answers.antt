@@ -5,4 +5,5 @@ use Rattle.vyrd_words.proofs.counts.Counts.len.Goals as goal
 pub returns : goal.returns
 returns c =
     let i = c.self.inside in
-    c.len.ensures ∙ i.bytes.ok.0 ∙ sym (length-counts_of i.bytes.items i.large.items) ∙ ap length c.self.view_is
+    c.len.ensures ∙ i.bytes.ok.0 ∙ sym (length-counts_of i.bytes.items i.large.items)
+    ∙ ap length c.self.view_is

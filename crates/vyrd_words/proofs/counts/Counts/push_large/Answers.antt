@@ -6,13 +6,25 @@ use Rattle.vyrd_words.proofs.counts.Counts.push_large.Goals as goal
 pub invariant_of-self-2 : goal.invariant_of-self-2
 invariant_of-self-2 c =
     let i = c.self.inside in
-    rw (c.push_back_reserved.ensures.items, c.in_ok-reserve.ensures.items, c.in_ok-push_back.ensures.items, c.new-apart.ensures) (
-    omega (arith, c.self.invariant, apart_in-append i.bytes.items (255 ∷ []), length-append i.large.items (just c.args.count ∷ [])))
+    rw (
+      c.push_back_reserved.ensures.items,
+      c.in_ok-reserve.ensures.items,
+      c.in_ok-push_back.ensures.items,
+      c.new-apart.ensures,
+    ) (
+    omega (
+      arith,
+      c.self.invariant,
+      apart_in-append i.bytes.items (255 ∷ []),
+      length-append
+          i.large.items (just c.args.count ∷ []),
+    ))
 
 pub returns : goal.returns
 returns c =
     let i = c.self.inside in
     (λ j. counts_of (c.push_back_reserved.ensures.items j) (c.in_ok-push_back.ensures.items j))
-    ∙ (λ j. counts_of (c.in_ok-reserve.ensures.items j ++ 255 ∷ []) (i.large.items ++ c.new-apart.ensures j ∷ []))
+    ∙ (λ j. counts_of (c.in_ok-reserve.ensures.items j ++ 255 ∷ [])
+    (i.large.items ++ c.new-apart.ensures j ∷ []))
     ∙ pushed_large i.bytes.items i.large.items (just c.args.count) c.self.invariant
     ∙ ap (λ ks. ks ++ just c.args.count ∷ []) c.self.view_is

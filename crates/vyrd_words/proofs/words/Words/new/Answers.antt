@@ -10,5 +10,10 @@ returns-clause-words g c = λ starting is. record {
   numbers = subst (λ xs. HasNumbers c.in_ok-start_from.field-0.header.callers xs [])
       (sym (c.in_ok-vec.ensures.items_if_clones_equal (λ y e. e)))
       (numbers_first c.in_ok-start_from.field-0.header.callers c.callers.result
-      (omega (arith, c.callers.ensures, ap (λ (h : Header). h.callers) c.in_ok-start_from.ensures.header)));
+      (omega (
+        arith,
+        c.callers.ensures,
+        ap (λ (h : Header). h.callers)
+            c.in_ok-start_from.ensures.header,
+      )));
 }
