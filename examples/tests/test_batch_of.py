@@ -50,6 +50,11 @@ class BatchOf(ScriptTest):
             left = left[int(size) :]
         self.assertEqual(left, b"end\n")
 
+    def test_names_that_are_none(self):
+        """A log in place of the names, say: of a line that is long the sentence has the beginning."""
+        self.assert_ended(self.batch_of(stdin=b"a" * 5000), 64, b"", ["'" + 4096 * "a" + "..' can't be read"])
+        self.assert_ended(self.batch_of(stdin=b"\0\n"), 64, b"", ["'\\x00' can't be read"])
+
     def test_unreadable_files_leave_nothing(self):
         self.file("a", b"x\n")
         (self.folder / "folder").mkdir()

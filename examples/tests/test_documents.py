@@ -49,8 +49,14 @@ class Documents(ScriptTest):
 
     def test_text_that_isnt_utf_8(self):
         self.file("page.md", b"\xff\n")
-        self.assert_ended(self.run_script("documents", "page.md"), 64, b"", ["a document can't be read"])
+        self.assert_ended(self.run_script("documents", "page.md"), 64, b"", ["page.md can't be read: it isn't text in UTF-8"])
         self.assert_counts(self.documents("$ printf '\\377'", "\N{REPLACEMENT CHARACTER}"), 1, 0)
+
+    def test_documents_that_cant_be_read(self):
+        (self.folder / "folder").mkdir()
+        none = "No such file or directory"
+        for name, why in (("missing.md", none), ("-x", none), ("folder", "Is a directory")):
+            self.assert_ended(self.run_script("documents", name), 64, b"", [f"{name} can't be read: {why}"])
 
     def test_output_that_takes_nothing(self):
         self.file("page.md", "    $ true\n")

@@ -5,6 +5,8 @@
 
 The map keeps its entries in two lists, in no order of keys, and a dict says where each key is. It is no tree at all. Its
 place p is told as entry p mod 4 of leaf p / 4, and the leaves as a chain by their right words.
+
+The status is 0, and 64 where the words are none of these.
 """
 
 import random
@@ -150,6 +152,10 @@ def run_broken():
 
 
 RUNS = {"correct": run_correct, "broken": run_broken}
-if len(sys.argv) != 2 or sys.argv[1] not in RUNS:
-    sys.exit("usage: number_map.py correct | broken")
-RUNS[sys.argv[1]]()
+if sys.argv[1:] == ["--help"]:
+    print(__doc__.strip())
+elif len(sys.argv) == 2 and sys.argv[1] in RUNS:
+    RUNS[sys.argv[1]]()
+else:
+    print("number_map.py: it takes `correct` or `broken`; --help says more", file=sys.stderr)
+    sys.exit(64)

@@ -3,10 +3,11 @@
     RECIPE.py correct [SEED]    a few threads play with a correct structure; prints the log of that run
     RECIPE.py broken            two callers, one of which comes between two steps of the other; prints the log of that run
 
-With VYRD_SEED the threads make pauses, as `loggers/README.md` says.
+With VYRD_SEED the threads make pauses, as `loggers/README.md` says. The status is 0, and 64 where the words are none of these.
 """
 
 import random
+import re
 import sys
 import threading
 from pathlib import Path
@@ -16,6 +17,7 @@ from vyrd_log import Header, Log  # noqa: E402
 
 CALLERS = 3
 OPERATIONS = 100
+MISUSE = 64
 COUNT, BOUND, RIGHT, KEY, VALUE = 1, 2, 3, 4, 8  # where a leaf's words stand among its twelve
 
 
@@ -57,13 +59,29 @@ def together(log, play, seed):
         thread.join()
 
 
+def words_of(words):
+    """Which run the words name, and its seed, or None where they are none of those above."""
+    if words == ["broken"]:
+        return "broken", None
+    if words[:1] == ["correct"] and len(words) <= 2 and all(re.fullmatch("[0-9]{1,18}", word) for word in words[1:]):
+        return "correct", int(words[1]) if len(words) == 2 else 7
+    return None
+
+
 def run(header, correct, broken):
     """Does what the program's words say: `correct(log, seed)`, or `broken(log)`."""
-    words = sys.argv[1:]
-    if words[:1] not in (["correct"], ["broken"]):
-        sys.exit(f"usage: {Path(sys.argv[0]).name} correct [SEED] | broken")
+    name = Path(sys.argv[0]).name
+    if sys.argv[1:] == ["--help"]:
+        forms = __doc__.partition("\n\n")[2].replace("RECIPE.py", name)
+        print(sys.modules["__main__"].__doc__, forms.rstrip("\n"), sep="\n")
+        return
+    chosen = words_of(sys.argv[1:])
+    if not chosen:
+        print(f"{name}: it takes `correct`, maybe with a seed, or `broken`; --help says more", file=sys.stderr)
+        sys.exit(MISUSE)
+    which, seed = chosen
     with Log(header, sys.stdout.buffer) as log:
-        if words[0] == "correct":
-            correct(log, int(words[1]) if len(words) > 1 else 7)
+        if which == "correct":
+            correct(log, seed)
         else:
             broken(log)
