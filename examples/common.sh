@@ -1,7 +1,7 @@
 # shellcheck shell=bash
 # What the scripts of this folder share. batch_of and rows_of don't read it: each of these is one file that can be copied away.
 
-# What they end with where they can't do their work. 1 is left for what they find.
+# What they end with if they can't do their work. 1 is left for what they find.
 misuse=64
 no_program=70
 
@@ -25,7 +25,7 @@ take_no_words() {
     [ $# -eq 0 ] || fail "$misuse" "it takes no words but --help, and '$1' is one"
 }
 
-# need COMMAND WHAT: ends the script where the command can't be run.
+# need COMMAND WHAT: ends the script if the command can't be run.
 need() {
     command -v -- "$1" >/dev/null || fail "$no_program" "$2 can't be run: $1"
 }

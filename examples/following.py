@@ -37,7 +37,7 @@ def stand_for_state(log):
 
 
 class Following:
-    """The words of a log, what they show, and the specification's state, `None` where it isn't known."""
+    """The words of a log, what they show, and the specification's state, `None` if it isn't known."""
 
     def __init__(self, log, starting_words):
         self.log, self.words, self.specification = log, words_at_start(log, starting_words), None

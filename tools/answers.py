@@ -49,12 +49,12 @@ def is_verdict(status, answer):
 
 
 def without_verdict(status):
-    """What ends a script where the checker ended so. The statuses of a verdict would say what it didn't."""
+    """What ends a script if the checker ended so. The statuses of a verdict would say what it didn't."""
     return Ended(f"the checker ended with status {status} and gave no verdict", NO_VERDICT if status in VERDICTS else status)
 
 
 def other_log():
-    """What ends a script where the answer can't be about the log."""
+    """What ends a script if the answer can't be about the log."""
     return Ended("this log isn't the one that the answer is about")
 
 

@@ -97,7 +97,7 @@ def number_in(word, wanted):
 
 
 def opened(name):
-    """A file, or standard input where the name is `-`, to be read as bytes."""
+    """A file, or standard input if the name is `-`, to be read as bytes."""
     if name != "-":
         try:
             return open(name, "rb")

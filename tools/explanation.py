@@ -153,7 +153,7 @@ def explain_observer(violation):
 
 
 def said_reply(log, execution, reply):
-    """A reply, and what it means where it is a pair or a text in one number."""
+    """A reply, and what it means if it is a pair or a text in one number."""
     if log.specification:
         return worth(reply)
     means = f": {told(log.subject, log.size, execution.arguments[0], reply)}" if execution.method == "read" else ""
@@ -227,7 +227,7 @@ def say_open_calls(log, found):
 
 
 def line_of(log, named, rule):
-    """The text of the named line and its length, or None where it is the one after the last: there the input has ended."""
+    """The text of the named line and its length, or None if it is the one after the last: there the input has ended."""
     last = 0
     for last, text, length, _ in log.lines():
         if last == named:

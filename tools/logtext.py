@@ -79,7 +79,7 @@ class Log:
             self._read_specification()
 
     def _read_specification(self):
-        """Reads the specification up to its line `log`, also where a line of it is refused before that."""
+        """Reads the specification up to its line `log`, even if a line of it is refused before that."""
         said, is_refused = specification.Specification(), False
         self.front = float("inf")
         for line, text, length, is_ended in self.lines():
@@ -107,7 +107,7 @@ class Log:
         return lines_of(open(self.file.fileno(), "rb", closefd=False), self.name)
 
     def entry(self, line, text):
-        """The entry on a line, or None where it has none."""
+        """The entry on a line, or None if it has none."""
         return entry_of(line, text, self.longest) if line > self.front else None
 
     def is_note(self, line, text, length):
@@ -169,7 +169,7 @@ def rest_of_line(file):
 
 
 def entry_of(line, text, longest=LONGEST):
-    """The entry on a line of at most so many bytes, or None where it hasn't the form of one."""
+    """The entry on a line of at most so many bytes, or None if it hasn't the form of one."""
     found = ENTRY.fullmatch(text)
     if not found or len(text) > longest:
         return None

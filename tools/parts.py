@@ -46,7 +46,7 @@ class Less(NamedTuple):
 class Parts:
     """The header, the specification, the starting lines and the units of a log, up to the fault and what is still open there.
 
-    Notes go. Where a specification has the fault, all is kept up to there, and nothing of what comes after. Where writes take effect
+    Notes go. If a specification has the fault, all is kept up to there, and nothing of what comes after. Where writes take effect
     is what `vyrd follow` says.
     """
 
@@ -133,7 +133,7 @@ class Parts:
             self._open.pop(entry.caller, None)
 
     def _compare(self, can_be):
-        """Ends the script where a violation can't be about such a log."""
+        """Ends the script if a violation can't be about such a log."""
         if self.verdict == "violation" and not can_be:
             raise other_log()
 
@@ -149,7 +149,7 @@ class Parts:
             last = write.line, write.at
 
     def _end(self):
-        """What stands behind the entries, where that is the fault."""
+        """What stands behind the entries, if that is the fault."""
         if self.fault == "too many lines":
             raise Ended("a log with fewer lines can't have too many", MISUSE)
         if self.fault in ("no end", "no line feed") or self.fault in OF_HEADER or not self._is_fault_behind_front():
@@ -201,7 +201,7 @@ class Parts:
         return numbers
 
     def text(self, less, callers=None):
-        """The log that is left, its callers numbered anew where that is asked for, and the answer that it has to have."""
+        """The log that is left, its callers numbered anew if that is asked for, and the answer that it has to have."""
         if not self.log.subject:
             return self._answered([self.header, *self.front], self.line if self.front else 1)
         starts = [f"start {word} {value}" for word, (value, _) in sorted(less.start.items()) if value]
@@ -225,7 +225,7 @@ class Parts:
         return self._answered(lines, 2 + len(self.front) + len(starts) + places.index(self.marked_place))
 
     def _header(self, has_starts, callers):
-        """The header: of version 2 where it has to be, and with as many callers as there are."""
+        """The header: of version 2 if it has to be, and with as many callers as there are."""
         if self.log.version == "3":
             front, _, count = self.header.rpartition(" ")
             return f"{front} {count if callers is None else max(1, len(callers))}"
@@ -250,7 +250,7 @@ def without(less, gone):
 
 
 def folded(parts, less, gone):
-    """The same, where a word begins with what the last one of these units wrote to it before any that stays does."""
+    """The same, if a word begins with what the last one of these units wrote to it before any that stays does."""
     left = without(less, gone)
     written = {write.word for number in gone for write in parts.units[number].writes}
     first = {}

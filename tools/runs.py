@@ -71,7 +71,7 @@ class Runs:
             signal.signal(number, how)
 
     def caught(self):
-        """The first run that comes whose log isn't accepted, or None where all are."""
+        """The first run that comes whose log isn't accepted, or None if all are."""
         done, between = 0, BETWEEN[os.isatty(2)]
         due = time.monotonic() + between
         while done < self.plan.times:
@@ -196,7 +196,7 @@ def judged(log):
 
 
 def beginning_of(log):
-    """The first bytes of a file, and none where there is no file."""
+    """The first bytes of a file, and none if there is no file."""
     try:
         with open(log, "rb") as file:
             return file.read(MOST_SHOWN)

@@ -12,7 +12,7 @@ def taking_effect(write):
 
 
 def of_later_call(execution, line):
-    """The call that a write belongs to, where it hasn't committed up to a line. A write outside calls has none."""
+    """The call that a write belongs to, if it hasn't committed up to a line. A write outside calls has none."""
     if execution is None or (execution.commit_line and execution.commit_line <= line):
         return ""
     if execution.commit_line:

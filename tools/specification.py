@@ -325,7 +325,7 @@ def last_expression(reading, scope):
 
 
 def sizes_in(header):
-    """How many words and callers a header of version 3 says, or None where a line is none."""
+    """How many words and callers a header of version 3 says, or None if a line is none."""
     found = HEADER.fullmatch(header)
     if not found or int(found[1]) > MOST_WORDS or int(found[2]) > MOST_CALLERS:
         return None
@@ -333,7 +333,7 @@ def sizes_in(header):
 
 
 def rule_of_unended(specification, length):
-    """The rule that a line of a specification breaks by its length alone, where no line feed ends it, or None."""
+    """The rule that a line of a specification breaks by its length alone, if no line feed ends it, or None."""
     if length <= LONGEST:
         return None
     return TOO_MANY if specification.count >= LINES else TOO_LONG

@@ -7,7 +7,7 @@
 # How a machine is reached that doesn't keep waiting for one that was lost.
 export VYRD_SSH=${VYRD_SSH:-ssh -o BatchMode=yes -o ConnectTimeout=10 -o ServerAliveInterval=10 -o ServerAliveCountMax=3}
 
-# number WORD NAME: ends the script where a word is no number from 1 on.
+# number WORD NAME: ends the script if a word is no number from 1 on.
 number() {
     case $1 in
         '' | 0* | *[!0-9]* | ??????*) fail "$misuse" "$2 is a number from 1 to 99999, and '$1' isn't" ;;

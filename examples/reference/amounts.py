@@ -43,7 +43,7 @@ class Shown:
 
 
 class ShownByChain(Shown):
-    """The amounts at all keys of a tree, to which the nodes of the chain give, and the chain itself where it is damaged."""
+    """The amounts at all keys of a tree, to which the nodes of the chain give, and the chain itself if it is damaged."""
 
     CHAIN = -1  # the part that the chain itself is
 

@@ -14,7 +14,7 @@ class Chain:
         self.nodes, self.taken_out = set(nodes), {}
 
     def changed(self, word, before, by):
-        """A word was written that was `before` until then. What did it, `by`, is kept where it took a node out.
+        """A word was written that was `before` until then. What did it, `by`, is kept if it took a node out.
 
         Gives the nodes that came in and those that went.
         """

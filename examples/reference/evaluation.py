@@ -36,7 +36,7 @@ WORTH = {
 
 
 def value(expression, state, names):
-    """What it is worth in a state, where these names have these values."""
+    """What it is worth in a state, if these names have these values."""
     kind = expression.kind
     if kind == "number":
         return expression.word

@@ -118,7 +118,7 @@ def names_in(specification, method, state, arguments):
 
 
 def step_of(specification, method, state, arguments, reply):
-    """What the first case does that allows the reply, or None where none does."""
+    """What the first case does that allows the reply, or None if none does."""
     names = {**names_in(specification, method, state, arguments), "reply": reply}
     for case in method.cases:
         if case.allow.value(state, names):
@@ -133,7 +133,7 @@ def effect_of(change, state, names):
 
 
 def answer_of(specification, method, state, arguments):
-    """What an execution that commits nothing has to reply. It is `none`, which no reply is, where the method has no answer."""
+    """What an execution that commits nothing has to reply. It is `none`, which no reply is, if the method has no answer."""
     if not method.answer:
         return NONE
     return method.answer.value.value(state, names_in(specification, method, state, arguments))
@@ -158,7 +158,7 @@ class View:
         return [self[word] for word in range(first, first + self.of_part)]
 
     def given_by(self, part):
-        """What a part gives, as pairs of a key and an amount for each `shows`. It is nothing where its words are all 0."""
+        """What a part gives, as pairs of a key and an amount for each `shows`. It is nothing if its words are all 0."""
         values = self.words_of(part)
         if not any(values):
             return []
@@ -186,7 +186,7 @@ class View:
 
 
 def why_no_start(specification, words, shown):
-    """Why so many words, which show these amounts at the start, stand for no state, or None where they stand for one."""
+    """Why so many words, which show these amounts at the start, stand for no state, or None if they stand for one."""
     if why := specification.why_not_filled(words):
         return why
     for key, amount in sorted(shown.items()):

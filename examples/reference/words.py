@@ -49,7 +49,7 @@ class Words:
         return 0 if broken else text_of(text)
 
     def leaf_amount(self, node, key):
-        """What one node of a tree shows at a key, where it is one of the chain."""
+        """What one node of a tree shows at a key, if it is one of the chain."""
         return sum(amount for shown, amount in self._entries(node) if shown == key)
 
     def _entries(self, node):
@@ -107,7 +107,7 @@ def text_of(characters):
 
 
 def after(subject, execution, key, state):
-    """The amount at a key after a call, by its reply, where the state before has the amounts of `state`."""
+    """The amount at a key after a call, by its reply, if the state before has the amounts of `state`."""
     method, arguments, reply, amount = execution.method, execution.arguments, execution.reply, state[key]
     if key not in keys_of(execution) or not reply:
         return amount
@@ -122,7 +122,7 @@ def after(subject, execution, key, state):
 
 
 def text_after(method, arguments, state):
-    """The text of a call's buffer after it, where it did what it says. It shows no more than one character too many."""
+    """The text of a call's buffer after it, if it did what it says. It shows no more than one character too many."""
     text = characters_of(state[arguments[0]])
     if method == "cut":
         return text_of(text[: arguments[1]])
@@ -135,7 +135,7 @@ def appended(method, arguments, state):
 
 
 def answer(subject, method, amount):
-    """What an observer answers where its key has this amount."""
+    """What an observer answers if its key has this amount."""
     if subject == "multiset":
         return min(amount, 1)
     if subject == "cache":

@@ -1,4 +1,4 @@
-"""Tests of many/check_parted: what it says of a log in parts is what `check` says of the whole, also where the log is damaged."""
+"""Tests of many/check_parted: what it says of a log in parts is what `check` says of the whole, even if the log is damaged."""
 
 import os
 import random

@@ -549,7 +549,7 @@ state before line 8: hidden key 0 amount 4
 state before line 8: hidden key 4 amount 9
 allowed reply 10""",
     ),
-    # A key is a number also where it is `none`. The answer is no case, so [5] isn't read.
+    # A key is a number even if it is `none`. The answer is no case, so [5] isn't read.
     (
         """vyrd 3 own 0 1
 list spare

@@ -47,7 +47,7 @@ class Many(ScriptTest):
         self.assert_ended(self.run_many("judge", "all/parts/000001", vyrd="/missing"), 0, b"", [])
 
     def test_batch_without_an_answer(self):
-        """The logs are then judged one by one, also where the answer has a verdict too few or one that is none."""
+        """The logs are then judged one by one, even if the answer has a verdict too few or one that is none."""
         answers = [self.batch(ACCEPTED, VIOLATION), self.batch(ACCEPTED, VIOLATION, "x"), ""]
         for answer in answers:
             self.run_many("parts_of", "names", "all")

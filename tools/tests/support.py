@@ -47,7 +47,7 @@ PROGRAM, NO_PROGRAM = program(), "no program is built"
 
 
 class ProgramTest(unittest.TestCase):
-    """A test that asks the program by itself, without a script. It is skipped where there is none."""
+    """A test that asks the program by itself, without a script. It is skipped if there is none."""
 
     def setUp(self):
         if not PROGRAM:
@@ -80,7 +80,7 @@ class ScriptTest(unittest.TestCase):
         return str(path)
 
     def take_program(self):
-        """Makes the program the checker. The test is skipped where there is none."""
+        """Makes the program the checker. The test is skipped if there is none."""
         if not PROGRAM:
             self.skipTest(NO_PROGRAM)
         self.environment["VYRD"] = PROGRAM

@@ -54,7 +54,7 @@ class EvidenceTest(ProgramTest):
         return ran.stdout.decode().strip()
 
     def of(self, parts, less):
-        """The evidence in what is left of a log, or None where it hasn't the same fault."""
+        """The evidence in what is left of a log, or None if it hasn't the same fault."""
         text, answer = parts.text(less)
         return evidence(self.log(text, answer), parts.own_lines(less), self.check) if self.check(text) == answer else None
 

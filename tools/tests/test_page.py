@@ -89,7 +89,7 @@ class Opened:
         return zip(*(self[f"{track}.{name}"] for name in ("line", "at", "value")))
 
     def amount(self, amounts, key):
-        """An amount of a track: where there is none, that of 0."""
+        """An amount of a track: if there is none, that of 0."""
         damage = self.data["damage"]
         return amounts.get(key, self.data["zeros"][damage is not None and key >= damage])
 

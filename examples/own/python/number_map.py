@@ -6,7 +6,7 @@
 The map keeps its entries in two lists, in no order of keys, and a dict says where each key is. It is no tree at all. Its
 place p is told as entry p mod 4 of leaf p / 4, and the leaves as a chain by their right words.
 
-The status is 0, and 64 where the words are none of these.
+The status is 0, and 64 if the words are none of these.
 """
 
 import random
@@ -32,7 +32,7 @@ class NumberMap:
         self._place_of = {}
 
     def insert(self, caller, key, value):
-        """Replies 1 where the key is new, 2 where it was there, and 0 where there is no room."""
+        """Replies 1 if the key is new, 2 if it was there, and 0 if there is no room."""
         self._log.call(caller, f"insert {key} {value}")
         if self._between:
             place = self._place_of.get(key)
@@ -45,7 +45,7 @@ class NumberMap:
         self._log.returns(caller, reply)
 
     def delete(self, caller, key):
-        """Replies 1 where the key was there, and 0 where it wasn't. The last entry moves to its place."""
+        """Replies 1 if the key was there, and 0 if it wasn't. The last entry moves to its place."""
         self._log.call(caller, f"delete {key}")
         with self._lock:
             place = self._place_of.pop(key, None)
@@ -57,7 +57,7 @@ class NumberMap:
         self._log.returns(caller, int(place is not None))
 
     def lookup(self, caller, key):
-        """Replies the value plus 1, and 0 where the key isn't there."""
+        """Replies the value plus 1, and 0 if the key isn't there."""
         self._log.call(caller, f"lookup {key}")
         with self._lock:
             place = self._place_of.get(key)

@@ -39,7 +39,7 @@ class Map:
         caller.returns(0 if value is None else value + 1)
 
     def get_in_two(self, caller, key, between):
-        """The value, or 0 where there is none: what it was isn't what is replied."""
+        """The value, or 0 if there is none: what it was isn't what is replied."""
         caller.call("lookup", key)
         found = key in self._library
         between()

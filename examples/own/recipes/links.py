@@ -121,7 +121,7 @@ def broken(log):
 
 
 def once(action):
-    """Does the action where it is called first, and nothing after that."""
+    """Does the action when it is called first, and nothing after that."""
     left = [action]
     return lambda: left and left.pop()()
 

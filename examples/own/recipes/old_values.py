@@ -35,7 +35,7 @@ class Numbers:
         return old
 
     def compare_and_set(self, caller, key, expected, number):
-        """Sets the number where the expected one is there. Replies what was there."""
+        """Sets the number if the expected one is there. Replies what was there."""
         with self._lock, caller.step() as lines:
             found = self._held[key]
             if found == expected:

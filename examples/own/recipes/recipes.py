@@ -3,7 +3,7 @@
     RECIPE.py correct [SEED]    a few threads play with a correct structure; prints the log of that run
     RECIPE.py broken            two callers, one of which comes between two steps of the other; prints the log of that run
 
-With VYRD_SEED the threads make pauses, as `loggers/README.md` says. The status is 0, and 64 where the words are none of these.
+With VYRD_SEED the threads make pauses, as `loggers/README.md` says. The status is 0, and 64 if the words are none of these.
 """
 
 import random
@@ -60,7 +60,7 @@ def together(log, play, seed):
 
 
 def words_of(words):
-    """Which run the words name, and its seed, or None where they are none of those above."""
+    """Which run the words name, and its seed, or None if they are none of those above."""
     if words == ["broken"]:
         return "broken", None
     if words[:1] == ["correct"] and len(words) <= 2 and all(re.fullmatch("[0-9]{1,18}", word) for word in words[1:]):

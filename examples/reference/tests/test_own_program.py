@@ -1,6 +1,6 @@
 """Specifications and logs of version 3 that chance makes up: the reference, lint, explain and the program agree.
 
-The program is the one that VYRD names, or the one that is built in this repository. Where there is none, its tests are skipped.
+The program is the one that VYRD names, or the one that is built in this repository. If there is none, its tests are skipped.
 """
 
 import contextlib
