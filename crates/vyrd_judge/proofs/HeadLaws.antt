@@ -52,7 +52,8 @@ use Rattle.vyrd_judge.proofs.ReachedFaults.{observer_at}
 use Rattle.vyrd_judge.proofs.WaitingLaws.{IsBegin, IsCommit, IsReturn}
 use Rattle.vyrd_judge.proofs.JudgedLaws.{AtHead, Onward, parts_on, parts_at, judged_next}
 use Rattle.vyrd_judge.proofs.JudgedLaws.{judged_fault}
-use Rattle.vyrd_judge.proofs.ShownLaws.{AreFormed, commit_shows}
+use Rattle.vyrd_spec.proofs.ShownLaws.{AreFormed}
+use Rattle.vyrd_judge.proofs.ShownLaws.{commit_shows}
 use Rattle.vyrd_base.specs.Rules.{Rules}
 
 -- what a place leads to, by another name of its entry

@@ -34,7 +34,7 @@ use Rattle.vyrd_judge.proofs.JudgedLaws.{AtHead, judged_head}
 use Rattle.vyrd_judge.proofs.HeadLaws.{head_begins, begin_fits, head_caller, head_answered}
 use Rattle.vyrd_judge.proofs.HeadLaws.{head_unanswered, commit_fits, split_here, head_faults}
 use Rattle.vyrd_judge.proofs.HeadLaws.{head_right, head_waits, head_few}
-use Rattle.vyrd_judge.proofs.ShownLaws.{AreFormed}
+use Rattle.vyrd_spec.proofs.ShownLaws.{AreFormed}
 use Rattle.vyrd_base.specs.Rules.{Rules}
 
 -- the entry that waits first, by its event

@@ -36,7 +36,7 @@ use Rattle.vyrd_judge.specs.Keeping.{effects_in, next_has_returned, effects_left
 use Rattle.vyrd_judge.specs.Keeping.{count_all, writes_kept, blocks_keep}
 use Rattle.vyrd_judge.specs.LittleKept.{KeepsLittle}
 use Rattle.vyrd_judge.specs.Queued.{AwaitsReturn}
-use Rattle.vyrd_judge.specs.Shown.{most_shown}
+use Rattle.vyrd_spec.specs.Shown.{most_shown}
 use Rattle.vyrd_judge.specs.Waiting.{waiting_at, waiting_after}
 use Rattle.vyrd_judge.proofs.AlikeLaws.{alike_count}
 use Rattle.vyrd_judge.proofs.WaitingLaws.{uncommitted}

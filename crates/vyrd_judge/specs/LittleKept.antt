@@ -4,12 +4,12 @@ use Rattle.vyrd_base.specs.declared.log.Entry.{Entry}
 use Rattle.vyrd_base.specs.Layout.{plain_words}
 use Rattle.vyrd_base.specs.Places.{newest_first}
 use Rattle.vyrd_base.specs.Rules.{rules_by}
+use Rattle.vyrd_spec.specs.Shown.{most_shown}
 use Rattle.vyrd_words.specs.Costs.{all_kept_back}
 use Rattle.vyrd_judge.specs.Answers.{answers_left}
 use Rattle.vyrd_judge.specs.Costs.{callers_of}
 use Rattle.vyrd_judge.specs.Following.{JudgeView}
 use Rattle.vyrd_judge.specs.Keeping.{from_open_commit, effects_left, writes_kept, blocks_keep}
-use Rattle.vyrd_judge.specs.Shown.{most_shown}
 
 -- What a judge that has followed a log keeps at most: of entries, those from the first commit on
 -- whose execution hasn't returned; of writes, those that take effect behind the commit before that

@@ -1,5 +1,6 @@
 -- The steps of string buffers.
-use Rattle.std.proofs.Common.{◌≡◌, ◌≢◌, ℕ, ◌+◌, ◌^◌, ◌%◌, ◌<◌, ◌≤◌, Bool, true, false, cond, not, [], ◌∷◌}
+use Rattle.std.proofs.Common.{◌≡◌, ◌≢◌, ℕ, ◌+◌, ◌^◌, ◌%◌, ◌<◌, ◌≤◌, Bool, true, false, cond, not}
+use Rattle.std.proofs.Common.{[], ◌∷◌}
 use Rattle.std.proofs.Common.{Some, refl, ap, ◌∙◌, sym, arith}
 use Rattle.std.specs.Prelude.{◌==◌, nat_lt}
 use Rattle.std.specs.Bool.{then_some}
@@ -11,22 +12,27 @@ use Rattle.vyrd_base.specs.declared.subject.Args.{Args}
 use Rattle.vyrd_base.specs.Amounts.{Amounts, IsAmounts, amount_of, with_amount}
 use Rattle.vyrd_base.specs.Buffers.{buffers, text_length, has_room, joined, cut_to, after_append}
 use Rattle.vyrd_base.proofs.AmountLaws.{amount_of-with_amount, IsAmounts-with_amount, no_amounts}
-use Rattle.vyrd_base.proofs.TestLaws.{same_of, apart_of, same_number, below_of, is_below, is_at_most}
+use Rattle.vyrd_base.proofs.TestLaws.{same_of, apart_of, same_number, below_of, is_below}
+use Rattle.vyrd_base.proofs.TestLaws.{is_at_most}
 use Rattle.vyrd_base.proofs.TestLaws.{not_below_of, isnt_below}
 use Rattle.vyrd_base.proofs.TextLaws.{length_at_most, joined_below, cut_below}
 use Rattle.vyrd_spec.specs.Bounds.{AreTexts}
 use Rattle.vyrd_spec.specs.Touching.{is_touched, CanChange}
 use Rattle.vyrd_spec.specs.Touching.Buffers.{touches}
-use Rattle.vyrd_spec.proofs.StepLaws.{StepsWell, Stays, by_replies, where_allowed, where_true, other_key}
-use Rattle.vyrd_spec.proofs.StepLaws.{or_false, same_amount, of_first, set_amount, lone, lone_amount}
+use Rattle.vyrd_spec.proofs.StepLaws.{StepsWell, Stays, by_replies, where_allowed, where_true}
+use Rattle.vyrd_spec.proofs.StepLaws.{other_key}
+use Rattle.vyrd_spec.proofs.StepLaws.{or_false, same_amount, of_first, set_amount, lone}
+use Rattle.vyrd_spec.proofs.StepLaws.{lone_amount}
 use Rattle.vyrd_spec.proofs.StepLaws.{lone_formed, AllAmounts-with_amount}
 
 -- what holds of a state, and of the one with a text appended to a buffer, holds after an append
 by_append : (Q : Amounts → Type 0) (reply b more : ℕ) (s t : Amounts) → Q s
-    → (has_room (amount_of s b) more ≡ true → Q (with_amount s b (joined (amount_of s b) more))) → after_append reply s b more ≡ Some t → Q t
+    → (has_room (amount_of s b) more ≡ true → Q (with_amount s b (joined (amount_of s b) more)))
+    → after_append reply s b more ≡ Some t → Q t
 by_append Q reply b more s t kept appended =
     let room : Bool = has_room (amount_of s b) more in
-    by_replies Q reply _ _ _ t (where_allowed Q (not room) s kept) (where_true Q room (with_amount s b (joined (amount_of s b) more)) appended) tt
+    by_replies Q reply _ _ _ t (where_allowed Q (not room) s kept)
+    (where_true Q room (with_amount s b (joined (amount_of s b) more)) appended) tt
 
 -- a cut to 7 characters or more leaves all
 long_cut : (n text : ℕ) → nat_lt n 7 ≡ false → cut_to n text ≡ text
@@ -40,20 +46,24 @@ cut_stays s k n q none = by_length (nat_lt n 7) refl none
     by_length : (b : Bool) → nat_lt n 7 ≡ b → is_touched (cond b (k ∷ []) []) q ≡ false
         → amount_of (with_amount s k (cut_to n (amount_of s k))) q ≡ amount_of s q
     by_length true e other = other_key s k (cut_to n (amount_of s k)) q (or_false _ other)
-    by_length false e other = ap (λ text. amount_of (with_amount s k text) q) (long_cut n (amount_of s k) e) ∙ same_amount s k q
+    by_length false e other = ap (λ text. amount_of (with_amount s k text) q)
+        (long_cut n (amount_of s k) e) ∙ same_amount s k q
 
 -- a step leaves amounts
 formed : (method : BuffersMethod) (args : Args) (reply : ℕ) (s t : Amounts) → IsAmounts s
     → buffers.next method args reply s ≡ Some t → IsAmounts t
 formed Append args reply s t is =
     let text : ℕ = amount_of s args.a in
-    by_append IsAmounts reply args.a (args.b + 1) s t is (λ room. IsAmounts-with_amount s args.a (joined text (args.b + 1)) is)
+    by_append IsAmounts reply args.a (args.b + 1) s t is
+    (λ room. IsAmounts-with_amount s args.a (joined text (args.b + 1)) is)
 formed AppendFrom args reply s t is =
     let text : ℕ = amount_of s args.a in
     let more : ℕ = amount_of s args.b in
-    by_append IsAmounts reply args.a more s t is (λ room. IsAmounts-with_amount s args.a (joined text more) is)
+    by_append IsAmounts reply args.a more s t is
+    (λ room. IsAmounts-with_amount s args.a (joined text more) is)
 formed Cut args reply s t is =
-    by_replies IsAmounts reply _ _ _ t tt (IsAmounts-with_amount s args.a (cut_to args.b (amount_of s args.a)) is) tt
+    by_replies IsAmounts reply _ _ _ t tt
+    (IsAmounts-with_amount s args.a (cut_to args.b (amount_of s args.a)) is) tt
 formed Length args reply s t is = λ e. cc
 formed Read args reply s t is = λ e. cc
 
@@ -66,13 +76,16 @@ untouched Append args reply q s t e none =
     (λ room. other_key s args.a (joined (amount_of s args.a) (args.b + 1)) q (or_false _ none)) e
 untouched AppendFrom args reply q s t e none =
     by_append (Stays s q) reply args.a (amount_of s args.b) s t refl
-    (λ room. other_key s args.a (joined (amount_of s args.a) (amount_of s args.b)) q (or_false _ none)) e
-untouched Cut args reply q s t e none = by_replies (Stays s q) reply _ _ _ t tt (cut_stays s args.a args.b q none) tt e
+    (λ room. other_key s args.a (joined (amount_of s args.a) (amount_of s args.b)) q
+    (or_false _ none)) e
+untouched Cut args reply q s t e none = by_replies (Stays s q) reply _ _ _ t tt
+    (cut_stays s args.a args.b q none) tt e
 untouched Length args reply q s t e none = cc
 untouched Read args reply q s t e none = cc
 
 -- an answer is by the amount of its key
-answers : (s t : Amounts) (method : BuffersMethod) (args : Args) → amount_of t args.a ≡ amount_of s args.a
+answers : (s t : Amounts) (method : BuffersMethod) (args : Args) → amount_of t args.a
+    ≡ amount_of s args.a
     → buffers.answer t method args ≡ buffers.answer s method args
 answers s t Length args same = ap text_length same
 answers s t Read args same = same
@@ -83,7 +96,8 @@ answers s t Cut args same = refl
 -- an empty buffer has room for each text
 room_in_empty : (more : ℕ) → has_room 0 more ≡ true
 unfolding text_length
-room_in_empty more = is_at_most (text_length 0 + text_length more) 7 (omega (arith, length_at_most more))
+room_in_empty more = is_at_most (text_length 0 + text_length more) 7
+    (omega (arith, length_at_most more))
 
 joined_to_empty : (more : ℕ) → joined 0 more ≡ more
 unfolding text_length
@@ -121,29 +135,34 @@ long_text = 256 ^ 6
 cut_shorter : (n : ℕ) → n < 7 → cut_to n long_text ≢ long_text
 unfolding text_length
 cut_shorter n low = λ same.
-    let smaller : long_text % 256 ^ n < 256 ^ n = mod-lt long_text (one-le-pow n 256 (omega arith)) in
+    let smaller : long_text % 256 ^ n < 256 ^ n = mod-lt long_text
+    (one-le-pow n 256 (omega arith)) in
     let most : n ≤ 6 = omega arith in
     let power : 256 ^ n ≤ 256 ^ 6 = pow-le-pow_right {n = 256} (omega arith) most in
-    let is_cut : cut_to n long_text ≡ long_text % 256 ^ n = ap (λ b. cond b (long_text % 256 ^ n) long_text) (is_below n 7 low) in
+    let is_cut : cut_to n long_text ≡ long_text % 256 ^ n =
+    ap (λ b. cond b (long_text % 256 ^ n) long_text) (is_below n 7 low) in
     absurd (omega (arith, smaller, power, is_cut, same))
 
 cut_changes : (k n q : ℕ) → is_touched (cond (nat_lt n 7) (k ∷ []) []) q ≡ true
     → (n < 7) × ((k == q) ≡ true)
 cut_changes k n q touched = by_length (nat_lt n 7) refl touched
   where
-    by_length : (b : Bool) → nat_lt n 7 ≡ b → is_touched (cond b (k ∷ []) []) q ≡ true → (n < 7) × ((k == q) ≡ true)
+    by_length : (b : Bool) → nat_lt n 7 ≡ b → is_touched (cond b (k ∷ []) []) q ≡ true → (n < 7)
+        × ((k == q) ≡ true)
     by_length true e touched = (below_of n 7 e, of_first _ touched)
     by_length false e touched = cc
 
 -- each key that a call touches is changed by a step with that call
-changes : (method : BuffersMethod) (args : Args) (key : ℕ) → is_touched (touches method args) key ≡ true
+changes : (method : BuffersMethod) (args : Args) (key : ℕ) → is_touched (touches method args) key
+    ≡ true
     → CanChange (buffers.next method args) key
 changes Append args key e = record {
   reply = 1;
   before = [];
   after = with_amount [] args.a (joined 0 (args.b + 1));
   formed = no_amounts;
-  allowed = ap (λ b. then_some b (with_amount [] args.a (joined 0 (args.b + 1)))) (room_in_empty (args.b + 1));
+  allowed = ap (λ b. then_some b (with_amount [] args.a (joined 0 (args.b + 1))))
+      (room_in_empty (args.b + 1));
   changed = λ same. absurd (omega (
     arith,
     set_amount [] args.a (joined 0 (args.b + 1)) key (of_first _ e),
@@ -155,16 +174,20 @@ changes AppendFrom args key e =
     let before : Amounts = two_texts args.a args.b in
     let own = first_text args.a args.b args.a (same_number args.a) in
     let other = second_text args.a args.b in
-    let after : Amounts = with_amount before args.a (joined (amount_of before args.a) (amount_of before args.b)) in
+    let after : Amounts = with_amount before args.a
+    (joined (amount_of before args.a) (amount_of before args.b)) in
     record {
       reply = 1;
       before = before;
       after = after;
       formed = two_formed args.a args.b;
-      allowed = ap (λ b. then_some b after) (ap (λ text. has_room text (amount_of before args.b)) own ∙ ap (has_room 1) other ∙ twice_one.0);
+      allowed = ap (λ b. then_some b after)
+          (ap (λ text. has_room text (amount_of before args.b)) own ∙ ap (has_room 1) other
+          ∙ twice_one.0);
       changed = λ same. absurd (omega (
         arith,
-        set_amount before args.a (joined (amount_of before args.a) (amount_of before args.b)) key (of_first _ e),
+        set_amount before args.a (joined (amount_of before args.a) (amount_of before args.b)) key
+            (of_first _ e),
         ap (λ text. joined text (amount_of before args.b)) own ∙ ap (joined 1) other ∙ twice_one.1,
         first_text args.a args.b key (of_first _ e),
         same,
@@ -182,14 +205,20 @@ changes Cut args key e =
       formed = IsAmounts-with_amount [] args.a long_text no_amounts;
       allowed = refl;
       changed = λ same. cut_shorter args.b cut.0
-          (ap (cut_to args.b) (sym own) ∙ sym (set_amount before args.a (cut_to args.b text) key cut.1) ∙ same
+          (ap (cut_to args.b) (sym own)
+          ∙ sym (set_amount before args.a (cut_to args.b text) key cut.1) ∙ same
           ∙ set_amount [] args.a long_text key cut.1);
     }
 changes Length args key e = cc
 changes Read args key e = cc
 
 pub buffers_steps : StepsWell buffers touches
-buffers_steps = record { formed = formed; untouched = untouched; answers = answers; changes = changes }
+buffers_steps = record {
+  formed = formed;
+  untouched = untouched;
+  answers = answers;
+  changes = changes;
+}
 
 -- the text of a buffer is one of at most 7 characters
 pub is_text : (s : Amounts) (b : ℕ) → AreTexts s → amount_of s b < 256 ^ 7
@@ -199,24 +228,31 @@ is_text s b all = by_zero (amount_of s b == 0) refl
     by_zero true e = let none = same_of (amount_of s b) 0 e in omega (arith, none)
     by_zero false e = (all b (apart_of (amount_of s b) 0 e)).1
 
-with_text : (s : Amounts) (b text : ℕ) → b < 2 ^ 32 → AreTexts s → text < 256 ^ 7 → AreTexts (with_amount s b text)
+with_text : (s : Amounts) (b text : ℕ) → b < 2 ^ 32 → AreTexts s → text < 256 ^ 7
+    → AreTexts (with_amount s b text)
 with_text s b text low all small =
-    AllAmounts-with_amount (λ buffer text. (buffer < 2 ^ 32) × (text < 256 ^ 7)) s b text all (λ some. (low, small))
+    AllAmounts-with_amount (λ buffer text. (buffer < 2 ^ 32) × (text < 256 ^ 7)) s b text all
+    (λ some. (low, small))
 
 -- a step of the string buffers keeps the texts in range
 pub texts_after : (method : BuffersMethod) (args : Args) (reply : ℕ) (s t : Amounts)
-    → args.a < 2 ^ 32 → args.b < 2 ^ 32 → AreTexts s → buffers.next method args reply s ≡ Some t → AreTexts t
+    → args.a < 2 ^ 32 → args.b < 2 ^ 32 → AreTexts s → buffers.next method args reply s ≡ Some t
+    → AreTexts t
 texts_after Append args reply s t low low_b all =
     let text : ℕ = amount_of s args.a in
     by_append AreTexts reply args.a (args.b + 1) s t all
-    (λ room. with_text s args.a (joined text (args.b + 1)) low all (joined_below text (args.b + 1) (is_text s args.a all) (omega arith) room))
+    (λ room. with_text s args.a (joined text (args.b + 1)) low all
+    (joined_below text (args.b + 1) (is_text s args.a all) (omega arith) room))
 texts_after AppendFrom args reply s t low low_b all =
     let text : ℕ = amount_of s args.a in
     let more : ℕ = amount_of s args.b in
     by_append AreTexts reply args.a more s t all
-    (λ room. with_text s args.a (joined text more) low all (joined_below text more (is_text s args.a all) (is_text s args.b all) room))
+    (λ room. with_text s args.a (joined text more) low all
+    (joined_below text more (is_text s args.a all) (is_text s args.b all) room))
 texts_after Cut args reply s t low low_b all =
     let text : ℕ = amount_of s args.a in
-    by_replies AreTexts reply _ _ _ t tt (with_text s args.a (cut_to args.b text) low all (cut_below args.b text (is_text s args.a all))) tt
+    by_replies AreTexts reply _ _ _ t tt
+    (with_text s args.a (cut_to args.b text) low all (cut_below args.b text (is_text s args.a all)))
+    tt
 texts_after Length args reply s t low low_b all = λ e. cc
 texts_after Read args reply s t low low_b all = λ e. cc

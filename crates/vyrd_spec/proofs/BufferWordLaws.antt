@@ -1,5 +1,6 @@
 -- The texts that buffers of words show.
-use Rattle.std.proofs.Common.{◌≡◌, ℕ, ◌+◌, ◌^◌, ◌<◌, ◌≤◌, Bool, true, cond, List, [], ◌∷◌, ap, arith}
+use Rattle.std.proofs.Common.{◌≡◌, ℕ, ◌+◌, ◌^◌, ◌<◌, ◌≤◌, Bool, true, cond, List, [], ◌∷◌, ap}
+use Rattle.std.proofs.Common.{arith}
 use Rattle.std.specs.Prelude.{nat_le}
 use Rattle.std.proofs.Math.Nat.{pow-le-pow_right}
 use Rattle.vyrd_base.specs.Buffers.{Buffer, buffer_at, buffer_parts, is_buffer, are_characters}
@@ -17,14 +18,17 @@ text_shown words b = text_of_buffer (buffer_at words b)
 -- sound buffers give their texts, and nothing else
 pub given_text : (size : ℕ) (words : List ℕ) (b : ℕ) → is_buffer_at words b ≡ true
     → buffer_parts size b (buffer_at words b) ≡ (b, text_shown words b) ∷ []
-given_text size words b sound = ap (λ t. cond t ((b, text_shown words b) ∷ []) ((size + b, 1) ∷ [])) sound
+given_text size words b sound = ap (λ t. cond t ((b, text_shown words b) ∷ []) ((size + b, 1) ∷ []))
+    sound
 
 -- a sound buffer shows a text of at most 7 characters
-pub small_text : (words : List ℕ) (b : ℕ) → is_buffer_at words b ≡ true → text_shown words b < 256 ^ 7
+pub small_text : (words : List ℕ) (b : ℕ) → is_buffer_at words b ≡ true
+    → text_shown words b < 256 ^ 7
 small_text words b sound =
     let buffer : Buffer = buffer_at words b in
     let few = at_most_of buffer.count 7 (first_true (nat_le buffer.count 7) _ sound) in
-    let characters = second_true (nat_le buffer.count 7) (are_characters buffer.character buffer.count) sound in
+    let characters = second_true (nat_le buffer.count 7)
+    (are_characters buffer.character buffer.count) sound in
     let below = text_below buffer.character buffer.count characters in
     let power : 256 ^ buffer.count ≤ 256 ^ 7 = pow-le-pow_right {n = 256} (omega arith) few in
     omega (arith, below, power)

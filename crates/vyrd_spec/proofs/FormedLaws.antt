@@ -1,6 +1,6 @@
 -- What a state shows is amounts, whatever the rules are that it steps by: keys rise, and no amount
 -- is 0.
-use Rattle.std.proofs.Common.{◌≡◌, ℕ, List, [], ◌∷◌, Option, Some, None, refl, subst, sym}
+use Rattle.std.proofs.Common.{◌≡◌, ℕ, List, [], ◌∷◌, Option, Some, None, refl, subst}
 use Rattle.std.proofs.lemmas.Option.{same_Some}
 use Rattle.std.specs.Prelude.{option_map, option_and_then}
 use Rattle.vyrd_base.specs.declared.subject.Method.{Method}
@@ -9,8 +9,8 @@ use Rattle.vyrd_base.specs.declared.own.effect.Effect.{Effect}
 use Rattle.vyrd_base.specs.declared.own.effect.Effect.TheVariants.{SetShown, SetHidden, SetRegister}
 use Rattle.vyrd_base.specs.declared.own.effect.Effect.TheVariants.{PutLast, PutFirst, TakeFirst}
 use Rattle.vyrd_base.specs.declared.own.effect.Effect.TheVariants.{TakeLast, Empty, EmptyShown}
-use Rattle.vyrd_base.specs.Amounts.{Amounts, IsAmounts}
-use Rattle.vyrd_base.specs.Own.Programs.{Method as Written_method, Written}
+use Rattle.vyrd_base.specs.Amounts.{IsAmounts}
+use Rattle.vyrd_base.specs.Own.Programs.{Written}
 use Rattle.vyrd_base.specs.Own.OwnRules.{own_method, own_next}
 use Rattle.vyrd_base.specs.Own.Reader.{written_in}
 use Rattle.vyrd_base.specs.Own.Steps.{with_effect, with_effects, effects_of, next_of}
@@ -45,7 +45,8 @@ formed_map f None t each e = cc
 formed_map f (Some x) t each e = subst (λ s. IsAmounts s.shown) (same_Some (f x) t e) (each x refl)
 
 formed_then : {A : Type 0} (f : A → Option State) (o : Option A) (t : State)
-    → ((x : A) → f x ≡ Some t → IsAmounts t.shown) → option_and_then f o ≡ Some t → IsAmounts t.shown
+    → ((x : A) → f x ≡ Some t → IsAmounts t.shown) → option_and_then f o ≡ Some t
+    → IsAmounts t.shown
 formed_then f None t each e = cc
 formed_then f (Some x) t each e = each x e
 
@@ -53,7 +54,8 @@ own_formed : (w : Written) (i : ℕ) (args : List ℕ) (reply : ℕ) (s t : Stat
     → own_next w i args reply s ≡ Some t → IsAmounts t.shown
 unfolding next_of
 own_formed w i args reply s t is = formed_then (λ m. next_of w m args reply s) (own_method w i) t
-    (λ m e. formed_map (with_effects s) (effects_of w m s args reply) t (λ es _. formed_after s es is) e)
+    (λ m e. formed_map (with_effects s) (effects_of w m s args reply) t
+    (λ es _. formed_after s es is) e)
 
 -- a step leaves amounts
 pub formed_next : (c : Charter) (method : Method) (args : Args) (reply : ℕ) (s t : State)

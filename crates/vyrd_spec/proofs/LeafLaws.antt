@@ -1,5 +1,7 @@
 -- What the leaves of a tree give, entry by entry and node by node.
-use Rattle.std.proofs.Common.{◌≡◌, ◌≢◌, ℕ, suc, ◌+◌, ◌-◌, ◌*◌, ◌^◌, ◌<◌, ◌≤◌, min, Bool, true, false, cond, ◌||◌, List, [], ◌∷◌, ◌++◌, refl, ap, ◌∙◌, sym, subst, arith}
+use Rattle.std.proofs.Common.{◌≡◌, ◌≢◌, ℕ, suc, ◌+◌, ◌-◌, ◌*◌, ◌^◌, ◌<◌, ◌≤◌, min, Bool, true}
+use Rattle.std.proofs.Common.{false, cond, ◌||◌, List, [], ◌∷◌, ◌++◌, refl, ap, ◌∙◌, sym, subst}
+use Rattle.std.proofs.Common.{arith}
 use Rattle.std.specs.Prelude.{◌==◌, nat_lt, nat_le, flat_map, slice_index}
 use Rattle.std.specs.List.{list_all, list_any, AllByRecursion}
 use Rattle.vyrd_base.specs.Added.{added}
@@ -9,7 +11,8 @@ use Rattle.vyrd_base.specs.Tree.{node_parts, damage, chain_parts_from, chain_par
 use Rattle.vyrd_base.specs.Tree.{last_of, low_of, is_leaf_entry}
 use Rattle.vyrd_base.proofs.AddedLaws.{added-append, added-collected}
 use Rattle.vyrd_base.proofs.PartLaws.{parts_after}
-use Rattle.vyrd_base.proofs.TestLaws.{first_true, second_true, below_of, isnt_same, isnt_at_most, is_same}
+use Rattle.vyrd_base.proofs.TestLaws.{first_true, second_true, below_of, isnt_same, isnt_at_most}
+use Rattle.vyrd_base.proofs.TestLaws.{is_same}
 use Rattle.vyrd_spec.specs.Bounds.{AllAmounts}
 use Rattle.vyrd_spec.specs.NodeKeys.{entry_at}
 use Rattle.vyrd_spec.proofs.RowLaws.{each_passes}
@@ -18,46 +21,56 @@ use Rattle.vyrd_spec.proofs.StepLaws.{AllAmounts-with_amount}
 use Rattle.vyrd_spec.proofs.TreeWordLaws.{IsTreeOf, LeadsOn, leads_on}
 
 -- the numbers of a leaf's entry
-pub low_numbers : (key value : ℕ) → is_leaf_entry (key, value) ≡ true → (key < 2 ^ 32) × (value < 2 ^ 32)
+pub low_numbers : (key value : ℕ) → is_leaf_entry (key, value) ≡ true → (key < 2 ^ 32)
+    × (value < 2 ^ 32)
 low_numbers key value sound = (
   below_of key (2 ^ 32) (first_true (nat_lt key (2 ^ 32)) (nat_lt value (2 ^ 32)) sound),
   below_of value (2 ^ 32) (second_true (nat_lt key (2 ^ 32)) (nat_lt value (2 ^ 32)) sound),
 )
 
-pub entry_is : (key value : ℕ) → is_leaf_entry (key, value) ≡ true → entry_parts (key, value) ≡ (key, 2 ^ 32 + value) ∷ []
+pub entry_is : (key value : ℕ) → is_leaf_entry (key, value) ≡ true → entry_parts (key, value)
+    ≡ (key, 2 ^ 32 + value) ∷ []
 entry_is key value sound = ap (λ b. cond b ((key, 2 ^ 32 + value) ∷ []) damage) sound
 
 -- the words of an entry, as they are read
-pub read_at : (words : List ℕ) (n j : ℕ) → entry_at words n j ≡ (slice_index words (12 * n + 4 + j), slice_index words (12 * n + 8 + j))
+pub read_at : (words : List ℕ) (n j : ℕ) → entry_at words n j
+    ≡ (slice_index words (12 * n + 4 + j), slice_index words (12 * n + 8 + j))
 read_at words n j =
     let key : 12 * n + (4 + j) ≡ 12 * n + 4 + j = omega arith in
     let value : 12 * n + (8 + j) ≡ 12 * n + 8 + j = omega arith in
     λ i. (slice_index words (key i), slice_index words (value i))
 
-pub entry_sound : (words : List ℕ) (n j : ℕ) → list_all is_leaf_entry (entries_of words n) ≡ true → j < min (count_of words n) 4
+pub entry_sound : (words : List ℕ) (n j : ℕ) → list_all is_leaf_entry (entries_of words n) ≡ true
+    → j < min (count_of words n) 4
     → is_leaf_entry (slice_index words (12 * n + 4 + j), slice_index words (12 * n + 8 + j)) ≡ true
 entry_sound words n j all low =
     ap is_leaf_entry (sym (read_at words n j))
-    ∙ each_passes (λ i. is_leaf_entry (entry_at words n i)) (min (count_of words n) 4) j (sym (all_entries is_leaf_entry words n) ∙ all) low
+    ∙ each_passes (λ i. is_leaf_entry (entry_at words n i)) (min (count_of words n) 4) j
+    (sym (all_entries is_leaf_entry words n) ∙ all) low
 
 -- keys of 32 bits, each with 2^32 at least
 abbrev pub AreLeafAmounts : Amounts → Type 0
 AreLeafAmounts s = AllAmounts (λ key amount. (key < 2 ^ 32) × (2 ^ 32 ≤ amount)) s
 
-entries_small : (entries : List (ℕ × ℕ)) (s : Amounts) → list_all is_leaf_entry entries ≡ true → AreLeafAmounts s
+entries_small : (entries : List (ℕ × ℕ)) (s : Amounts) → list_all is_leaf_entry entries ≡ true
+    → AreLeafAmounts s
     → AreLeafAmounts (added s (flat_map entry_parts entries))
 entries_small [] s all small = small
 entries_small (entry ∷ entries) s all small =
     let sound = first_true (is_leaf_entry entry) (list_all is_leaf_entry entries) all in
     let numbers = low_numbers entry.0 entry.1 sound in
-    subst (λ parts. AreLeafAmounts (added s (parts ++ flat_map entry_parts entries))) (sym (entry_is entry.0 entry.1 sound))
-    (entries_small entries (plus_amount s entry.0 (2 ^ 32 + entry.1)) (second_true (is_leaf_entry entry) (list_all is_leaf_entry entries) all)
-    (AllAmounts-with_amount (λ key amount. (key < 2 ^ 32) × (2 ^ 32 ≤ amount)) s entry.0 (amount_of s entry.0 + (2 ^ 32 + entry.1)) small
+    subst (λ parts. AreLeafAmounts (added s (parts ++ flat_map entry_parts entries)))
+    (sym (entry_is entry.0 entry.1 sound))
+    (entries_small entries (plus_amount s entry.0 (2 ^ 32 + entry.1))
+    (second_true (is_leaf_entry entry) (list_all is_leaf_entry entries) all)
+    (AllAmounts-with_amount (λ key amount. (key < 2 ^ 32) × (2 ^ 32 ≤ amount)) s entry.0
+    (amount_of s entry.0 + (2 ^ 32 + entry.1)) small
     (λ some. (numbers.0, omega arith))))
 
 pub node_small : (words : List ℕ) (n : ℕ) (s t : Amounts) → t ≡ added s (node_parts words n)
     → list_all is_leaf_entry (entries_of words n) ≡ true → AreLeafAmounts s → AreLeafAmounts t
-node_small words n s t more all small = subst AreLeafAmounts (sym more) (entries_small (entries_of words n) s all small)
+node_small words n s t more all small = subst AreLeafAmounts (sym more)
+    (entries_small (entries_of words n) s all small)
 
 pub nothing_small : (s : Amounts) → s ≡ [] → AreLeafAmounts s
 nothing_small s none = λ key some. absurd (some (ap (λ x. amount_of x key) none))
@@ -69,16 +82,20 @@ IsBefore words last from m = (low_of last words m < bound_of words m) × (bound_
 -- what was added so far, with the chain from this node on, is what the whole chain shows
 pub record LeafWalk (size : ℕ) (words : List ℕ) (values : Amounts) (left node : ℕ) : Type 0 where
   pub seen : List ℕ
-  pub rest : added values (chain_parts_from size words left seen node) ≡ collected (chain_parts size words)
+  pub rest : added values (chain_parts_from size words left seen node)
+      ≡ collected (chain_parts size words)
   pub in_use : node ≤ last_of size words
   pub leaf : level_of words node ≡ 0
-  pub before : AllByRecursion (IsBefore words (last_of size words) (low_of (last_of size words) words node)) seen
+  pub before : AllByRecursion
+      (IsBefore words (last_of size words) (low_of (last_of size words) words node)) seen
 
-pub walk_begins : (size : ℕ) (words : List ℕ) (values : Amounts) (left : ℕ) → IsTreeOf size words → values ≡ [] → left ≡ size
+pub walk_begins : (size : ℕ) (words : List ℕ) (values : Amounts) (left : ℕ) → IsTreeOf size words
+    → values ≡ [] → left ≡ size
     → LeafWalk size words values left 0
 walk_begins size words values left tree none all = record {
   seen = [];
-  rest = ap (λ s. added s (chain_parts_from size words left [] 0)) none ∙ ap (λ n. added [] (chain_parts_from size words n [] 0)) all
+  rest = ap (λ s. added s (chain_parts_from size words left [] 0)) none
+      ∙ ap (λ n. added [] (chain_parts_from size words n [] 0)) all
       ∙ added-collected (chain_parts size words);
   in_use = omega arith;
   leaf = tree.zero_leaf;
@@ -87,50 +104,69 @@ walk_begins size words values left tree none all = record {
 
 -- whether the link of a node goes past the nodes or back
 abbrev goes_back : ℕ → List ℕ → List ℕ → ℕ → Bool
-goes_back size words seen n = nat_le size (right_of words n) || list_any (λ m. m == right_of words n) (n ∷ seen)
+goes_back size words seen n = nat_le size (right_of words n)
+    || list_any (λ m. m == right_of words n) (n ∷ seen)
 
 -- a node, and what follows it
-onward : (size : ℕ) (words : List ℕ) (values t : Amounts) (left n : ℕ) (walk : LeafWalk size words values (suc left) n) (ends back : Bool)
-    → t ≡ added values (node_parts words n) → (right_of words n == 0) ≡ ends → goes_back size words walk.seen n ≡ back
-    → added t (parts_after size words left walk.seen n ends back) ≡ collected (chain_parts size words)
+onward : (size : ℕ) (words : List ℕ) (values t : Amounts) (left n : ℕ)
+    (walk : LeafWalk size words values (suc left) n) (ends back : Bool)
+    → t ≡ added values (node_parts words n) → (right_of words n == 0) ≡ ends
+    → goes_back size words walk.seen n ≡ back
+    → added t (parts_after size words left walk.seen n ends back)
+    ≡ collected (chain_parts size words)
 onward size words values t left n walk ends back more is_end is_back =
     ap (λ s. added s (parts_after size words left walk.seen n ends back)) more
-    ∙ sym (added-append (node_parts words n) (parts_after size words left walk.seen n ends back) values)
-    ∙ sym (ap (λ b. added values (node_parts words n ++ parts_after size words left walk.seen n b (goes_back size words walk.seen n))) is_end
-    ∙ ap (λ b. added values (node_parts words n ++ parts_after size words left walk.seen n ends b)) is_back)
+    ∙ sym (added-append (node_parts words n) (parts_after size words left walk.seen n ends back)
+    values)
+    ∙ sym (ap (λ b. added values (node_parts words n ++ parts_after size words left walk.seen n b
+    (goes_back size words walk.seen n))) is_end
+    ∙ ap (λ b. added values (node_parts words n ++ parts_after size words left walk.seen n ends b))
+    is_back)
     ∙ walk.rest
 
 -- at the node where the chain ends
-pub walk_ends : (size : ℕ) (words : List ℕ) (values t : Amounts) (left n : ℕ) → LeafWalk size words values (suc left) n
-    → t ≡ added values (node_parts words n) → right_of words n ≡ 0 → t ≡ collected (chain_parts size words)
+pub walk_ends : (size : ℕ) (words : List ℕ) (values t : Amounts) (left n : ℕ)
+    → LeafWalk size words values (suc left) n
+    → t ≡ added values (node_parts words n) → right_of words n ≡ 0
+    → t ≡ collected (chain_parts size words)
 walk_ends size words values t left n walk more ends =
-    onward size words values t left n walk true (goes_back size words walk.seen n) more (is_same (right_of words n) 0 ends) refl
+    onward size words values t left n walk true (goes_back size words walk.seen n) more
+    (is_same (right_of words n) 0 ends) refl
 
 -- no node that was seen is this one
-unseen : (last : ℕ) (words : List ℕ) (from right : ℕ) (seen : List ℕ) → AllByRecursion (IsBefore words last from) seen
+unseen : (last : ℕ) (words : List ℕ) (from right : ℕ) (seen : List ℕ)
+    → AllByRecursion (IsBefore words last from) seen
     → from < low_of last words right → list_any (λ m. m == right) seen ≡ false
 unseen last words from right [] before above = refl
 unseen last words from right (m ∷ seen) before above =
     ap (λ b. b || list_any (λ k. k == right) seen)
-    (isnt_same m right (λ same. absurd (omega (arith, before.0.0, before.0.1, above, ap (low_of last words) same))))
+    (isnt_same m right
+    (λ same. absurd (omega (arith, before.0.0, before.0.1, above, ap (low_of last words) same))))
     ∙ unseen last words from right seen before.1 above
 
-raised : (last : ℕ) (words : List ℕ) (from to : ℕ) (seen : List ℕ) → from ≤ to → AllByRecursion (IsBefore words last from) seen
+raised : (last : ℕ) (words : List ℕ) (from to : ℕ) (seen : List ℕ) → from ≤ to
+    → AllByRecursion (IsBefore words last from) seen
     → AllByRecursion (IsBefore words last to) seen
 raised last words from to [] le before = tt
-raised last words from to (m ∷ seen) le before = ((before.0.0, omega (arith, le, before.0.1)), raised last words from to seen le before.1)
+raised last words from to (m ∷ seen) le before =
+    ((before.0.0, omega (arith, le, before.0.1)), raised last words from to seen le before.1)
 
 -- at any other node
-pub walk_goes_on : (size : ℕ) (words : List ℕ) (values t : Amounts) (left n : ℕ) → IsTreeOf size words
-    → LeafWalk size words values (suc left) n → t ≡ added values (node_parts words n) → right_of words n ≢ 0
+pub walk_goes_on : (size : ℕ) (words : List ℕ) (values t : Amounts) (left n : ℕ)
+    → IsTreeOf size words
+    → LeafWalk size words values (suc left) n → t ≡ added values (node_parts words n)
+    → right_of words n ≢ 0
     → LeafWalk size words t left (right_of words n)
 walk_goes_on size words values t left n tree walk more on =
     let last : ℕ = last_of size words in
     let right : ℕ = right_of words n in
     let leads : LeadsOn last words n = leads_on size words n tree walk.in_use on in
-    let rises : low_of last words n < low_of last words right = omega (arith, leads.above, leads.begins) in
-    let other : (n == right) ≡ false = isnt_same n right (λ same. absurd (omega (arith, rises, ap (low_of last words) same))) in
-    let within : nat_le size right ≡ false = isnt_at_most size right (omega (arith, leads.in_use, tree.last_low)) in
+    let rises : low_of last words n < low_of last words right =
+    omega (arith, leads.above, leads.begins) in
+    let other : (n == right) ≡ false = isnt_same n right
+    (λ same. absurd (omega (arith, rises, ap (low_of last words) same))) in
+    let within : nat_le size right ≡ false = isnt_at_most size right
+    (omega (arith, leads.in_use, tree.last_low)) in
     let new : goes_back size words walk.seen n ≡ false =
     ap (λ b. b || list_any (λ m. m == right) (n ∷ walk.seen)) within
     ∙ ap (λ b. b || list_any (λ m. m == right) walk.seen) other
@@ -142,12 +178,15 @@ walk_goes_on size words values t left n tree walk more on =
       leaf = leads.same_level ∙ walk.leaf;
       before = (
         (leads.above, omega (arith, leads.begins)),
-        raised last words (low_of last words n) (low_of last words right) walk.seen (omega (arith, rises)) walk.before,
+        raised last words (low_of last words n) (low_of last words right) walk.seen
+            (omega (arith, rises)) walk.before,
       );
     }
 
 -- before the last turn a node is left
-pub walk_left : (size : ℕ) (words : List ℕ) (values : Amounts) (turn n : ℕ) → turn < size → LeafWalk size words values (size - turn) n
+pub walk_left : (size : ℕ) (words : List ℕ) (values : Amounts) (turn n : ℕ) → turn < size
+    → LeafWalk size words values (size - turn) n
     → LeafWalk size words values (suc (size - (turn + 1))) n
 walk_left size words values turn n more walk =
-    let one : size - turn ≡ suc (size - (turn + 1)) = omega arith in subst (λ left. LeafWalk size words values left n) one walk
+    let one : size - turn ≡ suc (size - (turn + 1)) = omega arith in
+    subst (λ left. LeafWalk size words values left n) one walk

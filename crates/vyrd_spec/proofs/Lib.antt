@@ -6,6 +6,7 @@ pub mod TreeSteps
 pub mod BufferSteps
 pub mod StepMeets
 pub mod FormedLaws
+pub mod ShownLaws
 pub mod RowAmounts
 pub mod RowLaws
 pub mod SoundRows

@@ -1,5 +1,6 @@
 -- The steps of the multiset.
-use Rattle.std.proofs.Common.{◌≡◌, ℕ, ◌+◌, ◌-◌, ◌^◌, ◌<◌, ◌≤◌, Bool, true, false, cond, not, ◌||◌, []}
+use Rattle.std.proofs.Common.{◌≡◌, ℕ, ◌+◌, ◌-◌, ◌^◌, ◌<◌, ◌≤◌, Bool, true, false, cond, not, ◌||◌}
+use Rattle.std.proofs.Common.{[]}
 use Rattle.std.proofs.Common.{Some, refl, ap, ◌∙◌, arith}
 use Rattle.std.specs.Prelude.{◌==◌, ◌≢◌}
 use Rattle.std.specs.Bool.{then_some}
@@ -7,7 +8,8 @@ use Rattle.vyrd_base.specs.declared.multiset.MultisetMethod.{MultisetMethod}
 use Rattle.vyrd_base.specs.declared.multiset.MultisetMethod.TheVariants.{Insert, InsertPair, Delete}
 use Rattle.vyrd_base.specs.declared.multiset.MultisetMethod.TheVariants.{Lookup}
 use Rattle.vyrd_base.specs.declared.subject.Args.{Args}
-use Rattle.vyrd_base.specs.Amounts.{Amounts, IsAmounts, amount_of, is_present, with_amount, plus_amount}
+use Rattle.vyrd_base.specs.Amounts.{Amounts, IsAmounts, amount_of, is_present, with_amount}
+use Rattle.vyrd_base.specs.Amounts.{plus_amount}
 use Rattle.vyrd_base.specs.Amounts.{part_given}
 use Rattle.vyrd_base.specs.Multiset.{multiset}
 use Rattle.vyrd_base.proofs.AmountLaws.{IsAmounts-with_amount, no_amounts}
@@ -16,22 +18,27 @@ use Rattle.vyrd_base.proofs.TestLaws.{same_of, apart_of, neither_true, same_numb
 use Rattle.vyrd_spec.specs.Bounds.{AllAmounts}
 use Rattle.vyrd_spec.specs.Touching.{is_touched, CanChange}
 use Rattle.vyrd_spec.specs.Touching.Multiset.{touches}
-use Rattle.vyrd_spec.proofs.StepLaws.{StepsWell, Stays, by_replies, where_allowed, other_key, or_false}
-use Rattle.vyrd_spec.proofs.StepLaws.{of_first, set_amount, lone, lone_amount, lone_formed, lone_present}
+use Rattle.vyrd_spec.proofs.StepLaws.{StepsWell, Stays, by_replies, where_allowed, other_key}
+use Rattle.vyrd_spec.proofs.StepLaws.{or_false}
+use Rattle.vyrd_spec.proofs.StepLaws.{of_first, set_amount, lone, lone_amount, lone_formed}
+use Rattle.vyrd_spec.proofs.StepLaws.{lone_present}
 use Rattle.vyrd_spec.proofs.StepLaws.{AllAmounts-with_amount}
 
 -- a step leaves amounts
 formed : (method : MultisetMethod) (args : Args) (reply : ℕ) (s t : Amounts) → IsAmounts s
     → multiset.next method args reply s ≡ Some t → IsAmounts t
-formed Insert args reply s t is = by_replies IsAmounts reply _ _ _ t is (IsAmounts-with_amount s args.a (amount_of s args.a + 1) is) tt
+formed Insert args reply s t is = by_replies IsAmounts reply _ _ _ t is
+    (IsAmounts-with_amount s args.a (amount_of s args.a + 1) is) tt
 formed InsertPair args reply s t is =
     let one = IsAmounts-with_amount s args.a (amount_of s args.a + 1) is in
     let first : Amounts = plus_amount s args.a 1 in
-    by_replies IsAmounts reply _ _ _ t is (IsAmounts-with_amount first args.b (amount_of first args.b + 1) one) tt
+    by_replies IsAmounts reply _ _ _ t is
+    (IsAmounts-with_amount first args.b (amount_of first args.b + 1) one) tt
 formed Delete args reply s t is =
     let less : Amounts = with_amount s args.a (amount_of s args.a - 1) in
     by_replies IsAmounts reply _ _ _ t (where_allowed IsAmounts (not (is_present s args.a)) s is)
-    (where_allowed IsAmounts (is_present s args.a) less (IsAmounts-with_amount s args.a (amount_of s args.a - 1) is)) tt
+    (where_allowed IsAmounts (is_present s args.a) less
+    (IsAmounts-with_amount s args.a (amount_of s args.a - 1) is)) tt
 formed Lookup args reply s t is = λ e. cc
 
 -- and the keys that it doesn't touch
@@ -39,18 +46,24 @@ untouched : (method : MultisetMethod) (args : Args) (reply key : ℕ) (s t : Amo
     → multiset.next method args reply s ≡ Some t → is_touched (touches method args) key ≡ false
     → amount_of t key ≡ amount_of s key
 untouched Insert args reply q s t e none =
-    by_replies (Stays s q) reply _ _ _ t refl (other_key s args.a (amount_of s args.a + 1) q (or_false _ none)) tt e
+    by_replies (Stays s q) reply _ _ _ t refl
+    (other_key s args.a (amount_of s args.a + 1) q (or_false _ none)) tt e
 untouched InsertPair args reply q s t e none =
     let both = neither_true (args.a == q) (args.b == q || false) none in
     let one : Amounts = plus_amount s args.a 1 in
-    by_replies (Stays s q) reply _ _ _ t refl (other_key one args.b (amount_of one args.b + 1) q (or_false _ both.1) ∙ other_key s args.a (amount_of s args.a + 1) q both.0) tt e
+    by_replies (Stays s q) reply _ _ _ t refl
+    (other_key one args.b (amount_of one args.b + 1) q (or_false _ both.1)
+    ∙ other_key s args.a (amount_of s args.a + 1) q both.0) tt e
 untouched Delete args reply q s t e none =
-    by_replies (Stays s q) reply _ _ _ t (where_allowed (Stays s q) (not (is_present s args.a)) s refl)
-    (where_allowed (Stays s q) (is_present s args.a) (with_amount s args.a (amount_of s args.a - 1)) (other_key s args.a (amount_of s args.a - 1) q (or_false _ none))) tt e
+    by_replies (Stays s q) reply _ _ _ t
+    (where_allowed (Stays s q) (not (is_present s args.a)) s refl)
+    (where_allowed (Stays s q) (is_present s args.a) (with_amount s args.a (amount_of s args.a - 1))
+    (other_key s args.a (amount_of s args.a - 1) q (or_false _ none))) tt e
 untouched Lookup args reply q s t e none = cc
 
 -- an answer is by the amount of its key
-answers : (s t : Amounts) (method : MultisetMethod) (args : Args) → amount_of t args.a ≡ amount_of s args.a
+answers : (s t : Amounts) (method : MultisetMethod) (args : Args) → amount_of t args.a
+    ≡ amount_of s args.a
     → multiset.answer t method args ≡ multiset.answer s method args
 answers s t Lookup args same = ap (λ n. cond (not (n == 0)) 1 0) same
 answers s t Insert args same = refl
@@ -58,19 +71,31 @@ answers s t InsertPair args same = refl
 answers s t Delete args same = refl
 
 -- both of a pair get one more
-pair_amount : (a b q : ℕ) → (a == q || (b == q || false)) ≡ true → amount_of (plus_amount (plus_amount [] a 1) b 1) q ≢ 0
+pair_amount : (a b q : ℕ) → (a == q || (b == q || false)) ≡ true
+    → amount_of (plus_amount (plus_amount [] a 1) b 1) q ≢ 0
 pair_amount a b q e = by_keys (a == q) (b == q) refl refl e
   where
     own : (k : ℕ) → (k == q) ≡ true → part_given q (k, 1) ≡ 1
     own k f = ap (λ x. part_given q (x, 1)) (same_of k q f) ∙ ap (λ t. cond t 1 0) (same_number q)
 
-    by_keys : (s t : Bool) → (a == q) ≡ s → (b == q) ≡ t → (s || (t || false)) ≡ true → amount_of (plus_amount (plus_amount [] a 1) b 1) q ≢ 0
-    by_keys true t f g h = λ zero'. absurd (omega (arith, amount_of-plus (plus_amount [] a 1) b 1 q, amount_of-plus [] a 1 q, own a f, zero'))
-    by_keys false true f g h = λ zero'. absurd (omega (arith, amount_of-plus (plus_amount [] a 1) b 1 q, own b g, zero'))
+    by_keys : (s t : Bool) → (a == q) ≡ s → (b == q) ≡ t → (s || (t || false)) ≡ true
+        → amount_of (plus_amount (plus_amount [] a 1) b 1) q ≢ 0
+    by_keys true t f g h = λ zero'. absurd
+        (omega (
+          arith,
+          amount_of-plus (plus_amount [] a 1) b 1 q,
+          amount_of-plus
+              [] a 1 q,
+          own a f,
+          zero',
+        ))
+    by_keys false true f g h = λ zero'. absurd
+        (omega (arith, amount_of-plus (plus_amount [] a 1) b 1 q, own b g, zero'))
     by_keys false false f g h = cc
 
 -- each key that a call touches is changed by a step with that call
-changes : (method : MultisetMethod) (args : Args) (key : ℕ) → is_touched (touches method args) key ≡ true
+changes : (method : MultisetMethod) (args : Args) (key : ℕ) → is_touched (touches method args) key
+    ≡ true
     → CanChange (multiset.next method args) key
 changes Insert args key e = record {
   reply = 1;
@@ -78,7 +103,8 @@ changes Insert args key e = record {
   after = plus_amount [] args.a 1;
   formed = no_amounts;
   allowed = refl;
-  changed = λ same. absurd (let one = set_amount [] args.a (amount_of [] args.a + 1) key (of_first _ e) in omega (arith, one, same));
+  changed = λ same. absurd (let one = set_amount [] args.a (amount_of [] args.a + 1) key
+      (of_first _ e) in omega (arith, one, same));
 }
 changes InsertPair args key e = record {
   reply = 1;
@@ -93,7 +119,9 @@ changes Delete args key e = record {
   before = lone args.a;
   after = with_amount (lone args.a) args.a (amount_of (lone args.a) args.a - 1);
   formed = lone_formed args.a;
-  allowed = ap (λ b. then_some b (with_amount (lone args.a) args.a (amount_of (lone args.a) args.a - 1))) (lone_present args.a);
+  allowed = ap
+      (λ b. then_some b (with_amount (lone args.a) args.a (amount_of (lone args.a) args.a - 1)))
+      (lone_present args.a);
   changed = λ same. absurd (omega (
     arith,
     set_amount (lone args.a) args.a (amount_of (lone args.a) args.a - 1) key (of_first _ e),
@@ -105,7 +133,12 @@ changes Delete args key e = record {
 changes Lookup args key e = cc
 
 pub multiset_steps : StepsWell multiset touches
-multiset_steps = record { formed = formed; untouched = untouched; answers = answers; changes = changes }
+multiset_steps = record {
+  formed = formed;
+  untouched = untouched;
+  answers = answers;
+  changes = changes;
+}
 
 -- values below 2^63, each at most this often
 abbrev pub AreCounts : ℕ → Amounts → Type 0
@@ -121,33 +154,44 @@ count_at_most most s q all = by_zero (amount_of s q == 0) refl
 pub weaker_counts : (m n : ℕ) (s : Amounts) → m ≤ n → AreCounts m s → AreCounts n s
 weaker_counts m n s le all = λ q some. let here = all q some in (here.0, omega (arith, here.1))
 
-one_more : (most : ℕ) (s : Amounts) (k : ℕ) → k < 2 ^ 32 → AreCounts most s → AreCounts (most + 1) (plus_amount s k 1)
+one_more : (most : ℕ) (s : Amounts) (k : ℕ) → k < 2 ^ 32 → AreCounts most s
+    → AreCounts (most + 1) (plus_amount s k 1)
 one_more most s k low all =
     let at = count_at_most most s k all in
-    AllAmounts-with_amount (λ value count. (value < 2 ^ 63) × (count ≤ most + 1)) s k (amount_of s k + 1)
-    (weaker_counts most (most + 1) s (omega arith) all) (λ some. (omega (arith, low), omega (arith, at)))
+    AllAmounts-with_amount (λ value count. (value < 2 ^ 63) × (count ≤ most + 1)) s k
+    (amount_of s k + 1)
+    (weaker_counts most (most + 1) s (omega arith) all)
+    (λ some. (omega (arith, low), omega (arith, at)))
 
-one_less : (most : ℕ) (s : Amounts) (k : ℕ) → AreCounts most s → AreCounts most (with_amount s k (amount_of s k - 1))
+one_less : (most : ℕ) (s : Amounts) (k : ℕ) → AreCounts most s
+    → AreCounts most (with_amount s k (amount_of s k - 1))
 one_less most s k all =
     let at = count_at_most most s k all in
-    AllAmounts-with_amount (λ value count. (value < 2 ^ 63) × (count ≤ most)) s k (amount_of s k - 1) all
-    (λ some. let there : amount_of s k ≢ 0 = omega (arith, some) in ((all k there).0, omega (arith, at)))
+    AllAmounts-with_amount (λ value count. (value < 2 ^ 63) × (count ≤ most)) s k
+    (amount_of s k - 1) all
+    (λ some. let there : amount_of s k ≢ 0 = omega (arith, some) in
+    ((all k there).0, omega (arith, at)))
 
 -- a step of the multiset adds two at most to each count
 pub counts_after : (most : ℕ) (method : MultisetMethod) (args : Args) (reply : ℕ) (s t : Amounts)
-    → args.a < 2 ^ 32 → args.b < 2 ^ 32 → AreCounts most s → multiset.next method args reply s ≡ Some t → AreCounts (most + 2) t
+    → args.a < 2 ^ 32 → args.b < 2 ^ 32 → AreCounts most s → multiset.next method args reply s
+    ≡ Some t → AreCounts (most + 2) t
 counts_after most Insert args reply s t low low_b all =
     let kept = weaker_counts most (most + 2) s (omega arith) all in
-    let more = weaker_counts (most + 1) (most + 2) (plus_amount s args.a 1) (omega arith) (one_more most s args.a low all) in
+    let more = weaker_counts (most + 1) (most + 2) (plus_amount s args.a 1) (omega arith)
+    (one_more most s args.a low all) in
     by_replies (AreCounts (most + 2)) reply _ _ _ t kept more tt
 counts_after most InsertPair args reply s t low low_b all =
     let kept = weaker_counts most (most + 2) s (omega arith) all in
-    let more = one_more (most + 1) (plus_amount s args.a 1) args.b low_b (one_more most s args.a low all) in
-    let both = weaker_counts (most + 1 + 1) (most + 2) (plus_amount (plus_amount s args.a 1) args.b 1) (omega arith) more in
+    let more = one_more (most + 1) (plus_amount s args.a 1) args.b low_b
+    (one_more most s args.a low all) in
+    let both = weaker_counts (most + 1 + 1) (most + 2)
+    (plus_amount (plus_amount s args.a 1) args.b 1) (omega arith) more in
     by_replies (AreCounts (most + 2)) reply _ _ _ t kept both tt
 counts_after most Delete args reply s t low low_b all =
     let Q : Amounts → Type 0 = AreCounts (most + 2) in
     let kept = weaker_counts most (most + 2) s (omega arith) all in
     let less = one_less (most + 2) s args.a kept in
-    by_replies Q reply _ _ _ t (where_allowed Q (not (is_present s args.a)) s kept) (where_allowed Q (is_present s args.a) _ less) tt
+    by_replies Q reply _ _ _ t (where_allowed Q (not (is_present s args.a)) s kept)
+    (where_allowed Q (is_present s args.a) _ less) tt
 counts_after most Lookup args reply s t low low_b all = λ e. cc

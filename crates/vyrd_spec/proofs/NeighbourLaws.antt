@@ -1,15 +1,19 @@
 -- The left neighbours of nodes, found one right link after another.
-use Rattle.std.proofs.Common.{◌≡◌, ◌≢◌, ℕ, ◌+◌, ◌<◌, ◌≤◌, Bool, true, false, cond, not, ◌&&◌, ◌||◌, List, length, map, get_or, set, length-set, get_or-set_same, get_or-set_other, Option, Some, None, refl, ap, ◌∙◌, sym, arith}
+use Rattle.std.proofs.Common.{◌≡◌, ◌≢◌, ℕ, ◌+◌, ◌<◌, ◌≤◌, Bool, true, false, cond, not, ◌&&◌, ◌||◌}
+use Rattle.std.proofs.Common.{List, length, map, get_or, set, length-set, get_or-set_same}
+use Rattle.std.proofs.Common.{get_or-set_other, Option, Some, None, refl, ap, ◌∙◌, sym, arith}
 use Rattle.std.specs.Prelude.{◌==◌, nat_lt, nat_le, find, count_by, is_some}
 use Rattle.std.specs.Option.{option_or}
 use Rattle.std.proofs.lemmas.List.{ext_get_or, get_or_past}
 use Rattle.vyrd_base.specs.Places.{numbers_below}
 use Rattle.vyrd_base.specs.Tree.{right_of}
 use Rattle.vyrd_base.specs.Tree.{nodes, leads_to, left_of}
-use Rattle.vyrd_base.proofs.TestLaws.{same_of, is_same, first_true, second_true, neither_true, is_at_most, isnt_at_most, below_of, not_below_of}
+use Rattle.vyrd_base.proofs.TestLaws.{same_of, is_same, first_true, second_true, neither_true}
+use Rattle.vyrd_base.proofs.TestLaws.{is_at_most, isnt_at_most, below_of, not_below_of}
 use Rattle.vyrd_base.proofs.PlaceLaws.{element_below, length_below}
 use Rattle.vyrd_spec.specs.Neighbours.{have_one_left, has_left, with_left}
-use Rattle.vyrd_spec.proofs.RowLaws.{one_fails, all_pass, count-push, count_grows, find-push, none_found, some_found}
+use Rattle.vyrd_spec.proofs.RowLaws.{one_fails, all_pass, count-push, count_grows, find-push}
+use Rattle.vyrd_spec.proofs.RowLaws.{none_found, some_found}
 
 -- what n nodes have told: the first of them that leads to each node, and that no other does
 pub record HaveTold (last : ℕ) (words : List ℕ) (n : ℕ) (lefts : List (Option ℕ)) : Type 0 where
@@ -18,11 +22,14 @@ pub record HaveTold (last : ℕ) (words : List ℕ) (n : ℕ) (lefts : List (Opt
   pub one : (q : ℕ) → q ≤ last → count_by (leads_to words q) (numbers_below n) ≤ 1
 
 -- one node more
-pub told_more : (last : ℕ) (words : List ℕ) (n : ℕ) (lefts new : List (Option ℕ)) → has_left lefts (right_of words n) ≡ false
-    → new ≡ with_left lefts (right_of words n) n → HaveTold last words n lefts → HaveTold last words (n + 1) new
+pub told_more : (last : ℕ) (words : List ℕ) (n : ℕ) (lefts new : List (Option ℕ))
+    → has_left lefts (right_of words n) ≡ false
+    → new ≡ with_left lefts (right_of words n) n → HaveTold last words n lefts
+    → HaveTold last words (n + 1) new
 told_more last words n lefts new free put told = record {
   many = ap length put ∙ kept (right == 0 || nat_le (length lefts) right) ∙ told.many;
-  left = λ q low. ap (λ xs. get_or xs q None) put ∙ found q low (leads_to words q n) refl ∙ sym (find-push (leads_to words q) n);
+  left = λ q low. ap (λ xs. get_or xs q None) put ∙ found q low (leads_to words q n) refl
+      ∙ sym (find-push (leads_to words q) n);
   one = λ q low. counted q low (leads_to words q n) refl;
 }
   where
@@ -54,49 +61,75 @@ told_more last words n lefts new free put told = record {
         by_none None e = refl
         by_none (Some m) e =
             let there : has_left lefts right ≡ true =
-            ap (λ b. not b && is_some (get_or lefts right None)) some ∙ ap (λ k. is_some (get_or lefts k None)) same ∙ ap is_some e in
+            ap (λ b. not b && is_some (get_or lefts right None)) some
+            ∙ ap (λ k. is_some (get_or lefts k None)) same ∙ ap is_some e in
             cc
 
     -- a node to which it doesn't lead
     isnt_led : (q : ℕ) → leads_to words q n ≡ false → (right == 0) ≡ false → q ≢ right
     isnt_led q e some same =
         let leads : (right == q && not (q == 0)) ≡ true =
-        ap (λ k. right == k && not (k == 0)) same ∙ ap (λ b. b && not (right == 0)) (is_same right right refl) ∙ ap not some in
+        ap (λ k. right == k && not (k == 0)) same ∙ ap (λ b. b && not (right == 0))
+        (is_same right right refl) ∙ ap not some in
         let no : false ≡ true = sym e ∙ leads in cc
 
-    before : (q : ℕ) → q ≤ last → leads_to words q n ≡ true → find (leads_to words q) (numbers_below n) ≡ None
+    before : (q : ℕ) → q ≤ last → leads_to words q n ≡ true
+        → find (leads_to words q) (numbers_below n) ≡ None
     before q low e = let led = is_led q e in sym (told.left q low) ∙ nothing_there q led.0 led.1
 
     found : (q : ℕ) → q ≤ last → (b : Bool) → leads_to words q n ≡ b
-        → get_or (with_left lefts right n) q None ≡ option_or (find (leads_to words q) (numbers_below n)) (cond (leads_to words q n) (Some n) None)
+        → get_or (with_left lefts right n) q None
+        ≡ option_or (find (leads_to words q) (numbers_below n))
+        (cond (leads_to words q n) (Some n) None)
     found q low true e =
         let led = is_led q e in
         let within : q < length lefts = omega (arith, low, told.many) in
         let in_use : (right == 0 || nat_le (length lefts) right) ≡ false =
-        ap (λ b. b || nat_le (length lefts) right) led.1 ∙ isnt_at_most (length lefts) right (omega (arith, within, led.0)) in
+        ap (λ b. b || nat_le (length lefts) right) led.1 ∙ isnt_at_most (length lefts) right
+        (omega (arith, within, led.0)) in
         ap (λ b. get_or (cond b lefts (set lefts right (Some n))) q None) in_use
-        ∙ ap (λ k. get_or (set lefts k (Some n)) q None) led.0 ∙ get_or-set_same lefts q (Some n) None within
+        ∙ ap (λ k. get_or (set lefts k (Some n)) q None) led.0
+        ∙ get_or-set_same lefts q (Some n) None within
         ∙ sym (ap (λ o. option_or o (cond (leads_to words q n) (Some n) None)) (before q low e)
         ∙ ap (λ b. cond {A = Option ℕ} b (Some n) None) e)
     found q low false e =
-        by_use (right == 0 || nat_le (length lefts) right) refl ∙ told.left q low ∙ or_none (find (leads_to words q) (numbers_below n))
-        ∙ sym (ap (λ b. option_or (find (leads_to words q) (numbers_below n)) (cond b (Some n) None)) e)
+        by_use (right == 0 || nat_le (length lefts) right) refl ∙ told.left q low
+        ∙ or_none (find (leads_to words q) (numbers_below n))
+        ∙ sym (ap (λ b. option_or (find (leads_to words q) (numbers_below n))
+        (cond b (Some n) None)) e)
       where
         by_use : (b : Bool) → (right == 0 || nat_le (length lefts) right) ≡ b
             → get_or (cond b lefts (set lefts right (Some n))) q None ≡ get_or lefts q None
         by_use true u = refl
-        by_use false u = get_or-set_other lefts right q (Some n) None (isnt_led q e (neither_true (right == 0) (nat_le (length lefts) right) u).0)
+        by_use false u = get_or-set_other lefts right q (Some n) None
+            (isnt_led q e (neither_true (right == 0) (nat_le (length lefts) right) u).0)
 
-    counted : (q : ℕ) → q ≤ last → (b : Bool) → leads_to words q n ≡ b → count_by (leads_to words q) (numbers_below (n + 1)) ≤ 1
+    counted : (q : ℕ) → q ≤ last → (b : Bool) → leads_to words q n ≡ b → count_by (leads_to words q)
+        (numbers_below (n + 1)) ≤ 1
     counted q low true e =
-        omega (arith, count-push (leads_to words q) n, ap (λ b. cond {A = ℕ} b 1 0) e, none_found (leads_to words q) n (before q low e))
-    counted q low false e = omega (arith, count-push (leads_to words q) n, ap (λ b. cond {A = ℕ} b 1 0) e, told.one q low)
+        omega (
+          arith,
+          count-push (leads_to words q) n,
+          ap (λ b. cond {A = ℕ} b 1 0) e,
+          none_found
+              (leads_to words q) n (before q low e),
+        )
+    counted q low false e =
+        omega (
+          arith,
+          count-push (leads_to words q) n,
+          ap (λ b. cond {A = ℕ} b 1 0) e,
+          told.one q
+              low,
+        )
 
 -- one node more that leads to where another does
-pub told_twice : (last : ℕ) (words : List ℕ) (n : ℕ) (lefts : List (Option ℕ)) → n < last + 1 → has_left lefts (right_of words n) ≡ true
+pub told_twice : (last : ℕ) (words : List ℕ) (n : ℕ) (lefts : List (Option ℕ)) → n < last + 1
+    → has_left lefts (right_of words n) ≡ true
     → HaveTold last words n lefts → have_one_left last words ≡ false
 told_twice last words n lefts in_use taken told =
-    one_fails (λ q. nat_le (count_by (leads_to words q) (nodes last)) 1) (last + 1) right (omega (arith, low))
+    one_fails (λ q. nat_le (count_by (leads_to words q) (nodes last)) 1) (last + 1) right
+    (omega (arith, low))
     (isnt_at_most (count_by (leads_to words right) (nodes last)) 1
     (omega (
       arith,
@@ -124,17 +157,26 @@ told_twice last words n lefts in_use taken told =
         by_place : (b : Bool) → nat_lt right (length lefts) ≡ b → right ≤ last
         by_place true e = omega (arith, below_of right (length lefts) e, told.many)
         by_place false e =
-            let none : is_some (get_or lefts right None) ≡ false = ap is_some (get_or_past lefts right None (not_below_of right (length lefts) e)) in
+            let none : is_some (get_or lefts right None) ≡ false = ap is_some
+            (get_or_past lefts right None (not_below_of right (length lefts) e)) in
             let no : false ≡ true = sym none ∙ there in cc
 
 -- all nodes
-pub told_all : (last : ℕ) (words : List ℕ) (n : ℕ) (lefts : List (Option ℕ)) → n ≡ last + 1 → HaveTold last words n lefts
+pub told_all : (last : ℕ) (words : List ℕ) (n : ℕ) (lefts : List (Option ℕ)) → n ≡ last + 1
+    → HaveTold last words n lefts
     → (have_one_left last words ≡ true) × (lefts ≡ map (left_of last words) (nodes last))
 told_all last words n lefts all told = (
   all_pass (λ q. nat_le (count_by (leads_to words q) (nodes last)) 1) (last + 1)
       (λ q low. is_at_most (count_by (leads_to words q) (nodes last)) 1
-      (omega (arith, told.one q (omega (arith, low)), ap (λ m. count_by (leads_to words q) (numbers_below m)) all))),
-  ext_get_or None lefts (map (left_of last words) (nodes last)) (told.many ∙ sym (length_below (left_of last words) (last + 1)))
-      (λ q low. told.left q (omega (arith, low, told.many)) ∙ ap (λ m. find (leads_to words q) (numbers_below m)) all
+      (omega (
+        arith,
+        told.one q (omega (arith, low)),
+        ap
+            (λ m. count_by (leads_to words q) (numbers_below m)) all,
+      ))),
+  ext_get_or None lefts (map (left_of last words) (nodes last))
+      (told.many ∙ sym (length_below (left_of last words) (last + 1)))
+      (λ q low. told.left q (omega (arith, low, told.many))
+      ∙ ap (λ m. find (leads_to words q) (numbers_below m)) all
       ∙ sym (element_below (left_of last words) (last + 1) q None (omega (arith, low, told.many)))),
 )

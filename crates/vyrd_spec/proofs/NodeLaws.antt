@@ -1,5 +1,7 @@
 -- What the tests of a tree's nodes come to, place by place.
-use Rattle.std.proofs.Common.{◌≡◌, ◌≢◌, ℕ, zero, suc, ◌+◌, ◌-◌, ◌<◌, ◌≤◌, min, Bool, true, false, ◌&&◌, ◌||◌, List, ◌∷◌, length, map, get_or, Option, Some, None, refl, ap, ◌∙◌, sym, arith}
+use Rattle.std.proofs.Common.{◌≡◌, ◌≢◌, ℕ, zero, suc, ◌+◌, ◌-◌, ◌<◌, ◌≤◌, min, Bool, true, false}
+use Rattle.std.proofs.Common.{◌&&◌, ◌||◌, List, ◌∷◌, length, map, get_or, Option, Some, None, refl}
+use Rattle.std.proofs.Common.{ap, ◌∙◌, sym, arith}
 use Rattle.std.specs.Prelude.{◌==◌, nat_lt, nat_le, count_by, IfSome}
 use Rattle.std.specs.List.{list_all}
 use Rattle.std.proofs.lemmas.List.Folds.{list_all-map}
@@ -13,33 +15,45 @@ use Rattle.vyrd_spec.specs.Neighbours.{have_one_left}
 use Rattle.vyrd_spec.specs.NodeKeys.{key_at, entry_at, is_next_key, is_in_range, is_sound_key}
 use Rattle.vyrd_spec.proofs.RowLaws.{each_passes, one_fails, found_below}
 
-pub left_at : (last : ℕ) (words : List ℕ) (lefts : List (Option ℕ)) (q : ℕ) (d : Option ℕ) → lefts ≡ map (left_of last words) (nodes last)
+pub left_at : (last : ℕ) (words : List ℕ) (lefts : List (Option ℕ)) (q : ℕ) (d : Option ℕ)
+    → lefts ≡ map (left_of last words) (nodes last)
     → q ≤ last → get_or lefts q d ≡ left_of last words q
-left_at last words lefts q d are low = ap (λ xs. get_or xs q d) are ∙ element_below (left_of last words) (last + 1) q d (omega (arith, low))
+left_at last words lefts q d are low = ap (λ xs. get_or xs q d) are
+    ∙ element_below (left_of last words) (last + 1) q d (omega (arith, low))
 
-pub many_lefts : (last : ℕ) (words : List ℕ) (lefts : List (Option ℕ)) → lefts ≡ map (left_of last words) (nodes last) → length lefts ≡ last + 1
+pub many_lefts : (last : ℕ) (words : List ℕ) (lefts : List (Option ℕ))
+    → lefts ≡ map (left_of last words) (nodes last) → length lefts ≡ last + 1
 many_lefts last words lefts are = ap length are ∙ length_below (left_of last words) (last + 1)
 
-pub left_in_use : (last : ℕ) (words : List ℕ) (q : ℕ) (o : Option ℕ) → o ≡ left_of last words q → IfSome o (λ m. m ≤ last)
+pub left_in_use : (last : ℕ) (words : List ℕ) (q : ℕ) (o : Option ℕ) → o ≡ left_of last words q
+    → IfSome o (λ m. m ≤ last)
 left_in_use last words q None e = tt
-left_in_use last words q (Some m) e = omega (arith, (found_below (leads_to words q) (last + 1) m (sym e)).1)
+left_in_use last words q (Some m) e =
+    omega (arith, (found_below (leads_to words q) (last + 1) m (sym e)).1)
 
 -- if at most one link leads to each node, the link of a node decides
 pub linked_is : (last : ℕ) (words : List ℕ) (n : ℕ) → have_one_left last words ≡ true → n ≤ last
-    → is_linked last words n ≡ (right_of words n == 0 || nat_le (right_of words n) last && level_of words (right_of words n) == level_of words n)
+    → is_linked last words n
+    ≡ (right_of words n == 0 || nat_le (right_of words n) last && level_of words
+    (right_of words n) == level_of words n)
 linked_is last words n one low =
-    ap (λ b. b && (right_of words n == 0 || nat_le (right_of words n) last && level_of words (right_of words n) == level_of words n))
-    (each_passes (λ q. nat_le (count_by (leads_to words q) (nodes last)) 1) (last + 1) n one (omega (arith, low)))
+    ap (λ b. b && (right_of words n == 0 || nat_le (right_of words n) last && level_of words
+    (right_of words n) == level_of words n))
+    (each_passes (λ q. nat_le (count_by (leads_to words q) (nodes last)) 1) (last + 1) n one
+    (omega (arith, low)))
 
 -- tests that tell the same of each number
-all_alike : (p q : ℕ → Bool) (k n : ℕ) → ((i : ℕ) → k ≤ i → p i ≡ q i) → list_all p (numbers_from k n) ≡ list_all q (numbers_from k n)
+all_alike : (p q : ℕ → Bool) (k n : ℕ) → ((i : ℕ) → k ≤ i → p i ≡ q i)
+    → list_all p (numbers_from k n) ≡ list_all q (numbers_from k n)
 all_alike p q k zero same = refl
 all_alike p q k (suc n) same =
     ap (λ b. b && list_all p (numbers_from (k + 1) n)) (same k (omega arith))
     ∙ ap (λ b. q k && b) (all_alike p q (k + 1) n (λ i from. same i (omega (arith, from))))
 
 -- two tests at once
-both_tests : (p q : ℕ → Bool) (k n : ℕ) → (list_all p (numbers_from k n) && list_all q (numbers_from k n)) ≡ list_all (λ i. p i && q i) (numbers_from k n)
+both_tests : (p q : ℕ → Bool) (k n : ℕ)
+    → (list_all p (numbers_from k n) && list_all q (numbers_from k n)) ≡ list_all (λ i. p i && q i)
+    (numbers_from k n)
 both_tests p q k zero = refl
 both_tests p q k (suc n) =
     mixed (p k) (q k) (list_all p (numbers_from (k + 1) n)) (list_all q (numbers_from (k + 1) n))
@@ -55,30 +69,39 @@ both_tests p q k (suc n) =
 abbrev above_last : (ℕ → ℕ) → ℕ → Bool
 above_last f j = nat_lt (f (j - 1)) (f j)
 
-rises_from : (f : ℕ → ℕ) (k n : ℕ) → rises (map f (numbers_from k (suc n))) ≡ list_all (above_last f) (numbers_from (k + 1) n)
+rises_from : (f : ℕ → ℕ) (k n : ℕ) → rises (map f (numbers_from k (suc n)))
+    ≡ list_all (above_last f) (numbers_from (k + 1) n)
 rises_from f k zero = refl
 rises_from f k (suc n) =
     let e : k ≡ k + 1 - 1 = omega arith in
     ap (λ j. nat_lt (f j) (f (k + 1)) && rises (map f (numbers_from (k + 1) (suc n)))) e
     ∙ ap (λ b. above_last f (k + 1) && b) (rises_from f (k + 1) n)
 
-rises_all : (f : ℕ → ℕ) (n : ℕ) → rises (map f (numbers_below n)) ≡ list_all (λ j. j == 0 || above_last f j) (numbers_below n)
+rises_all : (f : ℕ → ℕ) (n : ℕ) → rises (map f (numbers_below n))
+    ≡ list_all (λ j. j == 0 || above_last f j) (numbers_below n)
 rises_all f zero = refl
 rises_all f (suc n) =
     rises_from f 0 n ∙ all_alike (above_last f) (λ j. j == 0 || above_last f j) 1 n
-    (λ j from. sym (ap (λ b. b || above_last f j) (isnt_same j 0 (λ z. absurd (omega (arith, from, z))))))
+    (λ j from. sym
+    (ap (λ b. b || above_last f j) (isnt_same j 0 (λ z. absurd (omega (arith, from, z))))))
 
-keys_from : (words : List ℕ) (n k m : ℕ) → map (λ entry. entry.0) (map (entry_at words n) (numbers_from k m)) ≡ map (key_at words n) (numbers_from k m)
+keys_from : (words : List ℕ) (n k m : ℕ)
+    → map (λ entry. entry.0) (map (entry_at words n) (numbers_from k m)) ≡ map (key_at words n)
+    (numbers_from k m)
 keys_from words n k zero = refl
 keys_from words n k (suc m) = ap (λ keys. key_at words n k ∷ keys) (keys_from words n (k + 1) m)
 
 pub sound_keys_are : (last : ℕ) (words : List ℕ) (n : ℕ) → has_sound_keys last words n
-    ≡ (nat_le (count_of words n) 4 && list_all (is_sound_key last words n) (numbers_below (min (count_of words n) 4)))
+    ≡ (nat_le (count_of words n) 4 && list_all (is_sound_key last words n)
+    (numbers_below (min (count_of words n) 4)))
 sound_keys_are last words n =
-    ap (λ keys. nat_le (count_of words n) 4 && rises keys && list_all (is_in_range last words n) keys) (keys_from words n 0 m)
+    ap (λ keys. nat_le (count_of words n) 4 && rises keys && list_all (is_in_range last words n)
+    keys) (keys_from words n 0 m)
     ∙ grouped (nat_le (count_of words n) 4) (rises keys) (list_all (is_in_range last words n) keys)
-    ∙ ap (λ b. nat_le (count_of words n) 4 && (b && list_all (is_in_range last words n) keys)) (rises_all (key_at words n) m)
-    ∙ ap (λ b. nat_le (count_of words n) 4 && (list_all (is_next_key words n) (numbers_below m) && b))
+    ∙ ap (λ b. nat_le (count_of words n) 4 && (b && list_all (is_in_range last words n) keys))
+    (rises_all (key_at words n) m)
+    ∙ ap (λ b. nat_le (count_of words n) 4
+    && (list_all (is_next_key words n) (numbers_below m) && b))
     (list_all-map (is_in_range last words n) (key_at words n) (numbers_below m))
     ∙ ap (λ b. nat_le (count_of words n) 4 && b)
     (both_tests (is_next_key words n) (λ j. is_in_range last words n (key_at words n j)) 0 m)
@@ -95,44 +118,61 @@ sound_keys_are last words n =
 
 -- the entries of a node, place by place
 pub all_entries : (p : ℕ × ℕ → Bool) (words : List ℕ) (n : ℕ)
-    → list_all p (entries_of words n) ≡ list_all (λ j. p (entry_at words n j)) (numbers_below (min (count_of words n) 4))
+    → list_all p (entries_of words n) ≡ list_all (λ j. p (entry_at words n j))
+    (numbers_below (min (count_of words n) 4))
 all_entries p words n = list_all-map p (entry_at words n) (numbers_below (min (count_of words n) 4))
 
-pub linked_end : (last : ℕ) (words : List ℕ) (n : ℕ) → have_one_left last words ≡ true → n ≤ last → right_of words n ≡ 0
+pub linked_end : (last : ℕ) (words : List ℕ) (n : ℕ) → have_one_left last words ≡ true → n ≤ last
+    → right_of words n ≡ 0
     → is_linked last words n ≡ true
 linked_end last words n one low ends =
     linked_is last words n one low
-    ∙ ap (λ b. b || nat_le (right_of words n) last && level_of words (right_of words n) == level_of words n) (is_same (right_of words n) 0 ends)
+    ∙ ap (λ b. b || nat_le (right_of words n) last && level_of words (right_of words n) == level_of
+    words n) (is_same (right_of words n) 0 ends)
 
-pub linked_on : (last : ℕ) (words : List ℕ) (n : ℕ) → have_one_left last words ≡ true → n ≤ last → right_of words n ≢ 0
-    → right_of words n ≤ last → is_linked last words n ≡ (level_of words (right_of words n) == level_of words n)
+pub linked_on : (last : ℕ) (words : List ℕ) (n : ℕ) → have_one_left last words ≡ true → n ≤ last
+    → right_of words n ≢ 0
+    → right_of words n ≤ last → is_linked last words n
+    ≡ (level_of words (right_of words n) == level_of words n)
 linked_on last words n one low on in_use =
     linked_is last words n one low
-    ∙ ap (λ b. b || nat_le (right_of words n) last && level_of words (right_of words n) == level_of words n) (isnt_same (right_of words n) 0 on)
-    ∙ ap (λ b. b && level_of words (right_of words n) == level_of words n) (is_at_most (right_of words n) last in_use)
+    ∙ ap (λ b. b || nat_le (right_of words n) last && level_of words (right_of words n) == level_of
+    words n) (isnt_same (right_of words n) 0 on)
+    ∙ ap (λ b. b && level_of words (right_of words n) == level_of words n)
+    (is_at_most (right_of words n) last in_use)
 
 -- a key that isn't sound, and keys that all are
-pub keys_fail : (last : ℕ) (words : List ℕ) (n j : ℕ) → j < min (count_of words n) 4 → is_sound_key last words n j ≡ false
+pub keys_fail : (last : ℕ) (words : List ℕ) (n j : ℕ) → j < min (count_of words n) 4
+    → is_sound_key last words n j ≡ false
     → false ≡ has_sound_keys last words n
 keys_fail last words n j low fails =
     sym (sound_keys_are last words n
-    ∙ ap (λ b. nat_le (count_of words n) 4 && b) (one_fails (is_sound_key last words n) (min (count_of words n) 4) j low fails)
+    ∙ ap (λ b. nat_le (count_of words n) 4 && b)
+    (one_fails (is_sound_key last words n) (min (count_of words n) 4) j low fails)
     ∙ and-false (nat_le (count_of words n) 4))
 
-pub keys_pass : (last : ℕ) (words : List ℕ) (n m : ℕ) → count_of words n ≤ 4 → m ≡ min (count_of words n) 4
-    → list_all (is_sound_key last words n) (numbers_below m) ≡ true → true ≡ has_sound_keys last words n
+pub keys_pass : (last : ℕ) (words : List ℕ) (n m : ℕ) → count_of words n ≤ 4
+    → m ≡ min (count_of words n) 4
+    → list_all (is_sound_key last words n) (numbers_below m) ≡ true
+    → true ≡ has_sound_keys last words n
 keys_pass last words n m few is all =
     sym (sound_keys_are last words n
-    ∙ both_true (nat_le (count_of words n) 4) (list_all (is_sound_key last words n) (numbers_below (min (count_of words n) 4)))
-    (is_at_most (count_of words n) 4 few) (ap (λ k. list_all (is_sound_key last words n) (numbers_below k)) (sym is) ∙ all))
+    ∙ both_true (nat_le (count_of words n) 4)
+    (list_all (is_sound_key last words n) (numbers_below (min (count_of words n) 4)))
+    (is_at_most (count_of words n) 4 few)
+    (ap (λ k. list_all (is_sound_key last words n) (numbers_below k)) (sym is) ∙ all))
 
 -- an entry that fails a test, and entries that all pass
-pub entries_fail : (p : ℕ × ℕ → Bool) (words : List ℕ) (n j : ℕ) → j < min (count_of words n) 4 → p (entry_at words n j) ≡ false
+pub entries_fail : (p : ℕ × ℕ → Bool) (words : List ℕ) (n j : ℕ) → j < min (count_of words n) 4
+    → p (entry_at words n j) ≡ false
     → false ≡ list_all p (entries_of words n)
 entries_fail p words n j low fails =
-    sym (all_entries p words n ∙ one_fails (λ i. p (entry_at words n i)) (min (count_of words n) 4) j low fails)
+    sym (all_entries p words n ∙ one_fails (λ i. p (entry_at words n i)) (min (count_of words n) 4)
+    j low fails)
 
 pub entries_pass : (p : ℕ × ℕ → Bool) (words : List ℕ) (n m : ℕ) → m ≡ min (count_of words n) 4
-    → list_all (λ j. p (entry_at words n j)) (numbers_below m) ≡ true → true ≡ list_all p (entries_of words n)
+    → list_all (λ j. p (entry_at words n j)) (numbers_below m) ≡ true
+    → true ≡ list_all p (entries_of words n)
 entries_pass p words n m is all =
-    sym (all_entries p words n ∙ ap (λ k. list_all (λ j. p (entry_at words n j)) (numbers_below k)) (sym is) ∙ all)
+    sym (all_entries p words n ∙ ap (λ k. list_all (λ j. p (entry_at words n j)) (numbers_below k))
+    (sym is) ∙ all)

@@ -1,16 +1,20 @@
 -- The amounts of a row, key by key.
-use Rattle.std.proofs.Common.{◌≡◌, ◌≢◌, ℕ, zero, suc, ◌+◌, ◌<◌, ◌≤◌, Bool, true, false, cond, List, [], ◌∷◌, ◌++◌, length, map, get_or, set, replicate, refl, ap, ◌∙◌, sym, arith, get_or-set_same, get_or-set_other}
+use Rattle.std.proofs.Common.{◌≡◌, ◌≢◌, ℕ, zero, suc, ◌+◌, ◌<◌, ◌≤◌, Bool, true, false, cond, List}
+use Rattle.std.proofs.Common.{[], ◌∷◌, ◌++◌, length, map, get_or, set, replicate, refl, ap, ◌∙◌}
+use Rattle.std.proofs.Common.{sym, arith, get_or-set_same, get_or-set_other}
 use Rattle.std.specs.Prelude.{◌==◌, nat_lt}
 use Rattle.std.specs.List.{AllByRecursion}
 use Rattle.std.proofs.lemmas.List.{get_or_past}
 use Rattle.std.proofs.lemmas.List.Elements.{All-from_recursion}
 use Rattle.vyrd_base.specs.Places.{numbers_below}
 use Rattle.vyrd_base.specs.Amounts.{Amounts, IsAmounts, amount_of, with_amount, given, part_given}
-use Rattle.vyrd_base.proofs.AmountLaws.{amount_of-with_amount, IsAmounts-with_amount, IsAmounts-push, same_amounts}
+use Rattle.vyrd_base.proofs.AmountLaws.{amount_of-with_amount, IsAmounts-with_amount}
+use Rattle.vyrd_base.proofs.AmountLaws.{IsAmounts-push, same_amounts}
 use Rattle.vyrd_base.proofs.PlaceLaws.{numbers_below-push}
 use Rattle.vyrd_base.proofs.SumLaws.{given-append, amount_of-collected}
 use Rattle.vyrd_base.proofs.TableLaws.{given_amount}
-use Rattle.vyrd_base.proofs.TestLaws.{same_of, apart_of, below_of, not_below_of, is_below, isnt_below}
+use Rattle.vyrd_base.proofs.TestLaws.{same_of, apart_of, below_of, not_below_of, is_below}
+use Rattle.vyrd_base.proofs.TestLaws.{isnt_below}
 use Rattle.vyrd_spec.specs.Rows.{row_amounts, row_formed}
 
 abbrev numbered : (ℕ → ℕ) → ℕ → List (ℕ × ℕ)
@@ -19,38 +23,46 @@ numbered f n = map {B = ℕ × ℕ} (λ h. (h, f h)) (numbers_below n)
 abbrev pair_by : (ℕ → ℕ) → ℕ → ℕ × ℕ
 pair_by f h = (h, f h)
 
-map_push : (f : ℕ → ℕ) (ks : List ℕ) (n : ℕ) → map (pair_by f) (ks ++ n ∷ []) ≡ map (pair_by f) ks ++ pair_by f n ∷ []
+map_push : (f : ℕ → ℕ) (ks : List ℕ) (n : ℕ) → map (pair_by f) (ks ++ n ∷ []) ≡ map (pair_by f) ks
+    ++ pair_by f n ∷ []
 map_push f [] n = refl
 map_push f (k ∷ ks) n = ap (λ xs. pair_by f k ∷ xs) (map_push f ks n)
 
 -- one number more
-one_more : (f : ℕ → ℕ) (q n : ℕ) → cond (nat_lt q n) (f q) 0 + part_given q (n, f n) ≡ cond (nat_lt q (suc n)) (f q) 0
+one_more : (f : ℕ → ℕ) (q n : ℕ) → cond (nat_lt q n) (f q) 0 + part_given q (n, f n)
+    ≡ cond (nat_lt q (suc n)) (f q) 0
 one_more f q n = by_tests (nat_lt q n) (q == n) refl refl
   where
-    by_tests : (a b : Bool) → nat_lt q n ≡ a → (q == n) ≡ b → cond a (f q) 0 + cond b (f n) 0 ≡ cond (nat_lt q (suc n)) (f q) 0
+    by_tests : (a b : Bool) → nat_lt q n ≡ a → (q == n) ≡ b → cond a (f q) 0 + cond b (f n) 0
+        ≡ cond (nat_lt q (suc n)) (f q) 0
     by_tests true true e g = absurd (omega (arith, below_of q n e, same_of q n g))
     by_tests true false e g =
-        (let z : f q + 0 ≡ f q = omega arith in z) ∙ ap (λ t. cond t (f q) 0) (sym (is_below q (suc n) (omega (arith, below_of q n e))))
+        (let z : f q + 0 ≡ f q = omega arith in z) ∙ ap (λ t. cond t (f q) 0)
+        (sym (is_below q (suc n) (omega (arith, below_of q n e))))
     by_tests false true e g =
         (let z : 0 + f n ≡ f n = omega arith in z) ∙ ap f (sym (same_of q n g))
         ∙ ap (λ t. cond t (f q) 0) (sym (is_below q (suc n) (omega (arith, same_of q n g))))
     by_tests false false e g =
-        ap (λ t. cond {A = ℕ} t (f q) 0) (sym (isnt_below q (suc n) (omega (arith, not_below_of q n e, apart_of q n g))))
+        ap (λ t. cond {A = ℕ} t (f q) 0)
+        (sym (isnt_below q (suc n) (omega (arith, not_below_of q n e, apart_of q n g))))
 
 given_numbered : (f : ℕ → ℕ) (q n : ℕ) → given q (numbered f n) ≡ cond (nat_lt q n) (f q) 0
 given_numbered f q zero = ap (λ t. cond {A = ℕ} t (f q) 0) (sym (isnt_below q 0 (omega arith)))
 given_numbered f q (suc n) =
     let one : suc n ≡ n + 1 = omega arith in
-    ap (λ k. given q (numbered f k)) one ∙ ap (λ ks. given q (map (pair_by f) ks)) (numbers_below-push n)
+    ap (λ k. given q (numbered f k)) one ∙ ap (λ ks. given q (map (pair_by f) ks))
+    (numbers_below-push n)
     ∙ ap (given q) (map_push f (numbers_below n) n) ∙ given-append q (numbered f n) ((n, f n) ∷ [])
-    ∙ (let z : given q (numbered f n) + (part_given q (n, f n) + 0) ≡ given q (numbered f n) + part_given q (n, f n) = omega arith in z)
+    ∙ (let z : given q (numbered f n) + (part_given q (n, f n) + 0) ≡ given q (numbered f n)
+    + part_given q (n, f n) = omega arith in z)
     ∙ ap (λ m. m + part_given q (n, f n)) (given_numbered f q n) ∙ one_more f q n
 
 -- the amount of a key is its element
 pub row_amount : (row : List ℕ) (q : ℕ) → amount_of (row_amounts row) q ≡ get_or row q 0
 unfolding row_amounts
 row_amount row q =
-    amount_of-collected (numbered (λ h. get_or row h 0) (length row)) q ∙ given_numbered (λ h. get_or row h 0) q (length row)
+    amount_of-collected (numbered (λ h. get_or row h 0) (length row)) q
+    ∙ given_numbered (λ h. get_or row h 0) q (length row)
     ∙ by_place (nat_lt q (length row)) refl
   where
     by_place : (b : Bool) → nat_lt q (length row) ≡ b → cond b (get_or row q 0) 0 ≡ get_or row q 0
@@ -58,18 +70,23 @@ row_amount row q =
     by_place false e = sym (get_or_past row q 0 (not_below_of q (length row) e))
 
 -- a key has a new amount
-pub row_set : (row : List ℕ) (h a : ℕ) → h < length row → row_amounts (set row h a) ≡ with_amount (row_amounts row) h a
+pub row_set : (row : List ℕ) (h a : ℕ) → h < length row → row_amounts (set row h a)
+    ≡ with_amount (row_amounts row) h a
 row_set row h a low =
-    same_amounts (row_amounts (set row h a)) (with_amount (row_amounts row) h a) (row_formed (set row h a))
+    same_amounts (row_amounts (set row h a)) (with_amount (row_amounts row) h a)
+    (row_formed (set row h a))
     (IsAmounts-with_amount (row_amounts row) h a (row_formed row))
-    (λ q. row_amount (set row h a) q ∙ by_key q (q == h) refl ∙ sym (amount_of-with_amount (row_amounts row) h a q))
+    (λ q. row_amount (set row h a) q ∙ by_key q (q == h) refl
+    ∙ sym (amount_of-with_amount (row_amounts row) h a q))
   where
-    by_key : (q : ℕ) (b : Bool) → (q == h) ≡ b → get_or (set row h a) q 0 ≡ cond (q == h) a (amount_of (row_amounts row) q)
+    by_key : (q : ℕ) (b : Bool) → (q == h) ≡ b → get_or (set row h a) q 0 ≡ cond (q == h) a
+        (amount_of (row_amounts row) q)
     by_key q true e =
         ap (λ k. get_or (set row h a) k 0) (same_of q h e) ∙ get_or-set_same row h a 0 low
         ∙ sym (ap (λ b. cond b a (amount_of (row_amounts row) q)) e)
     by_key q false e =
-        get_or-set_other row h q a 0 (apart_of q h e) ∙ sym (row_amount row q) ∙ sym (ap (λ b. cond b a (amount_of (row_amounts row) q)) e)
+        get_or-set_other row h q a 0 (apart_of q h e) ∙ sym (row_amount row q)
+        ∙ sym (ap (λ b. cond b a (amount_of (row_amounts row) q)) e)
 
 -- all amounts are 0
 nothing_there : (n q : ℕ) → get_or {A = ℕ} (replicate n 0) q 0 ≡ 0
@@ -78,7 +95,8 @@ nothing_there (suc n) zero = refl
 nothing_there (suc n) (suc q) = nothing_there n q
 
 pub nothing_in_row : (n : ℕ) → row_amounts (replicate n 0) ≡ []
-nothing_in_row n = same_amounts (row_amounts (replicate n 0)) [] (row_formed (replicate n 0)) (record { rising = tt; some = tt })
+nothing_in_row n = same_amounts (row_amounts (replicate n 0)) [] (row_formed (replicate n 0))
+    (record { rising = tt; some = tt })
     (λ q. row_amount (replicate n 0) q ∙ nothing_there n q)
 
 -- a view has the amounts of the keys below n
@@ -87,11 +105,13 @@ pub record HasBelow (row : List ℕ) (n : ℕ) (view : Amounts) : Type 0 where
   pub formed : IsAmounts view
   pub shown : (q : ℕ) → amount_of view q ≡ cond (nat_lt q n) (get_or row q 0) 0
 
-raised : (n : ℕ) (s : Amounts) → AllByRecursion (λ p. p.0 < n) s → AllByRecursion (λ p. p.0 < n + 1) s
+raised : (n : ℕ) (s : Amounts) → AllByRecursion (λ p. p.0 < n) s
+    → AllByRecursion (λ p. p.0 < n + 1) s
 raised n [] all = tt
 raised n (e ∷ s) all = (omega (arith, all.0), raised n s all.1)
 
-pushed : (n a : ℕ) (s : Amounts) → AllByRecursion (λ p. p.0 < n) s → AllByRecursion (λ p. p.0 < n + 1) (s ++ (n, a) ∷ [])
+pushed : (n a : ℕ) (s : Amounts) → AllByRecursion (λ p. p.0 < n) s
+    → AllByRecursion (λ p. p.0 < n + 1) (s ++ (n, a) ∷ [])
 pushed n a [] all = (omega arith, tt)
 pushed n a (e ∷ s) all = (omega (arith, all.0), pushed n a s all.1)
 
@@ -102,38 +122,48 @@ has_none row = record {
   shown = λ q. ap (λ t. cond {A = ℕ} t (get_or row q 0) 0) (sym (isnt_below q 0 (omega arith)));
 }
 
-pub has_pushed : (row : List ℕ) (n a : ℕ) (view : Amounts) → get_or row n 0 ≡ a → a ≢ 0 → HasBelow row n view
+pub has_pushed : (row : List ℕ) (n a : ℕ) (view : Amounts) → get_or row n 0 ≡ a → a ≢ 0
+    → HasBelow row n view
     → HasBelow row (n + 1) (view ++ (n, a) ∷ [])
 has_pushed row n a view is some has = record {
   below = pushed n a view has.below;
   formed = formed;
   shown = λ q.
       sym (given_amount (view ++ (n, a) ∷ []) formed q) ∙ given-append q view ((n, a) ∷ [])
-      ∙ (let z : given q view + (part_given q (n, a) + 0) ≡ given q view + part_given q (n, a) = omega arith in z)
+      ∙ (let z : given q view + (part_given q (n, a) + 0) ≡ given q view + part_given q (n, a) =
+      omega arith in z)
       ∙ ap (λ m. m + part_given q (n, a)) (given_amount view has.formed q ∙ has.shown q)
-      ∙ ap (λ v. cond (nat_lt q n) (get_or row q 0) 0 + part_given q (n, v)) (sym is) ∙ one_more (λ h. get_or row h 0) q n
-      ∙ ap (λ m. cond (nat_lt q m) (get_or row q 0) 0) (let one : suc n ≡ n + 1 = omega arith in one);
+      ∙ ap (λ v. cond (nat_lt q n) (get_or row q 0) 0 + part_given q (n, v)) (sym is)
+      ∙ one_more (λ h. get_or row h 0) q n
+      ∙ ap (λ m. cond (nat_lt q m) (get_or row q 0) 0)
+      (let one : suc n ≡ n + 1 = omega arith in one);
 }
   where
     formed : IsAmounts (view ++ (n, a) ∷ [])
-    formed = IsAmounts-push view n a (All-from_recursion (λ p. p.0 < n) view has.below) some has.formed
+    formed = IsAmounts-push view n a (All-from_recursion (λ p. p.0 < n) view has.below) some
+        has.formed
 
-pub has_skipped : (row : List ℕ) (n : ℕ) (view : Amounts) → get_or row n 0 ≡ 0 → HasBelow row n view → HasBelow row (n + 1) view
+pub has_skipped : (row : List ℕ) (n : ℕ) (view : Amounts) → get_or row n 0 ≡ 0 → HasBelow row n view
+    → HasBelow row (n + 1) view
 has_skipped row n view none has = record {
   below = raised n view has.below;
   formed = has.formed;
   shown = λ q.
-      has.shown q ∙ (let z : cond (nat_lt q n) (get_or row q 0) 0 ≡ cond (nat_lt q n) (get_or row q 0) 0 + 0 = omega arith in z)
+      has.shown q ∙ (let z : cond (nat_lt q n) (get_or row q 0) 0 ≡ cond (nat_lt q n)
+      (get_or row q 0) 0 + 0 = omega arith in z)
       ∙ ap (λ m. cond (nat_lt q n) (get_or row q 0) 0 + m) (sym (nothing q (q == n)))
-      ∙ ap (λ v. cond (nat_lt q n) (get_or row q 0) 0 + part_given q (n, v)) (sym none) ∙ one_more (λ h. get_or row h 0) q n
-      ∙ ap (λ m. cond (nat_lt q m) (get_or row q 0) 0) (let one : suc n ≡ n + 1 = omega arith in one);
+      ∙ ap (λ v. cond (nat_lt q n) (get_or row q 0) 0 + part_given q (n, v)) (sym none)
+      ∙ one_more (λ h. get_or row h 0) q n
+      ∙ ap (λ m. cond (nat_lt q m) (get_or row q 0) 0)
+      (let one : suc n ≡ n + 1 = omega arith in one);
 }
   where
     nothing : (q : ℕ) (b : Bool) → cond {A = ℕ} b 0 0 ≡ 0
     nothing q true = refl
     nothing q false = refl
 
-pub has_all : (row : List ℕ) (n : ℕ) (view : Amounts) → length row ≤ n → HasBelow row n view → view ≡ row_amounts row
+pub has_all : (row : List ℕ) (n : ℕ) (view : Amounts) → length row ≤ n → HasBelow row n view
+    → view ≡ row_amounts row
 has_all row n view all has = same_amounts view (row_amounts row) has.formed (row_formed row)
     (λ q. has.shown q ∙ by_place q (nat_lt q n) refl ∙ sym (row_amount row q))
   where

@@ -1,5 +1,6 @@
 -- When words stand for a state, and for which, of each subject.
-use Rattle.std.proofs.Common.{◌≡◌, ℕ, ◌+◌, ◌≤◌, true, false, ◌++◌, List, length, Some, None, ap, ◌∙◌, sym, arith}
+use Rattle.std.proofs.Common.{◌≡◌, ℕ, ◌+◌, ◌≤◌, true, false, ◌++◌, List, length, Some, None, ap}
+use Rattle.std.proofs.Common.{◌∙◌, sym, arith}
 use Rattle.std.specs.Prelude.{replicate, option_map}
 use Rattle.std.specs.Bool.{then_some}
 use Rattle.vyrd_base.specs.Subjects.{is_built_in}
@@ -15,11 +16,14 @@ use Rattle.vyrd_base.proofs.HeaderLaws.{low_size}
 use Rattle.vyrd_base.proofs.StartLaws.{with_free_locks, zeroed_words}
 
 -- words that aren't sound stand for no state
-pub no_state : (h : Header) (subject : Subject) (words : List ℕ) → h.subject ≡ subject → length words ≡ plain_words h
-    → is_sound subject h.size words ≡ false → None ≡ option_map showing (state_of_words h (words ++ replicate (lock_words h) 0))
+pub no_state : (h : Header) (subject : Subject) (words : List ℕ) → h.subject ≡ subject
+    → length words ≡ plain_words h
+    → is_sound subject h.size words ≡ false → None ≡ option_map showing
+    (state_of_words h (words ++ replicate (lock_words h) 0))
 no_state h subject words of many unsound =
     ap (option_map showing) (sym (with_free_locks h words many
-    ∙ ap (λ b. then_some b (view_of_words h words)) (ap (λ s. is_sound s h.size words) of ∙ unsound)))
+    ∙ ap (λ b. then_some b (view_of_words h words)) (ap (λ s. is_sound s h.size words) of
+    ∙ unsound)))
 
 -- what the words of a subject show
 shown : (h : Header) (subject : Subject) (words : List ℕ) → h.subject ≡ subject
@@ -28,7 +32,8 @@ unfolding view_of_words
 shown h subject words of = ap (λ x. collected (parts_of x h.size words)) of
 
 -- sound words stand for the state that they show
-pub a_state : (h : Header) (subject : Subject) (words : List ℕ) (s : Amounts) → h.subject ≡ subject → length words ≡ plain_words h
+pub a_state : (h : Header) (subject : Subject) (words : List ℕ) (s : Amounts) → h.subject ≡ subject
+    → length words ≡ plain_words h
     → is_sound subject h.size words ≡ true → s ≡ collected (parts_of subject h.size words)
     → Some (showing s) ≡ option_map showing (state_of_words h (words ++ replicate (lock_words h) 0))
 a_state h subject words s of many sound is =
@@ -37,7 +42,9 @@ a_state h subject words s of many sound is =
     ∙ ap Some (shown h subject words of ∙ sym is)))
 
 -- zeroed words, with all locks free, stand for the empty state
-pub zeros_start : (h : Header) → option_map showing (state_of_words h (replicate (plain_words h + lock_words h) 0)) ≡ Some start
+pub zeros_start : (h : Header)
+    → option_map showing (state_of_words h (replicate (plain_words h + lock_words h) 0))
+    ≡ Some start
 zeros_start h = ap (option_map showing) (zeroed_words h)
 
 -- a built-in subject's size is at most 1,024

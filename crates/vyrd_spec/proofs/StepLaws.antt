@@ -13,7 +13,8 @@ use Rattle.vyrd_spec.specs.Bounds.{AllAmounts}
 use Rattle.vyrd_spec.specs.Touching.{is_touched, CanChange}
 
 -- What every structure meets. A step leaves amounts, and the keys that its call doesn't touch; what
--- is answered goes by the amount of the first argument's key alone; and each key that a call touches
+-- is answered goes by the amount of the first argument's key alone; and each key that a call
+-- touches
 -- is changed by some step with it.
 pub record StepsWell {M : Type 0} (s : Structure M) (touches : M → Args → List ℕ) : Type 0 where
   pub formed : (m : M) (args : Args) (reply : ℕ) (before after : Amounts) → IsAmounts before
@@ -43,27 +44,33 @@ pub where_allowed : (Q : Amounts → Type 0) (b : Bool) (s : Amounts) → Q s �
 where_allowed Q true s h = h
 where_allowed Q false s h = tt
 
-pub where_true : (Q : Amounts → Type 0) (b : Bool) (s : Amounts) → (b ≡ true → Q s) → IfSome (then_some b s) Q
+pub where_true : (Q : Amounts → Type 0) (b : Bool) (s : Amounts) → (b ≡ true → Q s)
+    → IfSome (then_some b s) Q
 where_true Q true s h = h refl
 where_true Q false s h = tt
 
 -- what holds of each key with its amount holds after a key gets an amount of which it holds
-pub AllAmounts-with_amount : (passes : ℕ → ℕ → Type 0) (s : Amounts) (k a : ℕ) → AllAmounts passes s → (a ≢ 0 → passes k a)
+pub AllAmounts-with_amount : (passes : ℕ → ℕ → Type 0) (s : Amounts) (k a : ℕ) → AllAmounts passes s
+    → (a ≢ 0 → passes k a)
     → AllAmounts passes (with_amount s k a)
 AllAmounts-with_amount passes s k a all new =
     λ q. by_key q (amount_of (with_amount s k a) q) (amount_of-with_amount s k a q) (q == k) refl
   where
-    by_key : (q n : ℕ) → n ≡ cond (q == k) a (amount_of s q) → (b : Bool) → (q == k) ≡ b → n ≢ 0 → passes q n
+    by_key : (q n : ℕ) → n ≡ cond (q == k) a (amount_of s q) → (b : Bool) → (q == k) ≡ b → n ≢ 0
+        → passes q n
     by_key q n is true e some =
         let given : n ≡ a = is ∙ ap (λ b. cond b a (amount_of s q)) e in
-        subst (λ m. passes q m) (sym given) (subst (λ x. passes x a) (sym (same_of q k e)) (new (λ z. some (given ∙ z))))
+        subst (λ m. passes q m) (sym given)
+        (subst (λ x. passes x a) (sym (same_of q k e)) (new (λ z. some (given ∙ z))))
     by_key q n is false e some =
         let kept : n ≡ amount_of s q = is ∙ ap (λ b. cond b a (amount_of s q)) e in
         subst (λ m. passes q m) (sym kept) (all q (λ z. some (kept ∙ z)))
 
 -- a key other than the one that gets an amount
-pub other_key : (s : Amounts) (k a q : ℕ) → (k == q) ≡ false → amount_of (with_amount s k a) q ≡ amount_of s q
-other_key s k a q other = amount_of-with_amount s k a q ∙ ap (λ b. cond b a (amount_of s q)) (flipped k q other)
+pub other_key : (s : Amounts) (k a q : ℕ) → (k == q) ≡ false → amount_of (with_amount s k a) q
+    ≡ amount_of s q
+other_key s k a q other = amount_of-with_amount s k a q ∙ ap (λ b. cond b a (amount_of s q))
+    (flipped k q other)
 
 pub or_false : (b : Bool) → (b || false) ≡ false → b ≡ false
 or_false true e = e
@@ -73,7 +80,8 @@ abbrev pub Stays : Amounts → ℕ → Amounts → Type 0
 Stays s q t = amount_of t q ≡ amount_of s q
 
 -- a key that keeps its amount
-pub same_amount : (s : Amounts) (k q : ℕ) → amount_of (with_amount s k (amount_of s k)) q ≡ amount_of s q
+pub same_amount : (s : Amounts) (k q : ℕ) → amount_of (with_amount s k (amount_of s k)) q
+    ≡ amount_of s q
 same_amount s k q = amount_of-with_amount s k (amount_of s k) q ∙ by_key (q == k) refl
   where
     by_key : (b : Bool) → (q == k) ≡ b → cond b (amount_of s k) (amount_of s q) ≡ amount_of s q
@@ -87,7 +95,8 @@ of_first false e = e
 
 -- the key that was set
 pub set_amount : (s : Amounts) (k a q : ℕ) → (k == q) ≡ true → amount_of (with_amount s k a) q ≡ a
-set_amount s k a q e = ap (amount_of (with_amount s k a)) (sym (same_of k q e)) ∙ amount_of-with_amount s k a k ∙ ap (λ b. cond b a (amount_of s k)) (same_number k)
+set_amount s k a q e = ap (amount_of (with_amount s k a)) (sym (same_of k q e))
+    ∙ amount_of-with_amount s k a k ∙ ap (λ b. cond b a (amount_of s k)) (same_number k)
 
 -- one key alone, which is there
 pub lone : ℕ → Amounts

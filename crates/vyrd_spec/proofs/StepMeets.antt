@@ -1,6 +1,7 @@
 -- What the trait asks of a step, of the specifications that are built in: the touched keys, and the
 -- answers that stay.
-use Rattle.std.proofs.Common.{◌≡◌, ℕ, Bool, true, false, cond, ◌||◌, List, [], ◌∷◌, Some, refl, ap, ◌∙◌, sym}
+use Rattle.std.proofs.Common.{◌≡◌, ℕ, Bool, true, false, cond, ◌||◌, List, [], ◌∷◌, Some, refl, ap}
+use Rattle.std.proofs.Common.{◌∙◌, sym}
 use Rattle.std.specs.Prelude.{◌==◌}
 use Rattle.vyrd_base.specs.declared.subject.Method.{Method}
 use Rattle.vyrd_base.specs.declared.subject.Method.TheVariants.{Multiset as OfMultiset}
@@ -64,7 +65,8 @@ touched_changes (OwnOnce i) = λ args key e. cc
 pub with_formed : (ks : List ℕ) (t s : Amounts) → IsAmounts s → IsAmounts (with_touched ks t s)
 with_formed [] t s is = is
 with_formed (k ∷ ks) t s is =
-    with_formed ks t (with_amount s k (amount_of t k)) (IsAmounts-with_amount s k (amount_of t k) is)
+    with_formed ks t (with_amount s k (amount_of t k))
+    (IsAmounts-with_amount s k (amount_of t k) is)
 
 -- one key with its amount in other amounts, which another key hasn't changed
 key_amount : (k : ℕ) (t s : Amounts) (q : ℕ)
@@ -95,7 +97,8 @@ with_amounts (k ∷ ks) t s q =
     by_tests false b = refl
 
 -- the next state is the one before with the touched keys' amounts
-pub touched_makes : (method : Method) (args : Args) (reply : ℕ) (s t : Amounts) → IsAmounts s → next_state method args reply s ≡ Some t
+pub touched_makes : (method : Method) (args : Args) (reply : ℕ) (s t : Amounts) → IsAmounts s
+    → next_state method args reply s ≡ Some t
     → with_touched (touched_by method args) t s ≡ t
 touched_makes method args reply s t is e =
     same_amounts (with_touched keys t s) t (with_formed keys t s is)

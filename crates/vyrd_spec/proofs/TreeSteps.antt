@@ -1,5 +1,6 @@
 -- The steps of the tree.
-use Rattle.std.proofs.Common.{◌≡◌, ℕ, ◌+◌, ◌-◌, ◌^◌, ◌<◌, ◌≤◌, true, false, cond, not, [], Some, refl, ap, arith}
+use Rattle.std.proofs.Common.{◌≡◌, ℕ, ◌+◌, ◌-◌, ◌^◌, ◌<◌, ◌≤◌, true, false, cond, not, [], Some}
+use Rattle.std.proofs.Common.{refl, ap, arith}
 use Rattle.std.specs.Prelude.{◌==◌}
 use Rattle.std.specs.Bool.{then_some}
 use Rattle.vyrd_base.specs.declared.tree.TreeMethod.{TreeMethod}
@@ -11,20 +12,25 @@ use Rattle.vyrd_base.proofs.AmountLaws.{IsAmounts-with_amount, no_amounts}
 use Rattle.vyrd_spec.specs.Bounds.{AllAmounts}
 use Rattle.vyrd_spec.specs.Touching.{is_touched, CanChange}
 use Rattle.vyrd_spec.specs.Touching.Tree.{touches}
-use Rattle.vyrd_spec.proofs.StepLaws.{StepsWell, Stays, by_replies, where_allowed, other_key, or_false}
-use Rattle.vyrd_spec.proofs.StepLaws.{of_first, set_amount, lone, lone_amount, lone_formed, lone_present}
+use Rattle.vyrd_spec.proofs.StepLaws.{StepsWell, Stays, by_replies, where_allowed, other_key}
+use Rattle.vyrd_spec.proofs.StepLaws.{or_false}
+use Rattle.vyrd_spec.proofs.StepLaws.{of_first, set_amount, lone, lone_amount, lone_formed}
+use Rattle.vyrd_spec.proofs.StepLaws.{lone_present}
 use Rattle.vyrd_spec.proofs.StepLaws.{AllAmounts-with_amount}
 
 -- a step leaves amounts
 formed : (method : TreeMethod) (args : Args) (reply : ℕ) (s t : Amounts) → IsAmounts s
     → tree.next method args reply s ≡ Some t → IsAmounts t
 formed Insert args reply s t is =
-    let set : IsAmounts (with_amount s args.a (2 ^ 32 + args.b)) = IsAmounts-with_amount s args.a (2 ^ 32 + args.b) is in
-    by_replies IsAmounts reply _ _ _ t is (where_allowed IsAmounts (not (is_present s args.a)) _ set)
+    let set : IsAmounts (with_amount s args.a (2 ^ 32 + args.b)) = IsAmounts-with_amount s args.a
+    (2 ^ 32 + args.b) is in
+    by_replies IsAmounts reply _ _ _ t is
+    (where_allowed IsAmounts (not (is_present s args.a)) _ set)
     (where_allowed IsAmounts (is_present s args.a) _ set)
 formed Delete args reply s t is =
     by_replies IsAmounts reply _ _ _ t (where_allowed IsAmounts (not (is_present s args.a)) s is)
-    (where_allowed IsAmounts (is_present s args.a) (with_amount s args.a 0) (IsAmounts-with_amount s args.a 0 is)) tt
+    (where_allowed IsAmounts (is_present s args.a) (with_amount s args.a 0)
+    (IsAmounts-with_amount s args.a 0 is)) tt
 formed Lookup args reply s t is = λ e. cc
 
 -- and the keys that it doesn't touch
@@ -33,21 +39,27 @@ untouched : (method : TreeMethod) (args : Args) (reply key : ℕ) (s t : Amounts
     → amount_of t key ≡ amount_of s key
 untouched Insert args reply q s t e none =
     let set = other_key s args.a (2 ^ 32 + args.b) q (or_false _ none) in
-    by_replies (Stays s q) reply _ _ _ t refl (where_allowed (Stays s q) (not (is_present s args.a)) _ set) (where_allowed (Stays s q) (is_present s args.a) _ set) e
+    by_replies (Stays s q) reply _ _ _ t refl
+    (where_allowed (Stays s q) (not (is_present s args.a)) _ set)
+    (where_allowed (Stays s q) (is_present s args.a) _ set) e
 untouched Delete args reply q s t e none =
-    by_replies (Stays s q) reply _ _ _ t (where_allowed (Stays s q) (not (is_present s args.a)) s refl)
-    (where_allowed (Stays s q) (is_present s args.a) (with_amount s args.a 0) (other_key s args.a 0 q (or_false _ none))) tt e
+    by_replies (Stays s q) reply _ _ _ t
+    (where_allowed (Stays s q) (not (is_present s args.a)) s refl)
+    (where_allowed (Stays s q) (is_present s args.a) (with_amount s args.a 0)
+    (other_key s args.a 0 q (or_false _ none))) tt e
 untouched Lookup args reply q s t e none = cc
 
 -- an answer is by the amount of its key
-answers : (s t : Amounts) (method : TreeMethod) (args : Args) → amount_of t args.a ≡ amount_of s args.a
+answers : (s t : Amounts) (method : TreeMethod) (args : Args) → amount_of t args.a
+    ≡ amount_of s args.a
     → tree.answer t method args ≡ tree.answer s method args
 answers s t Lookup args same = ap (λ n. cond (not (n == 0)) (n - 2 ^ 32 + 1) 0) same
 answers s t Insert args same = refl
 answers s t Delete args same = refl
 
 -- each key that a call touches is changed by a step with that call
-changes : (method : TreeMethod) (args : Args) (key : ℕ) → is_touched (touches method args) key ≡ true
+changes : (method : TreeMethod) (args : Args) (key : ℕ) → is_touched (touches method args) key
+    ≡ true
     → CanChange (tree.next method args) key
 changes Insert args key e = record {
   reply = 1;
@@ -55,7 +67,8 @@ changes Insert args key e = record {
   after = with_amount [] args.a (2 ^ 32 + args.b);
   formed = no_amounts;
   allowed = refl;
-  changed = λ same. absurd (let set = set_amount [] args.a (2 ^ 32 + args.b) key (of_first _ e) in omega (arith, set, same));
+  changed = λ same. absurd (let set = set_amount [] args.a (2 ^ 32 + args.b) key (of_first _ e) in
+      omega (arith, set, same));
 }
 changes Delete args key e = record {
   reply = 1;
@@ -63,7 +76,14 @@ changes Delete args key e = record {
   after = with_amount (lone args.a) args.a 0;
   formed = lone_formed args.a;
   allowed = ap (λ b. then_some b (with_amount (lone args.a) args.a 0)) (lone_present args.a);
-  changed = λ same. absurd (omega (arith, set_amount (lone args.a) args.a 0 key (of_first _ e), lone_amount args.a key (of_first _ e), same));
+  changed = λ same. absurd
+      (omega (
+        arith,
+        set_amount (lone args.a) args.a 0 key (of_first _ e),
+        lone_amount args.a key
+            (of_first _ e),
+        same,
+      ));
 }
 changes Lookup args key e = cc
 
@@ -76,16 +96,20 @@ AreValues s = AllAmounts (λ key amount. (key < 2 ^ 32) × (2 ^ 32 ≤ amount) �
 
 -- a step of the tree keeps the values in range
 pub values_after : (method : TreeMethod) (args : Args) (reply : ℕ) (s t : Amounts)
-    → args.a < 2 ^ 32 → args.b < 2 ^ 32 → AreValues s → tree.next method args reply s ≡ Some t → AreValues t
+    → args.a < 2 ^ 32 → args.b < 2 ^ 32 → AreValues s → tree.next method args reply s ≡ Some t
+    → AreValues t
 values_after Insert args reply s t low low_b all =
     let set : AreValues (with_amount s args.a (2 ^ 32 + args.b)) =
-    AllAmounts-with_amount (λ key amount. (key < 2 ^ 32) × (2 ^ 32 ≤ amount) × (amount < 2 ^ 64)) s args.a (2 ^ 32 + args.b) all
+    AllAmounts-with_amount (λ key amount. (key < 2 ^ 32) × (2 ^ 32 ≤ amount) × (amount < 2 ^ 64)) s
+    args.a (2 ^ 32 + args.b) all
     (λ some. (low, omega arith, omega arith)) in
-    by_replies AreValues reply _ _ _ t all (where_allowed AreValues (not (is_present s args.a)) _ set)
+    by_replies AreValues reply _ _ _ t all
+    (where_allowed AreValues (not (is_present s args.a)) _ set)
     (where_allowed AreValues (is_present s args.a) _ set)
 values_after Delete args reply s t low low_b all =
     let gone : AreValues (with_amount s args.a 0) =
-    AllAmounts-with_amount (λ key amount. (key < 2 ^ 32) × (2 ^ 32 ≤ amount) × (amount < 2 ^ 64)) s args.a 0 all (λ some. absurd (some refl)) in
+    AllAmounts-with_amount (λ key amount. (key < 2 ^ 32) × (2 ^ 32 ≤ amount) × (amount < 2 ^ 64)) s
+    args.a 0 all (λ some. absurd (some refl)) in
     by_replies AreValues reply _ _ _ t (where_allowed AreValues (not (is_present s args.a)) s all)
     (where_allowed AreValues (is_present s args.a) _ gone) tt
 values_after Lookup args reply s t low low_b all = λ e. cc

@@ -1,5 +1,6 @@
 -- What it says of words that they are a tree's, and what of each of its nodes.
-use Rattle.std.proofs.Common.{◌≡◌, ◌≢◌, ℕ, ◌+◌, ◌<◌, ◌≤◌, Bool, true, false, not, ◌&&◌, ◌||◌, List, Some, refl, ap, ◌∙◌, sym, arith}
+use Rattle.std.proofs.Common.{◌≡◌, ◌≢◌, ℕ, ◌+◌, ◌<◌, ◌≤◌, Bool, true, false, not, ◌&&◌, ◌||◌, List}
+use Rattle.std.proofs.Common.{Some, refl, ap, ◌∙◌, sym, arith}
 use Rattle.std.specs.Prelude.{◌==◌, nat_lt, nat_le, count_by}
 use Rattle.std.specs.Option.{option_map_or}
 use Rattle.std.specs.List.{list_all}
@@ -9,7 +10,8 @@ use Rattle.vyrd_base.specs.Tree.{root_of, last_of, nodes, leads_to, left_of, is_
 use Rattle.vyrd_base.specs.Tree.{is_linked, is_bounded, has_sound_keys, keys_at, begins_with}
 use Rattle.vyrd_base.specs.Tree.{is_leaf_entry, is_child_entry, has_sound_entries, is_only_first}
 use Rattle.vyrd_base.specs.Tree.{is_sound_node, is_tree}
-use Rattle.vyrd_base.proofs.TestLaws.{first_true, second_true, at_most_of, below_of, is_below, is_at_most, is_same, isnt_same, same_of}
+use Rattle.vyrd_base.proofs.TestLaws.{first_true, second_true, at_most_of, below_of, is_below}
+use Rattle.vyrd_base.proofs.TestLaws.{is_at_most, is_same, isnt_same, same_of}
 use Rattle.vyrd_spec.specs.Neighbours.{have_one_left}
 use Rattle.vyrd_spec.specs.NodeKeys.{is_sound_below}
 use Rattle.vyrd_spec.proofs.RowLaws.{all_pass, each_passes, only_found}
@@ -22,7 +24,8 @@ pub record IsSoundNode (last : ℕ) (words : List ℕ) (n : ℕ) : Type 0 where
   pub entries : has_sound_entries last words n ≡ true
   pub only : is_only_first last words n ≡ true
 
-five : (a b c d e : Bool) → (a && b && c && d && e) ≡ true → (a ≡ true) × (b ≡ true) × (c ≡ true) × (d ≡ true) × (e ≡ true)
+five : (a b c d e : Bool) → (a && b && c && d && e) ≡ true → (a ≡ true) × (b ≡ true) × (c ≡ true)
+    × (d ≡ true) × (e ≡ true)
 five true true true true true x = (refl, refl, refl, refl, refl)
 five true true true true false x = cc
 five true true true false e x = cc
@@ -30,20 +33,25 @@ five true true false d e x = cc
 five true false c d e x = cc
 five false b c d e x = cc
 
-sound_node : (last : ℕ) (words : List ℕ) (n : ℕ) → is_sound_node last words n ≡ true → IsSoundNode last words n
+sound_node : (last : ℕ) (words : List ℕ) (n : ℕ) → is_sound_node last words n ≡ true
+    → IsSoundNode last words n
 sound_node last words n sound =
-    let all = five (is_linked last words n) (is_bounded last words n) (has_sound_keys last words n) (has_sound_entries last words n)
+    let all = five (is_linked last words n) (is_bounded last words n) (has_sound_keys last words n)
+    (has_sound_entries last words n)
     (is_only_first last words n) sound in
     record { linked = all.0; bounded = all.1; keys = all.2; entries = all.3; only = all.4 }
 
 -- what is left to test of a tree, once its numbers of nodes are in range
 abbrev pub are_nodes : ℕ → List ℕ → ℕ → Bool
-are_nodes last words root = level_of words 0 == 0 && is_first last words root && list_all (is_sound_below last words (level_of words root)) (nodes last)
+are_nodes last words root = level_of words 0 == 0 && is_first last words root
+    && list_all (is_sound_below last words (level_of words root)) (nodes last)
 
-pub tree_is : (size : ℕ) (words : List ℕ) → last_of size words < size → root_of size words ≤ last_of size words
+pub tree_is : (size : ℕ) (words : List ℕ) → last_of size words < size → root_of size words
+    ≤ last_of size words
     → is_tree size words ≡ are_nodes (last_of size words) words (root_of size words)
 tree_is size words low within =
-    ap (λ b. b && nat_le (root_of size words) last && level_of words 0 == 0 && is_first last words (root_of size words) && all)
+    ap (λ b. b && nat_le (root_of size words) last && level_of words 0 == 0 && is_first last words
+    (root_of size words) && all)
     (is_below last size low)
     ∙ ap (λ b. b && level_of words 0 == 0 && is_first last words (root_of size words) && all)
     (is_at_most (root_of size words) last within)
@@ -55,17 +63,22 @@ tree_is size words low within =
     all = list_all (is_sound_below last words (level_of words (root_of size words))) (nodes last)
 
 -- each node of sound nodes
-each_sound : (last : ℕ) (words : List ℕ) (highest n : ℕ) → list_all (is_sound_below last words highest) (nodes last) ≡ true → n ≤ last
+each_sound : (last : ℕ) (words : List ℕ) (highest n : ℕ)
+    → list_all (is_sound_below last words highest) (nodes last) ≡ true → n ≤ last
     → IsSoundNode last words n
 each_sound last words highest n all low =
-    sound_node last words n (second_true (nat_le (level_of words n) highest) (is_sound_node last words n)
+    sound_node last words n
+    (second_true (nat_le (level_of words n) highest) (is_sound_node last words n)
     (each_passes (is_sound_below last words highest) (last + 1) n all (omega (arith, low))))
 
-one_link : (last : ℕ) (words : List ℕ) (n : ℕ) → IsSoundNode last words n → nat_le (count_by (leads_to words n) (nodes last)) 1 ≡ true
-one_link last words n node = first_true (nat_le (count_by (leads_to words n) (nodes last)) 1) _ node.linked
+one_link : (last : ℕ) (words : List ℕ) (n : ℕ) → IsSoundNode last words n
+    → nat_le (count_by (leads_to words n) (nodes last)) 1 ≡ true
+one_link last words n node = first_true (nat_le (count_by (leads_to words n) (nodes last)) 1) _
+    node.linked
 
 -- two links that lead to one node aren't a tree's
-pub two_links : (size : ℕ) (words : List ℕ) → last_of size words < size → root_of size words ≤ last_of size words
+pub two_links : (size : ℕ) (words : List ℕ) → last_of size words < size → root_of size words
+    ≤ last_of size words
     → have_one_left (last_of size words) words ≡ false → false ≡ is_tree size words
 two_links size words low within twice = sym (tree_is size words low within ∙ by_all all refl)
   where
@@ -75,11 +88,13 @@ two_links size words low within twice = sym (tree_is size words low within ∙ b
     all : Bool
     all = list_all (is_sound_below last words (level_of words (root_of size words))) (nodes last)
 
-    by_all : (b : Bool) → all ≡ b → (level_of words 0 == 0 && is_first last words (root_of size words) && all) ≡ false
+    by_all : (b : Bool) → all ≡ b
+        → (level_of words 0 == 0 && is_first last words (root_of size words) && all) ≡ false
     by_all true e =
         let one : have_one_left last words ≡ true =
         all_pass (λ q. nat_le (count_by (leads_to words q) (nodes last)) 1) (last + 1)
-        (λ q below. one_link last words q (each_sound last words (level_of words (root_of size words)) q e (omega (arith, below)))) in
+        (λ q below. one_link last words q
+        (each_sound last words (level_of words (root_of size words)) q e (omega (arith, below)))) in
         let no : false ≡ true = sym twice ∙ one in cc
     by_all false e =
         ap (λ b. level_of words 0 == 0 && is_first last words (root_of size words) && b) e
@@ -101,13 +116,18 @@ tree_of size words tree = record {
     last : ℕ
     last = last_of size words
 
-    all : (nat_lt last size ≡ true) × (nat_le (root_of size words) last ≡ true) × ((level_of words 0 == 0) ≡ true)
+    all : (nat_lt last size ≡ true) × (nat_le (root_of size words) last ≡ true)
+        × ((level_of words 0 == 0) ≡ true)
         × (is_first last words (root_of size words) ≡ true)
-        × (list_all (is_sound_below last words (level_of words (root_of size words))) (nodes last) ≡ true)
-    all = five (nat_lt last size) (nat_le (root_of size words) last) (level_of words 0 == 0) (is_first last words (root_of size words))
-        (list_all (is_sound_below last words (level_of words (root_of size words))) (nodes last)) tree
+        × (list_all (is_sound_below last words (level_of words (root_of size words))) (nodes last)
+        ≡ true)
+    all = five (nat_lt last size) (nat_le (root_of size words) last) (level_of words 0 == 0)
+        (is_first last words (root_of size words))
+        (list_all (is_sound_below last words (level_of words (root_of size words))) (nodes last))
+        tree
 
--- a right link leads to a node in use of the same level, which begins where this one ends, above this one's low
+-- a right link leads to a node in use of the same level, which begins where this one ends, above
+-- this one's low
 pub record LeadsOn (last : ℕ) (words : List ℕ) (n : ℕ) : Type 0 where
   pub in_use : right_of words n ≤ last
   pub same_level : level_of words (right_of words n) ≡ level_of words n
@@ -118,13 +138,16 @@ or_second : (a b : Bool) → (a || b) ≡ true → a ≡ false → b ≡ true
 or_second true b e f = let no : true ≡ false = f in cc
 or_second false b e f = e
 
-pub leads_on : (size : ℕ) (words : List ℕ) (n : ℕ) → IsTreeOf size words → n ≤ last_of size words → right_of words n ≢ 0
+pub leads_on : (size : ℕ) (words : List ℕ) (n : ℕ) → IsTreeOf size words → n ≤ last_of size words
+    → right_of words n ≢ 0
     → LeadsOn (last_of size words) words n
 leads_on size words n tree low on = record {
   in_use = in_use;
-  same_level = same_of (level_of words right) (level_of words n) (second_true (nat_le right last) (level_of words right == level_of words n) linked);
+  same_level = same_of (level_of words right) (level_of words n)
+      (second_true (nat_le right last) (level_of words right == level_of words n) linked);
   begins = ap (λ o. option_map_or (bound_of words) o 0) left;
-  above = below_of (low_of last words n) (bound_of words n) (second_true (not (right == 0)) (nat_lt (low_of last words n) (bound_of words n)) bounded);
+  above = below_of (low_of last words n) (bound_of words n)
+      (second_true (not (right == 0)) (nat_lt (low_of last words n) (bound_of words n)) bounded);
 }
   where
     last : ℕ
@@ -138,26 +161,34 @@ leads_on size words n tree low on = record {
 
     linked : (nat_le right last && level_of words right == level_of words n) ≡ true
     linked = or_second (right == 0) (nat_le right last && level_of words right == level_of words n)
-        (second_true (nat_le (count_by (leads_to words n) (nodes last)) 1) _ (tree.sound n low).linked) away
+        (second_true (nat_le (count_by (leads_to words n) (nodes last)) 1) _
+        (tree.sound n low).linked) away
 
     in_use : right ≤ last
-    in_use = at_most_of right last (first_true (nat_le right last) (level_of words right == level_of words n) linked)
+    in_use = at_most_of right last
+        (first_true (nat_le right last) (level_of words right == level_of words n) linked)
 
     bounded : (not (right == 0) && nat_lt (low_of last words n) (bound_of words n)) ≡ true
-    bounded = or_second (bound_of words n == 0 && right == 0) (not (right == 0) && nat_lt (low_of last words n) (bound_of words n))
-        (tree.sound n low).bounded (ap (λ b. bound_of words n == 0 && b) away ∙ and-false (bound_of words n == 0))
+    bounded = or_second (bound_of words n == 0 && right == 0)
+        (not (right == 0) && nat_lt (low_of last words n) (bound_of words n))
+        (tree.sound n low).bounded (ap (λ b. bound_of words n == 0 && b) away
+        ∙ and-false (bound_of words n == 0))
 
     left : left_of last words right ≡ Some n
     left = only_found (leads_to words right) (last + 1) n
-        (at_most_of (count_by (leads_to words right) (nodes last)) 1 (one_link last words right (tree.sound right in_use)))
-        (omega (arith, low)) (ap (λ b. b && not (right == 0)) (is_same right right refl) ∙ ap not away)
+        (at_most_of (count_by (leads_to words right) (nodes last)) 1
+        (one_link last words right (tree.sound right in_use)))
+        (omega (arith, low)) (ap (λ b. b && not (right == 0)) (is_same right right refl)
+        ∙ ap not away)
 
 -- the entries of a leaf
-pub leaf_entries : (size : ℕ) (words : List ℕ) (n : ℕ) → IsTreeOf size words → n ≤ last_of size words → level_of words n ≡ 0
+pub leaf_entries : (size : ℕ) (words : List ℕ) (n : ℕ) → IsTreeOf size words
+    → n ≤ last_of size words → level_of words n ≡ 0
     → list_all is_leaf_entry (entries_of words n) ≡ true
 leaf_entries size words n tree low leaf =
     second_true (level_of words n == 0) (list_all is_leaf_entry (entries_of words n))
-    (or_first (level_of words n == 0 && list_all is_leaf_entry (entries_of words n)) _ (tree.sound n low).entries inner)
+    (or_first (level_of words n == 0 && list_all is_leaf_entry (entries_of words n)) _
+    (tree.sound n low).entries inner)
   where
     last : ℕ
     last = last_of size words
@@ -166,7 +197,9 @@ leaf_entries size words n tree low leaf =
     or_first true b e f = refl
     or_first false b e f = let no : false ≡ true = sym f ∙ e in cc
 
-    inner : (nat_lt 0 (level_of words n) && nat_le 2 (count_of words n) && begins_with (low_of last words n) (keys_at words n)
+    inner : (nat_lt 0 (level_of words n) && nat_le 2 (count_of words n)
+        && begins_with (low_of last words n) (keys_at words n)
         && list_all (is_child_entry last words (level_of words n)) (entries_of words n)) ≡ false
-    inner = ap (λ level. nat_lt 0 level && nat_le 2 (count_of words n) && begins_with (low_of last words n) (keys_at words n)
+    inner = ap (λ level. nat_lt 0 level && nat_le 2 (count_of words n)
+        && begins_with (low_of last words n) (keys_at words n)
         && list_all (is_child_entry last words (level_of words n)) (entries_of words n)) leaf

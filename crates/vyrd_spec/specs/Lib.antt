@@ -1,4 +1,5 @@
 pub mod Bounds
+pub mod Shown
 pub mod Touching
 pub mod Rows
 pub mod Chunks

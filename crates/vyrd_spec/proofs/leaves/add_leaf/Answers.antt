@@ -20,7 +20,8 @@ add_entry-requires c =
       few = omega (
         arith,
         ap (λ s. amount_of s key) c.loop-place.invariant
-            ∙ amount_of-added (flat_map (place_parts words leaf) (numbers_below place)) c.args.values.now key,
+            ∙ amount_of-added (flat_map (place_parts words leaf) (numbers_below place))
+            c.args.values.now key,
         places_at_most words leaf place key,
         c.requires.few key,
       );
@@ -29,12 +30,16 @@ add_entry-requires c =
 pub loop-place-preserved : goal.loop-place-preserved
 loop-place-preserved c =
     let words = c.args.words.now in
-    added-push (place_parts words c.args.leaf) c.loop-place.place c.args.values.now c.loop-place.values c.add_entry.new.values c.loop-place.invariant
-    (c.in_ok-add_entry.ensures ∙ ap (added c.loop-place.values) (place_is words c.args.leaf c.loop-place.place))
+    added-push (place_parts words c.args.leaf) c.loop-place.place c.args.values.now
+    c.loop-place.values c.add_entry.new.values c.loop-place.invariant
+    (c.in_ok-add_entry.ensures ∙ ap (added c.loop-place.values)
+    (place_is words c.args.leaf c.loop-place.place))
 
 pub returns : goal.returns
 returns c =
     let words = c.args.words.now in
     let all : c.loop-place.place ≡ min (count_of words c.args.leaf) 4 = omega arith in
-    c.loop-place.invariant ∙ ap (λ m. added c.args.values.now (flat_map (place_parts words c.args.leaf) (numbers_below m))) all
+    c.loop-place.invariant
+    ∙ ap (λ m. added c.args.values.now (flat_map (place_parts words c.args.leaf) (numbers_below m)))
+    all
     ∙ sym (ap (added c.args.values.now) (node_parts-places words c.args.leaf))

@@ -5,8 +5,15 @@ use Rattle.vyrd_spec.proofs.multiset.add_both.Goals as goal
 
 pub add-requires-2 : goal.add-requires-2
 add-requires-2 c =
-    let at : amount_of c.add.new.self c.args.second ≡ _ = ap (λ s. amount_of s c.args.second) c.in_ok-add.ensures.ok in
-    omega (arith, at, one_more_at_most c.args.counts.now c.args.first c.args.second, c.requires.few c.args.second)
+    let at : amount_of c.add.new.self c.args.second ≡ _ = ap (λ s. amount_of s c.args.second)
+    c.in_ok-add.ensures.ok in
+    omega (
+      arith,
+      at,
+      one_more_at_most c.args.counts.now c.args.first c.args.second,
+      c.requires.few
+          c.args.second,
+    )
 
 pub take_one-requires : goal.take_one-requires
 take_one-requires c = λ none.
@@ -16,5 +23,6 @@ take_one-requires c = λ none.
 
 pub returns-in-Err-clause-err : goal.returns-in-Err-clause-err
 returns-in-Err-clause-err c =
-    c.take_one.ensures ∙ ap (λ s. with_amount s c.args.first (amount_of s c.args.first - 1)) (c.in-Err.ensures.err ∙ c.in_ok-add.ensures.ok)
+    c.take_one.ensures ∙ ap (λ s. with_amount s c.args.first (amount_of s c.args.first - 1))
+    (c.in-Err.ensures.err ∙ c.in_ok-add.ensures.ok)
     ∙ one_back c.args.counts.now c.args.first c.add.ensures.formed

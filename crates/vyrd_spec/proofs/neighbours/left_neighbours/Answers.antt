@@ -16,15 +16,18 @@ pub returns-then-not-put_left : goal.returns-then-not-put_left
 returns-then-not-put_left c =
     let words = c.args.words.now in
     told_twice c.args.last words c.loop-node.node c.loop-node.lefts.items c.loop-node-test.true
-    (is_not (has_left c.loop-node.lefts.items (right_of words c.loop-node.node)) c.put_left.result c.put_left.ensures.free c.if-not-put_left.true)
+    (is_not (has_left c.loop-node.lefts.items (right_of words c.loop-node.node)) c.put_left.result
+    c.put_left.ensures.free c.if-not-put_left.true)
     c.loop-node.invariant
 
 pub loop-node-preserved : goal.loop-node-preserved
 loop-node-preserved c =
     let words = c.args.words.now in
     told_more c.args.last words c.loop-node.node c.loop-node.lefts.items c.put_left.new.lefts.items
-    (isnt_not (has_left c.loop-node.lefts.items (right_of words c.loop-node.node)) c.put_left.result c.put_left.ensures.free c.if-not-put_left.false)
+    (isnt_not (has_left c.loop-node.lefts.items (right_of words c.loop-node.node)) c.put_left.result
+    c.put_left.ensures.free c.if-not-put_left.false)
     (c.put_left.ensures.put c.if-not-put_left.false) c.loop-node.invariant
 
 pub returns : goal.returns
-returns c = told_all c.args.last c.args.words.now c.loop-node.node c.loop-node.lefts.items (omega arith) c.loop-node.invariant
+returns c = told_all c.args.last c.args.words.now c.loop-node.node c.loop-node.lefts.items
+    (omega arith) c.loop-node.invariant

@@ -9,12 +9,15 @@ loop-key-preserved c = elim c.if-row-key-ne0.branch [
       let row = c.args.row.now in
       let n = c.loop-key.key in
       subst (HasBelow row (n + 1)) (sym (w.view-is ∙ w.in_ok-push.ensures.ok))
-      (has_pushed row n (get_or row n 0) c.loop-key.view refl w.if-row-key-ne0.true c.loop-key.invariant)
+      (has_pushed row n (get_or row n 0) c.loop-key.view refl w.if-row-key-ne0.true
+      c.loop-key.invariant)
   | else-row-key-ne0 w ↦
       let row = c.args.row.now in
       let n = c.loop-key.key in
-      subst (HasBelow row (n + 1)) (sym w.view-is) (has_skipped row n c.loop-key.view w.if-row-key-ne0.false c.loop-key.invariant)
+      subst (HasBelow row (n + 1)) (sym w.view-is)
+      (has_skipped row n c.loop-key.view w.if-row-key-ne0.false c.loop-key.invariant)
 ]
 
 pub returns : goal.returns
-returns c = has_all c.args.row.now c.loop-key.key c.loop-key.view c.loop-key-test.false c.loop-key.invariant
+returns c = has_all c.args.row.now c.loop-key.key c.loop-key.view c.loop-key-test.false
+    c.loop-key.invariant

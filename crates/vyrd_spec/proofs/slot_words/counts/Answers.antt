@@ -8,8 +8,15 @@ use Rattle.vyrd_spec.proofs.slot_words.counts.Goals as goal
 pub add_slot-requires : goal.add_slot-requires
 add_slot-requires c =
     let value = get_or c.args.words.now (2 * c.loop-slot.slot + 1) 0 in
-    omega (arith, ap (λ s. amount_of s value) c.loop-slot.invariant, slots_at_most c.args.words.now c.loop-slot.slot value, c.requires.few)
+    omega (
+      arith,
+      ap (λ s. amount_of s value) c.loop-slot.invariant,
+      slots_at_most c.args.words.now
+          c.loop-slot.slot value,
+      c.requires.few,
+    )
 
 pub loop-slot-preserved : goal.loop-slot-preserved
 loop-slot-preserved c = collected-push
-    (slot_parts c.args.words.now) c.loop-slot.slot c.loop-slot.counts c.add_slot.new.counts c.loop-slot.invariant c.in_ok-add_slot.ensures
+    (slot_parts c.args.words.now) c.loop-slot.slot c.loop-slot.counts c.add_slot.new.counts
+    c.loop-slot.invariant c.in_ok-add_slot.ensures

@@ -9,4 +9,5 @@ overflow_add-length c = omega (arith, powers_at_most c.loop-n.n c.args.text)
 pub returns-clause-length : goal.returns-clause-length
 unfolding text_length
 returns-clause-length c =
-    let all : c.loop-n.n ≡ 7 = omega arith in c.loop-n.invariant ∙ ap (λ n. powers_within n c.args.text) all
+    let all : c.loop-n.n ≡ 7 = omega arith in c.loop-n.invariant
+    ∙ ap (λ n. powers_within n c.args.text) all

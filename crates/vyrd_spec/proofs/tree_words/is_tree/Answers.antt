@@ -15,5 +15,6 @@ returns-in-Some c =
 pub returns-in-None : goal.returns-in-None
 returns-in-None c =
     let words = c.args.words.now in
-    let twice : have_one_left (last_of c.args.size words) words ≡ false = rw c.in-None.is at c.in_ok-nodes.ensures in
+    let twice : have_one_left (last_of c.args.size words) words
+    ≡ false = rw c.in-None.is at c.in_ok-nodes.ensures in
     two_links c.args.size words c.if-last-size.false c.if-root-last.false twice

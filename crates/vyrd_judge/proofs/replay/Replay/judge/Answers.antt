@@ -7,7 +7,7 @@ use Rattle.vyrd_judge.proofs.JudgingLaws.{commits_may, commits_mutates, returns_
 use Rattle.vyrd_judge.proofs.JudgingLaws.{judged_current, judged_begins, watch_there}
 use Rattle.vyrd_judge.proofs.JudgingLaws.{judged_answered, judged_unanswered, judged_commits}
 use Rattle.vyrd_judge.proofs.JudgingLaws.{commit_splits}
-use Rattle.vyrd_judge.proofs.ShownLaws.{formed_rules}
+use Rattle.vyrd_spec.proofs.ShownLaws.{formed_rules}
 use Rattle.vyrd_judge.proofs.replay.Replay.judge.Goals as goal
 
 pub begin-requires-clause-caller : goal.begin-requires-clause-caller

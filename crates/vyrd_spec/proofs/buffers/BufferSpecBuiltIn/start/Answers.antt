@@ -10,4 +10,5 @@ invariant_of-result-clause-small c = λ key some. absurd (some (ap (λ s. amount
     (ap row_amounts c.in_ok-empty_row.ensures ∙ nothing_in_row c.size.result)))
 
 pub returns-clause-state : goal.returns-clause-state
-returns-clause-state c = ap showing (ap row_amounts c.in_ok-empty_row.ensures ∙ nothing_in_row c.size.result)
+returns-clause-state c = ap showing (ap row_amounts c.in_ok-empty_row.ensures
+    ∙ nothing_in_row c.size.result)

@@ -22,7 +22,8 @@ invariant_of-result c =
       subject = c.requires.serves;
       few = search rules;
       count = many_in (is_buffer_at words) (text_shown words) size texts some ∙ c.size.ensures;
-      small = first_row (is_buffer_at words) (text_shown words) (256 ^ 7) (small_text words) size texts
+      small = first_row (is_buffer_at words) (text_shown words) (256 ^ 7) (small_text words) size
+          texts
           (few_parts c.args.header size c.size.ensures (ap is_built_in c.requires.serves)) some;
     }
 
@@ -33,8 +34,10 @@ returns-in-Some-clause-state c =
     let texts = c.in-Some.texts.items in
     let some : sound_texts size words ≡ Some texts = rw c.in-Some.is at c.in_ok-texts.ensures in
     a_state c.args.header Buffers words (row_amounts texts) c.requires.serves c.requires.count
-    (ap (λ n. is_sound Buffers n words) (sym c.size.ensures) ∙ sound_where (is_buffer_at words) (text_shown words) size texts some)
-    (row_shows (is_buffer_at words) (text_shown words) (λ b. buffer_parts size b (buffer_at words b)) (given_text size words) size texts some
+    (ap (λ n. is_sound Buffers n words) (sym c.size.ensures) ∙ sound_where (is_buffer_at words)
+    (text_shown words) size texts some)
+    (row_shows (is_buffer_at words) (text_shown words)
+    (λ b. buffer_parts size b (buffer_at words b)) (given_text size words) size texts some
     ∙ ap (λ n. collected (parts_of Buffers n words)) c.size.ensures)
 
 pub returns-in-None-clause-state : goal.returns-in-None-clause-state
@@ -42,4 +45,5 @@ returns-in-None-clause-state c =
     let words = c.args.words.now in
     let none : sound_texts c.size.result words ≡ None = rw c.in-None.is at c.in_ok-texts.ensures in
     no_state c.args.header Buffers words c.requires.serves c.requires.count
-    (ap (λ n. is_sound Buffers n words) (sym c.size.ensures) ∙ unsound_where (is_buffer_at words) (text_shown words) c.size.result none)
+    (ap (λ n. is_sound Buffers n words) (sym c.size.ensures) ∙ unsound_where (is_buffer_at words)
+    (text_shown words) c.size.result none)

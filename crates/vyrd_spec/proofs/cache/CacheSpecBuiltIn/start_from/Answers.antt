@@ -22,7 +22,8 @@ invariant_of-result c =
       subject = c.requires.serves;
       few = search rules;
       count = many_in (is_sound_at words) (pair_shown words) size pairs some ∙ c.size.ensures;
-      small = first_row (is_sound_at words) (pair_shown words) (2 ^ 64) (small_pair words) size pairs
+      small = first_row (is_sound_at words) (pair_shown words) (2 ^ 64) (small_pair words) size
+          pairs
           (few_parts c.args.header size c.size.ensures (ap is_built_in c.requires.serves)) some;
     }
 
@@ -33,8 +34,10 @@ returns-in-Some-clause-state c =
     let pairs = c.in-Some.pairs.items in
     let some : sound_pairs size words ≡ Some pairs = rw c.in-Some.is at c.in_ok-pairs.ensures in
     a_state c.args.header Cache words (row_amounts pairs) c.requires.serves c.requires.count
-    (ap (λ n. is_sound Cache n words) (sym c.size.ensures) ∙ sound_where (is_sound_at words) (pair_shown words) size pairs some)
-    (row_shows (is_sound_at words) (pair_shown words) (λ h. chunk_parts size h (chunk_at words h)) (given_pair size words) size pairs some
+    (ap (λ n. is_sound Cache n words) (sym c.size.ensures) ∙ sound_where (is_sound_at words)
+    (pair_shown words) size pairs some)
+    (row_shows (is_sound_at words) (pair_shown words) (λ h. chunk_parts size h (chunk_at words h))
+    (given_pair size words) size pairs some
     ∙ ap (λ n. collected (parts_of Cache n words)) c.size.ensures)
 
 pub returns-in-None-clause-state : goal.returns-in-None-clause-state
@@ -42,4 +45,5 @@ returns-in-None-clause-state c =
     let words = c.args.words.now in
     let none : sound_pairs c.size.result words ≡ None = rw c.in-None.is at c.in_ok-pairs.ensures in
     no_state c.args.header Cache words c.requires.serves c.requires.count
-    (ap (λ n. is_sound Cache n words) (sym c.size.ensures) ∙ unsound_where (is_sound_at words) (pair_shown words) c.size.result none)
+    (ap (λ n. is_sound Cache n words) (sym c.size.ensures) ∙ unsound_where (is_sound_at words)
+    (pair_shown words) c.size.result none)

@@ -18,12 +18,15 @@ invariant_of-self-clause-small c =
 
 pub returns-then-allowed-clause-touched : goal.returns-then-allowed-clause-touched
 returns-then-allowed-clause-touched c = λ is.
-    ap (λ keys. with_touched keys (row_amounts c.next-allowed.new.pairs.items) (row_amounts c.args.self.now.pairs.items))
+    ap (λ keys. with_touched keys (row_amounts c.next-allowed.new.pairs.items)
+    (row_amounts c.args.self.now.pairs.items))
     c.touches-self.ensures
-    ∙ touched_makes (OfCache c.in-Cache.method) c.args.args c.args.reply _ _ (row_formed c.args.self.now.pairs.items)
+    ∙ touched_makes (OfCache c.in-Cache.method) c.args.args c.args.reply _ _
+    (row_formed c.args.self.now.pairs.items)
     (c.next-allowed.ensures.allowed c.if-allowed.true)
 
 pub returns-then-allowed-clause-answers : goal.returns-then-allowed-clause-answers
 returns-then-allowed-clause-answers c = λ is m a none.
-    same_answer (OfCache c.in-Cache.method) c.args.args c.args.reply _ _ (c.next-allowed.ensures.allowed c.if-allowed.true) m a
+    same_answer (OfCache c.in-Cache.method) c.args.args c.args.reply _ _
+    (c.next-allowed.ensures.allowed c.if-allowed.true) m a
     (ap (λ keys. is_touched keys a.a) (sym c.touches-self.ensures) ∙ none)

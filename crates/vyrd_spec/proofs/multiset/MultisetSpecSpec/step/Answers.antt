@@ -11,7 +11,8 @@ invariant_of-self-then-allowed-clause-few c = omega (arith, c.requires.few)
 
 pub invariant_of-self-then-allowed-clause-formed : goal.invariant_of-self-then-allowed-clause-formed
 invariant_of-self-then-allowed-clause-formed c =
-    multiset_steps.formed c.in-Multiset.method c.args.args c.args.reply c.args.self.now.amounts c.next.new.counts
+    multiset_steps.formed c.in-Multiset.method c.args.args c.args.reply c.args.self.now.amounts
+    c.next.new.counts
     c.args.self.now.formed (c.in_ok-allowed.ensures.allowed (ap Ok c.if-allowed.true))
 
 pub invariant_of-self-then-allowed-clause-small : goal.invariant_of-self-then-allowed-clause-small
@@ -19,13 +20,16 @@ invariant_of-self-then-allowed-clause-small c =
     let numbers = c.in_ok-allowed.ensures.numbers in
     let most = most_after c.args.self.now.made in
     weaker_counts (most + 2) (most_after (c.args.self.now.made + 1)) c.next.new.counts (omega arith)
-    (counts_after most c.in-Multiset.method c.args.args c.args.reply c.args.self.now.amounts c.next.new.counts
-    numbers.0 numbers.1 c.args.self.now.small (c.in_ok-allowed.ensures.allowed (ap Ok c.if-allowed.true)))
+    (counts_after most c.in-Multiset.method c.args.args c.args.reply c.args.self.now.amounts
+    c.next.new.counts
+    numbers.0 numbers.1 c.args.self.now.small
+    (c.in_ok-allowed.ensures.allowed (ap Ok c.if-allowed.true)))
 
 pub returns-then-allowed-clause-touched : goal.returns-then-allowed-clause-touched
 returns-then-allowed-clause-touched c = λ is.
     ap (λ keys. with_touched keys c.next.new.counts c.args.self.now.amounts) c.touches-self.ensures
-    ∙ touched_makes (OfMultiset c.in-Multiset.method) c.args.args c.args.reply _ _ c.args.self.now.formed
+    ∙ touched_makes (OfMultiset c.in-Multiset.method) c.args.args c.args.reply _ _
+    c.args.self.now.formed
     (c.in_ok-allowed.ensures.allowed (ap Ok c.if-allowed.true))
 
 pub returns-then-allowed-clause-answers : goal.returns-then-allowed-clause-answers

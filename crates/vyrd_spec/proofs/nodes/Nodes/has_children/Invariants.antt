@@ -7,4 +7,5 @@ use Rattle.vyrd_spec.proofs.nodes.Nodes.has_children.Given as goal
 
 abbrev pub invariant-loop-place : goal.invariant-loop-place
 invariant-loop-place l =
-    list_all (λ j. is_child_entry l.self.last l.self.words.now l.level (entry_at l.self.words.now l.node j)) (numbers_below l.place) ≡ true
+    list_all (λ j. is_child_entry l.self.last l.self.words.now l.level
+    (entry_at l.self.words.now l.node j)) (numbers_below l.place) ≡ true

@@ -10,10 +10,12 @@ index-requires c =
 pub returns-clause-left : goal.returns-clause-left
 returns-clause-left c =
     let nodes = c.args.self.now in
-    c.index.ensures ∙ left_at nodes.last nodes.words.now nodes.lefts.items c.args.node c.index.result.now nodes.each c.requires
+    c.index.ensures ∙ left_at nodes.last nodes.words.now nodes.lefts.items c.args.node
+    c.index.result.now nodes.each c.requires
 
 pub returns-clause-in_use : goal.returns-clause-in_use
 returns-clause-in_use c =
     let nodes = c.args.self.now in
     left_in_use nodes.last nodes.words.now c.args.node c.index.result.now
-    (c.index.ensures ∙ left_at nodes.last nodes.words.now nodes.lefts.items c.args.node c.index.result.now nodes.each c.requires)
+    (c.index.ensures ∙ left_at nodes.last nodes.words.now nodes.lefts.items c.args.node
+    c.index.result.now nodes.each c.requires)

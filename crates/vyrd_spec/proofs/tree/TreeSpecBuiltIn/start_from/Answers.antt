@@ -9,15 +9,20 @@ use Rattle.vyrd_spec.proofs.tree.TreeSpecBuiltIn.start_from.Goals as goal
 
 pub invariant_of-result-clause-formed : goal.invariant_of-result-clause-formed
 invariant_of-result-clause-formed c =
-    subst IsAmounts (sym c.in_ok-values.ensures.values) (IsAmounts-collected (parts_of Tree c.size-size.result c.args.words.now))
+    subst IsAmounts (sym c.in_ok-values.ensures.values)
+    (IsAmounts-collected (parts_of Tree c.size-size.result c.args.words.now))
 
 pub returns-then-not-branch-clause-state : goal.returns-then-not-branch-clause-state
 returns-then-not-branch-clause-state c =
     no_state c.args.header Tree c.args.words.now c.requires.serves c.requires.count
-    (ap (λ n. is_sound Tree n c.args.words.now) (sym c.size-size.ensures) ∙ sym c.in_ok-is_tree.ensures ∙ c.if-not-branch.true)
+    (ap (λ n. is_sound Tree n c.args.words.now) (sym c.size-size.ensures)
+    ∙ sym c.in_ok-is_tree.ensures ∙ c.if-not-branch.true)
 
 pub returns-clause-state : goal.returns-clause-state
 returns-clause-state c =
-    a_state c.args.header Tree c.args.words.now c.in_ok-values.field-0 c.requires.serves c.requires.count
-    (ap (λ n. is_sound Tree n c.args.words.now) (sym c.size-size.ensures) ∙ sym c.in_ok-is_tree.ensures ∙ c.if-not-branch.false)
-    (c.in_ok-values.ensures.values ∙ ap (λ n. collected (parts_of Tree n c.args.words.now)) c.size-size.ensures)
+    a_state c.args.header Tree c.args.words.now c.in_ok-values.field-0 c.requires.serves
+    c.requires.count
+    (ap (λ n. is_sound Tree n c.args.words.now) (sym c.size-size.ensures)
+    ∙ sym c.in_ok-is_tree.ensures ∙ c.if-not-branch.false)
+    (c.in_ok-values.ensures.values ∙ ap (λ n. collected (parts_of Tree n c.args.words.now))
+    c.size-size.ensures)

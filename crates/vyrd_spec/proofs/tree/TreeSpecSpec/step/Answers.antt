@@ -10,13 +10,15 @@ invariant_of-self-then-allowed-clause-few c = omega (arith, c.requires.few)
 
 pub invariant_of-self-then-allowed-clause-formed : goal.invariant_of-self-then-allowed-clause-formed
 invariant_of-self-then-allowed-clause-formed c =
-    tree_steps.formed c.in-Tree.method c.args.args c.args.reply c.args.self.now.amounts c.next.new.values
+    tree_steps.formed c.in-Tree.method c.args.args c.args.reply c.args.self.now.amounts
+    c.next.new.values
     c.args.self.now.formed (c.in_ok-allowed.ensures.allowed (ap Ok c.if-allowed.true))
 
 pub invariant_of-self-then-allowed-clause-small : goal.invariant_of-self-then-allowed-clause-small
 invariant_of-self-then-allowed-clause-small c =
     let numbers = c.in_ok-allowed.ensures.numbers in
-    values_after c.in-Tree.method c.args.args c.args.reply c.args.self.now.amounts c.next.new.values numbers.0 numbers.1
+    values_after c.in-Tree.method c.args.args c.args.reply c.args.self.now.amounts c.next.new.values
+    numbers.0 numbers.1
     c.args.self.now.small (c.in_ok-allowed.ensures.allowed (ap Ok c.if-allowed.true))
 
 pub returns-then-allowed-clause-touched : goal.returns-then-allowed-clause-touched
