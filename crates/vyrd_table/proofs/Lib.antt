@@ -1,0 +1,6 @@
+pub mod EntryLaws
+pub mod GrowingLaws
+pub mod MovedLaws
+pub mod NameLaws
+pub mod PlaceLaws
+pub mod PriceLaws

@@ -1,0 +1,74 @@
+-- What a question to an ordered map costs.
+use Rattle.std.proofs.Common.{◌≡◌, ℕ, zero, suc, Bool, true, false, cond, ◌+◌, ◌-◌, ◌*◌, ◌^◌, ◌<◌, ◌≤◌, refl, ap, arith}
+use Rattle.std.specs.Prelude.{nat_le, nat_lt}
+use Rattle.std.proofs.Math.Pow.{pow_mono}
+use Rattle.std.specs.Int.Count.{count_leading_zeros, leading_unique}
+use Rattle.std.proofs.lemmas.Bool.Decides.{nat_tests}
+use Rattle.vyrd_table.specs.Prices.{digits, question}
+
+pub doubled : (d : ℕ) → 2 ^ suc d ≡ 2 * 2 ^ d
+doubled d = omega arith
+
+-- a number is below 2 to the power of its digits, and no number of half that size has so many
+pub digits_fit : (n : ℕ) → (n < 2 ^ digits n) × (2 ^ digits n ≤ 2 * n + 1)
+unfolding digits
+digits_fit zero = (omega arith, omega arith)
+digits_fit (suc n) = by_test (nat_le (2 ^ digits n) (suc n)) refl (digits_fit n)
+  where
+    by_test : (b : Bool) → nat_le (2 ^ digits n) (suc n) ≡ b → (n < 2 ^ digits n) × (2 ^ digits n ≤ 2 * n + 1)
+        → (suc n < 2 ^ cond b (suc (digits n)) (digits n)) × (2 ^ cond b (suc (digits n)) (digits n) ≤ 2 * suc n + 1)
+    by_test true e fit =
+        let low : 2 ^ digits n ≤ suc n = grind (arith, nat_tests) in
+        let up = doubled (digits n) in
+        (omega (arith, up, fit.0, low), omega (arith, up, low))
+    by_test false e fit =
+        let high : suc n < 2 ^ digits n = grind (arith, nat_tests) in
+        (high, omega (arith, fit.1))
+
+-- what the processor counts
+pub digits_counted : (n : ℕ) → n < 2 ^ 64 → 64 - count_leading_zeros 64 n ≡ digits n
+digits_counted n fits =
+    let fit = digits_fit n in
+    let few : digits n ≤ 64 = at_most (digits n) fit.1 in
+    let is : 64 - digits n ≡ count_leading_zeros 64 n = leading_unique 64 n (64 - digits n) (digits n) (omega (arith, few)) fit.0 fit.1 in
+    omega (arith, few, is)
+  where
+    at_most : (d : ℕ) → 2 ^ d ≤ 2 * n + 1 → d ≤ 64
+    at_most d low = by_test (nat_lt 64 d) refl
+      where
+        by_test : (b : Bool) → nat_lt 64 d ≡ b → d ≤ 64
+        by_test true e = absurd (omega (arith, pow_mono {i = 65} {j = d} (grind (arith, nat_tests)), low, fits))
+        by_test false e = grind (arith, nat_tests)
+
+-- a greater number has no fewer digits
+digits_next : (n : ℕ) → digits n ≤ digits (suc n)
+unfolding digits
+digits_next n = by_test (nat_le (2 ^ digits n) (suc n))
+  where
+    by_test : (b : Bool) → digits n ≤ cond b (suc (digits n)) (digits n)
+    by_test true = omega arith
+    by_test false = omega arith
+
+pub digits_mono : (a b : ℕ) → a ≤ b → digits a ≤ digits b
+digits_mono a zero le = let e : a ≡ 0 = omega (arith, le) in let is : digits a ≡ digits 0 = ap digits e in omega (arith, is)
+digits_mono a (suc b) le = by_test (nat_le a b) refl (digits_mono a b)
+  where
+    by_test : (t : Bool) → nat_le a b ≡ t → (a ≤ b → digits a ≤ digits b) → digits a ≤ digits (suc b)
+    by_test true e lower = omega (arith, lower (grind (arith, nat_tests)), digits_next b)
+    by_test false e lower =
+        let high : b < a = grind (arith, nat_tests) in
+        let is : digits a ≡ digits (suc b) = ap digits (let same : a ≡ suc b = omega (arith, le, high) in same) in omega (arith, is)
+
+pub question_mono : (a b : ℕ) → a ≤ b → question a ≤ question b
+question_mono a b le = omega (arith, digits_mono a b le)
+
+-- a number below 2^d has d digits at most
+pub digits_below : (n d : ℕ) → n < 2 ^ d → digits n ≤ d
+digits_below n d low = by_test (nat_lt d (digits n)) refl
+  where
+    by_test : (b : Bool) → nat_lt d (digits n) ≡ b → digits n ≤ d
+    by_test true e =
+        let fit = digits_fit n in
+        let up = pow_mono {i = suc d} {j = digits n} (grind (arith, nat_tests)) in
+        absurd (omega (arith, up, doubled d, fit.1, low))
+    by_test false e = grind (arith, nat_tests)
