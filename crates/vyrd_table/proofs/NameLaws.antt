@@ -54,6 +54,13 @@ module _ {V : Type 0} where
       by_nothing true = let less = names_filter (λ entry. not (entry.0 == k)) s in omega (arith, less)
       by_nothing false = names_put k v s
 
+  -- nothing adds none
+  pub names_taken_out : (is_nothing : V → Bool) (s : List (ℕ × V)) (k : ℕ) (v : V) → is_nothing v ≡ true
+      → count_by is_named (with_value is_nothing s k v) ≤ count_by is_named s
+  names_taken_out is_nothing s k v none =
+      let less = names_filter (λ entry. not (entry.0 == k)) s in
+      omega (arith, less, ap (λ b. count_by is_named (cond b (filter (λ entry. not (entry.0 == k)) s) (put nat_cmp k v s))) none)
+
   -- what a place that is written adds
   pub names_set : (places : List (ℕ × V)) (i : ℕ) (p : ℕ × V) → count_by is_named (set places i p) ≤ count_by is_named places + one_name p.0
   names_set [] i p = omega arith

@@ -2,6 +2,7 @@
 #![tactic(auto)]
 
 mod growing;
+mod listed;
 mod moved;
 mod places;
 mod rest;

@@ -37,7 +37,8 @@ impl<V: Value> Places<V> {
     {
         let alloc = *self.pairs.allocator();
         let mut larger = Places::new(alloc, bits, steps)?;
-        let rest = self.rest.pairs(alloc, steps)?;
+        steps.add(self.rest.map.len());
+        let rest = self.rest.pairs(alloc)?;
         larger.take_all(&rest, steps)?;
         larger.take_all(&self.pairs, steps)?;
         Ok(larger)

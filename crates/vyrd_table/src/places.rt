@@ -158,6 +158,7 @@ impl<V: Value> Places<V> {
             (entries_of V.is_nothing self.new ≡ entries_of V.is_nothing self.old) }
         ensures names { names_of self.new ≤ names_of self.old + one_name key }
         ensures unnamed { OnErr result (names_of self.new ≡ names_of self.old) }
+        ensures taken_out { V.is_nothing value ≡ true → names_of self.new ≤ names_of self.old }
         ensures shift { self.new.shift ≡ self.old.shift }
         ensures steps { steps.new
             ≤ steps.old + newcomer_price (length (entries_of V.is_nothing self.old)) }
@@ -183,6 +184,7 @@ impl<V: Value> Places<V> {
             (λ i. is_taken V.is_nothing (place_at V.nothing self.now.pairs.items i) ≡ false) }
         ensures away { IfSome result
             (λ _. V.is_nothing (value_of V.nothing self.now.rest.map.entries key) ≡ true) }
+        ensures some { IfSome result (λ _. V.is_nothing value ≡ false) }
         ensures steps { steps.new
             ≤ steps.old + (reach + question (length self.now.rest.map.entries)) }
     {

@@ -53,6 +53,16 @@ impl<V: Value> Rest<V> {
         ensures steps { steps.new ≡ steps.old + question (length self.old.map.entries) }
     {
         steps.add(question_of(self.map.len()));
+        self.put(key, value)
+    }
+
+    /// The same, with no step counted.
+    pub(crate) fn put(&mut self, key: u64, value: V) -> Result<(), AllocError>
+        requires { IsEntries V.is_nothing self.old.map.entries }
+        ensures ok { OnOk result
+            (self.new.map.entries ≡ with_value V.is_nothing self.old.map.entries key value) }
+        ensures err { OnErr result (self.new.map.entries ≡ self.old.map.entries) }
+    {
         if value.is_nothing() {
             self.map.remove(&key);
         } else {
@@ -62,17 +72,11 @@ impl<V: Value> Rest<V> {
     }
 
     /// The keys with their values, one after the other.
-    pub(crate) fn pairs<L: Ledger>(
-        &self,
-        alloc: Global,
-        steps: &mut Steps<L>,
-    ) -> Result<Vec<(u64, V)>, AllocError>
+    pub(crate) fn pairs(&self, alloc: Global) -> Result<Vec<(u64, V)>, AllocError>
         ensures pairs { IfOk result (λ pairs. pairs.items ≡ self.now.map.entries) }
-        ensures steps { steps.new ≤ steps.old + length self.now.map.entries }
     {
         let mut pairs = Vec::new(alloc);
         for (key, value) in &self.map {
-            steps.tick();
             pairs.push((*key, *value))?;
         }
         Ok(pairs)

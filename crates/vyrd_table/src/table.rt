@@ -1,6 +1,6 @@
 //! Values by key, with the steps that the calls cost.
 
-ghost use Rattle.std.specs.Prelude.{◌≡◌, ◌+◌, ◌≤◌, [], length, OnOk, OnErr, IfOk, None};
+ghost use Rattle.std.specs.Prelude.{◌≡◌, ◌+◌, ◌<◌, ◌≤◌, [], length, OnOk, OnErr, IfOk, None};
 ghost use Rattle.vyrd_table.specs.Contents.{IsSlotOf};
 ghost use Rattle.vyrd_table.specs.Entries.{IsEntries, value_of, with_value};
 ghost use Rattle.vyrd_table.specs.Places.{IsFoundAt};
@@ -133,7 +133,7 @@ impl<V: Value> Table<V> {
         }
     }
 
-    /// Gives a key that no place has the name of this value, in a table that grows then if that is
+    /// Gives a key that no place has the name of this value, and then the table grows if that is
     /// due.
     #[inline(never)]
     fn put_anew<L: Ledger>(
@@ -150,6 +150,9 @@ impl<V: Value> Table<V> {
             ≤ steps.old + self.old.saved + put_price (length self.old.entries) }
     {
         self.places.put_anew(key, value, steps)?;
+        if value.is_nothing() {
+            return Ok(());
+        }
         self.room = room_after(&mut self.places, self.room, self.most_bits, steps);
         Ok(())
     }
@@ -177,4 +180,141 @@ impl<V: Value> Table<V> {
             None => self.put_anew(key, value, steps),
         }
     }
+
+    /// All keys with their values, the keys rising. It goes through the whole table, and takes time
+    /// and memory for each place and each key.
+    pub fn entries(&self, alloc: Global) -> Result<Vec<(u64, V)>, AllocError>
+        ensures { IfOk result (λ pairs. pairs.items ≡ self.now.entries) }
+    {
+        self.places.listed(alloc)
+    }
+
+    /// The table with no key, as `new_counted` makes it.
+    pub fn new(alloc: Global, keys: usize) -> Result<Table<V>, AllocError>
+        ensures entries { IfOk result (λ table. table.entries ≡ []) }
+    {
+        new_alone::<V, Brand>(Blank::new(1), alloc, keys)
+    }
+
+    /// The value of the key.
+    #[inline(always)]
+    pub fn value(&self, key: u64) -> V
+        ensures value { result ≡ value_of V.nothing self.now.entries key }
+        ensures formed { IsEntries V.is_nothing self.now.entries }
+    {
+        value_alone::<V, Brand>(Blank::new(1), self, key)
+    }
+
+    /// The value of the key, and where it is to be put.
+    #[inline(always)]
+    pub fn find(&self, key: u64) -> Slot<V>
+        ensures value { result.value ≡ value_of V.nothing self.now.entries key }
+        ensures formed { IsEntries V.is_nothing self.now.entries }
+        ensures slot { IsSlotOf V.nothing self.now key result }
+    {
+        find_alone::<V, Brand>(Blank::new(1), self, key)
+    }
+
+    /// Gives the key, which was looked up, this value, as `put_counted` does.
+    #[inline(always)]
+    pub fn put(&mut self, key: u64, slot: Slot<V>, value: V) -> Result<(), AllocError>
+        requires slot { IsSlotOf V.nothing self.old key slot }
+        ensures ok { OnOk result
+            (self.new.entries ≡ with_value V.is_nothing self.old.entries key value) }
+        ensures err { OnErr result (self.new.entries ≡ self.old.entries) }
+    {
+        put_alone::<V, Brand>(Blank::new(1), self, key, slot, value)
+    }
+
+    /// Gives the key this value, as `set_counted` does.
+    #[inline(always)]
+    pub fn set(&mut self, key: u64, value: V) -> Result<(), AllocError>
+        ensures ok { OnOk result
+            (self.new.entries ≡ with_value V.is_nothing self.old.entries key value) }
+        ensures err { OnErr result (self.new.entries ≡ self.old.entries) }
+    {
+        set_alone::<V, Brand>(Blank::new(1), self, key, value)
+    }
+}
+
+/// Makes a table with a count of its own.
+fn new_alone<V: Value, L: Ledger>(
+    blank: Blank,
+    alloc: Global,
+    keys: usize,
+) -> Result<Table<V>, AllocError>
+    requires name { blank.name ≡ L.name }
+    requires parts { blank.parts ≡ L.parts }
+    requires some { 0 < blank.parts }
+    ensures entries { IfOk result (λ table. table.entries ≡ []) }
+{
+    let mut steps = Steps::<L>::new(blank);
+    Table::new_counted(alloc, keys, &mut steps)
+}
+
+/// Looks a key up with a count of its own.
+#[inline(always)]
+fn value_alone<V: Value, L: Ledger>(blank: Blank, table: &Table<V>, key: u64) -> V
+    requires name { blank.name ≡ L.name }
+    requires parts { blank.parts ≡ L.parts }
+    requires some { 0 < blank.parts }
+    ensures value { result ≡ value_of V.nothing table.now.entries key }
+    ensures formed { IsEntries V.is_nothing table.now.entries }
+{
+    let mut steps = Steps::<L>::new(blank);
+    table.value_counted(key, &mut steps)
+}
+
+/// Looks a key up for a `put`, with a count of its own.
+#[inline(always)]
+fn find_alone<V: Value, L: Ledger>(blank: Blank, table: &Table<V>, key: u64) -> Slot<V>
+    requires name { blank.name ≡ L.name }
+    requires parts { blank.parts ≡ L.parts }
+    requires some { 0 < blank.parts }
+    ensures value { result.value ≡ value_of V.nothing table.now.entries key }
+    ensures formed { IsEntries V.is_nothing table.now.entries }
+    ensures slot { IsSlotOf V.nothing table.now key result }
+{
+    let mut steps = Steps::<L>::new(blank);
+    table.find_counted(key, &mut steps)
+}
+
+/// Gives a key that was looked up a value, with a count of its own.
+#[inline(always)]
+fn put_alone<V: Value, L: Ledger>(
+    blank: Blank,
+    table: &mut Table<V>,
+    key: u64,
+    slot: Slot<V>,
+    value: V,
+) -> Result<(), AllocError>
+    requires name { blank.name ≡ L.name }
+    requires parts { blank.parts ≡ L.parts }
+    requires some { 0 < blank.parts }
+    requires slot { IsSlotOf V.nothing table.old key slot }
+    ensures ok { OnOk result
+        (table.new.entries ≡ with_value V.is_nothing table.old.entries key value) }
+    ensures err { OnErr result (table.new.entries ≡ table.old.entries) }
+{
+    let mut steps = Steps::<L>::new(blank);
+    table.put_counted(key, slot, value, &mut steps)
+}
+
+/// Gives a key a value with a count of its own.
+#[inline(always)]
+fn set_alone<V: Value, L: Ledger>(
+    blank: Blank,
+    table: &mut Table<V>,
+    key: u64,
+    value: V,
+) -> Result<(), AllocError>
+    requires name { blank.name ≡ L.name }
+    requires parts { blank.parts ≡ L.parts }
+    requires some { 0 < blank.parts }
+    ensures ok { OnOk result
+        (table.new.entries ≡ with_value V.is_nothing table.old.entries key value) }
+    ensures err { OnErr result (table.new.entries ≡ table.old.entries) }
+{
+    let mut steps = Steps::<L>::new(blank);
+    table.set_counted(key, value, &mut steps)
 }

@@ -11,7 +11,7 @@ pub returns-in_err-rest-clause-steps : goal.returns-in_err-rest-clause-steps
 returns-in_err-rest-clause-steps g c =
     let s = c.args.self.now in
     let fewer = rest_fewer g.V.Value.nothing g.V.Value.is_nothing s.pairs.items s.rest.map.entries c.requires.placed.formed in
-    omega (arith, c.pairs.ensures.steps, c.new.ensures.steps, fewer)
+    omega (arith, c.add.ensures, c.len.ensures.len, c.new.ensures.steps, fewer)
 
 pub take_all-requires-clause-new : goal.take_all-requires-clause-new
 take_all-requires-clause-new g c =
@@ -44,7 +44,7 @@ returns-in_err-take_all-clause-steps g c =
     omega (
       arith,
       c.new.ensures.steps,
-      c.pairs.ensures.steps,
+      c.add.ensures, c.len.ensures.len,
       c.take_all.ensures.steps,
       count_by-le-length (is_taken is_nothing) c.deref.result.now,
       ap length (c.deref.ensures.value ∙ c.in_ok-rest.ensures.pairs),
@@ -91,7 +91,7 @@ returns-in_err-take_all-2-clause-steps g c =
     omega (
       arith,
       c.new.ensures.steps,
-      c.pairs.ensures.steps,
+      c.add.ensures, c.len.ensures.len,
       c.take_all.ensures.steps,
       c.take_all-2.ensures.steps,
       count_by-le-length (is_taken is_nothing) c.deref.result.now,
@@ -122,7 +122,7 @@ returns-clause-steps g c =
     omega (
       arith,
       c.new.ensures.steps,
-      c.pairs.ensures.steps,
+      c.add.ensures, c.len.ensures.len,
       c.take_all.ensures.steps,
       c.take_all-2.ensures.steps,
       count_by-le-length (is_taken is_nothing) c.deref.result.now,

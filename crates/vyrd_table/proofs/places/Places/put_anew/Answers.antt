@@ -1,9 +1,9 @@
-use Rattle.std.proofs.Common.{◌≡◌, ◌+◌, ◌≤◌, ◌∙◌, ap, sym, subst, arith, OnOk, OnErr, Result, Ok, Err}
+use Rattle.std.proofs.Common.{◌≡◌, true, false, ◌+◌, ◌≤◌, ◌∙◌, ap, sym, subst, arith, OnOk, OnErr, Result, Ok, Err}
 use Rattle.std.proofs.lemmas.Result.{on_ok_weaker, on_err_weaker}
 use Rattle.vyrd_table.specs.Entries.{with_value}
 use Rattle.vyrd_table.specs.Places.{ArePlaces, is_named, one_name, entries_in, names_in}
 use Rattle.std.specs.Prelude.{count_by}
-use Rattle.vyrd_table.proofs.NameLaws.{names_set, names_with_value}
+use Rattle.vyrd_table.proofs.NameLaws.{names_set, names_with_value, names_taken_out}
 use Rattle.vyrd_table.proofs.PlaceLaws.{free_places, free_entries, rest_places, rest_entries, rest_fewer}
 use Rattle.vyrd_table.proofs.PriceLaws.{question_mono}
 use Rattle.vyrd_table.proofs.places.Places.put_anew.Goals as goal
@@ -95,3 +95,18 @@ returns-in-None-clause-unnamed g c =
     let s = c.args.self.now in
     on_err_weaker {P = c.set.new.self.map.entries ≡ s.rest.map.entries} {Q = names_in s.pairs.items c.set.new.self.map.entries ≡ names_in s.pairs.items s.rest.map.entries}
     c.set.result (λ is. ap (names_in s.pairs.items) is) c.set.ensures.err
+
+pub returns-in-Some-clause-taken_out : goal.returns-in-Some-clause-taken_out
+returns-in-Some-clause-taken_out g c none =
+    let some : g.V.Value.is_nothing c.args.value ≡ false = c.in-Some.ensures.some in absurd cc
+
+pub returns-in-None-clause-taken_out : goal.returns-in-None-clause-taken_out
+returns-in-None-clause-taken_out g c none =
+    let s = c.args.self.now in
+    let is_nothing = g.V.Value.is_nothing in
+    let rest = s.rest.map.entries in
+    let after = c.set.new.self.map.entries in
+    either c.set.result (after ≡ with_value is_nothing rest c.args.key c.args.value) (after ≡ rest)
+    (names_in s.pairs.items after ≤ names_in s.pairs.items rest)
+    (λ is. omega (arith, ap (λ r. count_by is_named r) is, names_taken_out is_nothing rest c.args.key c.args.value none))
+    (λ is. omega (arith, ap (λ r. count_by is_named r) is)) c.set.ensures.ok c.set.ensures.err

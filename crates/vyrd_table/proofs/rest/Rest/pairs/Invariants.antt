@@ -1,9 +1,8 @@
-use Rattle.std.proofs.Common.{◌≡◌, ◌+◌, ◌++◌, length}
+use Rattle.std.proofs.Common.{◌≡◌, ◌++◌}
 use Rattle.vyrd_table.proofs.rest.Rest.pairs.Given as goal
 
 abbrev pub invariant-loop-key : goal.invariant-loop-key
 invariant-loop-key g l =
     (goal.iterator-loop-key g).can_next l.key-iterator ×
     (goal.iterator-loop-key g).is_finite l.key-iterator ×
-    (l.pairs.items ++ l.key-iterator ≡ l.self.map.entries) ×
-    (l.steps ≡ l.fn.steps + length l.pairs.items)
+    (l.pairs.items ++ l.key-iterator ≡ l.self.map.entries)

@@ -1,6 +1,6 @@
 use Rattle.std.proofs.Common.{◌∙◌, sym}
 use Rattle.vyrd_table.proofs.EntryLaws.{insert-with_value, remove-with_value}
-use Rattle.vyrd_table.proofs.rest.Rest.set.Goals as goal
+use Rattle.vyrd_table.proofs.rest.Rest.put.Goals as goal
 
 pub returns-then-is_nothing-clause-ok : goal.returns-then-is_nothing-clause-ok
 returns-then-is_nothing-clause-ok g c = c.remove.ensures.entries
