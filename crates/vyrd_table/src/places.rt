@@ -156,6 +156,9 @@ impl<V: Value> Places<V> {
             ≡ with_value V.is_nothing (entries_of V.is_nothing self.old) key value) }
         ensures err { OnErr result
             (entries_of V.is_nothing self.new ≡ entries_of V.is_nothing self.old) }
+        ensures absent { OnErr result
+            (value_of V.nothing (entries_of V.is_nothing self.old) key ≡ V.nothing) }
+        ensures some { OnErr result (V.is_nothing value ≡ false) }
         ensures names { names_of self.new ≤ names_of self.old + one_name key }
         ensures unnamed { OnErr result (names_of self.new ≡ names_of self.old) }
         ensures taken_out { V.is_nothing value ≡ true → names_of self.new ≤ names_of self.old }

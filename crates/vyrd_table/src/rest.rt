@@ -1,6 +1,6 @@
 //! The values of keys that have no place of their own.
 
-ghost use Rattle.std.specs.Prelude.{◌≡◌, ◌+◌, ◌≤◌, [], length, OnOk, OnErr, IfOk};
+ghost use Rattle.std.specs.Prelude.{◌≡◌, false, ◌+◌, [], length, OnOk, OnErr, IfOk};
 ghost use Rattle.vyrd_table.specs.Entries.{IsEntries, value_of, with_value};
 ghost use Rattle.vyrd_table.specs.Prices.{question};
 
@@ -50,6 +50,9 @@ impl<V: Value> Rest<V> {
         ensures ok { OnOk result
             (self.new.map.entries ≡ with_value V.is_nothing self.old.map.entries key value) }
         ensures err { OnErr result (self.new.map.entries ≡ self.old.map.entries) }
+        ensures absent { OnErr result
+            (value_of V.nothing self.old.map.entries key ≡ V.nothing) }
+        ensures some { OnErr result (V.is_nothing value ≡ false) }
         ensures steps { steps.new ≡ steps.old + question (length self.old.map.entries) }
     {
         steps.add(question_of(self.map.len()));
@@ -62,6 +65,9 @@ impl<V: Value> Rest<V> {
         ensures ok { OnOk result
             (self.new.map.entries ≡ with_value V.is_nothing self.old.map.entries key value) }
         ensures err { OnErr result (self.new.map.entries ≡ self.old.map.entries) }
+        ensures absent { OnErr result
+            (value_of V.nothing self.old.map.entries key ≡ V.nothing) }
+        ensures some { OnErr result (V.is_nothing value ≡ false) }
     {
         if value.is_nothing() {
             self.map.remove(&key);

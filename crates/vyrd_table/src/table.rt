@@ -1,6 +1,6 @@
 //! Values by key, with the steps that the calls cost.
 
-ghost use Rattle.std.specs.Prelude.{◌≡◌, ◌+◌, ◌<◌, ◌≤◌, [], length, OnOk, OnErr, IfOk, None};
+ghost use Rattle.std.specs.Prelude.{◌≡◌, false, ◌+◌, ◌<◌, ◌≤◌, [], length, OnOk, OnErr, IfOk, None};
 ghost use Rattle.vyrd_table.specs.Contents.{IsSlotOf};
 ghost use Rattle.vyrd_table.specs.Entries.{IsEntries, value_of, with_value};
 ghost use Rattle.vyrd_table.specs.Places.{IsFoundAt};
@@ -121,6 +121,8 @@ impl<V: Value> Table<V> {
         ensures ok { OnOk result
             (self.new.entries ≡ with_value V.is_nothing self.old.entries key value) }
         ensures err { OnErr result (self.new.entries ≡ self.old.entries) }
+        ensures absent { OnErr result (value_of V.nothing self.old.entries key ≡ V.nothing) }
+        ensures some { OnErr result (V.is_nothing value ≡ false) }
         ensures steps { steps.new + self.new.saved
             ≤ steps.old + self.old.saved + put_price (length self.old.entries) }
     {
@@ -146,6 +148,8 @@ impl<V: Value> Table<V> {
         ensures ok { OnOk result
             (self.new.entries ≡ with_value V.is_nothing self.old.entries key value) }
         ensures err { OnErr result (self.new.entries ≡ self.old.entries) }
+        ensures absent { OnErr result (value_of V.nothing self.old.entries key ≡ V.nothing) }
+        ensures some { OnErr result (V.is_nothing value ≡ false) }
         ensures steps { steps.new + self.new.saved
             ≤ steps.old + self.old.saved + put_price (length self.old.entries) }
     {
@@ -169,6 +173,8 @@ impl<V: Value> Table<V> {
         ensures ok { OnOk result
             (self.new.entries ≡ with_value V.is_nothing self.old.entries key value) }
         ensures err { OnErr result (self.new.entries ≡ self.old.entries) }
+        ensures absent { OnErr result (value_of V.nothing self.old.entries key ≡ V.nothing) }
+        ensures some { OnErr result (V.is_nothing value ≡ false) }
         ensures steps { steps.new + self.new.saved
             ≤ steps.old + self.old.saved + set_price (length self.old.entries) }
     {
@@ -222,6 +228,8 @@ impl<V: Value> Table<V> {
         ensures ok { OnOk result
             (self.new.entries ≡ with_value V.is_nothing self.old.entries key value) }
         ensures err { OnErr result (self.new.entries ≡ self.old.entries) }
+        ensures absent { OnErr result (value_of V.nothing self.old.entries key ≡ V.nothing) }
+        ensures some { OnErr result (V.is_nothing value ≡ false) }
     {
         put_alone::<V, Brand>(Blank::new(1), self, key, slot, value)
     }
@@ -232,6 +240,8 @@ impl<V: Value> Table<V> {
         ensures ok { OnOk result
             (self.new.entries ≡ with_value V.is_nothing self.old.entries key value) }
         ensures err { OnErr result (self.new.entries ≡ self.old.entries) }
+        ensures absent { OnErr result (value_of V.nothing self.old.entries key ≡ V.nothing) }
+        ensures some { OnErr result (V.is_nothing value ≡ false) }
     {
         set_alone::<V, Brand>(Blank::new(1), self, key, value)
     }
@@ -295,6 +305,8 @@ fn put_alone<V: Value, L: Ledger>(
     ensures ok { OnOk result
         (table.new.entries ≡ with_value V.is_nothing table.old.entries key value) }
     ensures err { OnErr result (table.new.entries ≡ table.old.entries) }
+    ensures absent { OnErr result (value_of V.nothing table.old.entries key ≡ V.nothing) }
+    ensures some { OnErr result (V.is_nothing value ≡ false) }
 {
     let mut steps = Steps::<L>::new(blank);
     table.put_counted(key, slot, value, &mut steps)
@@ -314,6 +326,8 @@ fn set_alone<V: Value, L: Ledger>(
     ensures ok { OnOk result
         (table.new.entries ≡ with_value V.is_nothing table.old.entries key value) }
     ensures err { OnErr result (table.new.entries ≡ table.old.entries) }
+    ensures absent { OnErr result (value_of V.nothing table.old.entries key ≡ V.nothing) }
+    ensures some { OnErr result (V.is_nothing value ≡ false) }
 {
     let mut steps = Steps::<L>::new(blank);
     table.set_counted(key, value, &mut steps)

@@ -1,10 +1,10 @@
 use Rattle.std.proofs.Common.{◌≡◌, true, false, ◌+◌, ◌≤◌, ◌∙◌, ap, sym, subst, arith, OnOk, OnErr, Result, Ok, Err}
 use Rattle.std.proofs.lemmas.Result.{on_ok_weaker, on_err_weaker}
-use Rattle.vyrd_table.specs.Entries.{with_value}
+use Rattle.vyrd_table.specs.Entries.{value_of, with_value}
 use Rattle.vyrd_table.specs.Places.{ArePlaces, is_named, one_name, entries_in, names_in}
 use Rattle.std.specs.Prelude.{count_by}
 use Rattle.vyrd_table.proofs.NameLaws.{names_set, names_with_value, names_taken_out}
-use Rattle.vyrd_table.proofs.PlaceLaws.{free_places, free_entries, rest_places, rest_entries, rest_fewer}
+use Rattle.vyrd_table.proofs.PlaceLaws.{value_missing, free_places, free_entries, rest_places, rest_entries, rest_fewer}
 use Rattle.vyrd_table.proofs.PriceLaws.{question_mono}
 use Rattle.vyrd_table.proofs.places.Places.put_anew.Goals as goal
 
@@ -110,3 +110,14 @@ returns-in-None-clause-taken_out g c none =
     (names_in s.pairs.items after ≤ names_in s.pairs.items rest)
     (λ is. omega (arith, ap (λ r. count_by is_named r) is, names_taken_out is_nothing rest c.args.key c.args.value none))
     (λ is. omega (arith, ap (λ r. count_by is_named r) is)) c.set.ensures.ok c.set.ensures.err
+
+pub returns-in-None-clause-absent : goal.returns-in-None-clause-absent
+returns-in-None-clause-absent g c =
+    let s = c.args.self.now in
+    let nothing = g.V.Value.nothing in
+    let is_nothing = g.V.Value.is_nothing in
+    let rest = s.rest.map.entries in
+    on_err_weaker {P = value_of nothing rest c.args.key ≡ nothing} {Q = value_of nothing (entries_in is_nothing s.pairs.items rest) c.args.key ≡ nothing}
+    c.set.result
+    (λ none. value_missing nothing is_nothing g.met.V.Value.nothing_passes g.met.V.Value.only_nothing s.shift s.pairs.items rest c.requires.placed
+    c.args.key c.requires.missing ∙ none) c.set.ensures.absent
