@@ -183,3 +183,34 @@ module _ {V : Type 0} (is_nothing : V → Bool) where
       by_found : (b : Bool) → length (put nat_cmp k v s) ≡ cond b (length s) (length s + 1) → length (put nat_cmp k v s) ≤ length s + 1
       by_found true e = omega (arith, e)
       by_found false e = omega (arith, e)
+
+  -- the key has the value that is set, and every other key the one that it had
+  pub value_of-with_value : (nothing : V) → ((v : V) → is_nothing v ≡ true → v ≡ nothing) → (s : List (ℕ × V)) (k : ℕ) (v : V) (q : ℕ)
+      → value_of nothing (with_value is_nothing s k v) q ≡ cond (q == k) v (value_of nothing s q)
+  value_of-with_value nothing only s k v q = ap (λ o. unwrap_or o nothing) (find-with_value s k v q) ∙ by_key (q == k) (is_nothing v) refl
+    where
+      by_key : (same b : Bool) → is_nothing v ≡ b
+          → unwrap_or (cond same (cond b None (Some v)) (find nat_cmp q s)) nothing ≡ cond same v (unwrap_or (find nat_cmp q s) nothing)
+      by_key true true e = sym (only v e)
+      by_key true false e = refl
+      by_key false b e = refl
+
+  -- entries in which each key has the same value are the same
+  pub same_values : (nothing : V) → is_nothing nothing ≡ true → (s t : List (ℕ × V)) → IsEntries is_nothing s → IsEntries is_nothing t
+      → ((q : ℕ) → value_of nothing s q ≡ value_of nothing t q) → s ≡ t
+  same_values nothing passes s t is it same = same_by_key s t is it (λ q. by_found q (find nat_cmp q s) (find nat_cmp q t) refl refl (same q))
+    where
+      some : (q : ℕ) (u : List (ℕ × V)) (v : V) → IsEntries is_nothing u → find nat_cmp q u ≡ Some v → nothing ≡ v → ⊥
+      some q u v formed e none =
+          let yes : is_nothing v ≡ true = ap is_nothing (sym none) ∙ passes in
+          let no : is_nothing v ≡ false = found_some u q v formed.some e in cc
+
+      by_found : (q : ℕ) (x y : Option V) → find nat_cmp q s ≡ x → find nat_cmp q t ≡ y → unwrap_or (find nat_cmp q s) nothing ≡ unwrap_or (find nat_cmp q t) nothing
+          → find nat_cmp q s ≡ find nat_cmp q t
+      by_found q None None e f value = e ∙ sym f
+      by_found q (Some v) (Some w) e f value =
+          e ∙ ap Some (sym (ap (λ o. unwrap_or o nothing) e) ∙ value ∙ ap (λ o. unwrap_or o nothing) f) ∙ sym f
+      by_found q None (Some w) e f value =
+          absurd (some q t w it f (sym (ap (λ o. unwrap_or o nothing) e) ∙ value ∙ ap (λ o. unwrap_or o nothing) f))
+      by_found q (Some v) None e f value =
+          absurd (some q s v is e (sym (ap (λ o. unwrap_or o nothing) f) ∙ sym value ∙ ap (λ o. unwrap_or o nothing) e))

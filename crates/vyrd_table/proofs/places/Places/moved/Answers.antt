@@ -44,7 +44,8 @@ returns-in_err-take_all-clause-steps g c =
     omega (
       arith,
       c.new.ensures.steps,
-      c.add.ensures, c.len.ensures.len,
+      c.add.ensures,
+      c.len.ensures.len,
       c.take_all.ensures.steps,
       count_by-le-length (is_taken is_nothing) c.deref.result.now,
       ap length (c.deref.ensures.value ∙ c.in_ok-rest.ensures.pairs),
@@ -91,7 +92,8 @@ returns-in_err-take_all-2-clause-steps g c =
     omega (
       arith,
       c.new.ensures.steps,
-      c.add.ensures, c.len.ensures.len,
+      c.add.ensures,
+      c.len.ensures.len,
       c.take_all.ensures.steps,
       c.take_all-2.ensures.steps,
       count_by-le-length (is_taken is_nothing) c.deref.result.now,
@@ -122,7 +124,8 @@ returns-clause-steps g c =
     omega (
       arith,
       c.new.ensures.steps,
-      c.add.ensures, c.len.ensures.len,
+      c.add.ensures,
+      c.len.ensures.len,
       c.take_all.ensures.steps,
       c.take_all-2.ensures.steps,
       count_by-le-length (is_taken is_nothing) c.deref.result.now,

@@ -1,4 +1,4 @@
-use Rattle.std.proofs.Common.{◌≡◌, true, false, ◌+◌, ◌≤◌, ◌∙◌, ap, sym, subst, arith, OnOk, OnErr, Result, Ok, Err}
+use Rattle.std.proofs.Common.{◌≡◌, false, ◌+◌, ◌≤◌, ◌∙◌, ap, sym, subst, arith, OnOk, OnErr, Result, Ok, Err}
 use Rattle.std.proofs.lemmas.Result.{on_ok_weaker, on_err_weaker}
 use Rattle.vyrd_table.specs.Entries.{value_of, with_value}
 use Rattle.vyrd_table.specs.Places.{ArePlaces, is_named, one_name, entries_in, names_in}

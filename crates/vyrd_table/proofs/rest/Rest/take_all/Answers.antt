@@ -1,4 +1,4 @@
-use Rattle.std.proofs.Common.{◌+◌, ap, cond, length, sym, subst, take, ◌∙◌}
+use Rattle.std.proofs.Common.{ap, cond, sym, subst, take, ◌∙◌}
 use Rattle.std.proofs.lemmas.List.{get_or_default}
 use Rattle.vyrd_table.specs.Entries.{IsEntries, with_value}
 use Rattle.vyrd_table.specs.Places.{entries_in}
