@@ -25,6 +25,8 @@ mod shape;
 #[cfg(test)]
 mod spec;
 #[cfg(test)]
+mod table;
+#[cfg(test)]
 mod text;
 #[cfg(test)]
 mod view;
