@@ -11,11 +11,12 @@ use Rattle.vyrd_batch.proofs.TextLaws.{read_batch_is_text}
 use Rattle.vyrd_batch.specs.Rounds.{BatchView, IsJudged, IsSpent}
 use Rattle.vyrd_batch.specs.Costs.{round_cost}
 use Rattle.vyrd_batch.proofs.RoundLaws.{judged_longer}
+use Rattle.vyrd_check_command.specs.declared.answer.Answer.{Answer}
+use Rattle.vyrd_check_command.proofs.TakenLaws.{taken_more}
 use Rattle.vyrd_command.specs.Inputs.{IsInputRead, IsMoreRead, IsFewTaken}
-use Rattle.vyrd_command.specs.declared.answer.Answer.{Answer}
 use Rattle.vyrd_command.specs.Batches.{IsBatchAnswer, IsReading}
 use Rattle.vyrd_command.specs.BatchCosts.{round_bytes, IsSinceRound, IsPaidRound, IsReadFor, IsTakenFor}
-use Rattle.vyrd_command.proofs.TakenLaws.{taken_more, whole_input, long_refused}
+use Rattle.vyrd_command.proofs.InputLaws.{whole_input, long_refused}
 
 pub logs_are_input : (before after : SourceKnown) (bytes : List ℕ) → IsInputRead longest_batch_input before after bytes
     → IfSome before.rest (λ input. batch_logs bytes ≡ batch_logs input)

@@ -3,8 +3,8 @@ use Rattle.std.proofs.Common.{◌≡◌, ℕ, ◌+◌, ◌≤◌, List, ◌++◌
 use Rattle.std.proofs.lemmas.List.{take_all}
 use Rattle.std.proofs.Math.Seq.{take-add, take-append_seam}
 use Rattle.vyrd_base.specs.Devices.{SourceKnown, Gives}
-use Rattle.vyrd_command.specs.Inputs.{IsTaken}
-use Rattle.vyrd_command.proofs.TakenLaws.{taken_more}
+use Rattle.vyrd_check_command.specs.Inputs.{IsTaken}
+use Rattle.vyrd_check_command.proofs.TakenLaws.{taken_more}
 
 pub taken_behind : (before between after : SourceKnown) (count n : ℕ) (old new : List ℕ) → IsTaken before.rest (take count old) between.rest
     → take count new ≡ take count old → Gives between n (drop count new) after → IsTaken before.rest (take (count + n) new) after.rest

@@ -3,10 +3,12 @@ use Rattle.std.proofs.Common.{◌≡◌, ℕ, ◌≤◌, List, [], length, true,
 use Rattle.std.specs.Prelude.{◌≢◌, ◌⊎◌}
 use Rattle.vyrd_base.specs.Devices.{SourceKnown}
 use Rattle.vyrd_log_check.specs.Checking.{most_lines}
+use Rattle.vyrd_check_command.specs.Outputs.{Appends, AppendsFront}
+use Rattle.vyrd_check_command.specs.Checks.{IsAnswered, IsAnsweredInPart, IsSettled}
+use Rattle.vyrd_check_command.specs.Checks.{HasRoomForAnswer}
 use Rattle.vyrd_command.specs.declared.form.Form.{Form}
 use Rattle.vyrd_command.specs.declared.form.Form.TheVariants as asked
-use Rattle.vyrd_command.specs.Outputs.{Appends, AppendsFront, usage_line}
-use Rattle.vyrd_command.specs.Checks.{IsAnswered, IsAnsweredInPart, IsSettled, HasRoomForAnswer}
+use Rattle.vyrd_command.specs.Forms.{usage_line}
 use Rattle.vyrd_command.specs.Commands.{IsStatus, IsAnswerStatus, IsAnswer, HasAnswered, HasAnsweredInPart, HasRoom, reads, IsEnough}
 
 -- no form has an answer of status 3, 4, 5 or 6
@@ -207,11 +209,3 @@ usage_in_part said input before after is written =
 
 pub usage_fits : (said : Option Form) (input : Option (List ℕ)) (room : ℕ) → said ≡ None → HasRoom said input room → length usage_line ≤ room
 usage_fits said input room is fits = subst (λ said. HasRoom said input room) is fits 3 usage_line refl
-
--- the status of a line that was made ready and written
-pub line_status : (status own : ℕ) → (status ≡ 5) ⊎ (status ≡ own) → (own ≤ 2) ⊎ (own ≡ 4) ⊎ (own ≡ 6)
-    → (status ≤ 2) ⊎ (status ≡ 4) ⊎ (status ≡ 5) ⊎ (status ≡ 6)
-line_status status own (inl five) why = inr (inr (inl five))
-line_status status own (inr same) (inl low) = inl (omega (arith, same, low))
-line_status status own (inr same) (inr (inl four)) = inr (inl (same ∙ four))
-line_status status own (inr same) (inr (inr six)) = inr (inr (inr (same ∙ six)))

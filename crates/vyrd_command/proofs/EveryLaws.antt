@@ -15,8 +15,8 @@ use Rattle.vyrd_work.proofs.TextLaws.{reading_sound}
 use Rattle.vyrd_work.proofs.GeneratedLaws.{generated_keeps}
 use Rattle.vyrd_every.specs.Schedules.{IsCorrect, IsCorrectWithFewEvents}
 use Rattle.vyrd_every.proofs.Workloads.{schedule_accepted, not_stuck, few_events}
+use Rattle.vyrd_check_command.specs.Outputs.{status_of}
 use Rattle.vyrd_command.specs.declared.show.Show.{Show}
-use Rattle.vyrd_command.specs.Outputs.{status_of}
 use Rattle.vyrd_command.specs.Steps.{AnswersInput, IsStepAnswer, IsStepStatus, IsTurnedTo}
 use Rattle.vyrd_command.specs.Runs.{AnswersRun, IsRunAnswer, IsRunStatus, IsLiveRun}
 use Rattle.vyrd_command.specs.CorrectInputs.{SaysCorrect, SaysFewEvents}

@@ -9,10 +9,12 @@ use Rattle.vyrd_explain.specs.declared.about.About.{About}
 use Rattle.vyrd_explain.specs.Explained.{explained, is_settled}
 use Rattle.vyrd_explain.specs.Explaining.{ExplainerState, HasTaken, limit_of}
 use Rattle.vyrd_explain.proofs.SettledLaws.{settled_stays, nothing_settled, verdict_lasts, text_lasts, unsettled_is_short}
-use Rattle.vyrd_command.specs.Inputs.{IsTaken, IsMoreRead, longest_read}
-use Rattle.vyrd_command.specs.Outputs.{status_of}
+use Rattle.vyrd_check_command.specs.Inputs.{IsTaken, longest_read}
+use Rattle.vyrd_check_command.specs.Outputs.{status_of}
+use Rattle.vyrd_check_command.proofs.TakenLaws.{taken_more, taken_nothing, no_more_bytes}
+use Rattle.vyrd_check_command.proofs.TakenLaws.{begins_later}
+use Rattle.vyrd_command.specs.Inputs.{IsMoreRead}
 use Rattle.vyrd_command.specs.Explains.{SaysWhole, AnswersExplain, IsExplainNoFurther, IsLogTaken, longest_explained}
-use Rattle.vyrd_command.proofs.TakenLaws.{taken_more, taken_nothing, no_more_bytes, begins_later}
 
 -- So many bytes were taken of an input, by what explains it, and the answer may still change.
 pub record TakenSoFar (max : ℕ) (before now : SourceKnown) (explainer : ExplainerState) (count : ℕ) : Type 0 where

@@ -1,10 +1,7 @@
-pub mod TakenLaws
-pub mod PieceLaws
-pub mod CountedLaws
-pub mod CheckLaws
+pub mod InputLaws
 pub mod BehindLaws
-pub mod WriteLaws
 pub mod FormLaws
+pub mod CheckWords
 pub mod AccountLaws
 pub mod StepLaws
 pub mod TellingLaws

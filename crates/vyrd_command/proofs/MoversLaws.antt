@@ -12,10 +12,12 @@ use Rattle.vyrd_mover.specs.HistoryReaders.{ReaderState, HasRead}
 use Rattle.vyrd_mover.specs.LongHistories.{longest_history}
 use Rattle.vyrd_mover.proofs.SettledLaws.{reading_settled}
 use Rattle.vyrd_mover.proofs.TextLaws.{reading_sound}
-use Rattle.vyrd_command.specs.declared.answer.Answer.{Answer}
-use Rattle.vyrd_command.specs.Inputs.{IsTaken, IsInputRead, IsMoreRead}
+use Rattle.vyrd_check_command.specs.declared.answer.Answer.{Answer}
+use Rattle.vyrd_check_command.specs.Inputs.{IsTaken}
+use Rattle.vyrd_check_command.proofs.TakenLaws.{taken_more, taken_nothing}
+use Rattle.vyrd_command.specs.Inputs.{IsInputRead, IsMoreRead}
 use Rattle.vyrd_command.specs.Moved.{IsMoversAnswer, status_of_blocks}
-use Rattle.vyrd_command.proofs.TakenLaws.{taken_more, taken_nothing, whole_input, long_refused}
+use Rattle.vyrd_command.proofs.InputLaws.{whole_input, long_refused}
 
 pub history_is_input : (before after : SourceKnown) (bytes : List ℕ) → IsInputRead longest_history before after bytes
     → IfSome before.rest (λ input. history_reading bytes ≡ history_reading input)

@@ -25,7 +25,7 @@ use Rattle.vyrd_command.specs.declared.show.Show.{Show}
 use Rattle.vyrd_command.specs.Inputs.{IsInputRead}
 use Rattle.vyrd_command.specs.Steps.{NamesOnlyRaces, IsTurnedTo, IsStepAnswer}
 use Rattle.vyrd_command.specs.Runs.{IsLiveRun, IsRunAnswer}
-use Rattle.vyrd_command.proofs.TakenLaws.{whole_input, long_refused}
+use Rattle.vyrd_command.proofs.InputLaws.{whole_input, long_refused}
 
 -- the history of a run by turns is legal, and each script is played to its end in it
 pub turned_is_legal : (w : Workload) (history : List Stamped) → KeepsLimits w → RunsTo (work_scripts w) w.turns history

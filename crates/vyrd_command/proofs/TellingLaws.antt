@@ -11,8 +11,8 @@ use Rattle.vyrd_work.specs.Workloads.{Workload}
 use Rattle.vyrd_work.specs.WorkLimits.{KeepsLimits}
 use Rattle.vyrd_work.specs.WorkScripts.{work_scripts}
 use Rattle.vyrd_live.specs.LiveRuns.{LeavesRun}
+use Rattle.vyrd_check_command.specs.Outputs.{status_of}
 use Rattle.vyrd_command.specs.declared.show.Show.{Show}
-use Rattle.vyrd_command.specs.Outputs.{status_of}
 use Rattle.vyrd_command.specs.Accounts.{AccountView, HasTaken}
 use Rattle.vyrd_command.specs.Steps.{run_text, TellsRun}
 use Rattle.vyrd_command.specs.Runs.{TellsLive}

@@ -4,7 +4,7 @@ use Rattle.std.specs.Prelude.{◌≡◌, ◌≤◌, ◌+◌, ◌*◌, ℕ, List,
 use Rattle.vyrd_base.specs.Devices.{SourceKnown}
 use Rattle.vyrd_batch.specs.LongBatches.{longest_batch_input}
 use Rattle.vyrd_batch.specs.Rounds.{BatchView, IsSpent}
-use Rattle.vyrd_command.specs.Inputs.{IsTaken}
+use Rattle.vyrd_check_command.specs.Inputs.{IsTaken}
 
 -- how many bytes come at least between two rounds, except before the last one
 abbrev pub round_bytes : ℕ

@@ -6,7 +6,8 @@ use Rattle.vyrd_batch.specs.Batches.{batch_logs}
 use Rattle.vyrd_batch.specs.BatchAnswers.{verdicts_of, batch_text, batch_status, refused_line}
 use Rattle.vyrd_batch.specs.LongBatches.{longest_batch_input}
 use Rattle.vyrd_batch.specs.Rounds.{BatchView, IsJudged}
-use Rattle.vyrd_command.specs.Inputs.{IsInputRead, IsTaken}
+use Rattle.vyrd_check_command.specs.Inputs.{IsTaken}
+use Rattle.vyrd_command.specs.Inputs.{IsInputRead}
 
 -- The first `count` bytes of a source were read, and its first logs judged. These bytes are left.
 pub record IsReading (before now : SourceKnown) (judge : BatchView) (rest : List ℕ)

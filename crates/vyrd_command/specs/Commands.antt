@@ -7,11 +7,12 @@ use Rattle.vyrd_log_check.specs.Checking.{most_lines}
 use Rattle.vyrd_work.specs.LongInputs.{longest_input}
 use Rattle.vyrd_mover.specs.LongHistories.{longest_history}
 use Rattle.vyrd_batch.specs.LongBatches.{longest_batch_input}
+use Rattle.vyrd_check_command.specs.Outputs.{Appends, AppendsFront}
+use Rattle.vyrd_check_command.specs.Checks.{IsJudged, IsSettled, IsReadNoFurther}
 use Rattle.vyrd_command.specs.declared.form.Form.{Form}
 use Rattle.vyrd_command.specs.declared.form.Form.TheVariants as asked
 use Rattle.vyrd_command.specs.Inputs.{IsInputTaken, IsFewTaken}
-use Rattle.vyrd_command.specs.Outputs.{Appends, AppendsFront, usage_line}
-use Rattle.vyrd_command.specs.Checks.{IsJudged, IsSettled, IsReadNoFurther}
+use Rattle.vyrd_command.specs.Forms.{usage_line}
 use Rattle.vyrd_command.specs.Steps.{AnswersInput, IsStepStatus}
 use Rattle.vyrd_command.specs.Runs.{AnswersRun, IsRunStatus}
 use Rattle.vyrd_command.specs.Generated.{IsGenAnswer, IsGenStatus}

@@ -6,8 +6,8 @@ use Rattle.vyrd_base.specs.LogVerdicts.{log_verdict}
 use Rattle.vyrd_explain.specs.declared.about.About.{About}
 use Rattle.vyrd_explain.specs.Explained.{explained, is_settled}
 use Rattle.vyrd_explain.specs.Explaining.{ExplainerState, HasTaken, limit_of}
-use Rattle.vyrd_command.specs.Inputs.{IsTaken, longest_read}
-use Rattle.vyrd_command.specs.Outputs.{status_of}
+use Rattle.vyrd_check_command.specs.Inputs.{IsTaken, longest_read}
+use Rattle.vyrd_check_command.specs.Outputs.{status_of}
 
 -- how many lines a log may have that is explained, since its entries are kept
 abbrev pub most_explained : ℕ

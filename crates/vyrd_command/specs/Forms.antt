@@ -1,6 +1,6 @@
 -- The words that the program takes.
 use Rattle.std.specs.Prelude.{Bool, ◌&&◌, ℕ, nat_le, List, [], ◌∷◌, map, codes, decimal, Option}
-use Rattle.std.specs.Prelude.{Some, None, if◌then◌else◌}
+use Rattle.std.specs.Prelude.{Some, None, if◌then◌else◌, ◌++◌}
 use Rattle.std.specs.Option.{option_and_then}
 use Rattle.std.specs.Str.{bytes_eq}
 use Rattle.std.specs.Borrow.{Bor}
@@ -54,3 +54,9 @@ form_in _ = None
 -- the form of the words that a call is given
 abbrev pub form_said : List (Bor (List ℕ)) → Option Form
 form_said words = form_in (map (λ word. word.now) words)
+
+-- the usage line
+abbrev pub usage_line : List ℕ
+usage_line =
+    codes "usage: vyrd check | step [--log|--history] | run [--log|--history] | gen N"
+    ++ codes " | movers | batch | explain | follow\n"

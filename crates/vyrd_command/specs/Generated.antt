@@ -7,7 +7,7 @@ use Rattle.vyrd_base.specs.Spelling.{ended_line}
 use Rattle.vyrd_base.specs.VerdictText.{verdict_text}
 use Rattle.vyrd_work.specs.Workloads.{Workload}
 use Rattle.vyrd_work.specs.Generated.{generated}
-use Rattle.vyrd_command.specs.Outputs.{status_of}
+use Rattle.vyrd_check_command.specs.Outputs.{status_of}
 use Rattle.vyrd_command.specs.Steps.{IsTurnedTo, TellsStuck}
 
 -- how many operations there are, and how many events their run has

@@ -1,25 +1,8 @@
--- What was taken of an input. Bytes that a source doesn't tell are None.
-use Rattle.std.specs.Prelude.{◌≡◌, ◌⊎◌, ℕ, ◌<◌, ◌≤◌, Bool, true, false, List, ◌++◌, length}
-use Rattle.std.specs.Prelude.{Option, option_map, Result, Ok, Err, IfSome}
-use Rattle.vyrd_base.specs.declared.verdict.Verdict.{Verdict}
+-- What was read of an input, and how much of it was taken. Bytes that a source doesn't tell are
+-- None.
+use Rattle.std.specs.Prelude.{◌≡◌, ◌⊎◌, ℕ, ◌<◌, ◌≤◌, false, List, ◌++◌, length}
 use Rattle.vyrd_base.specs.Devices.{SourceKnown, IsAtEnd}
-use Rattle.vyrd_base.specs.LogVerdicts.{log_verdict}
-use Rattle.vyrd_command.specs.declared.read_log.ReadFault.{ReadFault}
-use Rattle.vyrd_command.specs.declared.read_log.ReadFault.TheVariants.{Failed, Memory}
-
--- how many bytes one read takes at most
-abbrev pub longest_read : ℕ
-longest_read = 65536
-
--- whether a read has failed
-abbrev pub is_failed : {A : Type 0} → Result A ReadFault → Bool
-is_failed (Ok a) = false
-is_failed (Err Memory) = false
-is_failed (Err Failed) = true
-
--- the source told its bytes before and after, or neither time
-abbrev pub IsTaken : Option (List ℕ) → List ℕ → Option (List ℕ) → Type 0
-IsTaken before taken after = before ≡ option_map (λ left. taken ++ left) after
+use Rattle.vyrd_check_command.specs.Inputs.{IsTaken, longest_read}
 
 -- These bytes were read of a source: all to its end, or as many as are read at most.
 pub record IsInputRead (most : ℕ) (before after : SourceKnown) (bytes : List ℕ) : Type 0 where
@@ -50,7 +33,3 @@ IsInputTaken most refused status before after = IsAtEnd after ⊎ ((status ≡ r
 abbrev pub IsFewTaken : ℕ → SourceKnown → SourceKnown → Type 0
 IsFewTaken most before after =
     (taken : List ℕ) × IsTaken before.rest taken after.rest × (length taken ≤ most)
-
--- the verdict is that of the whole input, if its bytes are told
-abbrev pub IsVerdictOf : ℕ → Option (List ℕ) → Verdict → Type 0
-IsVerdictOf max input verdict = IfSome input (λ bytes. verdict ≡ log_verdict max bytes)

@@ -1,8 +1,5 @@
 pub mod Inputs
-pub mod Outputs
 pub mod Forms
-pub mod Progress
-pub mod Checks
 pub mod Accounts
 pub mod Steps
 pub mod Runs

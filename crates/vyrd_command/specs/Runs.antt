@@ -16,8 +16,8 @@ use Rattle.vyrd_work.specs.WorkReading.{Refusal, work_reading}
 use Rattle.vyrd_work.specs.WorkScripts.{ops_of, work_scripts}
 use Rattle.vyrd_work.specs.Refusals.{refusal_text}
 use Rattle.vyrd_live.specs.LiveRuns.{AllHadRoom, IsOverrun}
+use Rattle.vyrd_check_command.specs.Outputs.{status_of}
 use Rattle.vyrd_command.specs.declared.show.Show.{Show}
-use Rattle.vyrd_command.specs.Outputs.{status_of}
 use Rattle.vyrd_command.specs.Steps.{run_text, NamesOnlyRaces}
 
 -- The history is legal, each caller's part plays the caller's script to its end, and this is the

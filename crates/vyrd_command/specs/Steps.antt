@@ -19,9 +19,9 @@ use Rattle.vyrd_work.specs.WorkReading.{Refusal, work_reading}
 use Rattle.vyrd_work.specs.WorkScripts.{work_scripts}
 use Rattle.vyrd_work.specs.Refusals.{refusal_text}
 use Rattle.vyrd_mover.specs.HistoryText.{history_text}
+use Rattle.vyrd_check_command.specs.Outputs.{status_of}
 use Rattle.vyrd_command.specs.declared.show.Show.{Show}
 use Rattle.vyrd_command.specs.declared.show.Show.TheVariants as shown
-use Rattle.vyrd_command.specs.Outputs.{status_of}
 
 -- what is shown of a run with this history and this verdict: the verdict's line, or the log's text
 -- and then that line, or the history's text

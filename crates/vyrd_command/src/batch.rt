@@ -8,14 +8,13 @@ ghost use Rattle.vyrd_batch.specs.BatchAnswers.{batch_status, batch_text, refuse
 ghost use Rattle.vyrd_batch.specs.LongBatches.{longest_batch_input};
 ghost use Rattle.vyrd_batch.specs.Rounds.{IsJudged, IsSpent};
 ghost use Rattle.vyrd_batch.specs.Costs.{round_cost};
-ghost use Rattle.vyrd_command.specs.Inputs.{IsInputTaken, IsFewTaken, is_failed};
+ghost use Rattle.vyrd_check_command.specs.Inputs.{is_failed};
+ghost use Rattle.vyrd_command.specs.Inputs.{IsInputTaken, IsFewTaken};
 ghost use Rattle.vyrd_command.specs.Batches.{AnswersBatch, IsBatchAnswer, IsBatchRead};
 ghost use Rattle.vyrd_command.specs.Batches.{IsBatchStatus};
 ghost use Rattle.vyrd_command.specs.BatchCosts.{IsSinceRound, IsPaidRound, IsReadFor, IsTakenFor};
 
-use crate::answer::Answer;
 use crate::read_input::{LONGEST_BATCH, read_more};
-use crate::read_log::ReadFault;
 use crate::status::{BATCH_REFUSED, MEMORY, READ_FAULT};
 use std::alloc::{AllocError, Global};
 use std::marker::Brand;
@@ -23,6 +22,7 @@ use std::sync::ledger::{Blank, Ledger};
 use std::thread::Threads;
 use vyrd_base::{Source, Steps, Verdict};
 use vyrd_batch::{BatchFault, BatchJudge, status_of, write_refusal, write_verdicts};
+use vyrd_check_command::{Answer, ReadFault};
 
 /// How many bytes more are read before the logs that are whole by then are judged: 1 MiB. So
 /// threads have enough to do for the time that it takes to start them, and the bytes are few enough

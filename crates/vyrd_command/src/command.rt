@@ -7,7 +7,6 @@ ghost use Rattle.vyrd_command.specs.declared.form.Form.TheVariants.{Check, Gen};
 ghost use Rattle.vyrd_command.specs.Commands.{IsStatus, IsAnswerStatus, IsAnswer, reads, IsEnough};
 ghost use Rattle.vyrd_command.specs.Commands.{IsNoFurther};
 
-use crate::answer::Answer;
 use crate::batch::batch;
 use crate::explain::{MOST_EXPLAINED, answer_explained};
 use crate::form::Form;
@@ -19,6 +18,7 @@ use std::alloc::Global;
 use std::sync::Wait;
 use std::thread::Threads;
 use vyrd_base::{Gate, Source};
+use vyrd_check_command::Answer;
 
 /// The answer to words of any other form than `check`; or nothing after a failed read or out of
 /// memory.

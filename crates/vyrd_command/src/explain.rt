@@ -4,16 +4,15 @@ ghost use Rattle.std.specs.Prelude.{◌≡◌, ◌≤◌, ◌⊎◌, ◌==◌, f
 ghost use Rattle.vyrd_base.specs.Devices.{AfterReads};
 ghost use Rattle.vyrd_explain.specs.Explaining.{HasTaken, limit_of};
 ghost use Rattle.vyrd_log_check.specs.Checking.{most_lines};
-ghost use Rattle.vyrd_command.specs.Inputs.{is_failed};
+ghost use Rattle.vyrd_check_command.specs.Inputs.{is_failed};
 ghost use Rattle.vyrd_command.specs.Explains.{AnswersExplain, IsExplainTaken, IsExplainNoFurther};
 ghost use Rattle.vyrd_command.specs.Explains.{IsLogTaken, longest_explained};
 
-use crate::answer::{Answer, status_of};
 use crate::read_input::read_more;
-use crate::read_log::ReadFault;
 use crate::status::{MEMORY, READ_FAULT};
 use std::alloc::Global;
 use vyrd_base::Source;
+use vyrd_check_command::{Answer, ReadFault, status_of};
 use vyrd_explain::{About, Explainer};
 
 /// How many lines a log may have that the program explains. Its entries are kept, some 24 bytes for

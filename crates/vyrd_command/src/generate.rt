@@ -5,11 +5,11 @@ ghost use Rattle.vyrd_memory.specs.Bounds.{most_ops};
 ghost use Rattle.vyrd_command.specs.Generated.{IsGenAnswer, IsGenStatus};
 
 use crate::account::Account;
-use crate::answer::Answer;
 use crate::show::Show;
 use crate::status::MEMORY;
 use crate::telling::{generated, stuck};
 use std::alloc::{AllocError, Global};
+use vyrd_check_command::Answer;
 use vyrd_live::show_by_turns;
 use vyrd_work::{AnyMachine, generate};
 

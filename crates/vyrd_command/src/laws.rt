@@ -1,15 +1,27 @@
 //! What follows from the clauses of the top call, as clauses of functions that do nothing.
 
 ghost use Rattle.std.specs.Prelude.{◌≡◌, ◌≤◌, ◌⊎◌, ℕ, Bool, true, false, List, Option};
-ghost use Rattle.std.specs.Prelude.{None};
+ghost use Rattle.std.specs.Prelude.{Some, None};
+ghost use Rattle.std.specs.Borrow.{Bor};
 ghost use Rattle.vyrd_base.specs.Devices.{SourceKnown, AfterReads, SinkKnown, AfterWrites};
+ghost use Rattle.vyrd_check_command.specs.Words.{asks_check};
 ghost use Rattle.vyrd_command.specs.declared.form.Form.{Form};
+ghost use Rattle.vyrd_command.specs.declared.form.Form.TheVariants.{Check};
+ghost use Rattle.vyrd_command.specs.Forms.{form_said};
 ghost use Rattle.vyrd_command.specs.Commands.{IsStatus, HasRoom};
 ghost use Rattle.vyrd_command.specs.Counts.{HasRisen};
 
 /// Status 3 comes only for words that are none of the forms.
 pub fn usage_is_of_no_form()
     ensures { (form : Option Form) → IsStatus form 3 → form ≡ None }
+{}
+
+/// The words for which a program that only checks does so are those of the form `check`.
+pub fn both_programs_check()
+    ensures whole { (words : List (Bor (List ℕ))) → asks_check words ≡ true
+        → form_said words ≡ Some Check }
+    ensures smaller { (words : List (Bor (List ℕ))) → form_said words ≡ Some Check
+        → asks_check words ≡ true }
 {}
 
 /// The count of a source rises if a read fails, and else stays. It never falls, and that of a sure

@@ -7,17 +7,17 @@ ghost use Rattle.vyrd_mover.specs.HistoryReading.{history_reading};
 ghost use Rattle.vyrd_mover.specs.HistoryReaders.{HasRead};
 ghost use Rattle.vyrd_mover.specs.LongHistories.{longest_history};
 ghost use Rattle.vyrd_mover.specs.Refusals.{history_refusal_text};
-ghost use Rattle.vyrd_command.specs.Inputs.{IsInputTaken, IsFewTaken, is_failed};
+ghost use Rattle.vyrd_check_command.specs.Inputs.{is_failed};
+ghost use Rattle.vyrd_command.specs.Inputs.{IsInputTaken, IsFewTaken};
 ghost use Rattle.vyrd_command.specs.Moved.{AnswersMovers, IsMoversAnswer, IsMoversStatus};
 ghost use Rattle.vyrd_command.specs.Moved.{IsHistoryRead};
 ghost use Rattle.vyrd_command.specs.Moved.{status_of_blocks};
 
-use crate::answer::Answer;
 use crate::read_input::read_more;
-use crate::read_log::ReadFault;
 use crate::status::{HISTORY_REFUSED, MEMORY, READ_FAULT};
 use std::alloc::{AllocError, Global};
 use vyrd_base::Source;
+use vyrd_check_command::{Answer, ReadFault};
 use vyrd_mover::{
     Blocks, HistoryFault, HistoryReader, HistoryRule, write_blocks, write_history_refusal,
 };

@@ -1,50 +1,32 @@
 //! The top call.
 
-ghost use Rattle.std.specs.Prelude.{◌≡◌, ◌≢◌, ◌≤◌, ◌⊎◌, ◌==◌, false, ℕ, [], length};
+ghost use Rattle.std.specs.Prelude.{◌≡◌, ◌≢◌, ◌⊎◌, ◌==◌, false, ℕ};
 ghost use Rattle.std.specs.Prelude.{Some};
 ghost use Rattle.vyrd_base.specs.Devices.{IsAtEnd, AfterReads, AfterWrites};
 ghost use Rattle.vyrd_log_check.specs.Checking.{most_lines};
+ghost use Rattle.vyrd_check_command.specs.Checks.{IsUnsettled};
 ghost use Rattle.vyrd_command.specs.declared.show.Show.{Show};
 ghost use Rattle.vyrd_command.specs.declared.form.Form.TheVariants.{Check, Step, Run, Gen};
 ghost use Rattle.vyrd_command.specs.Forms.{form_said};
-ghost use Rattle.vyrd_command.specs.Outputs.{Appends, AppendsFront, usage_line};
 ghost use Rattle.vyrd_command.specs.Commands.{IsStatus, IsAnswerStatus, HasAnswered};
 ghost use Rattle.vyrd_command.specs.Commands.{HasAnsweredInPart, HasRoom, reads, IsEnough};
 ghost use Rattle.vyrd_command.specs.Commands.{IsNoFurther};
-ghost use Rattle.vyrd_command.specs.Checks.{IsUnsettled};
 ghost use Rattle.vyrd_command.specs.Steps.{IsStepStatus};
 ghost use Rattle.vyrd_command.specs.Runs.{IsRunStatus};
 ghost use Rattle.vyrd_command.specs.Generated.{IsGenStatus};
 ghost use Rattle.vyrd_command.specs.CorrectInputs.{SaysCorrect, SaysFewEvents};
 
-use crate::answer::Answer;
 use crate::command::carry_out;
-use crate::deliver::deliver;
 use crate::form::{Form, form_of};
-use crate::limited::check_limited;
-use crate::status::{USAGE, WRITE_FAULT};
 use std::alloc::Global;
 use std::sync::Wait;
 use std::thread::Threads;
 use vyrd_base::{Gate, Sink, Source};
-
-/// How many lines a log may have.
-const MAX_LINES: u64 = 268_435_456;
+use vyrd_check_command::{Ended, MAX_LINES, check_limited, give, give_usage};
 
 /// The usage line.
 const USAGE_LINE: &[u8] =
     b"usage: vyrd check | step [--log|--history] | run [--log|--history] | gen N | movers | batch | explain | follow\n";
-
-/// How a call of the program ended.
-#[derive(Debug, Drop)]
-pub struct Ended {
-    /// 0 accepted, 1 a violation, 2 malformed, 3 arguments that aren't a command, 4 a failed read,
-    /// 5 a failed write, 6 no memory, 7 a workload that is refused, 8 a run by turns that gets
-    /// stuck, 9 a live run in which a caller's events are spent, 10 a history that is refused, 11 a
-    /// batch that is refused. Of a history's blocks 0 says that all are reducible, and 1 that one
-    /// isn't.
-    pub status: u8,
-}
 
 /// Carries out the words that stand after the program's name, over a source and a sink.
 ///
@@ -63,6 +45,12 @@ pub struct Ended {
 /// has to do with the verdict; `follow` writes a line for each thing that changes along the log in
 /// place of these. All other words are answered with the usage line, and the source is
 /// left alone. All output is made before its first byte is written.
+///
+/// The status is 0 accepted, 1 a violation, 2 malformed, 3 arguments that aren't a command, 4 a
+/// failed read, 5 a failed write, 6 no memory, 7 a workload that is refused, 8 a run by turns that
+/// gets stuck, 9 a live run in which a caller's events are spent, 10 a history that is refused, 11
+/// a batch that is refused. Of a history's blocks 0 says that all are reducible, and 1 that one
+/// isn't.
 pub fn vyrd<R: Threads + Wait + Sync, S: Source, K: Sink, G: Gate>(
     rt: &R,
     alloc: Global,
@@ -125,43 +113,6 @@ pub fn vyrd<R: Threads + Wait + Sync, S: Source, K: Sink, G: Gate>(
             let answer = carry_out(rt, alloc, form, source, gate);
             give(sink, answer)
         }
-        None => give_usage(sink),
+        None => give_usage(sink, USAGE_LINE),
     }
-}
-
-/// Writes an answer. A failed write takes the place of its status.
-pub(crate) fn give<K: Sink>(sink: &mut K, answer: Answer) -> Ended
-    ensures given { result.status ≢ 5
-        → (result.status ≡ answer.status)
-        × Appends (K.known sink.old).taken (K.known sink.new).taken answer.text.items }
-    ensures in_part { result.status ≡ 5 → answer.status ≢ 5
-        → AppendsFront (K.known sink.old).taken (K.known sink.new).taken answer.text.items }
-    ensures silent { answer.text.items ≡ [] → result.status ≡ answer.status }
-    ensures statuses { (result.status ≡ 5) ⊎ (result.status ≡ answer.status) }
-    ensures sink { answer.status ≢ 5 → AfterWrites (result.status == 5)
-        (length answer.text.items ≤ (K.known sink.old).sure_room) (K.known sink.old)
-        (K.known sink.new) }
-{
-    let status = match deliver(sink, &answer.text) {
-        Ok(()) => answer.status,
-        Err(_) => WRITE_FAULT,
-    };
-    Ended { status }
-}
-
-/// Writes the usage line.
-fn give_usage<K: Sink>(sink: &mut K) -> Ended
-    ensures statuses { (result.status ≡ 3) ⊎ (result.status ≡ 5) }
-    ensures given { result.status ≡ 3
-        → Appends (K.known sink.old).taken (K.known sink.new).taken usage_line }
-    ensures in_part { result.status ≡ 5
-        → AppendsFront (K.known sink.old).taken (K.known sink.new).taken usage_line }
-    ensures sink { AfterWrites (result.status == 5)
-        (length usage_line ≤ (K.known sink.old).sure_room) (K.known sink.old) (K.known sink.new) }
-{
-    let status = match deliver(sink, USAGE_LINE) {
-        Ok(()) => USAGE,
-        Err(_) => WRITE_FAULT,
-    };
-    Ended { status }
 }

@@ -3,12 +3,12 @@
 ghost use Rattle.std.specs.Prelude.{◌≡◌, ◌+◌, ◌≤◌, ◌<◌, false, take, drop, vec_len};
 ghost use Rattle.std.specs.Prelude.{IfOk, OnOk, OnErr};
 ghost use Rattle.vyrd_base.specs.Devices.{Gives, GivesNothing, AfterReads};
-ghost use Rattle.vyrd_command.specs.Inputs.{IsInputRead, IsMoreRead, IsFewTaken, longest_read};
-ghost use Rattle.vyrd_command.specs.Inputs.{is_failed};
+ghost use Rattle.vyrd_check_command.specs.Inputs.{longest_read, is_failed};
+ghost use Rattle.vyrd_command.specs.Inputs.{IsInputRead, IsMoreRead, IsFewTaken};
 
-use crate::read_log::{LONGEST_READ, ReadFault};
 use std::alloc::{AllocError, Global};
 use vyrd_base::Source;
+use vyrd_check_command::{LONGEST_READ, ReadFault};
 
 /// How many bytes of a workload are read at most: 32 MiB, and one byte that shows that there are
 /// more.

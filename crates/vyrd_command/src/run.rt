@@ -11,9 +11,7 @@ ghost use Rattle.vyrd_command.specs.Inputs.{IsInputTaken, IsFewTaken};
 ghost use Rattle.vyrd_command.specs.Runs.{AnswersRun, IsRunAnswer, IsRunStatus};
 
 use crate::account::Account;
-use crate::answer::Answer;
 use crate::read_input::{LONGEST_WORK, read_input};
-use crate::read_log::ReadFault;
 use crate::show::Show;
 use crate::status::{MEMORY, READ_FAULT};
 use crate::telling::{overrun, refuse, told_of};
@@ -21,6 +19,7 @@ use std::alloc::{AllocError, Global};
 use std::sync::Wait;
 use std::thread::Threads;
 use vyrd_base::{Gate, Source};
+use vyrd_check_command::{Answer, ReadFault};
 use vyrd_live::{Played, show_live};
 use vyrd_work::{Work, WorkFault, read_work};
 

@@ -1,17 +1,7 @@
 //! The statuses of a call that answers without a verdict. A verdict's are 0, 1 and 2, as
-//! [`Ended`](crate::Ended) says.
+//! [`vyrd`](crate::vyrd) says. Those of `check` are those of `vyrd_check_command`.
 
-/// The words are none of the forms.
-pub const USAGE: u8 = 3;
-
-/// A read failed.
-pub const READ_FAULT: u8 = 4;
-
-/// A write failed.
-pub const WRITE_FAULT: u8 = 5;
-
-/// There was no memory.
-pub const MEMORY: u8 = 6;
+pub use vyrd_check_command::status::{MEMORY, READ_FAULT, USAGE, WRITE_FAULT};
 
 /// The workload is refused.
 pub const REFUSED: u8 = 7;

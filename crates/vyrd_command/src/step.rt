@@ -10,14 +10,13 @@ ghost use Rattle.vyrd_command.specs.Inputs.{IsInputTaken, IsFewTaken};
 ghost use Rattle.vyrd_command.specs.Steps.{AnswersInput, IsStepAnswer, IsStepStatus};
 
 use crate::account::Account;
-use crate::answer::Answer;
 use crate::read_input::{LONGEST_WORK, read_input};
-use crate::read_log::ReadFault;
 use crate::show::Show;
 use crate::status::{MEMORY, READ_FAULT};
 use crate::telling::{refuse, stuck, told_of};
 use std::alloc::{AllocError, Global};
 use vyrd_base::Source;
+use vyrd_check_command::{Answer, ReadFault};
 use vyrd_live::show_by_turns;
 use vyrd_work::{AnyMachine, Work, WorkFault, read_work};
 

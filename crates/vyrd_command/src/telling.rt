@@ -7,16 +7,16 @@ ghost use Rattle.vyrd_base.specs.Rules.{rules_by};
 ghost use Rattle.vyrd_base.specs.Verdicts.{verdict};
 ghost use Rattle.vyrd_base.specs.VerdictText.{verdict_text};
 ghost use Rattle.vyrd_work.specs.Refusals.{refusal_text};
+ghost use Rattle.vyrd_check_command.specs.Outputs.{status_of};
 ghost use Rattle.vyrd_command.specs.Accounts.{HasTaken};
-ghost use Rattle.vyrd_command.specs.Outputs.{status_of};
 ghost use Rattle.vyrd_command.specs.Steps.{run_text, stuck_line};
 ghost use Rattle.vyrd_command.specs.Runs.{spent_line};
 ghost use Rattle.vyrd_command.specs.Generated.{generated_line};
 
 use crate::account::{Account, Told};
-use crate::answer::{Answer, status_of};
 use crate::status::{REFUSED, SPENT, STUCK};
 use std::alloc::{AllocError, Global};
+use vyrd_check_command::{Answer, status_of};
 use vyrd_text::{LineBuffer, write_verdict};
 use vyrd_work::{WorkRule, write_refusal};
 

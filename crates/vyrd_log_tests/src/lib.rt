@@ -11,6 +11,8 @@ mod batch;
 #[cfg(test)]
 mod check;
 #[cfg(test)]
+mod check_command;
+#[cfg(test)]
 mod errors;
 #[cfg(test)]
 mod judge;

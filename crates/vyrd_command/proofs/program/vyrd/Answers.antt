@@ -2,13 +2,12 @@
 use Rattle.std.proofs.Common.{◌≡◌, ◌≤◌, ap, ◌∙◌, sym, subst, Some, false, inl, length}
 use Rattle.std.specs.Prelude.{◌==◌}
 use Rattle.vyrd_log_check.specs.Checking.{most_lines}
-use Rattle.vyrd_command.specs.Forms.{form_said}
-use Rattle.vyrd_command.specs.Outputs.{usage_line}
-use Rattle.vyrd_command.specs.Checks.{HasRoomForAnswer}
+use Rattle.vyrd_check_command.specs.Checks.{HasRoomForAnswer}
+use Rattle.vyrd_check_command.proofs.StatusLaws.{reads_told, writes_within}
+use Rattle.vyrd_command.specs.Forms.{form_said, usage_line}
 use Rattle.vyrd_command.specs.Commands.{reads, HasRoom, IsEnough, IsNoFurther}
 use Rattle.vyrd_command.proofs.CommandLaws.{written_status, written_answer, written_in_part, text_fits, enough_taken, checked_status, checked_untouched, checked_answer, checked_in_part, checked_enough, line_fits, usage_status, usage_answer, usage_in_part, usage_fits}
 use Rattle.vyrd_command.proofs.EveryWritten.{step_written, run_written, run_has_room, gen_written}
-use Rattle.vyrd_command.proofs.StatusLaws.{reads_told, writes_within}
 use Rattle.vyrd_command.proofs.program.vyrd.Goals as goal
 
 -- `check`

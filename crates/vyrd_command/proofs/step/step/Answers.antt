@@ -1,8 +1,9 @@
 use Rattle.vyrd_work.specs.LongInputs.{longest_input}
 use Rattle.vyrd_work.specs.WorkReading.{work_reading}
+use Rattle.vyrd_check_command.proofs.StatusLaws.{none_failed}
 use Rattle.vyrd_command.proofs.StepLaws.{reading_is_input, step_refused}
-use Rattle.vyrd_command.proofs.TakenLaws.{input_taken}
-use Rattle.vyrd_command.proofs.StatusLaws.{step_isnt_four, none_failed}
+use Rattle.vyrd_command.proofs.InputLaws.{input_taken}
+use Rattle.vyrd_command.proofs.StatusLaws.{step_isnt_four}
 use Rattle.vyrd_command.proofs.step.step.Goals as goal
 
 pub returns-in-Ok-answer_to-clause-answers : goal.returns-in-Ok-answer_to-clause-answers
