@@ -43,7 +43,7 @@ class ScriptTest(unittest.TestCase):
 
     def run_script(self, script, *words, stdin=b"", vyrd=None, **others):
         """Runs a script with these words in the folder."""
-        environment = {name: value for name, value in os.environ.items() if name != "VYRD"}
+        environment = {name: value for name, value in os.environ.items() if name not in ("VYRD", "VYRD_CHECKER")}
         environment.update(others, **({"VYRD": str(vyrd)} if vyrd else {}))
         command = [str(script if Path(script).is_absolute() else EXAMPLES / script), *words]
         source = {"input": stdin} if isinstance(stdin, bytes) else {"stdin": stdin}

@@ -36,23 +36,38 @@ class Words(ScriptTest):
 
 
 class Compare(ScriptTest):
-    def compare(self, table, *answer):
-        """Runs a copy of compare, with a table of its own and a checker that answers `check` so."""
+    USAGE = "[ \"$*\" = check ] || {{ echo '{}'; exit 3; }}"
+    NOT_BUILT = ["the smaller program is not built"]
+
+    def compare(self, table, *answer, smaller=()):
+        """Runs a copy of compare, with a table of its own and a checker that answers `check` so. There is a smaller one too, if
+        what it answers is given."""
         for name in ("compare", "common.sh"):
             shutil.copy(EXAMPLES / name, self.folder)
         self.file("table.tsv", table)
         self.file("a.log", "")
-        checker = self.program("checker", f"[ \"$*\" = check ] || {{ echo '{USAGE}'; exit 3; }}", *answer)
-        return self.run_script(self.folder / "compare", vyrd=checker)
+        checker = self.program("checker", self.USAGE.format(USAGE), *answer)
+        others = {"VYRD_CHECKER": str(self.program("smaller", *smaller))} if smaller else {}
+        return self.run_script(self.folder / "compare", vyrd=checker, **others)
 
     def test_output_and_status_are_compared(self):
         table = f"a.log\tcheck\t1\t{VIOLATION}\n"
         right = self.compare(table, f"echo '{VIOLATION}'", "exit 1")
-        self.assert_ended(right, 0, b"examples: 22 passed, 0 failed\n", [])
+        self.assert_ended(right, 0, b"examples: 22 passed, 0 failed\n", self.NOT_BUILT)
         for wrong in (f"echo '{VIOLATION}'; exit 0", f"printf '{VIOLATION}'; exit 1", "echo accepted; exit 1", "exit 70"):
             ran = self.compare(table, wrong)
             self.assertEqual(ran.returncode, 1)
             self.assertIn(b"examples: 21 passed, 1 failed\n", ran.stdout)
+
+    def test_the_smaller_program_is_compared(self):
+        table = f"a.log\tcheck\t1\t{VIOLATION}\na.log\texplain\t3\t{USAGE}\n"
+        answer, usage = f"echo '{VIOLATION}'; exit 1", self.USAGE.format("usage: vyrd_checker check")
+        right = self.compare(table, answer, smaller=(usage, answer))
+        self.assert_ended(right, 0, b"examples: 32 passed, 0 failed\n", [])
+        for wrong in ((usage, "exit 1"), (usage, f"echo '{VIOLATION}'"), (self.USAGE.format(USAGE), answer)):
+            ran = self.compare(table, answer, smaller=wrong)
+            self.assertEqual(ran.returncode, 1)
+            self.assertNotIn(b" 0 failed\n", ran.stdout)
 
 
 class Caught(ScriptTest):
