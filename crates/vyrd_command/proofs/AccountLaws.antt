@@ -1,5 +1,6 @@
 -- What an account has taken in with one event more, and the whole text that it leaves.
-use Rattle.std.proofs.Common.{◌≡◌, ℕ, List, [], ◌∷◌, ◌++◌, Some, None, refl, ap, ◌∙◌, sym, append_assoc, append-nil}
+use Rattle.std.proofs.Common.{◌≡◌, ℕ, List, [], ◌∷◌, ◌++◌, Some, None, refl, ap, ◌∙◌, sym}
+use Rattle.std.proofs.Common.{append_assoc, append-nil}
 use Rattle.std.specs.Prelude.{codes, flat_map}
 use Rattle.std.proofs.lemmas.Grind.{flat_map-append}
 use Rattle.vyrd_base.specs.declared.header.Header.{Header}
@@ -19,65 +20,89 @@ use Rattle.vyrd_command.specs.Accounts.{text_so_far}
 use Rattle.vyrd_command.specs.Steps.{run_text}
 
 -- one line more
-line_more : {A : Type 0} (line : A → List ℕ) (first old new : List ℕ) (xs : List A) (x : A) → old ≡ first ++ flat_map (λ x. ended_line (line x)) xs
-    → new ≡ old ++ ended_line (line x) → new ≡ first ++ flat_map (λ x. ended_line (line x)) (xs ++ x ∷ [])
+line_more : {A : Type 0} (line : A → List ℕ) (first old new : List ℕ) (xs : List A) (x : A)
+    → old ≡ first ++ flat_map (λ x. ended_line (line x)) xs
+    → new ≡ old ++ ended_line (line x) → new ≡ first ++ flat_map (λ x. ended_line (line x))
+    (xs ++ x ∷ [])
 line_more line first old new xs x before now =
     let lines = flat_map (λ x. ended_line (line x)) xs in
     now ∙ ap (λ t. t ++ ended_line (line x)) before ∙ append_assoc first lines (ended_line (line x))
     ∙ ap (λ t. first ++ (lines ++ t)) (sym (append-nil (ended_line (line x))))
     ∙ ap (λ t. first ++ t) (sym (flat_map-append (λ x. ended_line (line x)) xs (x ∷ [])))
 
-pub entry_shown : (h : Header) (history : List Stamped) (e : Stamped) (entry : Entry) (old new : List ℕ) → logged e.caller e.did ≡ Some entry
-    → old ≡ text_so_far shown.Log h history → new ≡ old ++ ended_line (entry_line entry) → new ≡ text_so_far shown.Log h (history ++ e ∷ [])
+pub entry_shown : (h : Header) (history : List Stamped) (e : Stamped) (entry : Entry)
+    (old new : List ℕ) → logged e.caller e.did ≡ Some entry
+    → old ≡ text_so_far shown.Log h history → new ≡ old ++ ended_line (entry_line entry)
+    → new ≡ text_so_far shown.Log h (history ++ e ∷ [])
 entry_shown h history e entry old new is before now =
     let first = ended_line (header_line h.version h.subject h.size h.callers) in
     line_more entry_line first old new (log_of history) entry before now
-    ∙ ap (λ log. first ++ flat_map (λ e. ended_line (entry_line e)) log) (sym (log_with history e entry is))
+    ∙ ap (λ log. first ++ flat_map (λ e. ended_line (entry_line e)) log)
+    (sym (log_with history e entry is))
 
-pub nothing_shown : (h : Header) (history : List Stamped) (e : Stamped) (text : List ℕ) → logged e.caller e.did ≡ None
+pub nothing_shown : (h : Header) (history : List Stamped) (e : Stamped) (text : List ℕ)
+    → logged e.caller e.did ≡ None
     → text ≡ text_so_far shown.Log h history → text ≡ text_so_far shown.Log h (history ++ e ∷ [])
 nothing_shown h history e text none before =
-    before ∙ ap (λ log. ended_line (header_line h.version h.subject h.size h.callers) ++ flat_map (λ e. ended_line (entry_line e)) log)
+    before ∙ ap (λ log. ended_line (header_line h.version h.subject h.size h.callers)
+    ++ flat_map (λ e. ended_line (entry_line e)) log)
     (sym (log_without history e none))
 
 pub event_shown : (h : Header) (history : List Stamped) (e : Stamped) (old new : List ℕ)
-    → old ≡ text_so_far shown.History h history → new ≡ old ++ ended_line (event_line e) → new ≡ text_so_far shown.History h (history ++ e ∷ [])
-event_shown h history e old new before now = line_more event_line (ended_line (history_header_line h.subject h.size h.callers)) old new history e before now
+    → old ≡ text_so_far shown.History h history → new ≡ old ++ ended_line (event_line e)
+    → new ≡ text_so_far shown.History h (history ++ e ∷ [])
+event_shown h history e old new before now = line_more event_line
+    (ended_line (history_header_line h.subject h.size h.callers)) old new history e before now
 
 -- the text of a run in which nothing was done yet
-pub nothing_begun : (show : Show) (h : Header) (text : List ℕ) → show ≡ shown.Verdict → text ≡ [] → text ≡ text_so_far show h []
+pub nothing_begun : (show : Show) (h : Header) (text : List ℕ) → show ≡ shown.Verdict → text ≡ []
+    → text ≡ text_so_far show h []
 nothing_begun show h text is none = none ∙ ap (λ show. text_so_far show h []) (sym is)
 
 pub log_begun : (show : Show) (h own : Header) (text : List ℕ) → show ≡ shown.Log → own ≡ h
-    → text ≡ ended_line (header_line h.version h.subject h.size h.callers) → text ≡ text_so_far show own []
+    → text ≡ ended_line (header_line h.version h.subject h.size h.callers)
+    → text ≡ text_so_far show own []
 log_begun show h own text is same line =
     let first = ended_line (header_line h.version h.subject h.size h.callers) in
-    line ∙ sym (append-nil first) ∙ ap (λ log. first ++ flat_map (λ e. ended_line (entry_line e)) log) (sym no_log)
-    ∙ ap (λ h. text_so_far shown.Log h []) (sym same) ∙ ap (λ show. text_so_far show own []) (sym is)
+    line ∙ sym (append-nil first)
+    ∙ ap (λ log. first ++ flat_map (λ e. ended_line (entry_line e)) log) (sym no_log)
+    ∙ ap (λ h. text_so_far shown.Log h []) (sym same) ∙ ap (λ show. text_so_far show own [])
+    (sym is)
 
 pub history_begun : (show : Show) (h own : Header) (text : List ℕ) → show ≡ shown.History → own ≡ h
-    → text ≡ ended_line (history_header_line h.subject h.size h.callers) → text ≡ text_so_far show own []
+    → text ≡ ended_line (history_header_line h.subject h.size h.callers)
+    → text ≡ text_so_far show own []
 history_begun show h own text is same line =
     line ∙ sym (append-nil (ended_line (history_header_line h.subject h.size h.callers)))
-    ∙ ap (λ h. text_so_far shown.History h []) (sym same) ∙ ap (λ show. text_so_far show own []) (sym is)
+    ∙ ap (λ h. text_so_far shown.History h []) (sym same) ∙ ap (λ show. text_so_far show own [])
+    (sym is)
 
 -- the whole text
-pub verdict_told : (show : Show) (h : Header) (history : List Stamped) (v : Verdict) (old new : List ℕ) → show ≡ shown.Verdict
-    → old ≡ text_so_far show h history → new ≡ old ++ verdict_text v → new ≡ run_text show h history v
+pub verdict_told : (show : Show) (h : Header) (history : List Stamped) (v : Verdict)
+    (old new : List ℕ) → show ≡ shown.Verdict
+    → old ≡ text_so_far show h history → new ≡ old ++ verdict_text v
+    → new ≡ run_text show h history v
 verdict_told show h history v old new is before now =
-    now ∙ ap (λ t. t ++ verdict_text v) (before ∙ ap (λ show. text_so_far show h history) is) ∙ ap (λ show. run_text show h history v) (sym is)
+    now ∙ ap (λ t. t ++ verdict_text v) (before ∙ ap (λ show. text_so_far show h history) is)
+    ∙ ap (λ show. run_text show h history v) (sym is)
 
-pub log_told : (show : Show) (h : Header) (history : List Stamped) (v : Verdict) (old ended new : List ℕ) → show ≡ shown.Log
-    → old ≡ text_so_far show h history → ended ≡ old ++ codes "end\n" → new ≡ ended ++ verdict_text v → new ≡ run_text show h history v
+pub log_told : (show : Show) (h : Header) (history : List Stamped) (v : Verdict)
+    (old ended new : List ℕ) → show ≡ shown.Log
+    → old ≡ text_so_far show h history → ended ≡ old ++ codes "end\n" → new ≡ ended
+    ++ verdict_text v → new ≡ run_text show h history v
 log_told show h history v old ended new is before line now =
     let first = ended_line (header_line h.version h.subject h.size h.callers) in
     now ∙ ap (λ t. t ++ verdict_text v) (line
-    ∙ whole_log h [] (log_of history) [] first first old refl (sym (append-nil first)) (before ∙ ap (λ show. text_so_far show h history) is))
+    ∙ whole_log h [] (log_of history) [] first first old refl (sym (append-nil first))
+    (before ∙ ap (λ show. text_so_far show h history) is))
     ∙ ap (λ show. run_text show h history v) (sym is)
 
-pub history_told : (show : Show) (h : Header) (history : List Stamped) (v : Verdict) (old new : List ℕ) → show ≡ shown.History
-    → old ≡ text_so_far show h history → new ≡ old ++ codes "end\n" → new ≡ run_text show h history v
+pub history_told : (show : Show) (h : Header) (history : List Stamped) (v : Verdict)
+    (old new : List ℕ) → show ≡ shown.History
+    → old ≡ text_so_far show h history → new ≡ old ++ codes "end\n"
+    → new ≡ run_text show h history v
 history_told show h history v old new is before now =
-    now ∙ whole_history h history [] (ended_line (history_header_line h.subject h.size h.callers)) old refl
+    now ∙ whole_history h history [] (ended_line (history_header_line h.subject h.size h.callers))
+    old refl
     (before ∙ ap (λ show. text_so_far show h history) is)
     ∙ ap (λ show. run_text show h history v) (sym is)

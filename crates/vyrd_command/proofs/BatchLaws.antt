@@ -1,5 +1,7 @@
--- What was read of an input says the logs of the whole input, and what is judged of it while it is read.
-use Rattle.std.proofs.Common.{◌≡◌, ℕ, ◌+◌, ◌*◌, ◌≤◌, List, [], ◌++◌, length, refl, ap, ◌∙◌, sym, subst, arith, length-append, append_assoc, append-nil}
+-- What was read of an input says the logs of the whole input, and what is judged of it while it is
+-- read.
+use Rattle.std.proofs.Common.{◌≡◌, ℕ, ◌+◌, ◌*◌, ◌≤◌, List, [], ◌++◌, length, refl, ap, ◌∙◌, sym}
+use Rattle.std.proofs.Common.{subst, arith, length-append, append_assoc, append-nil}
 use Rattle.std.specs.Prelude.{IfSome, Result, Ok, Err, IfOk}
 use Rattle.vyrd_base.specs.Devices.{SourceKnown}
 use Rattle.vyrd_base.specs.declared.verdict.Verdict.{Verdict}
@@ -15,26 +17,34 @@ use Rattle.vyrd_check_command.specs.declared.answer.Answer.{Answer}
 use Rattle.vyrd_check_command.proofs.TakenLaws.{taken_more}
 use Rattle.vyrd_command.specs.Inputs.{IsInputRead, IsMoreRead, IsFewTaken}
 use Rattle.vyrd_command.specs.Batches.{IsBatchAnswer, IsReading}
-use Rattle.vyrd_command.specs.BatchCosts.{round_bytes, IsSinceRound, IsPaidRound, IsReadFor, IsTakenFor}
+use Rattle.vyrd_command.specs.BatchCosts.{round_bytes, IsSinceRound, IsPaidRound, IsReadFor}
+use Rattle.vyrd_command.specs.BatchCosts.{IsTakenFor}
 use Rattle.vyrd_command.proofs.InputLaws.{whole_input, long_refused}
 
-pub logs_are_input : (before after : SourceKnown) (bytes : List ℕ) → IsInputRead longest_batch_input before after bytes
+pub logs_are_input : (before after : SourceKnown) (bytes : List ℕ)
+    → IsInputRead longest_batch_input before after bytes
     → IfSome before.rest (λ input. batch_logs bytes ≡ batch_logs input)
-logs_are_input before after bytes is = whole_input batch_logs longest_batch_input before after bytes (λ more long. logs_are_settled bytes more (omega (arith, long))) is
+logs_are_input before after bytes is = whole_input batch_logs longest_batch_input before after bytes
+    (λ more long. logs_are_settled bytes more (omega (arith, long))) is
 
 -- one more read
-pub reading_more : (before between after : SourceKnown) (judge : BatchView) (old new : List ℕ) (count n most : ℕ)
-    → IsReading before between judge old count → IsMoreRead most between after old new n → IsReading before after judge new (count + n)
+pub reading_more : (before between after : SourceKnown) (judge : BatchView) (old new : List ℕ)
+    (count n most : ℕ)
+    → IsReading before between judge old count → IsMoreRead most between after old new n
+    → IsReading before after judge new (count + n)
 reading_more before between after judge old new count n most r m = record {
   taken = r.taken ++ m.piece;
   told = taken_more before.rest between.rest after.rest r.taken m.piece r.told m.told;
-  judged = subst (IsJudged (r.taken ++ m.piece) judge) (sym m.grown) (judged_longer judge.refused r.taken old m.piece judge.verdicts judge.place r.judged);
+  judged = subst (IsJudged (r.taken ++ m.piece) judge) (sym m.grown)
+      (judged_longer judge.refused r.taken old m.piece judge.verdicts judge.place r.judged);
   many = omega (arith, length-append r.taken m.piece, r.many, m.many);
 }
 
 -- one more round
-pub reading_judged : (before now : SourceKnown) (old new : BatchView) (bytes rest : List ℕ) (count : ℕ) → IsReading before now old bytes count
-    → ((input : List ℕ) → IsJudged input old bytes → IsJudged input new rest) → IsReading before now new rest count
+pub reading_judged : (before now : SourceKnown) (old new : BatchView) (bytes rest : List ℕ)
+    (count : ℕ) → IsReading before now old bytes count
+    → ((input : List ℕ) → IsJudged input old bytes → IsJudged input new rest)
+    → IsReading before now new rest count
 reading_judged before now old new bytes rest count r judged = record {
   taken = r.taken;
   told = r.told;
@@ -42,58 +52,77 @@ reading_judged before now old new bytes rest count r judged = record {
   many = r.many;
 }
 
-pub few_read : (before now : SourceKnown) (judge : BatchView) (rest : List ℕ) (count : ℕ) → IsReading before now judge rest count
+pub few_read : (before now : SourceKnown) (judge : BatchView) (rest : List ℕ) (count : ℕ)
+    → IsReading before now judge rest count
     → count ≤ longest_batch_input → IsFewTaken longest_batch_input before now
 few_read before now judge rest count r few = (r.taken, r.told, omega (arith, r.many, few))
 
 -- the answer tells the verdicts about the logs of the input
 pub verdicts_told : {E : Type 0} (input : List ℕ) (verdicts : List Verdict) (r : Result Answer E)
     → (logs : List (List ℕ)) × (batch_logs input ≡ Ok logs) × (verdicts ≡ verdicts_of logs)
-    → IfOk r (λ answer. answer.status ≡ batch_status verdicts) → IfOk r (λ answer. answer.text.items ≡ batch_text verdicts)
+    → IfOk r (λ answer. answer.status ≡ batch_status verdicts)
+    → IfOk r (λ answer. answer.text.items ≡ batch_text verdicts)
     → IfOk r (λ answer. IsBatchAnswer (batch_logs input) answer.status answer.text.items)
 verdicts_told input verdicts (Ok answer) found status text =
-    subst (λ read. IsBatchAnswer read answer.status answer.text.items) (sym found.1) (status ∙ ap batch_status found.2, text ∙ ap batch_text found.2)
+    subst (λ read. IsBatchAnswer read answer.status answer.text.items) (sym found.1)
+    (status ∙ ap batch_status found.2, text ∙ ap batch_text found.2)
 verdicts_told input verdicts (Err e) found status text = tt
 
 -- a batch as long as can be read is refused
-pub batch_refused : (bytes : List ℕ) (status : ℕ) (text : List ℕ) → IsBatchAnswer (batch_logs bytes) status text
+pub batch_refused : (bytes : List ℕ) (status : ℕ) (text : List ℕ)
+    → IsBatchAnswer (batch_logs bytes) status text
     → length bytes ≡ longest_batch_input → status ≡ 11
 batch_refused bytes status text answer long = by_reading (batch_logs bytes) refl answer
   where
-    by_reading : (r : Result (List (List ℕ)) ℕ) → batch_logs bytes ≡ r → IsBatchAnswer r status text → status ≡ 11
+    by_reading : (r : Result (List (List ℕ)) ℕ) → batch_logs bytes ≡ r → IsBatchAnswer r status text
+        → status ≡ 11
     by_reading (Err log) e answer = answer.0
     by_reading (Ok logs) e answer =
-        absurd (long_refused batch_logs bytes batch_of read_batch_is_text (λ more. logs_are_settled bytes more (omega (arith, long))) logs e)
+        absurd (long_refused batch_logs bytes batch_of read_batch_is_text
+        (λ more. logs_are_settled bytes more (omega (arith, long))) logs e)
 
 -- before the first round
-pub first_paid : (judge : BatchView) (bytes : List ℕ) (steps : ℕ) → bytes ≡ [] → IsSpent judge [] → IsPaidRound judge bytes round_bytes steps steps 0
+pub first_paid : (judge : BatchView) (bytes : List ℕ) (steps : ℕ) → bytes ≡ [] → IsSpent judge []
+    → IsPaidRound judge bytes round_bytes steps steps 0
 first_paid judge bytes steps none spent = (
   0,
-  record { left = []; fresh = []; bytes_are = none; spent = spent; many = refl; late = omega arith },
+  record {
+    left = [];
+    fresh = [];
+    bytes_are = none;
+    spent = spent;
+    many = refl;
+    late = omega arith;
+  },
   omega arith,
 )
 
 -- one more read
-pub since_more : (between after : SourceKnown) (judge : BatchView) (old new : List ℕ) (next count n most : ℕ) → IsSinceRound judge old next count
+pub since_more : (between after : SourceKnown) (judge : BatchView) (old new : List ℕ)
+    (next count n most : ℕ) → IsSinceRound judge old next count
     → IsMoreRead most between after old new n → IsSinceRound judge new next (count + n)
 since_more between after judge old new next count n most s m = record {
   left = s.left;
   fresh = s.fresh ++ m.piece;
-  bytes_are = m.grown ∙ ap (λ bytes. bytes ++ m.piece) s.bytes_are ∙ append_assoc s.left s.fresh m.piece;
+  bytes_are = m.grown ∙ ap (λ bytes. bytes ++ m.piece) s.bytes_are
+      ∙ append_assoc s.left s.fresh m.piece;
   spent = s.spent;
   many = omega (arith, length-append s.fresh m.piece, s.many, m.many);
   late = s.late;
 }
 
 -- a round is paid for by the bytes that came before it
-pub round_paid : (judge : BatchView) (bytes : List ℕ) (next count old new : ℕ) (s : IsSinceRound judge bytes next count) → next ≤ length bytes
+pub round_paid : (judge : BatchView) (bytes : List ℕ) (next count old new : ℕ)
+    (s : IsSinceRound judge bytes next count) → next ≤ length bytes
     → new ≤ old + round_cost (length s.fresh) → new ≤ old + 4 * count
 round_paid judge bytes next count old new s long steps =
-    let all : length bytes ≡ length s.left + length s.fresh = ap length s.bytes_are ∙ length-append s.left s.fresh in
+    let all : length bytes ≡ length s.left + length s.fresh = ap length s.bytes_are
+    ∙ length-append s.left s.fresh in
     omega (arith, all, long, s.late, s.many, steps)
 
 -- and nothing came since then
-pub since_none : (judge : BatchView) (bytes : List ℕ) (next : ℕ) → IsSpent judge bytes → length bytes + round_bytes ≤ next
+pub since_none : (judge : BatchView) (bytes : List ℕ) (next : ℕ) → IsSpent judge bytes
+    → length bytes + round_bytes ≤ next
     → IsSinceRound judge bytes next 0
 since_none judge bytes next spent late = record {
   left = bytes;
@@ -105,8 +134,10 @@ since_none judge bytes next spent late = record {
 }
 
 -- bytes that were read and paid for
-pub read_for : (before now : SourceKnown) (judge : BatchView) (rest : List ℕ) (next count old new : ℕ) → IsReading before now judge rest count
-    → count ≤ longest_batch_input → IsPaidRound judge rest next old new count → IsReadFor before now judge rest old new
+pub read_for : (before now : SourceKnown) (judge : BatchView) (rest : List ℕ)
+    (next count old new : ℕ) → IsReading before now judge rest count
+    → count ≤ longest_batch_input → IsPaidRound judge rest next old new count
+    → IsReadFor before now judge rest old new
 read_for before now judge rest next count old new r few p = record {
   taken = r.taken;
   told = r.told;
@@ -119,11 +150,15 @@ read_for before now judge rest next count old new r few p = record {
 }
 
 -- the steps of what was taken so far
-pub steps_for : (before now : SourceKnown) (judge : BatchView) (rest : List ℕ) (count old new : ℕ) → IsReading before now judge rest count
+pub steps_for : (before now : SourceKnown) (judge : BatchView) (rest : List ℕ) (count old new : ℕ)
+    → IsReading before now judge rest count
     → count ≤ longest_batch_input → new ≤ old + 4 * count → IsTakenFor old new before now
-steps_for before now judge rest count old new r few steps = (r.taken, r.told, omega (arith, r.many, few), omega (arith, steps, r.many))
+steps_for before now judge rest count old new r few steps =
+    (r.taken, r.told, omega (arith, r.many, few), omega (arith, steps, r.many))
 
 -- and with those of the last round
-pub taken_for : (before now : SourceKnown) (judge : BatchView) (rest : List ℕ) (old between new : ℕ) (r : IsReadFor before now judge rest old between)
+pub taken_for : (before now : SourceKnown) (judge : BatchView) (rest : List ℕ) (old between new : ℕ)
+    (r : IsReadFor before now judge rest old between)
     → new ≤ between + round_cost (length r.fresh) → IsTakenFor old new before now
-taken_for before now judge rest old between new r steps = (r.taken, r.told, r.few, omega (arith, r.steps, steps))
+taken_for before now judge rest old between new r steps =
+    (r.taken, r.told, r.few, omega (arith, r.steps, steps))

@@ -1,19 +1,26 @@
 -- What a source gives is put after the bytes that were taken before.
-use Rattle.std.proofs.Common.{◌≡◌, ℕ, ◌+◌, ◌≤◌, List, ◌++◌, length, take, drop, ap, subst, sym, ◌∙◌, arith}
+use Rattle.std.proofs.Common.{◌≡◌, ℕ, ◌+◌, ◌≤◌, List, ◌++◌, length, take, drop, ap, subst, sym, ◌∙◌}
+use Rattle.std.proofs.Common.{arith}
 use Rattle.std.proofs.lemmas.List.{take_all}
 use Rattle.std.proofs.Math.Seq.{take-add, take-append_seam}
 use Rattle.vyrd_base.specs.Devices.{SourceKnown, Gives}
 use Rattle.vyrd_check_command.specs.Inputs.{IsTaken}
 use Rattle.vyrd_check_command.proofs.TakenLaws.{taken_more}
 
-pub taken_behind : (before between after : SourceKnown) (count n : ℕ) (old new : List ℕ) → IsTaken before.rest (take count old) between.rest
-    → take count new ≡ take count old → Gives between n (drop count new) after → IsTaken before.rest (take (count + n) new) after.rest
+pub taken_behind : (before between after : SourceKnown) (count n : ℕ) (old new : List ℕ)
+    → IsTaken before.rest (take count old) between.rest
+    → take count new ≡ take count old → Gives between n (drop count new) after
+    → IsTaken before.rest (take (count + n) new) after.rest
 taken_behind before between after count n old new told front gives =
-    subst (λ bytes. IsTaken before.rest bytes after.rest) (ap (λ bytes. bytes ++ take n (drop count new)) (sym front) ∙ sym (take-add count n new))
-    (taken_more before.rest between.rest after.rest (take count old) (take n (drop count new)) told gives.bytes)
+    subst (λ bytes. IsTaken before.rest bytes after.rest)
+    (ap (λ bytes. bytes ++ take n (drop count new)) (sym front) ∙ sym (take-add count n new))
+    (taken_more before.rest between.rest after.rest (take count old) (take n (drop count new)) told
+    gives.bytes)
 
 -- bytes that were put after others leave these at the front
-pub front_kept : (old new more : List ℕ) (count many : ℕ) → length old ≡ count → count ≤ many → new ≡ take many old ++ more → take count new ≡ old
+pub front_kept : (old new more : List ℕ) (count many : ℕ) → length old ≡ count → count ≤ many
+    → new ≡ take many old ++ more → take count new ≡ old
 front_kept old new more count many whole within grown =
     let all : take many old ≡ old = take_all many old (omega (arith, whole, within)) in
-    ap (take count) (grown ∙ ap (λ front. front ++ more) all) ∙ ap (λ n. take n (old ++ more)) (sym whole) ∙ take-append_seam old more
+    ap (take count) (grown ∙ ap (λ front. front ++ more) all) ∙ ap (λ n. take n (old ++ more))
+    (sym whole) ∙ take-append_seam old more

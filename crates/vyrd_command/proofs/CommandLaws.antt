@@ -1,5 +1,7 @@
--- From what is made ready for words of a form to what is written. `said` is the form of the words, if they have one.
-use Rattle.std.proofs.Common.{◌≡◌, ℕ, ◌≤◌, List, [], length, true, false, Option, Some, None, refl, ap, ◌∙◌, sym, subst, arith, inl, inr}
+-- From what is made ready for words of a form to what is written. `said` is the form of the words,
+-- if they have one.
+use Rattle.std.proofs.Common.{◌≡◌, ℕ, ◌≤◌, List, [], length, true, false, Option, Some, None, refl}
+use Rattle.std.proofs.Common.{ap, ◌∙◌, sym, subst, arith, inl, inr}
 use Rattle.std.specs.Prelude.{◌≢◌, ◌⊎◌}
 use Rattle.vyrd_base.specs.Devices.{SourceKnown}
 use Rattle.vyrd_log_check.specs.Checking.{most_lines}
@@ -9,7 +11,8 @@ use Rattle.vyrd_check_command.specs.Checks.{HasRoomForAnswer}
 use Rattle.vyrd_command.specs.declared.form.Form.{Form}
 use Rattle.vyrd_command.specs.declared.form.Form.TheVariants as asked
 use Rattle.vyrd_command.specs.Forms.{usage_line}
-use Rattle.vyrd_command.specs.Commands.{IsStatus, IsAnswerStatus, IsAnswer, HasAnswered, HasAnsweredInPart, HasRoom, reads, IsEnough}
+use Rattle.vyrd_command.specs.Commands.{IsStatus, IsAnswerStatus, IsAnswer, HasAnswered}
+use Rattle.vyrd_command.specs.Commands.{HasAnsweredInPart, HasRoom, reads, IsEnough}
 
 -- no form has an answer of status 3, 4, 5 or 6
 answer_outside : (form : Form) (n : ℕ) → IsAnswerStatus (Some form) n → (n ≤ 2) ⊎ (7 ≤ n)
@@ -35,21 +38,26 @@ no_answer form n low high answered = elim (answer_outside form n answered) [
 ]
 
 -- The status of an answer is the one that was made ready.
-same_status : (said : Option Form) (form : Form) (status own : ℕ) → said ≡ Some form → (status ≡ 5) ⊎ (status ≡ own)
+same_status : (said : Option Form) (form : Form) (status own : ℕ) → said ≡ Some form → (status ≡ 5)
+    ⊎ (status ≡ own)
     → IsAnswerStatus said status → status ≡ own
 same_status said form status own is (inr same) answered = same
 same_status said form status own is (inl five) answered =
-    absurd (no_answer form status (omega (arith, five)) (omega (arith, five)) (subst (λ said. IsAnswerStatus said status) is answered))
+    absurd (no_answer form status (omega (arith, five)) (omega (arith, five))
+    (subst (λ said. IsAnswerStatus said status) is answered))
 
-ready_status : (said : Option Form) (form : Form) (status own : ℕ) → said ≡ Some form → (status ≡ 5) ⊎ (status ≡ own)
+ready_status : (said : Option Form) (form : Form) (status own : ℕ) → said ≡ Some form → (status ≡ 5)
+    ⊎ (status ≡ own)
     → IsAnswerStatus said status → IsAnswerStatus (Some form) own
 ready_status said form status own is given answered =
     subst (λ n. IsAnswerStatus (Some form) n) (same_status said form status own is given answered)
     (subst (λ said. IsAnswerStatus said status) is answered)
 
-pub written_status : (said : Option Form) (form : Form) (status own : ℕ) → said ≡ Some form → (status ≡ 5) ⊎ (status ≡ own)
+pub written_status : (said : Option Form) (form : Form) (status own : ℕ) → said ≡ Some form
+    → (status ≡ 5) ⊎ (status ≡ own)
     → IsStatus (Some form) own → IsStatus said status
-written_status said form status own is given ready = subst (λ said. IsStatus said status) (sym is) (by_status given)
+written_status said form status own is given ready = subst (λ said. IsStatus said status) (sym is)
+    (by_status given)
   where
     by_status : (status ≡ 5) ⊎ (status ≡ own) → IsStatus (Some form) status
     by_status (inl five) = inr (inr (inl five))
@@ -58,19 +66,23 @@ written_status said form status own is given ready = subst (λ said. IsStatus sa
 -- status 3 is that of no form
 pub three_is_usage : (said : Option Form) → IsStatus said 3 → said ≡ None
 three_is_usage None status = refl
-three_is_usage (Some form) (inl answered) = absurd (no_answer form 3 (omega arith) (omega arith) answered)
+three_is_usage (Some form) (inl answered) = absurd
+    (no_answer form 3 (omega arith) (omega arith) answered)
 three_is_usage (Some form) (inr (inl four)) = absurd (omega (arith, four.0))
 three_is_usage (Some form) (inr (inr (inl five))) = absurd (omega (arith, five))
 three_is_usage (Some form) (inr (inr (inr six))) = absurd (omega (arith, six.0))
 
-pub written_answer : (said : Option Form) (form : Form) (input before after : Option (List ℕ)) (status own : ℕ) (text : List ℕ) → said ≡ Some form
-    → (status ≡ 5) ⊎ (status ≡ own) → (IsAnswerStatus (Some form) own → IsAnswer (Some form) input own text)
+pub written_answer : (said : Option Form) (form : Form) (input before after : Option (List ℕ))
+    (status own : ℕ) (text : List ℕ) → said ≡ Some form
+    → (status ≡ 5) ⊎ (status ≡ own)
+    → (IsAnswerStatus (Some form) own → IsAnswer (Some form) input own text)
     → (status ≢ 5 → (status ≡ own) × Appends before after text)
     → IsAnswerStatus said status → HasAnswered said input status before after
 written_answer said form input before after status own text is given ready written answered =
     let same = same_status said form status own is given answered in
     let own_answered = ready_status said form status own is given answered in
-    let other : status ≢ 5 = λ five. no_answer form status (omega (arith, five)) (omega (arith, five)) (subst (λ said. IsAnswerStatus said status) is answered) in
+    let other : status ≢ 5 = λ five. no_answer form status (omega (arith, five))
+    (omega (arith, five)) (subst (λ said. IsAnswerStatus said status) is answered) in
     subst (λ said. HasAnswered said input status before after) (sym is) (record {
       text = text;
       answer = subst (λ n. IsAnswer (Some form) input n text) (sym same) (ready own_answered);
@@ -78,19 +90,22 @@ written_answer said form input before after status own text is given ready writt
     })
 
 -- If a write failed, something was made ready to be written.
-was_ready : (form : Form) (own : ℕ) (text : List ℕ) → IsStatus (Some form) own → own ≢ 5 → ((own ≡ 4) ⊎ (own ≡ 6) → text ≡ [])
+was_ready : (form : Form) (own : ℕ) (text : List ℕ) → IsStatus (Some form) own → own ≢ 5
+    → ((own ≡ 4) ⊎ (own ≡ 6) → text ≡ [])
     → IsAnswerStatus (Some form) own ⊎ (text ≡ [])
 was_ready form own text (inl answered) unwritten silent = inl answered
 was_ready form own text (inr (inl four)) unwritten silent = inr (silent (inl four.0))
 was_ready form own text (inr (inr (inl five))) unwritten silent = absurd (unwritten five)
 was_ready form own text (inr (inr (inr six))) unwritten silent = inr (silent (inr six.0))
 
-pub written_in_part : (said : Option Form) (form : Form) (input before after : Option (List ℕ)) (status own : ℕ) (text : List ℕ) → said ≡ Some form
+pub written_in_part : (said : Option Form) (form : Form) (input before after : Option (List ℕ))
+    (status own : ℕ) (text : List ℕ) → said ≡ Some form
     → IsStatus (Some form) own → own ≢ 5 → ((own ≡ 4) ⊎ (own ≡ 6) → text ≡ [])
     → (IsAnswerStatus (Some form) own → IsAnswer (Some form) input own text)
     → (text ≡ [] → status ≡ own) → (status ≡ 5 → own ≢ 5 → AppendsFront before after text)
     → status ≡ 5 → HasAnsweredInPart said input before after
-written_in_part said form input before after status own text is status_is unwritten silent ready nothing written five =
+written_in_part said form input before after status own text is status_is unwritten silent ready
+    nothing written five =
     elim (was_ready form own text status_is unwritten silent) [
       | inl answered ↦ subst (λ said. HasAnsweredInPart said input before after) (sym is) (record {
         status = own;
@@ -101,46 +116,57 @@ written_in_part said form input before after status own text is status_is unwrit
       | inr empty ↦ absurd (unwritten (sym (nothing empty) ∙ five))
     ]
 
-pub text_fits : (said : Option Form) (form : Form) (input : Option (List ℕ)) (own room : ℕ) (text : List ℕ) → said ≡ Some form
+pub text_fits : (said : Option Form) (form : Form) (input : Option (List ℕ)) (own room : ℕ)
+    (text : List ℕ) → said ≡ Some form
     → IsStatus (Some form) own → own ≢ 5 → ((own ≡ 4) ⊎ (own ≡ 6) → text ≡ [])
     → (IsAnswerStatus (Some form) own → IsAnswer (Some form) input own text)
     → HasRoom said input room → length text ≤ room
-text_fits said form input own room text is status_is unwritten silent ready fits = elim (was_ready form own text status_is unwritten silent) [
-  | inl answered ↦ subst (λ said. HasRoom said input room) is fits own text (ready answered)
-  | inr empty ↦ (let none : length text ≡ 0 = ap length empty in omega (arith, none))
-]
+text_fits said form input own room text is status_is unwritten silent ready fits =
+    elim (was_ready form own text status_is unwritten silent) [
+      | inl answered ↦ subst (λ said. HasRoom said input room) is fits own text (ready answered)
+      | inr empty ↦ (let none : length text ≡ 0 = ap length empty in omega (arith, none))
+    ]
 
-pub enough_taken : (said : Option Form) (form : Form) (before after : SourceKnown) (status own : ℕ) → said ≡ Some form
-    → (status ≡ 5) ⊎ (status ≡ own) → (IsAnswerStatus (Some form) own → IsEnough (Some form) own before after)
+pub enough_taken : (said : Option Form) (form : Form) (before after : SourceKnown) (status own : ℕ)
+    → said ≡ Some form
+    → (status ≡ 5) ⊎ (status ≡ own)
+    → (IsAnswerStatus (Some form) own → IsEnough (Some form) own before after)
     → IsAnswerStatus said status → IsEnough said status before after
 enough_taken said form before after status own is given enough answered =
     let same = same_status said form status own is given answered in
     subst (λ said. IsEnough said status before after) (sym is)
-    (subst (λ n. IsEnough (Some form) n before after) (sym same) (enough (ready_status said form status own is given answered)))
+    (subst (λ n. IsEnough (Some form) n before after) (sym same)
+    (enough (ready_status said form status own is given answered)))
 
 -- What is true of a form that is known isn't false of the form.
 differ : true ≡ false → ⊥
 differ e = cc
 
-pub reads_on : (form known : Form) → form ≡ known → reads (Some known) ≡ true → reads (Some form) ≡ false → ⊥
-reads_on form known is does isnt = differ (sym does ∙ sym (ap (λ form. reads (Some form)) is) ∙ isnt)
+pub reads_on : (form known : Form) → form ≡ known → reads (Some known) ≡ true → reads (Some form)
+    ≡ false → ⊥
+reads_on form known is does isnt = differ (sym does ∙ sym (ap (λ form. reads (Some form)) is)
+    ∙ isnt)
 
 -- the statuses of a form that reads, and of one that doesn't
-pub read_status : (form : Form) (status : ℕ) → reads (Some form) ≡ true → IsAnswerStatus (Some form) status ⊎ (status ≡ 4) ⊎ (status ≡ 6)
+pub read_status : (form : Form) (status : ℕ) → reads (Some form) ≡ true
+    → IsAnswerStatus (Some form) status ⊎ (status ≡ 4) ⊎ (status ≡ 6)
     → IsStatus (Some form) status
 read_status form status does (inl answered) = inl answered
 read_status form status does (inr (inl four)) = inr (inl (four, does))
 read_status form status does (inr (inr six)) = inr (inr (inr (six, refl)))
 
-pub made_status : (form : Form) (status : ℕ) → IsAnswerStatus (Some form) status ⊎ (status ≡ 6) → IsStatus (Some form) status
+pub made_status : (form : Form) (status : ℕ) → IsAnswerStatus (Some form) status ⊎ (status ≡ 6)
+    → IsStatus (Some form) status
 made_status form status (inl answered) = inl answered
 made_status form status (inr six) = inr (inr (inr (six, refl)))
 
 -- `check`
-pub checked_status : (said : Option Form) (status : ℕ) → said ≡ Some asked.Check → (status ≤ 2) ⊎ (status ≡ 4) ⊎ (status ≡ 5) ⊎ (status ≡ 6) → IsStatus said status
+pub checked_status : (said : Option Form) (status : ℕ) → said ≡ Some asked.Check → (status ≤ 2)
+    ⊎ (status ≡ 4) ⊎ (status ≡ 5) ⊎ (status ≡ 6) → IsStatus said status
 checked_status said status is why = subst (λ said. IsStatus said status) (sym is) (by_status why)
   where
-    by_status : (status ≤ 2) ⊎ (status ≡ 4) ⊎ (status ≡ 5) ⊎ (status ≡ 6) → IsStatus (Some asked.Check) status
+    by_status : (status ≤ 2) ⊎ (status ≡ 4) ⊎ (status ≡ 5) ⊎ (status ≡ 6)
+        → IsStatus (Some asked.Check) status
     by_status (inl low) = inl low
     by_status (inr (inl four)) = inr (inl (four, refl))
     by_status (inr (inr (inl five))) = inr (inr (inl five))
@@ -149,7 +175,8 @@ checked_status said status is why = subst (λ said. IsStatus said status) (sym i
 pub checked_untouched : (said : Option Form) → said ≡ Some asked.Check → reads said ≡ false → ⊥
 checked_untouched said is isnt = differ (sym (ap reads is) ∙ isnt)
 
-pub checked_answer : (said : Option Form) (input before after : Option (List ℕ)) (status : ℕ) → said ≡ Some asked.Check
+pub checked_answer : (said : Option Form) (input before after : Option (List ℕ)) (status : ℕ)
+    → said ≡ Some asked.Check
     → (status ≤ 2 → IsAnswered most_lines input status before after)
     → IsAnswerStatus said status → HasAnswered said input status before after
 checked_answer said input before after status is answer answered =
@@ -160,7 +187,8 @@ checked_answer said input before after status is answer answered =
       written = line.written;
     })
 
-pub checked_in_part : (said : Option Form) (input before after : Option (List ℕ)) → said ≡ Some asked.Check
+pub checked_in_part : (said : Option Form) (input before after : Option (List ℕ))
+    → said ≡ Some asked.Check
     → IsAnsweredInPart most_lines input before after → HasAnsweredInPart said input before after
 checked_in_part said input before after is part =
     subst (λ said. HasAnsweredInPart said input before after) (sym is) (record {
@@ -170,25 +198,33 @@ checked_in_part said input before after is part =
       written = part.written;
     })
 
-pub checked_enough : (said : Option Form) (before after : SourceKnown) (status : ℕ) → said ≡ Some asked.Check
-    → (status ≤ 2 → IsSettled most_lines before after) → IsAnswerStatus said status → IsEnough said status before after
+pub checked_enough : (said : Option Form) (before after : SourceKnown) (status : ℕ)
+    → said ≡ Some asked.Check
+    → (status ≤ 2 → IsSettled most_lines before after) → IsAnswerStatus said status
+    → IsEnough said status before after
 checked_enough said before after status is enough answered =
-    subst (λ said. IsEnough said status before after) (sym is) (enough (subst (λ said. IsAnswerStatus said status) is answered))
+    subst (λ said. IsEnough said status before after) (sym is)
+    (enough (subst (λ said. IsAnswerStatus said status) is answered))
 
-pub line_fits : (said : Option Form) (input : Option (List ℕ)) (room : ℕ) → said ≡ Some asked.Check → HasRoom said input room
+pub line_fits : (said : Option Form) (input : Option (List ℕ)) (room : ℕ) → said ≡ Some asked.Check
+    → HasRoom said input room
     → HasRoomForAnswer most_lines input room
-line_fits said input room is fits = λ status text judged. subst (λ said. HasRoom said input room) is fits status text judged
+line_fits said input room is fits = λ status text judged. subst (λ said. HasRoom said input room) is
+    fits status text judged
 
 -- words that are none of the forms
-pub usage_status : (said : Option Form) (status : ℕ) → said ≡ None → (status ≡ 3) ⊎ (status ≡ 5) → IsStatus said status
+pub usage_status : (said : Option Form) (status : ℕ) → said ≡ None → (status ≡ 3) ⊎ (status ≡ 5)
+    → IsStatus said status
 usage_status said status is why = subst (λ said. IsStatus said status) (sym is) (by_status why)
   where
     by_status : (status ≡ 3) ⊎ (status ≡ 5) → IsStatus None status
     by_status (inl three) = inl three
     by_status (inr five) = inr (inr (inl five))
 
-pub usage_answer : (said : Option Form) (input before after : Option (List ℕ)) (status : ℕ) → said ≡ None
-    → (status ≡ 3 → Appends before after usage_line) → IsAnswerStatus said status → HasAnswered said input status before after
+pub usage_answer : (said : Option Form) (input before after : Option (List ℕ)) (status : ℕ)
+    → said ≡ None
+    → (status ≡ 3 → Appends before after usage_line) → IsAnswerStatus said status
+    → HasAnswered said input status before after
 usage_answer said input before after status is written answered =
     let three : status ≡ 3 = subst (λ said. IsAnswerStatus said status) is answered in
     subst (λ said. HasAnswered said input status before after) (sym is) (record {
@@ -197,7 +233,8 @@ usage_answer said input before after status is written answered =
       written = written three;
     })
 
-pub usage_in_part : (said : Option Form) (input before after : Option (List ℕ)) → said ≡ None → AppendsFront before after usage_line
+pub usage_in_part : (said : Option Form) (input before after : Option (List ℕ)) → said ≡ None
+    → AppendsFront before after usage_line
     → HasAnsweredInPart said input before after
 usage_in_part said input before after is written =
     subst (λ said. HasAnsweredInPart said input before after) (sym is) (record {
@@ -207,5 +244,7 @@ usage_in_part said input before after is written =
       written = written;
     })
 
-pub usage_fits : (said : Option Form) (input : Option (List ℕ)) (room : ℕ) → said ≡ None → HasRoom said input room → length usage_line ≤ room
-usage_fits said input room is fits = subst (λ said. HasRoom said input room) is fits 3 usage_line refl
+pub usage_fits : (said : Option Form) (input : Option (List ℕ)) (room : ℕ) → said ≡ None
+    → HasRoom said input room → length usage_line ≤ room
+usage_fits said input room is fits = subst (λ said. HasRoom said input room) is fits 3 usage_line
+    refl

@@ -24,18 +24,23 @@ next_no_less n = by_last (n == 2 ^ 64 - 1)
 pub risen : (before after : ℕ) → after ≡ next_count before → HasRisen before after
 risen before after is = subst (HasRisen before) (sym is) (next_rises before)
 
-pub alone : (failed : Bool) (before after : ℕ) → after ≡ (if failed then next_count before else before) → (after ≡ before) ⊎ (failed ≡ true)
+pub alone : (failed : Bool) (before after : ℕ)
+    → after ≡ (if failed then next_count before else before) → (after ≡ before) ⊎ (failed ≡ true)
 alone true before after is = inr refl
 alone false before after is = inl is
 
-pub told : (failed : Bool) (before after : ℕ) → after ≡ (if failed then next_count before else before) → ¬ (HasRisen before after) → failed ≡ false
+pub told : (failed : Bool) (before after : ℕ)
+    → after ≡ (if failed then next_count before else before) → ¬ (HasRisen before after)
+    → failed ≡ false
 told true before after is none = absurd (none (risen before after is))
 told false before after is none = refl
 
-pub never_falls : (failed : Bool) (before after : ℕ) → after ≡ (if failed then next_count before else before) → before ≤ after
+pub never_falls : (failed : Bool) (before after : ℕ)
+    → after ≡ (if failed then next_count before else before) → before ≤ after
 never_falls true before after is = subst (λ n. before ≤ n) (sym is) (next_no_less before)
 never_falls false before after is = omega (arith, is)
 
-pub kept : (failed : Bool) (before after : ℕ) → after ≡ (if failed then next_count before else before) → failed ≡ false → after ≡ before
+pub kept : (failed : Bool) (before after : ℕ)
+    → after ≡ (if failed then next_count before else before) → failed ≡ false → after ≡ before
 kept true before after is none = cc
 kept false before after is none = is

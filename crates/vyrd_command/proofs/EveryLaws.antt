@@ -1,5 +1,6 @@
 -- The answer to a workload of a correct structure is that its run is accepted.
-use Rattle.std.proofs.Common.{◌≡◌, ℕ, ◌≤◌, ◌⊎◌, inl, inr, List, Option, Some, Result, Ok, refl, ap, ◌∙◌, subst, arith}
+use Rattle.std.proofs.Common.{◌≡◌, ℕ, ◌≤◌, ◌⊎◌, inl, inr, List, Option, Some, Result, Ok, refl, ap}
+use Rattle.std.proofs.Common.{◌∙◌, subst, arith}
 use Rattle.std.specs.Prelude.{IfSome}
 use Rattle.vyrd_base.specs.declared.log.Entry.{Entry}
 use Rattle.vyrd_base.specs.declared.history.Stamped.{Stamped}
@@ -27,7 +28,8 @@ accepted_status : (entries : List Entry) → status_of (accepted entries) ≡ 0
 unfolding accepted
 accepted_status entries = refl
 
-turned_accepted : (w : Workload) (history : List Stamped) (v : Verdict) → KeepsLimits w → IsCorrect w → IsTurnedTo w history v → status_of v ≡ 0
+turned_accepted : (w : Workload) (history : List Stamped) (v : Verdict) → KeepsLimits w
+    → IsCorrect w → IsTurnedTo w history v → status_of v ≡ 0
 turned_accepted w history v limits is turned =
     ap status_of (turned.verdict_is ∙ schedule_accepted w history limits is (record {
       legal = turned_is_legal w history limits turned.runs;
@@ -35,26 +37,35 @@ turned_accepted w history v limits is turned =
     }))
     ∙ accepted_status (log_of history)
 
-step_accepted : (show : Show) (w : Workload) (status : ℕ) (text : List ℕ) → KeepsLimits w → IsCorrect w
+step_accepted : (show : Show) (w : Workload) (status : ℕ) (text : List ℕ) → KeepsLimits w
+    → IsCorrect w
     → IsStepAnswer show (Ok w) status text → status ≡ 0
-step_accepted show w status text limits is (inl told) = told.status_is ∙ turned_accepted w told.history told.verdict limits is told.turned
+step_accepted show w status text limits is (inl told) = told.status_is
+    ∙ turned_accepted w told.history told.verdict limits is told.turned
 step_accepted show w status text limits is (inr stuck) = absurd (not_stuck w limits is stuck.stuck)
 
-live_accepted : (w : Workload) (history : List Stamped) (v : Verdict) → KeepsLimits w → IsCorrect w → IsLiveRun w history v → status_of v ≡ 0
+live_accepted : (w : Workload) (history : List Stamped) (v : Verdict) → KeepsLimits w → IsCorrect w
+    → IsLiveRun w history v → status_of v ≡ 0
 live_accepted w history v limits is live =
-    ap status_of (live.verdict_is ∙ schedule_accepted w history limits is (record { legal = live.legal; parts = live.parts }))
+    ap status_of
+    (live.verdict_is ∙ schedule_accepted w history limits is
+    (record { legal = live.legal; parts = live.parts }))
     ∙ accepted_status (log_of history)
 
-run_accepted : (show : Show) (w : Workload) (status : ℕ) (text : List ℕ) → KeepsLimits w → IsCorrect w
+run_accepted : (show : Show) (w : Workload) (status : ℕ) (text : List ℕ) → KeepsLimits w
+    → IsCorrect w
     → IsRunAnswer show (Ok w) status text → (status ≡ 0) ⊎ (status ≡ 9)
-run_accepted show w status text limits is (inl told) = inl (told.status_is ∙ live_accepted w told.history told.verdict limits is told.live)
+run_accepted show w status text limits is (inl told) =
+    inl (told.status_is ∙ live_accepted w told.history told.verdict limits is told.live)
 run_accepted show w status text limits is (inr spent) = inr spent.status_is
 
 -- the callers of a structure whose operations have few events have room for all of them
-run_unspent : (show : Show) (w : Workload) (status : ℕ) (text : List ℕ) → KeepsLimits w → IsCorrectWithFewEvents w
+run_unspent : (show : Show) (w : Workload) (status : ℕ) (text : List ℕ) → KeepsLimits w
+    → IsCorrectWithFewEvents w
     → IsRunAnswer show (Ok w) status text → status ≡ 9 → ⊥
 run_unspent show w status text limits is (inl told) nine =
-    let none : status ≡ 0 = told.status_is ∙ live_accepted w told.history told.verdict limits is.variant told.live in
+    let none : status ≡ 0 = told.status_is ∙ live_accepted w told.history told.verdict limits
+    is.variant told.live in
     absurd (omega (arith, none, nine))
 run_unspent show w status text limits is (inr spent) nine =
     let few = few_events w spent.caller limits is in
@@ -62,27 +73,41 @@ run_unspent show w status text limits is (inr spent) nine =
     absurd (omega (arith, few, long))
 
 -- what was read of an input that tells its bytes
-read_of : (input : Option (List ℕ)) (bytes : List ℕ) (work said : Result Workload Refusal) → input ≡ Some bytes → work_reading bytes ≡ said
+read_of : (input : Option (List ℕ)) (bytes : List ℕ) (work said : Result Workload Refusal)
+    → input ≡ Some bytes → work_reading bytes ≡ said
     → IfSome input (λ bytes. work ≡ work_reading bytes) → work ≡ said
-read_of input bytes work said told reading read = subst (λ input. IfSome input (λ bytes. work ≡ work_reading bytes)) told read ∙ reading
+read_of input bytes work said told reading read =
+    subst (λ input. IfSome input (λ bytes. work ≡ work_reading bytes)) told read ∙ reading
 
-pub step_is_accepted : (show : Show) (input : Option (List ℕ)) (status : ℕ) (text : List ℕ) → SaysCorrect input
+pub step_is_accepted : (show : Show) (input : Option (List ℕ)) (status : ℕ) (text : List ℕ)
+    → SaysCorrect input
     → AnswersInput show input status text → status ≡ 0
 step_is_accepted show input status text says answers =
-    step_accepted show says.work status text (reading_sound says.bytes says.work says.read).limits says.correct
-    (subst (λ work. IsStepAnswer show work status text) (read_of input says.bytes answers.work (Ok says.work) says.told says.read answers.read) answers.answer)
+    step_accepted show says.work status text (reading_sound says.bytes says.work says.read).limits
+    says.correct
+    (subst (λ work. IsStepAnswer show work status text)
+    (read_of input says.bytes answers.work (Ok says.work) says.told says.read answers.read)
+    answers.answer)
 
-pub run_is_accepted : (show : Show) (input : Option (List ℕ)) (status : ℕ) (text : List ℕ) → SaysCorrect input
+pub run_is_accepted : (show : Show) (input : Option (List ℕ)) (status : ℕ) (text : List ℕ)
+    → SaysCorrect input
     → AnswersRun show input status text → (status ≡ 0) ⊎ (status ≡ 9)
 run_is_accepted show input status text says answers =
-    run_accepted show says.work status text (reading_sound says.bytes says.work says.read).limits says.correct
-    (subst (λ work. IsRunAnswer show work status text) (read_of input says.bytes answers.work (Ok says.work) says.told says.read answers.read) answers.answer)
+    run_accepted show says.work status text (reading_sound says.bytes says.work says.read).limits
+    says.correct
+    (subst (λ work. IsRunAnswer show work status text)
+    (read_of input says.bytes answers.work (Ok says.work) says.told says.read answers.read)
+    answers.answer)
 
-pub run_is_unspent : (show : Show) (input : Option (List ℕ)) (status : ℕ) (text : List ℕ) → SaysFewEvents input
+pub run_is_unspent : (show : Show) (input : Option (List ℕ)) (status : ℕ) (text : List ℕ)
+    → SaysFewEvents input
     → AnswersRun show input status text → status ≡ 9 → ⊥
 run_is_unspent show input status text says answers nine =
-    run_unspent show says.work status text (reading_sound says.bytes says.work says.read).limits says.correct
-    (subst (λ work. IsRunAnswer show work status text) (read_of input says.bytes answers.work (Ok says.work) says.told says.read answers.read) answers.answer)
+    run_unspent show says.work status text (reading_sound says.bytes says.work says.read).limits
+    says.correct
+    (subst (λ work. IsRunAnswer show work status text)
+    (read_of input says.bytes answers.work (Ok says.work) says.told says.read answers.read)
+    answers.answer)
     nine
 
 -- generated workloads are of the correct multiset
@@ -90,13 +115,17 @@ generated_is : (n : ℕ) → IsCorrect (generated n)
 unfolding generated
 generated_is n = refl
 
-pub gen_is_accepted : (n status : ℕ) (text : List ℕ) → n ≤ most_ops → IsGenAnswer n status text → status ≡ 0
+pub gen_is_accepted : (n status : ℕ) (text : List ℕ) → n ≤ most_ops → IsGenAnswer n status text
+    → status ≡ 0
 gen_is_accepted n status text few (inl counted) =
-    counted.status_is ∙ turned_accepted (generated n) counted.history counted.verdict (generated_keeps n few) (generated_is n) counted.turned
-gen_is_accepted n status text few (inr stuck) = absurd (not_stuck (generated n) (generated_keeps n few) (generated_is n) stuck.stuck)
+    counted.status_is ∙ turned_accepted (generated n) counted.history counted.verdict
+    (generated_keeps n few) (generated_is n) counted.turned
+gen_is_accepted n status text few (inr stuck) = absurd
+    (not_stuck (generated n) (generated_keeps n few) (generated_is n) stuck.stuck)
 
 -- the status of an answer that was given
-pub step_given : (status own : ℕ) → IsStepStatus status → (status ≡ 5) ⊎ (status ≡ own) → status ≡ own
+pub step_given : (status own : ℕ) → IsStepStatus status → (status ≡ 5) ⊎ (status ≡ own)
+    → status ≡ own
 step_given status own judged (inr same) = same
 step_given status own (inl low) (inl five) = absurd (omega (arith, low, five))
 step_given status own (inr (inl seven)) (inl five) = absurd (omega (arith, seven, five))

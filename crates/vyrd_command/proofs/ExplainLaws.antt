@@ -1,5 +1,7 @@
 -- What was taken of an input, and what is explained of it.
-use Rattle.std.proofs.Common.{◌≡◌, ℕ, List, [], ◌+◌, ◌-◌, ◌≤◌, ◌++◌, length, length-append, Bool, true, false, Option, Some, None, refl, ap, ◌∙◌, sym, subst, arith, inl, inr}
+use Rattle.std.proofs.Common.{◌≡◌, ℕ, List, [], ◌+◌, ◌-◌, ◌≤◌, ◌++◌, length, length-append, Bool}
+use Rattle.std.proofs.Common.{true, false, Option, Some, None, refl, ap, ◌∙◌, sym, subst, arith}
+use Rattle.std.proofs.Common.{inl, inr}
 use Rattle.std.specs.Prelude.{◌⊎◌, IfSome, option_map}
 use Rattle.vyrd_base.specs.declared.verdict.Verdict.{Verdict}
 use Rattle.vyrd_base.specs.Devices.{SourceKnown, IsAtEnd}
@@ -8,16 +10,19 @@ use Rattle.vyrd_log_check.specs.Checking.{IsLimit}
 use Rattle.vyrd_explain.specs.declared.about.About.{About}
 use Rattle.vyrd_explain.specs.Explained.{explained, is_settled}
 use Rattle.vyrd_explain.specs.Explaining.{ExplainerState, HasTaken, limit_of}
-use Rattle.vyrd_explain.proofs.SettledLaws.{settled_stays, nothing_settled, verdict_lasts, text_lasts, unsettled_is_short}
+use Rattle.vyrd_explain.proofs.SettledLaws.{settled_stays, nothing_settled, verdict_lasts}
+use Rattle.vyrd_explain.proofs.SettledLaws.{text_lasts, unsettled_is_short}
 use Rattle.vyrd_check_command.specs.Inputs.{IsTaken, longest_read}
 use Rattle.vyrd_check_command.specs.Outputs.{status_of}
 use Rattle.vyrd_check_command.proofs.TakenLaws.{taken_more, taken_nothing, no_more_bytes}
 use Rattle.vyrd_check_command.proofs.TakenLaws.{begins_later}
 use Rattle.vyrd_command.specs.Inputs.{IsMoreRead}
-use Rattle.vyrd_command.specs.Explains.{SaysWhole, AnswersExplain, IsExplainNoFurther, IsLogTaken, longest_explained}
+use Rattle.vyrd_command.specs.Explains.{SaysWhole, AnswersExplain, IsExplainNoFurther, IsLogTaken}
+use Rattle.vyrd_command.specs.Explains.{longest_explained}
 
 -- So many bytes were taken of an input, by what explains it, and the answer may still change.
-pub record TakenSoFar (max : ℕ) (before now : SourceKnown) (explainer : ExplainerState) (count : ℕ) : Type 0 where
+pub record TakenSoFar (max : ℕ) (before now : SourceKnown) (explainer : ExplainerState)
+    (count : ℕ) : Type 0 where
   pub bytes : List ℕ
   pub told : IsTaken before.rest bytes now.rest
   pub many : length bytes ≡ count
@@ -25,7 +30,8 @@ pub record TakenSoFar (max : ℕ) (before now : SourceKnown) (explainer : Explai
   pub taken : HasTaken explainer bytes
   pub unsettled : is_settled max bytes ≡ false
 
-pub nothing_taken : (max : ℕ) (before : SourceKnown) (explainer : ExplainerState) → limit_of explainer ≡ max → HasTaken explainer []
+pub nothing_taken : (max : ℕ) (before : SourceKnown) (explainer : ExplainerState)
+    → limit_of explainer ≡ max → HasTaken explainer []
     → TakenSoFar max before before explainer 0
 nothing_taken max before explainer limit taken = record {
   bytes = [];
@@ -37,36 +43,44 @@ nothing_taken max before explainer limit taken = record {
 }
 
 -- one read more is no further than it may be
-no_further_by : (max : ℕ) (before after : SourceKnown) (bytes piece : List ℕ) → IsLimit max → is_settled max bytes ≡ false
-    → IsTaken before.rest (bytes ++ piece) after.rest → length piece ≤ longest_read → length (bytes ++ piece) ≤ longest_explained max
+no_further_by : (max : ℕ) (before after : SourceKnown) (bytes piece : List ℕ) → IsLimit max
+    → is_settled max bytes ≡ false
+    → IsTaken before.rest (bytes ++ piece) after.rest → length piece ≤ longest_read
+    → length (bytes ++ piece) ≤ longest_explained max
     → IsExplainNoFurther max before after
 no_further_by max before after bytes piece within unsettled told short few = record {
   taken = bytes ++ piece;
   told = told;
   no_more = λ first more same there.
-      let later = begins_later (is_settled max) (λ bytes more. settled_stays max bytes more within.low within.high) bytes piece first more unsettled same there in
+      let later = begins_later (is_settled max)
+      (λ bytes more. settled_stays max bytes more within.low within.high) bytes piece first more
+      unsettled same there in
       omega (arith, later, length-append bytes piece, short);
   few = few;
 }
 
-module _ (max : ℕ) (before now after : SourceKnown) (explainer : ExplainerState) (count : ℕ) (within : IsLimit max)
+module _ (max : ℕ) (before now after : SourceKnown) (explainer : ExplainerState) (count : ℕ)
+    (within : IsLimit max)
     (so_far : TakenSoFar max before now explainer count) (few : count ≤ longest_explained max) where
   -- nothing more was taken
   pub same_no_further : after.rest ≡ now.rest → IsExplainNoFurther max before after
   same_no_further kept =
       let whole : so_far.bytes ++ [] ≡ so_far.bytes = no_more_bytes so_far.bytes in
       no_further_by max before after so_far.bytes [] within so_far.unsettled
-      (subst (λ bytes. IsTaken before.rest bytes after.rest) (sym whole) (subst (IsTaken before.rest so_far.bytes) (sym kept) so_far.told))
+      (subst (λ bytes. IsTaken before.rest bytes after.rest) (sym whole)
+      (subst (IsTaken before.rest so_far.bytes) (sym kept) so_far.told))
       (omega arith) (omega (arith, length-append so_far.bytes [], so_far.many, few))
 
-  module _ (most n : ℕ) (cleared piece : List ℕ) (is_most : most ≡ longest_explained max) (empty : cleared ≡ [])
+  module _ (most n : ℕ) (cleared piece : List ℕ) (is_most : most ≡ longest_explained max)
+      (empty : cleared ≡ [])
       (more : IsMoreRead (most - count) now after cleared piece n) where
     -- one piece more was read
     same_piece : piece ≡ more.piece
     same_piece = more.grown ∙ ap (λ old. old ++ more.piece) empty
 
     told_more : IsTaken before.rest (so_far.bytes ++ piece) after.rest
-    told_more = taken_more before.rest now.rest after.rest so_far.bytes piece so_far.told (subst (λ xs. IsTaken now.rest xs after.rest) (sym same_piece) more.told)
+    told_more = taken_more before.rest now.rest after.rest so_far.bytes piece so_far.told
+        (subst (λ xs. IsTaken now.rest xs after.rest) (sym same_piece) more.told)
 
     length_more : length piece ≡ n
     length_more = ap length same_piece ∙ more.many
@@ -78,17 +92,22 @@ module _ (max : ℕ) (before now after : SourceKnown) (explainer : ExplainerStat
     few_more = omega (arith, more.few, is_most, few)
 
     pub read_no_further : IsExplainNoFurther max before after
-    read_no_further = no_further_by max before after so_far.bytes piece within so_far.unsettled told_more
+    read_no_further = no_further_by max before after so_far.bytes piece within so_far.unsettled
+        told_more
         (omega (arith, length_more, more.short)) (omega (arith, many_more, few_more))
 
-    module _ (new : ExplainerState) (fed : List ℕ) (settled : Bool) (all : fed ≡ piece) (limit : limit_of new ≡ limit_of explainer)
+    module _ (new : ExplainerState) (fed : List ℕ) (settled : Bool) (all : fed ≡ piece)
+        (limit : limit_of new ≡ limit_of explainer)
         (taken : (bytes : List ℕ) → HasTaken explainer bytes → HasTaken new (bytes ++ fed))
-        (is : (bytes : List ℕ) → HasTaken explainer bytes → settled ≡ is_settled (limit_of explainer) (bytes ++ fed)) where
+        (is : (bytes : List ℕ) → HasTaken explainer bytes
+        → settled ≡ is_settled (limit_of explainer) (bytes ++ fed)) where
       taken_all : HasTaken new (so_far.bytes ++ piece)
-      taken_all = subst (λ piece. HasTaken new (so_far.bytes ++ piece)) all (taken so_far.bytes so_far.taken)
+      taken_all = subst (λ piece. HasTaken new (so_far.bytes ++ piece)) all
+          (taken so_far.bytes so_far.taken)
 
       is_all : settled ≡ is_settled max (so_far.bytes ++ piece)
-      is_all = is so_far.bytes so_far.taken ∙ ap (λ max. is_settled max (so_far.bytes ++ fed)) so_far.limit
+      is_all = is so_far.bytes so_far.taken ∙ ap (λ max. is_settled max (so_far.bytes ++ fed))
+          so_far.limit
           ∙ ap (λ piece. is_settled max (so_far.bytes ++ piece)) all
 
       -- It was fed, and the answer may still change.
@@ -113,26 +132,33 @@ module _ (max : ℕ) (before now after : SourceKnown) (explainer : ExplainerStat
       }
 
 -- The answer doesn't change any more once as much was taken as is read at most.
-pub longest_settled : {P : Type 0} (max : ℕ) (before now : SourceKnown) (explainer : ExplainerState) (count : ℕ) → 1 ≤ max
+pub longest_settled : {P : Type 0} (max : ℕ) (before now : SourceKnown) (explainer : ExplainerState)
+    (count : ℕ) → 1 ≤ max
     → TakenSoFar max before now explainer count → longest_explained max ≤ count → P
 longest_settled max before now explainer count low so_far longest =
-    absurd (omega (arith, unsettled_is_short max so_far.bytes low so_far.unsettled, so_far.many, longest))
+    absurd (omega
+    (arith, unsettled_is_short max so_far.bytes low so_far.unsettled, so_far.many, longest))
 
 -- What is said of what was taken is what is said of the whole input.
-says_whole : (about : About) (max : ℕ) (before after : SourceKnown) (bytes : List ℕ) → IsLimit max → IsTaken before.rest bytes after.rest
+says_whole : (about : About) (max : ℕ) (before after : SourceKnown) (bytes : List ℕ) → IsLimit max
+    → IsTaken before.rest bytes after.rest
     → IsAtEnd after ⊎ (is_settled max bytes ≡ true) → IfSome before.rest (SaysWhole about max bytes)
 says_whole about max before after bytes within told enough =
-    subst (λ input. IfSome input (SaysWhole about max bytes)) (sym told) (by_rest after.rest (by_end enough))
+    subst (λ input. IfSome input (SaysWhole about max bytes)) (sym told)
+    (by_rest after.rest (by_end enough))
   where
-    by_end : IsAtEnd after ⊎ (is_settled max bytes ≡ true) → IfSome after.rest (λ left. left ≡ []) ⊎ (is_settled max bytes ≡ true)
+    by_end : IsAtEnd after ⊎ (is_settled max bytes ≡ true) → IfSome after.rest (λ left. left ≡ [])
+        ⊎ (is_settled max bytes ≡ true)
     by_end (inl ended) = inl ended.none
     by_end (inr settled) = inr settled
 
-    by_rest : (rest : Option (List ℕ)) → IfSome rest (λ left. left ≡ []) ⊎ (is_settled max bytes ≡ true)
+    by_rest : (rest : Option (List ℕ)) → IfSome rest (λ left. left ≡ [])
+        ⊎ (is_settled max bytes ≡ true)
         → IfSome (option_map (λ left. bytes ++ left) rest) (SaysWhole about max bytes)
     by_rest None enough = tt
     by_rest (Some left) (inl none) =
-        let same : bytes ≡ bytes ++ left = sym (ap (λ left. bytes ++ left) none ∙ no_more_bytes bytes) in
+        let same : bytes ≡ bytes
+        ++ left = sym (ap (λ left. bytes ++ left) none ∙ no_more_bytes bytes) in
         record { verdict = ap (log_verdict max) same; text = ap (explained about max) same }
     by_rest (Some left) (inr settled) = record {
       verdict = sym (verdict_lasts max bytes left within.low within.high settled);
@@ -140,12 +166,18 @@ says_whole about max before after bytes within told enough =
     }
 
 -- the answer, of what was taken
-pub explain_answered : (about : About) (max : ℕ) (before after : SourceKnown) (explainer : ExplainerState) (status : ℕ) (v : Verdict) (text : List ℕ) → IsLimit max
-    → (t : IsLogTaken max before after explainer) → status ≡ status_of v → v ≡ log_verdict (limit_of explainer) t.bytes
-    → text ≡ explained about (limit_of explainer) t.bytes → AnswersExplain about max before.rest status text
-explain_answered about max before after explainer status v text within t status_is verdict_is text_is = record {
-  taken = t.bytes;
-  whole = says_whole about max before after t.bytes within t.told t.enough;
-  status_is = status_is ∙ ap status_of verdict_is ∙ ap (λ max. status_of (log_verdict max t.bytes)) t.limit;
-  text_is = text_is ∙ ap (λ max. explained about max t.bytes) t.limit;
-}
+pub explain_answered : (about : About) (max : ℕ) (before after : SourceKnown)
+    (explainer : ExplainerState) (status : ℕ) (v : Verdict) (text : List ℕ) → IsLimit max
+    → (t : IsLogTaken max before after explainer) → status ≡ status_of v
+    → v ≡ log_verdict (limit_of explainer) t.bytes
+    → text ≡ explained about (limit_of explainer) t.bytes
+    → AnswersExplain about max before.rest status text
+explain_answered about max before after explainer status v text within t status_is verdict_is
+    text_is = record {
+      taken = t.bytes;
+      whole = says_whole about max before after t.bytes within t.told t.enough;
+      status_is = status_is ∙ ap status_of verdict_is
+          ∙ ap (λ max. status_of (log_verdict max t.bytes))
+          t.limit;
+      text_is = text_is ∙ ap (λ max. explained about max t.bytes) t.limit;
+    }

@@ -1,5 +1,6 @@
 -- Words that spell a number.
-use Rattle.std.proofs.Common.{◌≡◌, ℕ, ◌<◌, ◌≤◌, ◌^◌, Bool, true, false, cond, ◌&&◌, List, Option, Some, None, refl, ap, ◌∙◌, sym, arith}
+use Rattle.std.proofs.Common.{◌≡◌, ℕ, ◌<◌, ◌≤◌, ◌^◌, Bool, true, false, cond, ◌&&◌, List, Option}
+use Rattle.std.proofs.Common.{Some, None, refl, ap, ◌∙◌, sym, arith}
 use Rattle.std.specs.Prelude.{nat_le, decimal}
 use Rattle.std.specs.Str.{bytes_eq}
 use Rattle.std.proofs.lemmas.Bool.Decides.{nat_tests}
@@ -21,11 +22,14 @@ count_of_decimal n small =
 -- a number that is out of range, and one in range
 pub no_count : (n : ℕ) (word : List ℕ) → n < 2 ^ 32 → word ≡ decimal n → in_range n ≡ false
     → ◌≡◌ {A = Option ℕ} None (cond (is_count word) (Some (number_of word)) None)
-no_count n word small is out = sym (ap (λ word. cond (is_count word) (Some (number_of word)) None) is
+no_count n word small is out =
+    sym (ap (λ word. cond (is_count word) (Some (number_of word)) None) is
     ∙ ap (λ b. cond b (Some (number_of (decimal n))) None) (count_of_decimal n small ∙ out))
 
-pub a_count : (n : ℕ) (word : List ℕ) → n < 2 ^ 32 → word ≡ decimal n → in_range n ≡ true → Some n ≡ cond (is_count word) (Some (number_of word)) None
-a_count n word small is fits = sym (ap (λ word. cond (is_count word) (Some (number_of word)) None) is
+pub a_count : (n : ℕ) (word : List ℕ) → n < 2 ^ 32 → word ≡ decimal n → in_range n ≡ true
+    → Some n ≡ cond (is_count word) (Some (number_of word)) None
+a_count n word small is fits =
+    sym (ap (λ word. cond (is_count word) (Some (number_of word)) None) is
     ∙ ap (λ b. cond b (Some (number_of (decimal n))) None) (count_of_decimal n small ∙ fits)
     ∙ ap Some (number_of_decimal n (omega (arith, small))))
 
@@ -36,7 +40,8 @@ pub high_out : (n : ℕ) → most_ops < n → in_range n ≡ false
 high_out n e = by_high (nat_le n most_ops) refl
   where
     by_high : (b : Bool) → nat_le n most_ops ≡ b → in_range n ≡ false
-    by_high true f = let low : n ≤ most_ops = grind (arith, nat_tests) in absurd (omega (arith, low, e))
+    by_high true f = let low : n ≤ most_ops = grind (arith, nat_tests) in absurd
+        (omega (arith, low, e))
     by_high false f = ap (λ b. nat_le 1 n && b) f ∙ both (nat_le 1 n)
       where
         both : (b : Bool) → (b && false) ≡ false
@@ -45,6 +50,7 @@ high_out n e = by_high (nat_le n most_ops) refl
 
 pub within : (n : ℕ) → (n ≡ 0 → ⊥) → n ≤ most_ops → in_range n ≡ true
 within n some few =
-    let a : nat_le 1 n ≡ true = (let low : 1 ≤ n = omega (arith, some) in grind (arith, nat_tests)) in
+    let a : nat_le 1 n
+    ≡ true = (let low : 1 ≤ n = omega (arith, some) in grind (arith, nat_tests)) in
     let b : nat_le n most_ops ≡ true = grind (arith, nat_tests) in
     ap (λ x. x && nat_le n most_ops) a ∙ b

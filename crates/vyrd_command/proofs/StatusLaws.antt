@@ -18,19 +18,25 @@ blocks_low : (b : Blocks) → status_of_blocks b ≤ 1
 blocks_low (Reducible blocks) = omega arith
 blocks_low (Broken open_line at_line) = omega arith
 
-pub step_isnt_four : (show : Show) (work : Result Workload Refusal) (status : ℕ) (text : List ℕ) → IsStepAnswer show work status text → status ≢ 4
+pub step_isnt_four : (show : Show) (work : Result Workload Refusal) (status : ℕ) (text : List ℕ)
+    → IsStepAnswer show work status text → status ≢ 4
 step_isnt_four show (Err refusal) status text answer four = omega (arith, answer.0, four)
-step_isnt_four show (Ok w) status text (inl run) four = omega (arith, run.status_is, four, verdict_low run.verdict)
+step_isnt_four show (Ok w) status text (inl run) four =
+    omega (arith, run.status_is, four, verdict_low run.verdict)
 step_isnt_four show (Ok w) status text (inr stuck) four = omega (arith, stuck.status_is, four)
 
-pub run_isnt_four : (show : Show) (work : Result Workload Refusal) (status : ℕ) (text : List ℕ) → IsRunAnswer show work status text → status ≢ 4
+pub run_isnt_four : (show : Show) (work : Result Workload Refusal) (status : ℕ) (text : List ℕ)
+    → IsRunAnswer show work status text → status ≢ 4
 run_isnt_four show (Err refusal) status text answer four = omega (arith, answer.0, four)
-run_isnt_four show (Ok w) status text (inl live) four = omega (arith, live.status_is, four, verdict_low live.verdict)
+run_isnt_four show (Ok w) status text (inl live) four =
+    omega (arith, live.status_is, four, verdict_low live.verdict)
 run_isnt_four show (Ok w) status text (inr spent) four = omega (arith, spent.status_is, four)
 
-pub movers_isnt_four : (read : Result Recorded movers.Refusal) (status : ℕ) (text : List ℕ) → IsMoversAnswer read status text → status ≢ 4
+pub movers_isnt_four : (read : Result Recorded movers.Refusal) (status : ℕ) (text : List ℕ)
+    → IsMoversAnswer read status text → status ≢ 4
 movers_isnt_four (Err refusal) status text answer four = omega (arith, answer.0, four)
-movers_isnt_four (Ok r) status text answer four = omega (arith, answer.0, four, blocks_low (said_of_blocks r))
+movers_isnt_four (Ok r) status text answer four =
+    omega (arith, answer.0, four, blocks_low (said_of_blocks r))
 
 pub batch_isnt_four : (status : ℕ) → IsBatchStatus status → status ≢ 4
 batch_isnt_four status (inl low) four = omega (arith, low, four)

@@ -1,5 +1,7 @@
--- What is known of the run of a workload that keeps its limits, and of the input that it was read from.
-use Rattle.std.proofs.Common.{◌≡◌, ℕ, true, List, [], length, Option, Some, None, refl, ◌∙◌, sym, subst, arith}
+-- What is known of the run of a workload that keeps its limits, and of the input that it was read
+-- from.
+use Rattle.std.proofs.Common.{◌≡◌, ℕ, true, List, [], length, Option, Some, None, refl, ◌∙◌, sym}
+use Rattle.std.proofs.Common.{subst, arith}
 use Rattle.std.specs.Prelude.{IfSome, MatchOption, Result, Ok, Err}
 use Rattle.vyrd_base.specs.declared.history.Stamped.{Stamped}
 use Rattle.vyrd_base.specs.Devices.{SourceKnown}
@@ -28,33 +30,44 @@ use Rattle.vyrd_command.specs.Runs.{IsLiveRun, IsRunAnswer}
 use Rattle.vyrd_command.proofs.InputLaws.{whole_input, long_refused}
 
 -- the history of a run by turns is legal, and each script is played to its end in it
-pub turned_is_legal : (w : Workload) (history : List Stamped) → KeepsLimits w → RunsTo (work_scripts w) w.turns history
+pub turned_is_legal : (w : Workload) (history : List Stamped) → KeepsLimits w
+    → RunsTo (work_scripts w) w.turns history
     → is_legal (cells_of w.header) history ≡ true
-turned_is_legal w history limits runs = run_is_legal w.header (work_scripts w) w.turns history (scripts_sound w limits) runs
+turned_is_legal w history limits runs = run_is_legal w.header (work_scripts w) w.turns history
+    (scripts_sound w limits) runs
 
-pub turned_plays : (w : Workload) (history : List Stamped) → KeepsLimits w → RunsTo (work_scripts w) w.turns history
+pub turned_plays : (w : Workload) (history : List Stamped) → KeepsLimits w
+    → RunsTo (work_scripts w) w.turns history
     → PlayToTheEnd (work_scripts w) history
-turned_plays w history limits runs = run_plays w.header (work_scripts w) w.turns history (scripts_sound w limits) runs
+turned_plays w history limits runs = run_plays w.header (work_scripts w) w.turns history
+    (scripts_sound w limits) runs
 
 -- a verdict about a legal history of played scripts names no rule except that of races
-pub names_only_races : (w : Workload) (history : List Stamped) (v : Verdict) → KeepsLimits w → is_legal (cells_of w.header) history ≡ true
-    → PlayToTheEnd (work_scripts w) history → v ≡ verdict (rules_of w.header) [] (log_of history) → NamesOnlyRaces v
+pub names_only_races : (w : Workload) (history : List Stamped) (v : Verdict) → KeepsLimits w
+    → is_legal (cells_of w.header) history ≡ true
+    → PlayToTheEnd (work_scripts w) history → v ≡ verdict (rules_of w.header) [] (log_of history)
+    → NamesOnlyRaces v
 names_only_races w history v limits legal played is = λ line rule e.
-    only_races w.header (work_scripts w) history (scripts_sound w limits) legal played line rule (sym is ∙ e)
+    only_races w.header (work_scripts w) history (scripts_sound w limits) legal played line rule
+    (sym is ∙ e)
 
 -- what is known of a run by turns that ends
-pub is_turned : (w : Workload) (history : List Stamped) → KeepsLimits w → RunsTo (work_scripts w) w.turns history
+pub is_turned : (w : Workload) (history : List Stamped) → KeepsLimits w
+    → RunsTo (work_scripts w) w.turns history
     → IsTurnedTo w history (verdict (rules_of w.header) [] (log_of history))
 is_turned w history limits runs = record {
   runs = runs;
   verdict_is = refl;
-  races = names_only_races w history (verdict (rules_of w.header) [] (log_of history)) limits (turned_is_legal w history limits runs)
+  races = names_only_races w history (verdict (rules_of w.header) [] (log_of history)) limits
+      (turned_is_legal w history limits runs)
       (turned_plays w history limits runs) refl;
 }
 
 -- what is known of a live run that ends
-pub is_live : (w : Workload) (history : List Stamped) (v : Verdict) → KeepsLimits w → is_legal (cells_of w.header) history ≡ true
-    → PlayToTheEnd (work_scripts w) history → AllHadRoom w.header most_events history → v ≡ verdict (rules_of w.header) [] (log_of history)
+pub is_live : (w : Workload) (history : List Stamped) (v : Verdict) → KeepsLimits w
+    → is_legal (cells_of w.header) history ≡ true
+    → PlayToTheEnd (work_scripts w) history → AllHadRoom w.header most_events history
+    → v ≡ verdict (rules_of w.header) [] (log_of history)
     → IsLiveRun w history v
 is_live w history v limits legal parts room is = record {
   legal = legal;
@@ -65,32 +78,41 @@ is_live w history v limits legal parts room is = record {
 }
 
 -- what was read of an input says what the whole input says
-pub reading_is_input : (before after : SourceKnown) (bytes : List ℕ) → IsInputRead longest_input before after bytes
+pub reading_is_input : (before after : SourceKnown) (bytes : List ℕ)
+    → IsInputRead longest_input before after bytes
     → IfSome before.rest (λ input. work_reading bytes ≡ work_reading input)
-reading_is_input before after bytes is = whole_input work_reading longest_input before after bytes (λ more long. reading_settled bytes more (omega (arith, long))) is
+reading_is_input before after bytes is = whole_input work_reading longest_input before after bytes
+    (λ more long. reading_settled bytes more (omega (arith, long))) is
 
 -- a workload as long as can be read is refused, by turns and in a live run
-long_work : {P : Type 0} (bytes : List ℕ) (w : Workload) → length bytes ≡ longest_input → work_reading bytes ≡ Ok w → P
-long_work bytes w long e = absurd (long_refused work_reading bytes work_text (λ bytes w e. (reading_sound bytes w e).text)
+long_work : {P : Type 0} (bytes : List ℕ) (w : Workload) → length bytes ≡ longest_input
+    → work_reading bytes ≡ Ok w → P
+long_work bytes w long e = absurd
+    (long_refused work_reading bytes work_text (λ bytes w e. (reading_sound bytes w e).text)
     (λ more. reading_settled bytes more (omega (arith, long))) w e)
 
-pub step_refused : (show : Show) (bytes : List ℕ) (status : ℕ) (text : List ℕ) → IsStepAnswer show (work_reading bytes) status text
+pub step_refused : (show : Show) (bytes : List ℕ) (status : ℕ) (text : List ℕ)
+    → IsStepAnswer show (work_reading bytes) status text
     → length bytes ≡ longest_input → status ≡ 7
 step_refused show bytes status text answer long = by_reading (work_reading bytes) refl answer
   where
-    by_reading : (r : Result Workload Refusal) → work_reading bytes ≡ r → IsStepAnswer show r status text → status ≡ 7
+    by_reading : (r : Result Workload Refusal) → work_reading bytes ≡ r
+        → IsStepAnswer show r status text → status ≡ 7
     by_reading (Err refusal) e answer = answer.0
     by_reading (Ok w) e answer = long_work bytes w long e
 
-pub run_refused : (show : Show) (bytes : List ℕ) (status : ℕ) (text : List ℕ) → IsRunAnswer show (work_reading bytes) status text
+pub run_refused : (show : Show) (bytes : List ℕ) (status : ℕ) (text : List ℕ)
+    → IsRunAnswer show (work_reading bytes) status text
     → length bytes ≡ longest_input → status ≡ 7
 run_refused show bytes status text answer long = by_reading (work_reading bytes) refl answer
   where
-    by_reading : (r : Result Workload Refusal) → work_reading bytes ≡ r → IsRunAnswer show r status text → status ≡ 7
+    by_reading : (r : Result Workload Refusal) → work_reading bytes ≡ r
+        → IsRunAnswer show r status text → status ≡ 7
     by_reading (Err refusal) e answer = answer.0
     by_reading (Ok w) e answer = long_work bytes w long e
 
 -- what is said where there is a value
-pub of_match : {A : Type 0} (P : Type 0) (Q : A → Type 0) (o : Option A) (x : A) → o ≡ Some x → MatchOption o P Q → Q x
+pub of_match : {A : Type 0} (P : Type 0) (Q : A → Type 0) (o : Option A) (x : A) → o ≡ Some x
+    → MatchOption o P Q → Q x
 of_match P Q None x e m = cc
 of_match P Q (Some y) x e m = let same : y ≡ x = cc in subst Q same m

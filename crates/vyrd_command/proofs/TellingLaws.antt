@@ -23,43 +23,64 @@ pub of_some : {A : Type 0} (P : Type 0) (o : Option A) (x : A) → o ≡ Some x 
 of_some P None x e p = cc
 of_some P (Some y) x e p = p
 
-pub tells_run : (show : Show) (w : Workload) (a : AccountView) (words : List ℕ) (status : ℕ) (text : List ℕ) → KeepsLimits w
-    → (run : HasRun (work_scripts w) w.turns w.header HasTaken a words) → a.judge.kept.charter ≡ built_in w.header → a.show ≡ show
+pub tells_run : (show : Show) (w : Workload) (a : AccountView) (words : List ℕ) (status : ℕ)
+    (text : List ℕ) → KeepsLimits w
+    → (run : HasRun (work_scripts w) w.turns w.header HasTaken a words) → a.judge.kept.charter
+    ≡ built_in w.header → a.show ≡ show
     → status ≡ status_of (verdict (rules_by a.judge.kept.charter) [] (log_of run.history))
-    → text ≡ run_text a.show (rules_by a.judge.kept.charter).header run.history (verdict (rules_by a.judge.kept.charter) [] (log_of run.history))
+    → text ≡ run_text a.show (rules_by a.judge.kept.charter).header run.history
+    (verdict (rules_by a.judge.kept.charter) [] (log_of run.history))
     → TellsRun show w status text
 tells_run show w a words status text limits run charter shows status_is text_is = record {
   history = run.history;
   verdict = verdict (rules_of w.header) [] (log_of run.history);
   turned = is_turned w run.history limits run.runs;
-  status_is = status_is ∙ ap (λ k. status_of (verdict (rules_by k) [] (log_of run.history))) charter;
-  text_is = text_is ∙ ap (λ k. run_text a.show (rules_by k).header run.history (verdict (rules_by k) [] (log_of run.history))) charter
-      ∙ ap (λ show. run_text show w.header run.history (verdict (rules_of w.header) [] (log_of run.history))) shows;
+  status_is = status_is ∙ ap (λ k. status_of (verdict (rules_by k) [] (log_of run.history)))
+      charter;
+  text_is = text_is
+      ∙ ap (λ k. run_text a.show (rules_by k).header run.history
+      (verdict (rules_by k) [] (log_of run.history))) charter
+      ∙ ap (λ show. run_text show w.header run.history
+      (verdict (rules_of w.header) [] (log_of run.history))) shows;
 }
 
-pub counts_run : (n : ℕ) (w : Workload) (a : AccountView) (words : List ℕ) (status : ℕ) (text : List ℕ) → KeepsLimits w
-    → (run : HasRun (work_scripts w) w.turns w.header HasTaken a words) → a.judge.kept.charter ≡ built_in w.header
+pub counts_run : (n : ℕ) (w : Workload) (a : AccountView) (words : List ℕ) (status : ℕ)
+    (text : List ℕ) → KeepsLimits w
+    → (run : HasRun (work_scripts w) w.turns w.header HasTaken a words) → a.judge.kept.charter
+    ≡ built_in w.header
     → status ≡ status_of (verdict (rules_by a.judge.kept.charter) [] (log_of run.history))
-    → text ≡ generated_line n (length run.history) ++ verdict_text (verdict (rules_by a.judge.kept.charter) [] (log_of run.history))
+    → text ≡ generated_line n (length run.history)
+    ++ verdict_text (verdict (rules_by a.judge.kept.charter) [] (log_of run.history))
     → CountsRun n w status text
 counts_run n w a words status text limits run charter status_is text_is = record {
   history = run.history;
   verdict = verdict (rules_of w.header) [] (log_of run.history);
   turned = is_turned w run.history limits run.runs;
-  status_is = status_is ∙ ap (λ k. status_of (verdict (rules_by k) [] (log_of run.history))) charter;
-  text_is = text_is ∙ ap (λ k. generated_line n (length run.history) ++ verdict_text (verdict (rules_by k) [] (log_of run.history))) charter;
+  status_is = status_is ∙ ap (λ k. status_of (verdict (rules_by k) [] (log_of run.history)))
+      charter;
+  text_is = text_is
+      ∙ ap (λ k. generated_line n (length run.history)
+      ++ verdict_text (verdict (rules_by k) [] (log_of run.history))) charter;
 }
 
-pub tells_live : (show : Show) (w : Workload) (a : AccountView) (words : List ℕ) (status : ℕ) (text : List ℕ) → KeepsLimits w
-    → (run : LeavesRun w.header most_events (work_scripts w) HasTaken a words None) → a.judge.kept.charter ≡ built_in w.header → a.show ≡ show
+pub tells_live : (show : Show) (w : Workload) (a : AccountView) (words : List ℕ) (status : ℕ)
+    (text : List ℕ) → KeepsLimits w
+    → (run : LeavesRun w.header most_events (work_scripts w) HasTaken a words None)
+    → a.judge.kept.charter ≡ built_in w.header → a.show ≡ show
     → status ≡ status_of (verdict (rules_by a.judge.kept.charter) [] (log_of run.history))
-    → text ≡ run_text a.show (rules_by a.judge.kept.charter).header run.history (verdict (rules_by a.judge.kept.charter) [] (log_of run.history))
+    → text ≡ run_text a.show (rules_by a.judge.kept.charter).header run.history
+    (verdict (rules_by a.judge.kept.charter) [] (log_of run.history))
     → TellsLive show w status text
 tells_live show w a words status text limits run charter shows status_is text_is = record {
   history = run.history;
   verdict = verdict (rules_of w.header) [] (log_of run.history);
-  live = is_live w run.history (verdict (rules_of w.header) [] (log_of run.history)) limits run.legal run.played.0 run.played.1 refl;
-  status_is = status_is ∙ ap (λ k. status_of (verdict (rules_by k) [] (log_of run.history))) charter;
-  text_is = text_is ∙ ap (λ k. run_text a.show (rules_by k).header run.history (verdict (rules_by k) [] (log_of run.history))) charter
-      ∙ ap (λ show. run_text show w.header run.history (verdict (rules_of w.header) [] (log_of run.history))) shows;
+  live = is_live w run.history (verdict (rules_of w.header) [] (log_of run.history)) limits
+      run.legal run.played.0 run.played.1 refl;
+  status_is = status_is ∙ ap (λ k. status_of (verdict (rules_by k) [] (log_of run.history)))
+      charter;
+  text_is = text_is
+      ∙ ap (λ k. run_text a.show (rules_by k).header run.history
+      (verdict (rules_by k) [] (log_of run.history))) charter
+      ∙ ap (λ show. run_text show w.header run.history
+      (verdict (rules_of w.header) [] (log_of run.history))) shows;
 }

@@ -5,7 +5,8 @@ use Rattle.vyrd_base.specs.Amounts.{Amounts}
 use Rattle.vyrd_base.specs.States.{State, showing}
 
 -- a step that is allowed
-pub shown_next : (o : Option Amounts) (next : State) → option_map showing o ≡ Some next → Some next.shown ≡ o
+pub shown_next : (o : Option Amounts) (next : State) → option_map showing o ≡ Some next
+    → Some next.shown ≡ o
 shown_next None next e = cc
 shown_next (Some amounts) next e = ap (option_map (λ s. s.shown)) (sym e)
 

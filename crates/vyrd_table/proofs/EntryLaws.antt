@@ -1,5 +1,6 @@
 -- Laws of values by key.
-use Rattle.std.proofs.Common.{◌≡◌, ℕ, Bool, true, false, cond, not, List, [], ◌∷◌, Option, Some, None, refl, ap, ◌∙◌, sym, subst, T, arith, length, ◌+◌, ◌≤◌}
+use Rattle.std.proofs.Common.{◌≡◌, ℕ, Bool, true, false, cond, not, List, [], ◌∷◌, Option, Some}
+use Rattle.std.proofs.Common.{None, refl, ap, ◌∙◌, sym, subst, T, arith, length, ◌+◌, ◌≤◌}
 use Rattle.std.specs.Prelude.{◌==◌, unwrap_or, filter, is_some}
 use Rattle.std.specs.Ordering.{nat_cmp, eq_by_cmp, is_lt, match_ordering}
 use Rattle.std.specs.declared.cmp.Ordering.{Ordering}
@@ -11,7 +12,9 @@ use Rattle.std.proofs.lemmas.Bool.Decides.{nat_tests}
 use Rattle.std.proofs.lemmas.Cmp.{nat_cmp_total}
 use Rattle.std.proofs.lemmas.Option.{same_Some}
 use Rattle.std.specs.FinMap.{nat_cmp-IsAntisymmetric}
-use Rattle.std.specs.FinMap.Entries.{find, put, by_order, find-put, find-where_key, is_sorted-put, is_sorted-where_key, same_entries, length-put, below_all, is_sorted}
+use Rattle.std.specs.FinMap.Entries.{find, put, by_order, find-put, find-where_key, is_sorted-put}
+use Rattle.std.specs.FinMap.Entries.{is_sorted-where_key, same_entries, length-put, below_all}
+use Rattle.std.specs.FinMap.Entries.{is_sorted}
 use Rattle.std.specs.List.{AllByRecursion}
 use Rattle.vyrd_base.proofs.AmountLaws.{isnt, first_of_and, second_of_and}
 use Rattle.vyrd_table.specs.Entries.{IsEntries, value_of, with_value}
@@ -33,7 +36,8 @@ module _ {V : Type 0} where
   lookup-find q (e ∷ es) = ap (λ o. cond (eq_by_cmp nat_cmp q e.0) (Some e.1) o) (lookup-find q es)
 
   -- what `insert` leaves
-  pub insert_entry-put : (k : ℕ) (v : V) (es : List (ℕ × V)) → insert_entry nat_cmp es k v ≡ put nat_cmp k v es
+  pub insert_entry-put : (k : ℕ) (v : V) (es : List (ℕ × V)) → insert_entry nat_cmp es k v
+      ≡ put nat_cmp k v es
   insert_entry-put k v [] = refl
   insert_entry-put k v (e ∷ es) = by_cmp (nat_cmp k e.0) (insert_entry-put k v es)
     where
@@ -45,10 +49,12 @@ module _ {V : Type 0} where
       by_cmp Greater rest = ap (λ xs. e ∷ xs) rest
 
   -- keys above k are none of k
-  kept_above : (k : ℕ) (es : List (ℕ × V)) → T (below_all nat_cmp k es) → filter (λ entry. not (entry.0 == k)) es ≡ es
+  kept_above : (k : ℕ) (es : List (ℕ × V)) → T (below_all nat_cmp k es)
+      → filter (λ entry. not (entry.0 == k)) es ≡ es
   kept_above k [] h = refl
   kept_above k (e ∷ es) h =
-      ap (λ b. cond (not b) (e ∷ filter (λ entry. not (entry.0 == k)) es) (filter (λ entry. not (entry.0 == k)) es))
+      ap (λ b. cond (not b) (e ∷ filter (λ entry. not (entry.0 == k)) es)
+      (filter (λ entry. not (entry.0 == k)) es))
       (above_isnt k e.0 (first_of_and _ _ h))
       ∙ ap (λ xs. e ∷ xs) (kept_above k es (second_of_and (is_lt (nat_cmp k e.0)) _ h))
 
@@ -57,29 +63,35 @@ module _ {V : Type 0} where
       → remove_entry (is_at (nat_cmp k)) es ≡ filter (λ entry. not (entry.0 == k)) es
   remove_entry-filter k [] rising = refl
   remove_entry-filter k (e ∷ es) rising =
-      by_test (remove_entry-filter k es (second_of_and (below_all nat_cmp e.0 es) _ rising)) (k == e.0) refl
+      by_test (remove_entry-filter k es (second_of_and (below_all nat_cmp e.0 es) _ rising))
+      (k == e.0) refl
     where
       kept : List (ℕ × V)
       kept = filter (λ entry. not (entry.0 == k)) es
 
       by_test : remove_entry (is_at (nat_cmp k)) es ≡ kept → (b : Bool) → (k == e.0) ≡ b
-          → cond (eq_by_cmp nat_cmp k e.0) es (e ∷ remove_entry (is_at (nat_cmp k)) es) ≡ cond (not (e.0 == k)) (e ∷ kept) kept
+          → cond (eq_by_cmp nat_cmp k e.0) es (e ∷ remove_entry (is_at (nat_cmp k)) es)
+          ≡ cond (not (e.0 == k)) (e ∷ kept) kept
       by_test rest true is =
           let same : k ≡ e.0 = grind (arith, nat_tests) in
           ap (λ b. cond b es (e ∷ remove_entry (is_at (nat_cmp k)) es)) (unsigned_tied k e.0 ∙ is)
-          ∙ sym (kept_above k es (subst (λ x. T (below_all nat_cmp x es)) (sym same) (first_of_and _ _ rising)))
+          ∙ sym (kept_above k es
+          (subst (λ x. T (below_all nat_cmp x es)) (sym same) (first_of_and _ _ rising)))
           ∙ sym (ap (λ b. cond (not b) (e ∷ kept) kept) (flip k e.0 true is))
       by_test rest false isnt_it =
-          ap (λ b. cond b es (e ∷ remove_entry (is_at (nat_cmp k)) es)) (unsigned_tied k e.0 ∙ isnt_it)
+          ap (λ b. cond b es (e ∷ remove_entry (is_at (nat_cmp k)) es))
+          (unsigned_tied k e.0 ∙ isnt_it)
           ∙ ap (λ xs. e ∷ xs) rest
           ∙ sym (ap (λ b. cond (not b) (e ∷ kept) kept) (flip k e.0 false isnt_it))
 
-  pub kept_filter : (P : ℕ × V → Type 0) (p : ℕ × V → Bool) (s : List (ℕ × V)) → AllByRecursion P s → AllByRecursion P (filter p s)
+  pub kept_filter : (P : ℕ × V → Type 0) (p : ℕ × V → Bool) (s : List (ℕ × V)) → AllByRecursion P s
+      → AllByRecursion P (filter p s)
   kept_filter P p [] all = tt
-  kept_filter P p (e ∷ s) all = elim (p e) as (λ b. AllByRecursion P (cond b (e ∷ filter p s) (filter p s))) [
-    | true ↦ (all.0, kept_filter P p s all.1)
-    | false ↦ kept_filter P p s all.1
-  ]
+  kept_filter P p (e ∷ s) all =
+      elim (p e) as (λ b. AllByRecursion P (cond b (e ∷ filter p s) (filter p s))) [
+        | true ↦ (all.0, kept_filter P p s all.1)
+        | false ↦ kept_filter P p s all.1
+      ]
 
 module _ {V : Type 0} (is_nothing : V → Bool) where
   -- what a key has once a value is set: the value, unless that is nothing
@@ -92,125 +104,173 @@ module _ {V : Type 0} (is_nothing : V → Bool) where
 
   -- the key has the new value, and every other key its old one
   pub find-with_value : (s : List (ℕ × V)) (k : ℕ) (v : V) (q : ℕ)
-      → find nat_cmp q (with_value is_nothing s k v) ≡ cond (q == k) (given_value v) (find nat_cmp q s)
+      → find nat_cmp q (with_value is_nothing s k v) ≡ cond (q == k) (given_value v)
+      (find nat_cmp q s)
   find-with_value s k v q = by_nothing (is_nothing v) refl
     where
       by_nothing : (b : Bool) → is_nothing v ≡ b
-          → find nat_cmp q (cond b (filter (λ entry. not (entry.0 == k)) s) (put nat_cmp k v s)) ≡ cond (q == k) (cond b None (Some v)) (find nat_cmp q s)
-      by_nothing true e = find-where_key nat_cmp (isnt k) q (alike k q) s ∙ found_in (q == k) (find nat_cmp q s)
-      by_nothing false e = find-put nat_cmp nat_cmp_total q k v s ∙ ap (λ b. cond b (Some v) (find nat_cmp q s)) (unsigned_tied q k)
+          → find nat_cmp q (cond b (filter (λ entry. not (entry.0 == k)) s) (put nat_cmp k v s))
+          ≡ cond (q == k) (cond b None (Some v)) (find nat_cmp q s)
+      by_nothing true e = find-where_key nat_cmp (isnt k) q (alike k q) s
+          ∙ found_in (q == k) (find nat_cmp q s)
+      by_nothing false e = find-put nat_cmp nat_cmp_total q k v s
+          ∙ ap (λ b. cond b (Some v) (find nat_cmp q s)) (unsigned_tied q k)
 
   -- no value is nothing
   abbrev pub AllSome : List (ℕ × V) → Type 0
   AllSome s = AllByRecursion (λ entry. is_nothing entry.1 ≡ false) s
 
-  kept_put : (k : ℕ) (v : V) (s : List (ℕ × V)) → is_nothing v ≡ false → AllSome s → AllSome (put nat_cmp k v s)
+  kept_put : (k : ℕ) (v : V) (s : List (ℕ × V)) → is_nothing v ≡ false → AllSome s
+      → AllSome (put nat_cmp k v s)
   kept_put k v [] some all = (some, tt)
-  kept_put k v (e ∷ s) some all = elim (nat_cmp k e.0) as (λ o. AllSome (by_order o ((k, v) ∷ e ∷ s) ((e.0, v) ∷ s) (e ∷ put nat_cmp k v s))) [
-    | Less ↦ (some, all)
-    | Equal ↦ (some, all.1)
-    | Greater ↦ (all.0, kept_put k v s some all.1)
-  ]
+  kept_put k v (e ∷ s) some all =
+      elim (nat_cmp k e.0) as (λ o. AllSome
+      (by_order o ((k, v) ∷ e ∷ s) ((e.0, v) ∷ s) (e ∷ put nat_cmp k v s))) [
+        | Less ↦ (some, all)
+        | Equal ↦ (some, all.1)
+        | Greater ↦ (all.0, kept_put k v s some all.1)
+      ]
 
   pub no_entries : IsEntries {V = V} is_nothing []
   no_entries = record { rising = tt; some = tt }
 
-  pub IsEntries-put : (s : List (ℕ × V)) (k : ℕ) (v : V) → is_nothing v ≡ false → IsEntries is_nothing s → IsEntries is_nothing (put nat_cmp k v s)
-  IsEntries-put s k v some is = record { rising = is_sorted-put nat_cmp nat_cmp_total k v s is.rising; some = kept_put k v s some is.some }
+  pub IsEntries-put : (s : List (ℕ × V)) (k : ℕ) (v : V) → is_nothing v ≡ false
+      → IsEntries is_nothing s → IsEntries is_nothing (put nat_cmp k v s)
+  IsEntries-put s k v some is =
+      record {
+        rising = is_sorted-put nat_cmp nat_cmp_total k v s is.rising;
+        some = kept_put k v s some is.some;
+      }
 
-  pub IsEntries-with_value : (s : List (ℕ × V)) (k : ℕ) (v : V) → IsEntries is_nothing s → IsEntries is_nothing (with_value is_nothing s k v)
+  pub IsEntries-with_value : (s : List (ℕ × V)) (k : ℕ) (v : V) → IsEntries is_nothing s
+      → IsEntries is_nothing (with_value is_nothing s k v)
   IsEntries-with_value s k v is = by_nothing (is_nothing v) refl
     where
-      by_nothing : (b : Bool) → is_nothing v ≡ b → IsEntries is_nothing (cond b (filter (λ entry. not (entry.0 == k)) s) (put nat_cmp k v s))
+      by_nothing : (b : Bool) → is_nothing v ≡ b
+          → IsEntries is_nothing
+          (cond b (filter (λ entry. not (entry.0 == k)) s) (put nat_cmp k v s))
       by_nothing true e = record {
         rising = is_sorted-where_key nat_cmp (isnt k) s is.rising;
-        some = kept_filter (λ entry. is_nothing entry.1 ≡ false) (λ entry. isnt k entry.0) s is.some;
+        some = kept_filter (λ entry. is_nothing entry.1 ≡ false) (λ entry. isnt k entry.0) s
+            is.some;
       }
       by_nothing false e = IsEntries-put s k v e is
 
   -- entries that have the same of each key are the same
-  pub same_by_key : (s t : List (ℕ × V)) → IsEntries is_nothing s → IsEntries is_nothing t → ((q : ℕ) → find nat_cmp q s ≡ find nat_cmp q t) → s ≡ t
-  same_by_key s t is it same = same_entries nat_cmp nat_cmp_total nat_cmp-IsAntisymmetric s t is.rising it.rising same
+  pub same_by_key : (s t : List (ℕ × V)) → IsEntries is_nothing s → IsEntries is_nothing t
+      → ((q : ℕ) → find nat_cmp q s ≡ find nat_cmp q t) → s ≡ t
+  same_by_key s t is it same = same_entries nat_cmp nat_cmp_total nat_cmp-IsAntisymmetric s t
+      is.rising it.rising same
 
   -- entries that are the old ones except for a key
-  pub entries_are : (s t : List (ℕ × V)) (q : ℕ) (v : V) → IsEntries is_nothing s → IsEntries is_nothing t
-      → ((r : ℕ) → find nat_cmp r t ≡ cond (r == q) (given_value v) (find nat_cmp r s)) → t ≡ with_value is_nothing s q v
-  entries_are s t q v is it each = same_by_key t (with_value is_nothing s q v) it (IsEntries-with_value s q v is) (λ r. each r ∙ sym (find-with_value s q v r))
+  pub entries_are : (s t : List (ℕ × V)) (q : ℕ) (v : V) → IsEntries is_nothing s
+      → IsEntries is_nothing t
+      → ((r : ℕ) → find nat_cmp r t ≡ cond (r == q) (given_value v) (find nat_cmp r s))
+      → t ≡ with_value is_nothing s q v
+  entries_are s t q v is it each = same_by_key t (with_value is_nothing s q v) it
+      (IsEntries-with_value s q v is) (λ r. each r ∙ sym (find-with_value s q v r))
 
   -- an ordered map's `insert` of a value that isn't nothing, and its `remove`
-  pub insert-with_value : (es : List (ℕ × V)) (k : ℕ) (v : V) → is_nothing v ≡ false → insert_entry nat_cmp es k v ≡ with_value is_nothing es k v
-  insert-with_value es k v some = insert_entry-put k v es ∙ ap (λ b. cond b (filter (λ entry. not (entry.0 == k)) es) (put nat_cmp k v es)) (sym some)
+  pub insert-with_value : (es : List (ℕ × V)) (k : ℕ) (v : V) → is_nothing v ≡ false
+      → insert_entry nat_cmp es k v ≡ with_value is_nothing es k v
+  insert-with_value es k v some = insert_entry-put k v es
+      ∙ ap (λ b. cond b (filter (λ entry. not (entry.0 == k)) es) (put nat_cmp k v es)) (sym some)
 
-  pub remove-with_value : (es : List (ℕ × V)) (k : ℕ) (v : V) → is_nothing v ≡ true → T (is_sorted nat_cmp es)
+  pub remove-with_value : (es : List (ℕ × V)) (k : ℕ) (v : V) → is_nothing v ≡ true
+      → T (is_sorted nat_cmp es)
       → remove_entry (is_at (nat_cmp k)) es ≡ with_value is_nothing es k v
-  remove-with_value es k v none rising = remove_entry-filter k es rising ∙ ap (λ b. cond b (filter (λ entry. not (entry.0 == k)) es) (put nat_cmp k v es)) (sym none)
+  remove-with_value es k v none rising = remove_entry-filter k es rising
+      ∙ ap (λ b. cond b (filter (λ entry. not (entry.0 == k)) es) (put nat_cmp k v es)) (sym none)
 
   -- what is found isn't nothing
-  found_some : (s : List (ℕ × V)) (q : ℕ) (v : V) → AllSome s → find nat_cmp q s ≡ Some v → is_nothing v ≡ false
+  found_some : (s : List (ℕ × V)) (q : ℕ) (v : V) → AllSome s → find nat_cmp q s ≡ Some v
+      → is_nothing v ≡ false
   found_some [] q v all e = cc
-  found_some (entry ∷ s) q v all e = (elim (eq_by_cmp nat_cmp q entry.0) as (λ b. cond b (Some entry.1) (find nat_cmp q s) ≡ Some v → is_nothing v ≡ false) [
-    | true ↦ λ e'. ap is_nothing (sym (same_Some entry.1 v e')) ∙ all.0
-    | false ↦ found_some s q v all.1
-  ]) e
+  found_some (entry ∷ s) q v all e =
+      (elim (eq_by_cmp nat_cmp q entry.0) as (λ b. cond b (Some entry.1) (find nat_cmp q s) ≡ Some v
+      → is_nothing v ≡ false) [
+        | true ↦ λ e'. ap is_nothing (sym (same_Some entry.1 v e')) ∙ all.0
+        | false ↦ found_some s q v all.1
+      ]) e
 
   -- so a key whose value is nothing isn't found
-  pub not_found : (nothing : V) (s : List (ℕ × V)) (q : ℕ) → IsEntries is_nothing s → is_nothing (value_of nothing s q) ≡ true → find nat_cmp q s ≡ None
+  pub not_found : (nothing : V) (s : List (ℕ × V)) (q : ℕ) → IsEntries is_nothing s
+      → is_nothing (value_of nothing s q) ≡ true → find nat_cmp q s ≡ None
   not_found nothing s q is none = by_found (find nat_cmp q s) refl
     where
       by_found : (o : Option V) → find nat_cmp q s ≡ o → o ≡ None
       by_found None e = refl
       by_found (Some v) e =
           let some : is_nothing v ≡ false = found_some s q v is.some e in
-          let no : is_nothing v ≡ true = ap (λ o. is_nothing (unwrap_or o nothing)) (sym e) ∙ none in
+          let no : is_nothing v ≡ true = ap (λ o. is_nothing (unwrap_or o nothing)) (sym e)
+          ∙ none in
           absurd cc
 
   -- how many keys there are once a key has come
-  pub length-put_new : (s : List (ℕ × V)) (k : ℕ) (v : V) → IsEntries is_nothing s → find nat_cmp k s ≡ None → length (put nat_cmp k v s) ≡ length s + 1
-  length-put_new s k v is none = length-put nat_cmp nat_cmp_total k v s is.rising ∙ ap (λ (o : Option V). cond (is_some o) (length s) (length s + 1)) none
+  pub length-put_new : (s : List (ℕ × V)) (k : ℕ) (v : V) → IsEntries is_nothing s
+      → find nat_cmp k s ≡ None → length (put nat_cmp k v s) ≡ length s + 1
+  length-put_new s k v is none = length-put nat_cmp nat_cmp_total k v s is.rising
+      ∙ ap (λ (o : Option V). cond (is_some o) (length s) (length s + 1)) none
 
   -- and no fewer, whether the key is new or not
-  pub put_more : (s : List (ℕ × V)) (k : ℕ) (v : V) → IsEntries is_nothing s → length s ≤ length (put nat_cmp k v s)
-  put_more s k v is = by_found (is_some (find nat_cmp k s)) (length-put nat_cmp nat_cmp_total k v s is.rising)
+  pub put_more : (s : List (ℕ × V)) (k : ℕ) (v : V) → IsEntries is_nothing s → length s
+      ≤ length (put nat_cmp k v s)
+  put_more s k v is = by_found (is_some (find nat_cmp k s))
+      (length-put nat_cmp nat_cmp_total k v s is.rising)
     where
-      by_found : (b : Bool) → length (put nat_cmp k v s) ≡ cond b (length s) (length s + 1) → length s ≤ length (put nat_cmp k v s)
+      by_found : (b : Bool) → length (put nat_cmp k v s) ≡ cond b (length s) (length s + 1)
+          → length s ≤ length (put nat_cmp k v s)
       by_found true e = omega (arith, e)
       by_found false e = omega (arith, e)
 
   -- and one more at most
-  pub put_less : (s : List (ℕ × V)) (k : ℕ) (v : V) → IsEntries is_nothing s → length (put nat_cmp k v s) ≤ length s + 1
-  put_less s k v is = by_found (is_some (find nat_cmp k s)) (length-put nat_cmp nat_cmp_total k v s is.rising)
+  pub put_less : (s : List (ℕ × V)) (k : ℕ) (v : V) → IsEntries is_nothing s
+      → length (put nat_cmp k v s) ≤ length s + 1
+  put_less s k v is = by_found (is_some (find nat_cmp k s))
+      (length-put nat_cmp nat_cmp_total k v s is.rising)
     where
-      by_found : (b : Bool) → length (put nat_cmp k v s) ≡ cond b (length s) (length s + 1) → length (put nat_cmp k v s) ≤ length s + 1
+      by_found : (b : Bool) → length (put nat_cmp k v s) ≡ cond b (length s) (length s + 1)
+          → length (put nat_cmp k v s) ≤ length s + 1
       by_found true e = omega (arith, e)
       by_found false e = omega (arith, e)
 
   -- the key has the value that is set, and every other key the one that it had
-  pub value_of-with_value : (nothing : V) → ((v : V) → is_nothing v ≡ true → v ≡ nothing) → (s : List (ℕ × V)) (k : ℕ) (v : V) (q : ℕ)
+  pub value_of-with_value : (nothing : V) → ((v : V) → is_nothing v ≡ true → v ≡ nothing)
+      → (s : List (ℕ × V)) (k : ℕ) (v : V) (q : ℕ)
       → value_of nothing (with_value is_nothing s k v) q ≡ cond (q == k) v (value_of nothing s q)
-  value_of-with_value nothing only s k v q = ap (λ o. unwrap_or o nothing) (find-with_value s k v q) ∙ by_key (q == k) (is_nothing v) refl
+  value_of-with_value nothing only s k v q = ap (λ o. unwrap_or o nothing) (find-with_value s k v q)
+      ∙ by_key (q == k) (is_nothing v) refl
     where
       by_key : (same b : Bool) → is_nothing v ≡ b
-          → unwrap_or (cond same (cond b None (Some v)) (find nat_cmp q s)) nothing ≡ cond same v (unwrap_or (find nat_cmp q s) nothing)
+          → unwrap_or (cond same (cond b None (Some v)) (find nat_cmp q s)) nothing
+          ≡ cond same v (unwrap_or (find nat_cmp q s) nothing)
       by_key true true e = sym (only v e)
       by_key true false e = refl
       by_key false b e = refl
 
   -- entries in which each key has the same value are the same
-  pub same_values : (nothing : V) → is_nothing nothing ≡ true → (s t : List (ℕ × V)) → IsEntries is_nothing s → IsEntries is_nothing t
+  pub same_values : (nothing : V) → is_nothing nothing ≡ true → (s t : List (ℕ × V))
+      → IsEntries is_nothing s → IsEntries is_nothing t
       → ((q : ℕ) → value_of nothing s q ≡ value_of nothing t q) → s ≡ t
-  same_values nothing passes s t is it same = same_by_key s t is it (λ q. by_found q (find nat_cmp q s) (find nat_cmp q t) refl refl (same q))
+  same_values nothing passes s t is it same = same_by_key s t is it
+      (λ q. by_found q (find nat_cmp q s) (find nat_cmp q t) refl refl (same q))
     where
-      some : (q : ℕ) (u : List (ℕ × V)) (v : V) → IsEntries is_nothing u → find nat_cmp q u ≡ Some v → nothing ≡ v → ⊥
+      some : (q : ℕ) (u : List (ℕ × V)) (v : V) → IsEntries is_nothing u → find nat_cmp q u ≡ Some v
+          → nothing ≡ v → ⊥
       some q u v formed e none =
           let yes : is_nothing v ≡ true = ap is_nothing (sym none) ∙ passes in
           let no : is_nothing v ≡ false = found_some u q v formed.some e in cc
 
-      by_found : (q : ℕ) (x y : Option V) → find nat_cmp q s ≡ x → find nat_cmp q t ≡ y → unwrap_or (find nat_cmp q s) nothing ≡ unwrap_or (find nat_cmp q t) nothing
+      by_found : (q : ℕ) (x y : Option V) → find nat_cmp q s ≡ x → find nat_cmp q t ≡ y
+          → unwrap_or (find nat_cmp q s) nothing ≡ unwrap_or (find nat_cmp q t) nothing
           → find nat_cmp q s ≡ find nat_cmp q t
       by_found q None None e f value = e ∙ sym f
       by_found q (Some v) (Some w) e f value =
-          e ∙ ap Some (sym (ap (λ o. unwrap_or o nothing) e) ∙ value ∙ ap (λ o. unwrap_or o nothing) f) ∙ sym f
+          e ∙ ap Some (sym (ap (λ o. unwrap_or o nothing) e) ∙ value
+          ∙ ap (λ o. unwrap_or o nothing) f) ∙ sym f
       by_found q None (Some w) e f value =
-          absurd (some q t w it f (sym (ap (λ o. unwrap_or o nothing) e) ∙ value ∙ ap (λ o. unwrap_or o nothing) f))
+          absurd (some q t w it f (sym (ap (λ o. unwrap_or o nothing) e) ∙ value
+          ∙ ap (λ o. unwrap_or o nothing) f))
       by_found q (Some v) None e f value =
-          absurd (some q s v is e (sym (ap (λ o. unwrap_or o nothing) f) ∙ sym value ∙ ap (λ o. unwrap_or o nothing) e))
+          absurd (some q s v is e (sym (ap (λ o. unwrap_or o nothing) f) ∙ sym value
+          ∙ ap (λ o. unwrap_or o nothing) e))

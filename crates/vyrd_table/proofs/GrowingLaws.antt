@@ -1,5 +1,6 @@
 -- What growing costs, and what a table has saved by then.
-use Rattle.std.proofs.Common.{◌≡◌, ℕ, zero, suc, Bool, true, false, cond, ◌+◌, ◌-◌, ◌*◌, ◌/◌, ◌^◌, ◌<◌, ◌≤◌, min, refl, ap, ◌∙◌, sym, subst, arith}
+use Rattle.std.proofs.Common.{◌≡◌, ℕ, zero, suc, Bool, true, false, cond, ◌+◌, ◌-◌, ◌*◌, ◌/◌, ◌^◌}
+use Rattle.std.proofs.Common.{◌<◌, ◌≤◌, min, refl, ap, ◌∙◌, sym, subst, arith}
 use Rattle.std.specs.Prelude.{nat_lt}
 use Rattle.std.proofs.Math.Pow.{pow_mono}
 use Rattle.vyrd_base.proofs.TestLaws.{below_of}
@@ -23,7 +24,8 @@ power_after b = ap (λ n. 2 ^ n) (let e : b + 2 ≡ suc (b + 1) = omega arith in
     ∙ (let n = next_power b in let e : 2 * 2 ^ (b + 1) ≡ 4 * 2 ^ b = omega (arith, n) in e)
 
 -- no key, or few, in places that have room for a quarter
-pub first_has_room : (bits most keys : ℕ) → 3 ≤ bits → most ≤ 20 → keys ≤ 2 ^ bits / 4 → HasRoom bits keys most (first_room bits most)
+pub first_has_room : (bits most keys : ℕ) → 3 ≤ bits → most ≤ 20 → keys ≤ 2 ^ bits / 4
+    → HasRoom bits keys most (first_room bits most)
 first_has_room bits most keys least limit few = by_test (nat_lt bits most) refl
   where
     by_test : (b : Bool) → nat_lt bits most ≡ b → HasRoom bits keys most (cond b (2 ^ bits / 4) 0)
@@ -42,25 +44,47 @@ first_has_room bits most keys least limit few = by_test (nat_lt bits most) refl
       limit = limit;
     }
 
-module _ (b most keys : ℕ) (half : keys ≤ 2 ^ b / 2) (least : 3 ≤ b) (larger : b < most) (limit : most ≤ 20) where
+module _ (b most keys : ℕ) (half : keys ≤ 2 ^ b / 2) (least : 3 ≤ b) (larger : b < most)
+    (limit : most ≤ 20) where
   -- 2^b places become at least twice as many, and four times as many at most
   twice : 2 * 2 ^ b ≤ 2 ^ min (b + 2) most
-  twice = omega (arith, next_power b, pow_mono {i = b + 1} {j = min (b + 2) most} (omega (arith, larger)))
+  twice = omega (
+    arith,
+    next_power b,
+    pow_mono {i = b + 1} {j = min (b + 2) most}
+        (omega (arith, larger)),
+  )
 
   four_times : 2 ^ min (b + 2) most ≤ 4 * 2 ^ b
-  four_times = omega (arith, power_after b, pow_mono {i = min (b + 2) most} {j = b + 2} (omega arith))
+  four_times = omega (
+    arith,
+    power_after b,
+    pow_mono {i = min (b + 2) most} {j = b + 2}
+        (omega arith),
+  )
 
   pub few_keys : keys < 2 ^ 19
   few_keys = omega (arith, half, pow_mono {i = b} {j = 19} (omega (arith, larger, limit)))
 
   pub grown_room : HasRoom (min (b + 2) most) keys most (first_room (min (b + 2) most) most)
-  grown_room = first_has_room (min (b + 2) most) most keys (omega (arith, least, larger)) limit (omega (arith, half, twice))
+  grown_room = first_has_room (min (b + 2) most) most keys (omega (arith, least, larger)) limit
+      (omega (arith, half, twice))
 
-  pub grown_cost : moving_price keys (2 ^ b + 3) (2 ^ min (b + 2) most + 3) ≤ growing_share * (2 ^ b / 4)
-  grown_cost = omega (arith, half, four_times, quarter_is b (omega (arith, least)), pow_mono {i = 3} {j = b} least)
+  pub grown_cost : moving_price keys (2 ^ b + 3) (2 ^ min (b + 2) most + 3) ≤ growing_share
+      * (2 ^ b / 4)
+  grown_cost =
+      omega (
+        arith,
+        half,
+        four_times,
+        quarter_is b (omega (arith, least)),
+        pow_mono {i = 3} {j = b}
+            least,
+      )
 
 -- with fewer names there is as much room
-pub fewer_names : (bits names fewer most room : ℕ) → fewer ≤ names → HasRoom bits names most room → HasRoom bits fewer most room
+pub fewer_names : (bits names fewer most room : ℕ) → fewer ≤ names → HasRoom bits names most room
+    → HasRoom bits fewer most room
 fewer_names bits names fewer most room less has = record {
   half = λ some. omega (arith, less, has.half some);
   quarter = has.quarter;
@@ -70,8 +94,10 @@ fewer_names bits names fewer most room less has = record {
 }
 
 -- places that keep their number and have no more names make a table again
-pub table_kept : {V : Type 0} (nothing : V) (is_nothing : V → Bool) (old new : Places V) (room most : ℕ)
-    → IsTable nothing is_nothing old room most → ArePlaced nothing is_nothing new → new.shift ≡ old.shift → names_of new ≤ names_of old
+pub table_kept : {V : Type 0} (nothing : V) (is_nothing : V → Bool) (old new : Places V)
+    (room most : ℕ)
+    → IsTable nothing is_nothing old room most → ArePlaced nothing is_nothing new → new.shift
+    ≡ old.shift → names_of new ≤ names_of old
     → IsTable nothing is_nothing new room most
 table_kept nothing is_nothing old new room most table placed same less = record {
   placed = placed;

@@ -1,5 +1,6 @@
 -- How many names places and entries have, and that there are no more keys than names.
-use Rattle.std.proofs.Common.{◌≡◌, ℕ, zero, suc, ◌+◌, ◌<◌, ◌≤◌, Bool, true, false, cond, not, List, [], ◌∷◌, length, set, replicate, refl, ap, ◌∙◌, arith, T}
+use Rattle.std.proofs.Common.{◌≡◌, ℕ, zero, suc, ◌+◌, ◌<◌, ◌≤◌, Bool, true, false, cond, not, List}
+use Rattle.std.proofs.Common.{[], ◌∷◌, length, set, replicate, refl, ap, ◌∙◌, arith, T}
 use Rattle.std.specs.Prelude.{◌==◌, filter, count_by}
 use Rattle.std.specs.Ordering.{nat_cmp, is_lt}
 use Rattle.std.specs.declared.cmp.Ordering.{Ordering}
@@ -23,81 +24,113 @@ module _ {V : Type 0} where
       by_test true = refl
       by_test false = refl
 
-  pub counted : (p : ℕ × V) (s : List (ℕ × V)) → count_by is_named (p ∷ s) ≡ one_name p.0 + count_by is_named s
-  counted p s = sum_by-cons (λ x. cond (is_named x) 1 0) p s ∙ ap (λ n. n + count_by is_named s) (named_by p)
+  pub counted : (p : ℕ × V) (s : List (ℕ × V)) → count_by is_named (p ∷ s) ≡ one_name p.0
+      + count_by is_named s
+  counted p s = sum_by-cons (λ x. cond (is_named x) 1 0) p s ∙ ap (λ n. n + count_by is_named s)
+      (named_by p)
 
   -- what an ordered map's `insert` adds
-  pub names_put : (k : ℕ) (v : V) (s : List (ℕ × V)) → count_by is_named (put nat_cmp k v s) ≤ count_by is_named s + one_name k
+  pub names_put : (k : ℕ) (v : V) (s : List (ℕ × V)) → count_by is_named (put nat_cmp k v s)
+      ≤ count_by is_named s + one_name k
   names_put k v [] = let c = counted (k, v) [] in omega (arith, c)
   names_put k v (e ∷ s) = by_cmp (nat_cmp k e.0) (names_put k v s)
     where
-      by_cmp : (o : Ordering) → count_by is_named (put nat_cmp k v s) ≤ count_by is_named s + one_name k
-          → count_by is_named (by_order o ((k, v) ∷ e ∷ s) ((e.0, v) ∷ s) (e ∷ put nat_cmp k v s)) ≤ count_by is_named (e ∷ s) + one_name k
+      by_cmp : (o : Ordering) → count_by is_named (put nat_cmp k v s) ≤ count_by is_named s
+          + one_name k
+          → count_by is_named (by_order o ((k, v) ∷ e ∷ s) ((e.0, v) ∷ s) (e ∷ put nat_cmp k v s))
+          ≤ count_by is_named (e ∷ s) + one_name k
       by_cmp Less rest = let c = counted (k, v) (e ∷ s) in omega (arith, c)
       by_cmp Equal rest = let c = counted (e.0, v) s in let d = counted e s in omega (arith, c, d)
-      by_cmp Greater rest = let c = counted e (put nat_cmp k v s) in let d = counted e s in omega (arith, c, d, rest)
+      by_cmp Greater rest = let c = counted e (put nat_cmp k v s) in let d = counted e s in
+          omega (arith, c, d, rest)
 
-  names_filter : (p : ℕ × V → Bool) (s : List (ℕ × V)) → count_by is_named (filter p s) ≤ count_by is_named s
+  names_filter : (p : ℕ × V → Bool) (s : List (ℕ × V)) → count_by is_named (filter p s)
+      ≤ count_by is_named s
   names_filter p [] = omega arith
   names_filter p (e ∷ s) = by_test (p e) (names_filter p s)
     where
       by_test : (b : Bool) → count_by is_named (filter p s) ≤ count_by is_named s
           → count_by is_named (cond b (e ∷ filter p s) (filter p s)) ≤ count_by is_named (e ∷ s)
-      by_test true rest = let c = counted e (filter p s) in let d = counted e s in omega (arith, c, d, rest)
+      by_test true rest = let c = counted e (filter p s) in let d = counted e s in
+          omega (arith, c, d, rest)
       by_test false rest = let d = counted e s in omega (arith, d, rest)
 
   pub names_with_value : (is_nothing : V → Bool) (s : List (ℕ × V)) (k : ℕ) (v : V)
       → count_by is_named (with_value is_nothing s k v) ≤ count_by is_named s + one_name k
   names_with_value is_nothing s k v = by_nothing (is_nothing v)
     where
-      by_nothing : (b : Bool) → count_by is_named (cond b (filter (λ entry. not (entry.0 == k)) s) (put nat_cmp k v s)) ≤ count_by is_named s + one_name k
-      by_nothing true = let less = names_filter (λ entry. not (entry.0 == k)) s in omega (arith, less)
+      by_nothing : (b : Bool)
+          → count_by is_named (cond b (filter (λ entry. not (entry.0 == k)) s) (put nat_cmp k v s))
+          ≤ count_by is_named s + one_name k
+      by_nothing true = let less = names_filter (λ entry. not (entry.0 == k)) s in
+          omega (arith, less)
       by_nothing false = names_put k v s
 
   -- nothing adds none
-  pub names_taken_out : (is_nothing : V → Bool) (s : List (ℕ × V)) (k : ℕ) (v : V) → is_nothing v ≡ true
+  pub names_taken_out : (is_nothing : V → Bool) (s : List (ℕ × V)) (k : ℕ) (v : V) → is_nothing v
+      ≡ true
       → count_by is_named (with_value is_nothing s k v) ≤ count_by is_named s
   names_taken_out is_nothing s k v none =
       let less = names_filter (λ entry. not (entry.0 == k)) s in
-      omega (arith, less, ap (λ b. count_by is_named (cond b (filter (λ entry. not (entry.0 == k)) s) (put nat_cmp k v s))) none)
+      omega (
+        arith,
+        less,
+        ap
+            (λ b. count_by is_named
+            (cond b (filter (λ entry. not (entry.0 == k)) s) (put nat_cmp k v s))) none,
+      )
 
   -- what a place that is written adds
-  pub names_set : (places : List (ℕ × V)) (i : ℕ) (p : ℕ × V) → count_by is_named (set places i p) ≤ count_by is_named places + one_name p.0
+  pub names_set : (places : List (ℕ × V)) (i : ℕ) (p : ℕ × V) → count_by is_named (set places i p)
+      ≤ count_by is_named places + one_name p.0
   names_set [] i p = omega arith
-  names_set (x ∷ places) zero p = let c = counted p places in let d = counted x places in omega (arith, c, d)
+  names_set (x ∷ places) zero p = let c = counted p places in let d = counted x places in
+      omega (arith, c, d)
   names_set (x ∷ places) (suc i) p =
-      let c = counted x (set places i p) in let d = counted x places in let rest = names_set places i p in omega (arith, c, d, rest)
+      let c = counted x (set places i p) in let d = counted x places in let rest =
+      names_set places i p in omega (arith, c, d, rest)
 
   -- and nothing, if its name stays
-  pub names_stay : (nothing : V) (places : List (ℕ × V)) (i : ℕ) (p : ℕ × V) → (place_at nothing places i).0 ≡ p.0
+  pub names_stay : (nothing : V) (places : List (ℕ × V)) (i : ℕ) (p : ℕ × V)
+      → (place_at nothing places i).0 ≡ p.0
       → count_by is_named (set places i p) ≤ count_by is_named places
   names_stay nothing [] i p same = omega arith
   names_stay nothing (x ∷ places) zero p same =
-      let c = counted p places in let d = counted x places in let e : one_name x.0 ≡ one_name p.0 = ap one_name same in omega (arith, c, d, e)
+      let c = counted p places in let d = counted x places in let e : one_name x.0 ≡ one_name p.0 =
+      ap one_name same in omega (arith, c, d, e)
   names_stay nothing (x ∷ places) (suc i) p same =
-      let c = counted x (set places i p) in let d = counted x places in let rest = names_stay nothing places i p same in omega (arith, c, d, rest)
+      let c = counted x (set places i p) in let d = counted x places in let rest =
+      names_stay nothing places i p same in omega (arith, c, d, rest)
 
   -- the entries have no more names than the places and the rest
   names_entries : (is_nothing : V → Bool) (places rest : List (ℕ × V))
-      → count_by is_named (entries_in is_nothing places rest) ≤ count_by is_named places + count_by is_named rest
+      → count_by is_named (entries_in is_nothing places rest) ≤ count_by is_named places
+      + count_by is_named rest
   unfolding entries_in
   names_entries is_nothing [] rest = omega arith
-  names_entries is_nothing (p ∷ places) rest = by_taken (is_nothing p.1) (names_entries is_nothing places rest)
+  names_entries is_nothing (p ∷ places) rest = by_taken (is_nothing p.1)
+      (names_entries is_nothing places rest)
     where
-      by_taken : (b : Bool) → count_by is_named (entries_in is_nothing places rest) ≤ count_by is_named places + count_by is_named rest
-          → count_by is_named (cond b (entries_in is_nothing places rest) (put nat_cmp p.0 p.1 (entries_in is_nothing places rest)))
+      by_taken : (b : Bool) → count_by is_named (entries_in is_nothing places rest)
+          ≤ count_by is_named places + count_by is_named rest
+          → count_by is_named
+          (cond b (entries_in is_nothing places rest)
+          (put nat_cmp p.0 p.1 (entries_in is_nothing places rest)))
           ≤ count_by is_named (p ∷ places) + count_by is_named rest
       by_taken true others = let c = counted p places in omega (arith, c, others)
       by_taken false others =
-          let c = counted p places in let more = names_put p.0 p.1 (entries_in is_nothing places rest) in omega (arith, c, more, others)
+          let c = counted p places in let more = names_put p.0 p.1
+          (entries_in is_nothing places rest) in omega (arith, c, more, others)
 
   -- keys that rise above one are all named
-  all_named : (k : ℕ) (s : List (ℕ × V)) → T (below_all nat_cmp k s) → length s ≤ count_by is_named s
+  all_named : (k : ℕ) (s : List (ℕ × V)) → T (below_all nat_cmp k s) → length s
+      ≤ count_by is_named s
   all_named k [] below = omega arith
   all_named k (e ∷ s) below =
       let c = counted e s in
       let high : k < e.0 = is_greater k e.0 (first_of_and _ _ below) in
-      let one : one_name e.0 ≡ 1 = ap {B = ℕ} (λ b. cond b 0 1) (isnt_same e.0 0 (omega (arith, high))) in
+      let one : one_name e.0 ≡ 1 = ap {B = ℕ} (λ b. cond b 0 1)
+      (isnt_same e.0 0 (omega (arith, high))) in
       let rest = all_named k s (second_of_and (is_lt (nat_cmp k e.0)) _ below) in
       omega (arith, c, one, rest)
 
@@ -105,17 +138,26 @@ module _ {V : Type 0} where
   keys_named : (s : List (ℕ × V)) → T (is_sorted nat_cmp s) → length s ≤ 1 + count_by is_named s
   keys_named [] rising = omega arith
   keys_named (e ∷ s) rising =
-      let c = counted e s in let rest = all_named e.0 s (first_of_and _ _ rising) in omega (arith, c, rest)
+      let c = counted e s in let rest = all_named e.0 s (first_of_and _ _ rising) in
+      omega (arith, c, rest)
 
-  pub keys_fewer : (is_nothing : V → Bool) (places rest : List (ℕ × V)) → IsEntries is_nothing (entries_in is_nothing places rest)
+  pub keys_fewer : (is_nothing : V → Bool) (places rest : List (ℕ × V))
+      → IsEntries is_nothing (entries_in is_nothing places rest)
       → length (entries_in is_nothing places rest) ≤ names_in places rest
-  keys_fewer is_nothing places rest is = omega (arith, keys_named (entries_in is_nothing places rest) is.rising, names_entries is_nothing places rest)
+  keys_fewer is_nothing places rest is =
+      omega (
+        arith,
+        keys_named (entries_in is_nothing places rest) is.rising,
+        names_entries
+            is_nothing places rest,
+      )
 
   -- new places have the name of 0
   pub new_unnamed : (n : ℕ) (nothing : V) → count_by is_named (replicate n (0, nothing)) ≡ 0
   new_unnamed zero nothing = refl
   new_unnamed (suc n) nothing =
-      let c = counted (0, nothing) (replicate n (0, nothing)) in omega (arith, c, new_unnamed n nothing)
+      let c = counted (0, nothing) (replicate n (0, nothing)) in
+      omega (arith, c, new_unnamed n nothing)
 
 -- a key has one name at most
 pub one_at_most : (key : ℕ) → one_name key ≤ 1

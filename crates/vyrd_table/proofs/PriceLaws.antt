@@ -1,5 +1,6 @@
 -- What a question to an ordered map costs.
-use Rattle.std.proofs.Common.{◌≡◌, ℕ, zero, suc, Bool, true, false, cond, ◌+◌, ◌-◌, ◌*◌, ◌^◌, ◌<◌, ◌≤◌, refl, ap, arith}
+use Rattle.std.proofs.Common.{◌≡◌, ℕ, zero, suc, Bool, true, false, cond, ◌+◌, ◌-◌, ◌*◌, ◌^◌, ◌<◌}
+use Rattle.std.proofs.Common.{◌≤◌, refl, ap, arith}
 use Rattle.std.specs.Prelude.{nat_le, nat_lt}
 use Rattle.std.proofs.Math.Pow.{pow_mono}
 use Rattle.std.specs.Int.Count.{count_leading_zeros, leading_unique}
@@ -15,8 +16,10 @@ unfolding digits
 digits_fit zero = (omega arith, omega arith)
 digits_fit (suc n) = by_test (nat_le (2 ^ digits n) (suc n)) refl (digits_fit n)
   where
-    by_test : (b : Bool) → nat_le (2 ^ digits n) (suc n) ≡ b → (n < 2 ^ digits n) × (2 ^ digits n ≤ 2 * n + 1)
-        → (suc n < 2 ^ cond b (suc (digits n)) (digits n)) × (2 ^ cond b (suc (digits n)) (digits n) ≤ 2 * suc n + 1)
+    by_test : (b : Bool) → nat_le (2 ^ digits n) (suc n) ≡ b → (n < 2 ^ digits n)
+        × (2 ^ digits n ≤ 2 * n + 1)
+        → (suc n < 2 ^ cond b (suc (digits n)) (digits n))
+        × (2 ^ cond b (suc (digits n)) (digits n) ≤ 2 * suc n + 1)
     by_test true e fit =
         let low : 2 ^ digits n ≤ suc n = grind (arith, nat_tests) in
         let up = doubled (digits n) in
@@ -30,14 +33,16 @@ pub digits_counted : (n : ℕ) → n < 2 ^ 64 → 64 - count_leading_zeros 64 n 
 digits_counted n fits =
     let fit = digits_fit n in
     let few : digits n ≤ 64 = at_most (digits n) fit.1 in
-    let is : 64 - digits n ≡ count_leading_zeros 64 n = leading_unique 64 n (64 - digits n) (digits n) (omega (arith, few)) fit.0 fit.1 in
+    let is : 64 - digits n ≡ count_leading_zeros 64 n = leading_unique 64 n (64 - digits n)
+    (digits n) (omega (arith, few)) fit.0 fit.1 in
     omega (arith, few, is)
   where
     at_most : (d : ℕ) → 2 ^ d ≤ 2 * n + 1 → d ≤ 64
     at_most d low = by_test (nat_lt 64 d) refl
       where
         by_test : (b : Bool) → nat_lt 64 d ≡ b → d ≤ 64
-        by_test true e = absurd (omega (arith, pow_mono {i = 65} {j = d} (grind (arith, nat_tests)), low, fits))
+        by_test true e = absurd
+            (omega (arith, pow_mono {i = 65} {j = d} (grind (arith, nat_tests)), low, fits))
         by_test false e = grind (arith, nat_tests)
 
 -- a greater number has no fewer digits
@@ -50,14 +55,17 @@ digits_next n = by_test (nat_le (2 ^ digits n) (suc n))
     by_test false = omega arith
 
 pub digits_mono : (a b : ℕ) → a ≤ b → digits a ≤ digits b
-digits_mono a zero le = let e : a ≡ 0 = omega (arith, le) in let is : digits a ≡ digits 0 = ap digits e in omega (arith, is)
+digits_mono a zero le = let e : a ≡ 0 = omega (arith, le) in let is : digits a ≡ digits 0 =
+    ap digits e in omega (arith, is)
 digits_mono a (suc b) le = by_test (nat_le a b) refl (digits_mono a b)
   where
-    by_test : (t : Bool) → nat_le a b ≡ t → (a ≤ b → digits a ≤ digits b) → digits a ≤ digits (suc b)
+    by_test : (t : Bool) → nat_le a b ≡ t → (a ≤ b → digits a ≤ digits b) → digits a
+        ≤ digits (suc b)
     by_test true e lower = omega (arith, lower (grind (arith, nat_tests)), digits_next b)
     by_test false e lower =
         let high : b < a = grind (arith, nat_tests) in
-        let is : digits a ≡ digits (suc b) = ap digits (let same : a ≡ suc b = omega (arith, le, high) in same) in omega (arith, is)
+        let is : digits a ≡ digits (suc b) = ap digits
+        (let same : a ≡ suc b = omega (arith, le, high) in same) in omega (arith, is)
 
 pub question_mono : (a b : ℕ) → a ≤ b → question a ≤ question b
 question_mono a b le = omega (arith, digits_mono a b le)

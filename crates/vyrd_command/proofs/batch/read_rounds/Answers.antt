@@ -1,7 +1,8 @@
 use Rattle.std.proofs.Common.{◌+◌, ◌-◌, arith, false}
 use Rattle.vyrd_base.proofs.DeviceLaws.{reads_in_row}
 use Rattle.vyrd_batch.specs.LongBatches.{longest_batch_input}
-use Rattle.vyrd_command.proofs.BatchLaws.{reading_more, reading_judged, few_read, since_more, steps_for}
+use Rattle.vyrd_command.proofs.BatchLaws.{reading_more, reading_judged, few_read, since_more}
+use Rattle.vyrd_command.proofs.BatchLaws.{steps_for}
 use Rattle.vyrd_command.proofs.batch.read_rounds.Goals as goal
 
 pub returns-in_err-next-clause-few : goal.returns-in_err-next-clause-few
@@ -12,7 +13,8 @@ returns-in_err-next-clause-few g c =
     let more = c.in_ok-n.ensures.more in
     let many = c.loop-count.count + c.in_ok-n.n in
     few_read before after c.loop-count.judge c.read_more.new.bytes.items many
-    (reading_more before between after c.loop-count.judge c.loop-count.bytes.items c.read_more.new.bytes.items c.loop-count.count c.in_ok-n.n
+    (reading_more before between after c.loop-count.judge c.loop-count.bytes.items
+    c.read_more.new.bytes.items c.loop-count.count c.in_ok-n.n
     (longest_batch_input - c.loop-count.count) c.loop-count.invariant.reading more)
     (omega (arith, more.few, c.loop-count.invariant.few))
 
@@ -25,10 +27,13 @@ returns-in_err-next-clause-steps g c =
     let many = c.loop-count.count + c.in_ok-n.n in
     let most = longest_batch_input - c.loop-count.count in
     let p = c.loop-count.invariant.paid in
-    let since = since_more between after c.loop-count.judge c.loop-count.bytes.items c.read_more.new.bytes.items c.loop-count.next p.0 c.in_ok-n.n
+    let since = since_more between after c.loop-count.judge c.loop-count.bytes.items
+    c.read_more.new.bytes.items c.loop-count.next p.0 c.in_ok-n.n
     most p.1 more in
-    steps_for before after c.loop-count.judge c.read_more.new.bytes.items many c.args.steps.now c.judge_round.new.steps
-    (reading_more before between after c.loop-count.judge c.loop-count.bytes.items c.read_more.new.bytes.items c.loop-count.count c.in_ok-n.n
+    steps_for before after c.loop-count.judge c.read_more.new.bytes.items many c.args.steps.now
+    c.judge_round.new.steps
+    (reading_more before between after c.loop-count.judge c.loop-count.bytes.items
+    c.read_more.new.bytes.items c.loop-count.count c.in_ok-n.n
     most c.loop-count.invariant.reading more)
     (omega (arith, more.few, c.loop-count.invariant.few))
     (omega (arith, c.judge_round.ensures.steps (p.0 + c.in_ok-n.n) since, p.2))
@@ -42,14 +47,19 @@ loop-count-preserved g c =
     let many = c.loop-count.count + c.in_ok-n.n in
     let p = c.loop-count.invariant.paid in
     let round = c.in_ok-next.ensures.paid (p.0 + c.in_ok-n.n)
-    (since_more between after c.loop-count.judge c.loop-count.bytes.items c.read_more.new.bytes.items c.loop-count.next p.0 c.in_ok-n.n
+    (since_more between after c.loop-count.judge c.loop-count.bytes.items
+    c.read_more.new.bytes.items c.loop-count.next p.0 c.in_ok-n.n
     (longest_batch_input - c.loop-count.count) p.1 more) in
     record {
-      reading = reading_judged before after c.loop-count.judge c.judge_round.new.judge c.read_more.new.bytes.items c.judge_round.new.bytes.items many
-          (reading_more before between after c.loop-count.judge c.loop-count.bytes.items c.read_more.new.bytes.items c.loop-count.count c.in_ok-n.n
-          (longest_batch_input - c.loop-count.count) c.loop-count.invariant.reading more) c.in_ok-next.ensures.judged;
+      reading = reading_judged before after c.loop-count.judge c.judge_round.new.judge
+          c.read_more.new.bytes.items c.judge_round.new.bytes.items many
+          (reading_more before between after c.loop-count.judge c.loop-count.bytes.items
+          c.read_more.new.bytes.items c.loop-count.count c.in_ok-n.n
+          (longest_batch_input - c.loop-count.count) c.loop-count.invariant.reading more)
+          c.in_ok-next.ensures.judged;
       few = omega (arith, more.few, c.loop-count.invariant.few);
       unended = more.goes_on (omega (arith, c.if-n-eq0.false));
-      source = reads_in_row false before between after c.loop-count.invariant.source c.in_ok-n.ensures.source;
+      source = reads_in_row false before between after c.loop-count.invariant.source
+          c.in_ok-n.ensures.source;
       paid = (round.0, round.1, omega (arith, round.2, p.2));
     }

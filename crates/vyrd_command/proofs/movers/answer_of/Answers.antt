@@ -4,4 +4,5 @@ use Rattle.vyrd_command.proofs.movers.answer_of.Goals as goal
 
 pub returns-in-Ok : goal.returns-in-Ok
 returns-in-Ok c = λ bytes read.
-    told_is_answered c.tell.result (history_reading bytes) c.in-Ok.said (c.in-Ok.ensures.said bytes read) c.tell.ensures.status c.tell.ensures.text
+    told_is_answered c.tell.result (history_reading bytes) c.in-Ok.said
+    (c.in-Ok.ensures.said bytes read) c.tell.ensures.status c.tell.ensures.text

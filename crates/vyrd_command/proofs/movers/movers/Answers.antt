@@ -11,7 +11,8 @@ returns-in-Ok-answer_of-clause-answers g c = λ answered.
     let had = c.in-Ok.ensures.read in
     record {
       history = history_reading had.bytes;
-      read = history_is_input (g.S.Source.known c.args.source.now) (g.S.Source.known c.read_history.new.source) had.bytes had.input;
+      read = history_is_input (g.S.Source.known c.args.source.now)
+          (g.S.Source.known c.read_history.new.source) had.bytes had.input;
       answer = c.in-Ok-answer_of.ensures had.bytes had.read;
     }
 
@@ -19,12 +20,16 @@ pub returns-in-Ok-answer_of-clause-consumed : goal.returns-in-Ok-answer_of-claus
 returns-in-Ok-answer_of-clause-consumed g c = λ answered.
     let had = c.in-Ok.ensures.read in
     let answer = c.in-Ok-answer_of.answer in
-    input_taken longest_history 10 answer.status (g.S.Source.known c.args.source.now) (g.S.Source.known c.read_history.new.source) had.bytes had.input
-    (movers_refused had.bytes answer.status answer.text.items (c.in-Ok-answer_of.ensures had.bytes had.read))
+    input_taken longest_history 10 answer.status (g.S.Source.known c.args.source.now)
+    (g.S.Source.known c.read_history.new.source) had.bytes had.input
+    (movers_refused had.bytes answer.status answer.text.items
+    (c.in-Ok-answer_of.ensures had.bytes had.read))
 
 pub returns-in-Ok-answer_of-clause-source : goal.returns-in-Ok-answer_of-clause-source
 returns-in-Ok-answer_of-clause-source g c =
     let answer = c.in-Ok-answer_of.answer in
     let had = c.in-Ok.ensures.read in
-    none_failed answer.status (g.S.Source.known c.args.source.now) (g.S.Source.known c.read_history.new.source)
-    (movers_isnt_four (history_reading had.bytes) answer.status answer.text.items (c.in-Ok-answer_of.ensures had.bytes had.read)) c.in-Ok.ensures.source
+    none_failed answer.status (g.S.Source.known c.args.source.now)
+    (g.S.Source.known c.read_history.new.source)
+    (movers_isnt_four (history_reading had.bytes) answer.status answer.text.items
+    (c.in-Ok-answer_of.ensures had.bytes had.read)) c.in-Ok.ensures.source

@@ -23,11 +23,15 @@ loop-count-preserved g c =
     let piece = c.read_more.new.bytes.items in
     let n = c.in_ok-n.n in
     let so_far = c.loop-count.invariant.read in
-    let more = subst (λ old. IsMoreRead most between after old piece n) c.clear.ensures.items c.in_ok-n.ensures.more in
-    let fed = subst (λ bytes. HasRead c.feed.new.self (so_far.taken ++ bytes)) c.deref.ensures.value (c.feed.ensures so_far.taken so_far.read) in
+    let more = subst (λ old. IsMoreRead most between after old piece n) c.clear.ensures.items
+    c.in_ok-n.ensures.more in
+    let fed = subst (λ bytes. HasRead c.feed.new.self (so_far.taken ++ bytes)) c.deref.ensures.value
+    (c.feed.ensures so_far.taken so_far.read) in
     record {
       few = omega (arith, more.few, c.loop-count-test.true);
-      read = piece_read before between after c.loop-count.reader c.feed.new.self c.loop-count.count most n piece so_far more fed;
+      read = piece_read before between after c.loop-count.reader c.feed.new.self c.loop-count.count
+          most n piece so_far more fed;
       unended = more.goes_on (omega (arith, c.if-n-eq0.false));
-      source = reads_in_row false before between after c.loop-count.invariant.source c.in_ok-n.ensures.source;
+      source = reads_in_row false before between after c.loop-count.invariant.source
+          c.in_ok-n.ensures.source;
     }

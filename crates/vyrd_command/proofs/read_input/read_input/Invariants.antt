@@ -9,7 +9,8 @@ invariant-loop-count g l = record {
   few : l.count ≤ l.most;
   high : vec_len l.bytes ≤ l.most;
   short : vec_len l.bytes ≤ l.count + longest_read;
-  told : IsTaken (g.S.Source.known l.fn.source).rest (take l.count l.bytes.items) (g.S.Source.known l.source).rest;
+  told : IsTaken (g.S.Source.known l.fn.source).rest (take l.count l.bytes.items)
+      (g.S.Source.known l.source).rest;
   unended : (g.S.Source.known l.source).ended ≡ false;
   source : AfterReads false (g.S.Source.known l.fn.source) (g.S.Source.known l.source);
 }

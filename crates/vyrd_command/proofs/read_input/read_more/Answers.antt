@@ -1,4 +1,5 @@
-use Rattle.std.proofs.Common.{◌≡◌, ◌+◌, ◌≤◌, ◌++◌, length, take, drop, ap, ◌∙◌, arith, length-take, length-drop}
+use Rattle.std.proofs.Common.{◌≡◌, ◌+◌, ◌≤◌, ◌++◌, length, take, drop, ap, ◌∙◌, arith, length-take}
+use Rattle.std.proofs.Common.{length-drop}
 use Rattle.std.proofs.Math.Seq.{take-add}
 use Rattle.vyrd_command.proofs.BehindLaws.{front_kept}
 use Rattle.vyrd_command.proofs.read_input.read_more.Goals as goal
@@ -17,11 +18,28 @@ returns-clause-more g c =
       piece = piece;
       told = gives.bytes;
       grown = c.truncate.ensures.items ∙ take-add count n mid
-          ∙ ap (λ front. front ++ piece) (c.in_ok-n.ensures.front ∙ front_kept old c.resize.new.self.items _ count (count + c.min.result)
+          ∙ ap (λ front. front ++ piece)
+          (c.in_ok-n.ensures.front ∙ front_kept old c.resize.new.self.items _ count
+          (count + c.min.result)
           whole (omega arith) c.in_ok-resize.ensures.items);
       many = omega (arith, length-take n (drop count mid), within);
-      few = omega (arith, within, length-drop count mid, c.in_ok-n.ensures.len, c.in_ok-resize.ensures.len, c.min.ensures);
-      short = omega (arith, within, length-drop count mid, c.in_ok-n.ensures.len, c.in_ok-resize.ensures.len, c.min.ensures);
+      few = omega (
+        arith,
+        within,
+        length-drop count
+            mid,
+        c.in_ok-n.ensures.len,
+        c.in_ok-resize.ensures.len,
+        c.min.ensures,
+      );
+      short = omega (
+        arith,
+        within,
+        length-drop count mid,
+        c.in_ok-n.ensures.len,
+        c.in_ok-resize.ensures.len,
+        c.min.ensures,
+      );
       at_end = gives.at_end;
       goes_on = gives.goes_on;
     }

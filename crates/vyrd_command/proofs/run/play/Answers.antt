@@ -18,24 +18,36 @@ returns g c = λ most.
     let w = workload_of c.args.work in
     let played = c.in_ok-played.played in
     let fixed = c.in_ok-played.ensures.fixed in
-    let run = subst (λ limit. LeavesRun w.header limit (work_scripts w) HasTaken played.sink played.words.items None) most
-    (subst (λ spent. LeavesRun w.header c.args.limit (work_scripts w) HasTaken played.sink played.words.items spent) c.in-None.is
+    let run = subst
+    (λ limit. LeavesRun w.header limit (work_scripts w) HasTaken played.sink played.words.items
+    None) most
+    (subst (λ spent. LeavesRun w.header c.args.limit (work_scripts w) HasTaken played.sink
+    played.words.items spent) c.in-None.is
     c.in_ok-played.ensures.run) in
-    both_ok c.told_of.result (c.told_of.ensures.status run.history run.taken) (c.told_of.ensures.text run.history run.taken)
-    (λ answer status text. inl (tells_live c.args.show w played.sink played.words.items answer.status answer.text.items c.requires.limits run
-    (ap (λ f. f.0) fixed ∙ c.in_ok-account.ensures.charter) (ap (λ f. f.1) fixed ∙ c.in_ok-account.ensures.show) status text))
+    both_ok c.told_of.result (c.told_of.ensures.status run.history run.taken)
+    (c.told_of.ensures.text run.history run.taken)
+    (λ answer status text. inl
+    (tells_live c.args.show w played.sink played.words.items answer.status answer.text.items
+    c.requires.limits run
+    (ap (λ f. f.0) fixed ∙ c.in_ok-account.ensures.charter)
+    (ap (λ f. f.1) fixed ∙ c.in_ok-account.ensures.show) status text))
 
 pub returns-in-Some : goal.returns-in-Some
 returns-in-Some g c = λ most.
     let w = workload_of c.args.work in
     let played = c.in_ok-played.played in
-    let run = subst (λ limit. LeavesRun w.header limit (work_scripts w) HasTaken played.sink played.words.items (Some c.in-Some.caller)) most
-    (subst (λ spent. LeavesRun w.header c.args.limit (work_scripts w) HasTaken played.sink played.words.items spent) c.in-Some.is
+    let run = subst
+    (λ limit. LeavesRun w.header limit (work_scripts w) HasTaken played.sink played.words.items
+    (Some c.in-Some.caller)) most
+    (subst (λ spent. LeavesRun w.header c.args.limit (work_scripts w) HasTaken played.sink
+    played.words.items spent) c.in-Some.is
     c.in_ok-played.ensures.run) in
     let low = subst (λ limit. limit < bounds_of w.header (ops_of c.in-Some.caller w.ops)) most
-    (subst (λ spent. IfSome spent (λ caller. c.args.limit < bounds_of w.header (ops_of caller w.ops))) c.in-Some.is
+    (subst (λ spent. IfSome spent
+    (λ caller. c.args.limit < bounds_of w.header (ops_of caller w.ops))) c.in-Some.is
     c.in_ok-played.ensures.too_low) in
-    both_ok c.overrun.result c.overrun.ensures.status c.overrun.ensures.text (λ answer status text. inr (record {
+    both_ok c.overrun.result c.overrun.ensures.status c.overrun.ensures.text
+    (λ answer status text. inr (record {
       caller = c.in-Some.caller;
       history = run.history;
       legal = run.legal;

@@ -17,9 +17,16 @@ pub returns-in-Some : goal.returns-in-Some
 returns-in-Some c =
     let w = workload_of c.args.work in
     let a = c.show_by_turns.new.sink in
-    let run = of_match (GetsStuck (work_scripts w) w.turns) (λ words. HasRun (work_scripts w) w.turns w.header HasTaken a words.items)
-    c.in_ok-show_by_turns.field-0 c.in-Some.field-0 c.in-Some.is c.in_ok-show_by_turns.ensures.played in
-    let fixed = of_some _ c.in_ok-show_by_turns.field-0 c.in-Some.field-0 c.in-Some.is c.in_ok-show_by_turns.ensures.fixed in
-    both_ok c.told_of.result (c.told_of.ensures.status run.history run.taken) (c.told_of.ensures.text run.history run.taken)
-    (λ answer status text. inl (tells_run c.args.show w a c.in-Some.field-0.items answer.status answer.text.items c.requires run
-    (ap (λ f. f.0) fixed ∙ c.in_ok-account.ensures.charter) (ap (λ f. f.1) fixed ∙ c.in_ok-account.ensures.show) status text))
+    let run = of_match (GetsStuck (work_scripts w) w.turns)
+    (λ words. HasRun (work_scripts w) w.turns w.header HasTaken a words.items)
+    c.in_ok-show_by_turns.field-0 c.in-Some.field-0 c.in-Some.is
+    c.in_ok-show_by_turns.ensures.played in
+    let fixed = of_some _ c.in_ok-show_by_turns.field-0 c.in-Some.field-0 c.in-Some.is
+    c.in_ok-show_by_turns.ensures.fixed in
+    both_ok c.told_of.result (c.told_of.ensures.status run.history run.taken)
+    (c.told_of.ensures.text run.history run.taken)
+    (λ answer status text. inl
+    (tells_run c.args.show w a c.in-Some.field-0.items answer.status answer.text.items c.requires
+    run
+    (ap (λ f. f.0) fixed ∙ c.in_ok-account.ensures.charter)
+    (ap (λ f. f.1) fixed ∙ c.in_ok-account.ensures.show) status text))

@@ -1,4 +1,5 @@
-use Rattle.std.proofs.Common.{◌≡◌, ℕ, ◌-◌, true, false, List, [], ◌++◌, length, take, drop, ap, sym, subst, ◌∙◌}
+use Rattle.std.proofs.Common.{◌≡◌, ℕ, ◌-◌, true, false, List, [], ◌++◌, length, take, drop, ap, sym}
+use Rattle.std.proofs.Common.{subst, ◌∙◌}
 use Rattle.std.specs.List.{AllByRecursion}
 use Rattle.vyrd_base.specs.declared.log.Entry.{Entry}
 use Rattle.vyrd_base.specs.Starts.{may_start}
@@ -30,24 +31,33 @@ module _ (c : goal.After-again-1) where
   both = c.in_ok-feed-2.ensures.read front first
 
   kept : IsWritable c.in-Some.header (reading (so_far c.feed-2.new.self) all)
-  kept = reading_writable (so_far c.feed-2.new.self) all c.in-Some.header (sym (c.in-Some.ensures.read all both))
+  kept = reading_writable (so_far c.feed-2.new.self) all c.in-Some.header
+      (sym (c.in-Some.ensures.read all both))
 
   one : c.feed.new.out.items ≡ (reading (so_far c.feed.new.self) front).entries
-  one = grown c.new-entries.result.items (reading (so_far c.new-reader.result) []).entries c.feed.new.out.items
-      (reading (so_far c.new-reader.result) front).entries (c.new-entries.ensures.items ∙ sym (nothing_read c.new-reader.result))
+  one = grown c.new-entries.result.items (reading (so_far c.new-reader.result) []).entries
+      c.feed.new.out.items
+      (reading (so_far c.new-reader.result) front).entries
+      (c.new-entries.ensures.items ∙ sym (nothing_read c.new-reader.result))
       (c.in_ok-feed.ensures.entries [] c.new-reader.ensures.read)
-      ∙ ap (λ n. (reading (record { max_lines = n; is_whole = false }) front).entries) (sym c.in_ok-feed.ensures.limit)
+      ∙ ap (λ n. (reading (record { max_lines = n; is_whole = false }) front).entries)
+      (sym c.in_ok-feed.ensures.limit)
 
   two : c.feed-2.new.out.items ≡ (reading (so_far c.feed-2.new.self) all).entries
-  two = grown c.feed.new.out.items (reading (so_far c.feed.new.self) front).entries c.feed-2.new.out.items
-      (reading (so_far c.feed.new.self) all).entries one (c.in_ok-feed-2.ensures.entries front first)
-      ∙ ap (λ n. (reading (record { max_lines = n; is_whole = false }) all).entries) (sym c.in_ok-feed-2.ensures.limit)
+  two = grown c.feed.new.out.items (reading (so_far c.feed.new.self) front).entries
+      c.feed-2.new.out.items
+      (reading (so_far c.feed.new.self) all).entries one
+      (c.in_ok-feed-2.ensures.entries front first)
+      ∙ ap (λ n. (reading (record { max_lines = n; is_whole = false }) all).entries)
+      (sym c.in_ok-feed-2.ensures.limit)
 
 pub write_started-requires-clause-start : goal.write_started-requires-clause-start
 write_started-requires-clause-start c =
-    subst (λ ss. may_start c.in-Some.header ss ≡ true) (sym (c.start.ensures.read (all c) (both c))) (kept c).may
+    subst (λ ss. may_start c.in-Some.header ss ≡ true) (sym (c.start.ensures.read (all c) (both c)))
+    (kept c).may
 
 pub write_started-requires-clause-entries : goal.write_started-requires-clause-entries
 write_started-requires-clause-entries c =
-    subst (λ (es : List Entry). AllByRecursion (λ e. is_writable c.in-Some.header.subject e ≡ true) es) (sym (c.deref.ensures.value ∙ two c))
+    subst (λ (es : List Entry). AllByRecursion (λ e. is_writable c.in-Some.header.subject e ≡ true)
+    es) (sym (c.deref.ensures.value ∙ two c))
     (all_writable c.in-Some.header.subject _ (kept c).of_subject)

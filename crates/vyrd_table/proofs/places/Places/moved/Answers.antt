@@ -10,7 +10,8 @@ use Rattle.vyrd_table.proofs.places.Places.moved.Goals as goal
 pub returns-in_err-rest-clause-steps : goal.returns-in_err-rest-clause-steps
 returns-in_err-rest-clause-steps g c =
     let s = c.args.self.now in
-    let fewer = rest_fewer g.V.Value.nothing g.V.Value.is_nothing s.pairs.items s.rest.map.entries c.requires.placed.formed in
+    let fewer = rest_fewer g.V.Value.nothing g.V.Value.is_nothing s.pairs.items s.rest.map.entries
+    c.requires.placed.formed in
     omega (arith, c.add.ensures, c.len.ensures.len, c.new.ensures.steps, fewer)
 
 pub take_all-requires-clause-new : goal.take_all-requires-clause-new
@@ -18,7 +19,8 @@ take_all-requires-clause-new g c =
     let nothing = g.V.Value.nothing in
     let is_nothing = g.V.Value.is_nothing in
     let rest = c.args.self.now.rest.map.entries in
-    subst (λ base. AreNew nothing is_nothing base c.deref.result.now) (sym c.in_ok-larger.ensures.entries)
+    subst (λ base. AreNew nothing is_nothing base c.deref.result.now)
+    (sym c.in_ok-larger.ensures.entries)
     (subst (AreNew nothing is_nothing []) (sym (c.deref.ensures.value ∙ c.in_ok-rest.ensures.pairs))
     (entries_new nothing is_nothing rest g.met.V.Value.nothing_passes c.requires.placed.formed))
 
@@ -26,7 +28,8 @@ pub take_all-requires-clause-fits : goal.take_all-requires-clause-fits
 take_all-requires-clause-fits g c =
     let s = c.args.self.now in
     let is_nothing = g.V.Value.is_nothing in
-    let fewer = rest_fewer g.V.Value.nothing is_nothing s.pairs.items s.rest.map.entries c.requires.placed.formed in
+    let fewer = rest_fewer g.V.Value.nothing is_nothing s.pairs.items s.rest.map.entries
+    c.requires.placed.formed in
     omega (
       arith,
       ap length c.in_ok-larger.ensures.entries,
@@ -40,7 +43,8 @@ pub returns-in_err-take_all-clause-steps : goal.returns-in_err-take_all-clause-s
 returns-in_err-take_all-clause-steps g c =
     let s = c.args.self.now in
     let is_nothing = g.V.Value.is_nothing in
-    let fewer = rest_fewer g.V.Value.nothing is_nothing s.pairs.items s.rest.map.entries c.requires.placed.formed in
+    let fewer = rest_fewer g.V.Value.nothing is_nothing s.pairs.items s.rest.map.entries
+    c.requires.placed.formed in
     omega (
       arith,
       c.new.ensures.steps,
@@ -58,12 +62,14 @@ take_all-requires-2-clause-new g c =
     let is_nothing = g.V.Value.is_nothing in
     let s = c.args.self.now in
     let rest = s.rest.map.entries in
-    let copied = c.in_ok-take_all.ensures.ok ∙ ap (λ base. entries_in is_nothing c.deref.result.now base) c.in_ok-larger.ensures.entries
+    let copied = c.in_ok-take_all.ensures.ok
+    ∙ ap (λ base. entries_in is_nothing c.deref.result.now base) c.in_ok-larger.ensures.entries
     ∙ ap (λ ps. entries_in is_nothing ps []) (c.deref.ensures.value ∙ c.in_ok-rest.ensures.pairs)
     ∙ entries_again nothing is_nothing rest c.requires.placed.formed in
     subst (λ base. AreNew nothing is_nothing base c.deref-2.result.now) (sym copied)
     (subst (AreNew nothing is_nothing rest) (sym c.deref-2.ensures.value)
-    (places_new nothing is_nothing g.met.V.Value.nothing_passes g.met.V.Value.only_nothing s.shift s.pairs.items rest c.requires.placed))
+    (places_new nothing is_nothing g.met.V.Value.nothing_passes g.met.V.Value.only_nothing s.shift
+    s.pairs.items rest c.requires.placed))
 
 pub take_all-requires-2-clause-fits : goal.take_all-requires-2-clause-fits
 take_all-requires-2-clause-fits g c =
@@ -71,7 +77,8 @@ take_all-requires-2-clause-fits g c =
     let is_nothing = g.V.Value.is_nothing in
     let s = c.args.self.now in
     let rest = s.rest.map.entries in
-    let copied = c.in_ok-take_all.ensures.ok ∙ ap (λ base. entries_in is_nothing c.deref.result.now base) c.in_ok-larger.ensures.entries
+    let copied = c.in_ok-take_all.ensures.ok
+    ∙ ap (λ base. entries_in is_nothing c.deref.result.now base) c.in_ok-larger.ensures.entries
     ∙ ap (λ ps. entries_in is_nothing ps []) (c.deref.ensures.value ∙ c.in_ok-rest.ensures.pairs)
     ∙ entries_again nothing is_nothing rest c.requires.placed.formed in
     omega (
@@ -79,7 +86,8 @@ take_all-requires-2-clause-fits g c =
       ap length copied,
       ap (λ ps. count_by (is_taken is_nothing) ps) c.deref-2.ensures.value,
       length_in nothing is_nothing s.pairs.items rest c.requires.placed.formed
-          (places_new nothing is_nothing g.met.V.Value.nothing_passes g.met.V.Value.only_nothing s.shift s.pairs.items rest c.requires.placed),
+          (places_new nothing is_nothing g.met.V.Value.nothing_passes g.met.V.Value.only_nothing
+          s.shift s.pairs.items rest c.requires.placed),
       c.requires.fits,
     )
 
@@ -101,7 +109,8 @@ returns-in_err-take_all-2-clause-steps g c =
       ap length c.deref-2.ensures.value,
       ap (λ ps. count_by (is_taken is_nothing) ps) c.deref-2.ensures.value,
       length_in nothing is_nothing s.pairs.items rest c.requires.placed.formed
-          (places_new nothing is_nothing g.met.V.Value.nothing_passes g.met.V.Value.only_nothing s.shift s.pairs.items rest c.requires.placed),
+          (places_new nothing is_nothing g.met.V.Value.nothing_passes g.met.V.Value.only_nothing
+          s.shift s.pairs.items rest c.requires.placed),
     )
 
 pub returns-clause-entries : goal.returns-clause-entries
@@ -109,10 +118,13 @@ returns-clause-entries g c =
     let nothing = g.V.Value.nothing in
     let is_nothing = g.V.Value.is_nothing in
     let s = c.args.self.now in
-    let copied = c.in_ok-take_all.ensures.ok ∙ ap (λ base. entries_in is_nothing c.deref.result.now base) c.in_ok-larger.ensures.entries
+    let copied = c.in_ok-take_all.ensures.ok
+    ∙ ap (λ base. entries_in is_nothing c.deref.result.now base) c.in_ok-larger.ensures.entries
     ∙ ap (λ ps. entries_in is_nothing ps []) (c.deref.ensures.value ∙ c.in_ok-rest.ensures.pairs)
     ∙ entries_again nothing is_nothing s.rest.map.entries c.requires.placed.formed in
-    c.in_ok-take_all-2.ensures.ok ∙ ap (λ ps. entries_in is_nothing ps (entries_of is_nothing c.take_all.new.self)) c.deref-2.ensures.value
+    c.in_ok-take_all-2.ensures.ok
+    ∙ ap (λ ps. entries_in is_nothing ps (entries_of is_nothing c.take_all.new.self))
+    c.deref-2.ensures.value
     ∙ ap (λ base. entries_in is_nothing s.pairs.items base) copied
 
 pub returns-clause-steps : goal.returns-clause-steps
@@ -133,7 +145,8 @@ returns-clause-steps g c =
       ap length c.deref-2.ensures.value,
       ap (λ ps. count_by (is_taken is_nothing) ps) c.deref-2.ensures.value,
       length_in nothing is_nothing s.pairs.items rest c.requires.placed.formed
-          (places_new nothing is_nothing g.met.V.Value.nothing_passes g.met.V.Value.only_nothing s.shift s.pairs.items rest c.requires.placed),
+          (places_new nothing is_nothing g.met.V.Value.nothing_passes g.met.V.Value.only_nothing
+          s.shift s.pairs.items rest c.requires.placed),
     )
 
 pub returns-clause-names : goal.returns-clause-names

@@ -10,9 +10,12 @@ returns-clause-placed g c =
     let nothing = g.V.Value.nothing in
     let is_nothing = g.V.Value.is_nothing in
     let bits = c.args.bits in
-    subst (λ rest. ArePlaces nothing is_nothing (64 - bits) c.in_ok-free_places.field-0.items rest) (sym c.new.ensures)
-    (subst (λ places. ArePlaces nothing is_nothing (64 - bits) places []) (sym c.in_ok-free_places.ensures.free)
-    (new_places nothing is_nothing g.met.V.Value.nothing_passes g.met.V.Value.only_nothing (64 - bits) bits c.requires.0 (omega (arith, c.requires.1))))
+    subst (λ rest. ArePlaces nothing is_nothing (64 - bits) c.in_ok-free_places.field-0.items rest)
+    (sym c.new.ensures)
+    (subst (λ places. ArePlaces nothing is_nothing (64 - bits) places [])
+    (sym c.in_ok-free_places.ensures.free)
+    (new_places nothing is_nothing g.met.V.Value.nothing_passes g.met.V.Value.only_nothing
+    (64 - bits) bits c.requires.0 (omega (arith, c.requires.1))))
 
 pub returns-clause-entries : goal.returns-clause-entries
 returns-clause-entries g c =
@@ -20,7 +23,8 @@ returns-clause-entries g c =
     let is_nothing = g.V.Value.is_nothing in
     ap (λ rest. entries_in is_nothing c.in_ok-free_places.field-0.items rest) c.new.ensures
     ∙ ap (λ places. entries_in is_nothing places []) c.in_ok-free_places.ensures.free
-    ∙ new_entries nothing is_nothing g.met.V.Value.nothing_passes g.met.V.Value.only_nothing (2 ^ c.args.bits + 3)
+    ∙ new_entries nothing is_nothing g.met.V.Value.nothing_passes g.met.V.Value.only_nothing
+    (2 ^ c.args.bits + 3)
 
 pub returns-clause-names : goal.returns-clause-names
 returns-clause-names g c =

@@ -3,7 +3,8 @@ use Rattle.std.proofs.lemmas.List.{get_or_default}
 use Rattle.vyrd_table.specs.Placed.{entries_of}
 use Rattle.vyrd_table.specs.Places.{one_name, entries_in}
 use Rattle.vyrd_table.specs.Entries.{with_value}
-use Rattle.vyrd_table.proofs.MovedLaws.{no_more, none_come, all_come, entries_more, count_more, count_few, names_more, names_few}
+use Rattle.vyrd_table.proofs.MovedLaws.{no_more, none_come, all_come, entries_more, count_more}
+use Rattle.vyrd_table.proofs.MovedLaws.{count_few, names_more, names_few}
 use Rattle.vyrd_table.proofs.PlaceLaws.{entries_formed}
 use Rattle.vyrd_table.proofs.places.Places.take_all.Goals as goal
 
@@ -21,7 +22,8 @@ take-requires-clause-fits g c =
       arith,
       ap length c.loop-pair.invariant.entries,
       no_more nothing is_nothing (take n pairs) (entries_of is_nothing s)
-          (entries_formed nothing is_nothing s.pairs.items s.rest.map.entries c.requires.placed.formed),
+          (entries_formed nothing is_nothing s.pairs.items s.rest.map.entries
+          c.requires.placed.formed),
       count_few nothing is_nothing pairs n,
       c.requires.fits,
     )
@@ -29,7 +31,8 @@ take-requires-clause-fits g c =
 pub loop-pair-init : goal.loop-pair-init
 loop-pair-init g c = record {
   placed = c.requires.placed;
-  entries = none_come g.V.Value.nothing g.V.Value.is_nothing c.args.pairs.now (entries_of g.V.Value.is_nothing c.args.self.now);
+  entries = none_come g.V.Value.nothing g.V.Value.is_nothing c.args.pairs.now
+      (entries_of g.V.Value.is_nothing c.args.self.now);
   names = omega arith;
   shift = refl;
   steps = omega arith;
@@ -41,7 +44,8 @@ returns-in_err-take-clause-steps g c =
     let is_nothing = g.V.Value.is_nothing in
     let pairs = c.args.pairs.now in
     let n = c.loop-pair.pair-index in
-    let item = c.pair-item.is ∙ get_or_default pairs n c.pair-item.result (0, nothing) c.loop-pair-test.true in
+    let item = c.pair-item.is ∙ get_or_default pairs n c.pair-item.result
+    (0, nothing) c.loop-pair-test.true in
     omega (
       arith,
       c.take.ensures.steps,
@@ -59,16 +63,22 @@ loop-pair-preserved g c =
     let s = c.args.self.now in
     let pairs = c.args.pairs.now in
     let n = c.loop-pair.pair-index in
-    let item = c.pair-item.is ∙ get_or_default pairs n c.pair-item.result (0, nothing) c.loop-pair-test.true in
+    let item = c.pair-item.is ∙ get_or_default pairs n c.pair-item.result
+    (0, nothing) c.loop-pair-test.true in
     record {
       placed = c.take.ensures.placed;
       entries = c.in_ok-take.ensures.ok
-          ∙ ap (λ es. cond (is_nothing c.pair-item.result.1) es (with_value is_nothing es c.pair-item.result.0 c.pair-item.result.1))
+          ∙ ap (λ es. cond (is_nothing c.pair-item.result.1) es
+          (with_value is_nothing es c.pair-item.result.0 c.pair-item.result.1))
           c.loop-pair.invariant.entries
-          ∙ ap (λ pair. cond (is_nothing pair.1) (entries_in is_nothing (take n pairs) (entries_of is_nothing s))
-          (with_value is_nothing (entries_in is_nothing (take n pairs) (entries_of is_nothing s)) pair.0 pair.1)) item
-          ∙ sym (entries_more nothing is_nothing (entries_of is_nothing s) pairs n c.loop-pair-test.true
-          (entries_formed nothing is_nothing s.pairs.items s.rest.map.entries c.requires.placed.formed) c.requires.new);
+          ∙ ap (λ pair. cond (is_nothing pair.1)
+          (entries_in is_nothing (take n pairs) (entries_of is_nothing s))
+          (with_value is_nothing (entries_in is_nothing (take n pairs) (entries_of is_nothing s))
+          pair.0 pair.1)) item
+          ∙ sym (entries_more nothing is_nothing (entries_of is_nothing s) pairs n
+          c.loop-pair-test.true
+          (entries_formed nothing is_nothing s.pairs.items s.rest.map.entries
+          c.requires.placed.formed) c.requires.new);
       names = omega (
         arith,
         c.take.ensures.names,
@@ -88,7 +98,8 @@ loop-pair-preserved g c =
 
 pub returns-clause-ok : goal.returns-clause-ok
 returns-clause-ok g c = c.loop-pair.invariant.entries
-    ∙ all_come g.V.Value.nothing g.V.Value.is_nothing c.args.pairs.now (entries_of g.V.Value.is_nothing c.args.self.now)
+    ∙ all_come g.V.Value.nothing g.V.Value.is_nothing c.args.pairs.now
+    (entries_of g.V.Value.is_nothing c.args.self.now)
     c.loop-pair.pair-index c.loop-pair-test.false
 
 pub returns-clause-steps : goal.returns-clause-steps

@@ -7,7 +7,8 @@ use Rattle.vyrd_table.proofs.PlaceLaws.{entries_formed}
 use Rattle.vyrd_table.proofs.rest.Rest.take_all.Goals as goal
 
 pub loop-pair-init : goal.loop-pair-init
-loop-pair-init g c = none_come g.V.Value.nothing g.V.Value.is_nothing c.args.pairs.now c.args.self.now.map.entries
+loop-pair-init g c = none_come g.V.Value.nothing g.V.Value.is_nothing c.args.pairs.now
+    c.args.self.now.map.entries
 
 pub take-requires : goal.take-requires
 take-requires g c =
@@ -24,13 +25,16 @@ loop-pair-preserved g c =
     let old = c.args.self.now.map.entries in
     let pairs = c.args.pairs.now in
     let n = c.loop-pair.pair-index in
-    let item = c.pair-item.is ∙ get_or_default pairs n c.pair-item.result (0, nothing) c.loop-pair-test.true in
+    let item = c.pair-item.is ∙ get_or_default pairs n c.pair-item.result
+    (0, nothing) c.loop-pair-test.true in
     c.in_ok-take.ensures
-    ∙ ap (λ es. cond (is_nothing c.pair-item.result.1) es (with_value is_nothing es c.pair-item.result.0 c.pair-item.result.1))
+    ∙ ap (λ es. cond (is_nothing c.pair-item.result.1) es
+    (with_value is_nothing es c.pair-item.result.0 c.pair-item.result.1))
     c.loop-pair.invariant
     ∙ ap (λ pair. cond (is_nothing pair.1) (entries_in is_nothing (take n pairs) old)
     (with_value is_nothing (entries_in is_nothing (take n pairs) old) pair.0 pair.1)) item
-    ∙ sym (entries_more nothing is_nothing old pairs n c.loop-pair-test.true c.requires.formed c.requires.new)
+    ∙ sym (entries_more nothing is_nothing old pairs n c.loop-pair-test.true c.requires.formed
+    c.requires.new)
 
 pub returns : goal.returns
 returns g c = c.loop-pair.invariant

@@ -9,9 +9,11 @@ pub returns-clause-formed : goal.returns-clause-formed
 returns-clause-formed g c =
     let s = c.self.inside.places in
     subst (λ (t : Contents _). IsEntries g.V.Value.is_nothing t.entries) c.self.view_is
-    (entries_formed g.V.Value.nothing g.V.Value.is_nothing s.pairs.items s.rest.map.entries c.self.invariant.placed.formed)
+    (entries_formed g.V.Value.nothing g.V.Value.is_nothing s.pairs.items s.rest.map.entries
+    c.self.invariant.placed.formed)
 
 pub returns-clause-slot : goal.returns-clause-slot
 unfolding IsSlotOf
 returns-clause-slot g c =
-    subst (λ (t : Contents _). IsFoundAt g.V.Value.nothing t.shift t.places c.args.key c.find-place.result) c.self.view_is c.find-place.ensures.found
+    subst (λ (t : Contents _). IsFoundAt g.V.Value.nothing t.shift t.places c.args.key
+    c.find-place.result) c.self.view_is c.find-place.ensures.found
