@@ -79,8 +79,8 @@ module _ {V : Type 0} where
           (subst (λ x. T (below_all nat_cmp x es)) (sym same) (first_of_and _ _ rising)))
           ∙ sym (ap (λ b. cond (not b) (e ∷ kept) kept) (flip k e.0 true is))
       by_test rest false isnt_it =
-          ap (λ b. cond b es (e ∷ remove_entry (is_at (nat_cmp k)) es))
-          (unsigned_tied k e.0 ∙ isnt_it)
+          ap (λ b. cond b es (e ∷ remove_entry (is_at (nat_cmp k)) es)) (unsigned_tied k e.0
+          ∙ isnt_it)
           ∙ ap (λ xs. e ∷ xs) rest
           ∙ sym (ap (λ b. cond (not b) (e ∷ kept) kept) (flip k e.0 false isnt_it))
 
@@ -104,8 +104,8 @@ module _ {V : Type 0} (is_nothing : V → Bool) where
 
   -- the key has the new value, and every other key its old one
   pub find-with_value : (s : List (ℕ × V)) (k : ℕ) (v : V) (q : ℕ)
-      → find nat_cmp q (with_value is_nothing s k v) ≡ cond (q == k) (given_value v)
-      (find nat_cmp q s)
+      → find nat_cmp q (with_value is_nothing s k v)
+      ≡ cond (q == k) (given_value v) (find nat_cmp q s)
   find-with_value s k v q = by_nothing (is_nothing v) refl
     where
       by_nothing : (b : Bool) → is_nothing v ≡ b
@@ -124,8 +124,8 @@ module _ {V : Type 0} (is_nothing : V → Bool) where
       → AllSome (put nat_cmp k v s)
   kept_put k v [] some all = (some, tt)
   kept_put k v (e ∷ s) some all =
-      elim (nat_cmp k e.0) as (λ o. AllSome
-      (by_order o ((k, v) ∷ e ∷ s) ((e.0, v) ∷ s) (e ∷ put nat_cmp k v s))) [
+      elim (nat_cmp k e.0) as
+      (λ o. AllSome (by_order o ((k, v) ∷ e ∷ s) ((e.0, v) ∷ s) (e ∷ put nat_cmp k v s))) [
         | Less ↦ (some, all)
         | Equal ↦ (some, all.1)
         | Greater ↦ (all.0, kept_put k v s some all.1)
@@ -139,7 +139,8 @@ module _ {V : Type 0} (is_nothing : V → Bool) where
   IsEntries-put s k v some is =
       record {
         rising = is_sorted-put nat_cmp nat_cmp_total k v s is.rising;
-        some = kept_put k v s some is.some;
+        some =
+            kept_put k v s some is.some;
       }
 
   pub IsEntries-with_value : (s : List (ℕ × V)) (k : ℕ) (v : V) → IsEntries is_nothing s
@@ -165,10 +166,11 @@ module _ {V : Type 0} (is_nothing : V → Bool) where
   -- entries that are the old ones except for a key
   pub entries_are : (s t : List (ℕ × V)) (q : ℕ) (v : V) → IsEntries is_nothing s
       → IsEntries is_nothing t
-      → ((r : ℕ) → find nat_cmp r t ≡ cond (r == q) (given_value v) (find nat_cmp r s))
-      → t ≡ with_value is_nothing s q v
-  entries_are s t q v is it each = same_by_key t (with_value is_nothing s q v) it
-      (IsEntries-with_value s q v is) (λ r. each r ∙ sym (find-with_value s q v r))
+      → ((r : ℕ) → find nat_cmp r t ≡ cond (r == q) (given_value v) (find nat_cmp r s)) → t
+      ≡ with_value is_nothing s q v
+  entries_are s t q v is it each =
+      same_by_key t (with_value is_nothing s q v) it (IsEntries-with_value s q v is)
+      (λ r. each r ∙ sym (find-with_value s q v r))
 
   -- an ordered map's `insert` of a value that isn't nothing, and its `remove`
   pub insert-with_value : (es : List (ℕ × V)) (k : ℕ) (v : V) → is_nothing v ≡ false
@@ -215,8 +217,8 @@ module _ {V : Type 0} (is_nothing : V → Bool) where
   -- and no fewer, whether the key is new or not
   pub put_more : (s : List (ℕ × V)) (k : ℕ) (v : V) → IsEntries is_nothing s → length s
       ≤ length (put nat_cmp k v s)
-  put_more s k v is = by_found (is_some (find nat_cmp k s))
-      (length-put nat_cmp nat_cmp_total k v s is.rising)
+  put_more s k v is =
+      by_found (is_some (find nat_cmp k s)) (length-put nat_cmp nat_cmp_total k v s is.rising)
     where
       by_found : (b : Bool) → length (put nat_cmp k v s) ≡ cond b (length s) (length s + 1)
           → length s ≤ length (put nat_cmp k v s)
@@ -226,8 +228,8 @@ module _ {V : Type 0} (is_nothing : V → Bool) where
   -- and one more at most
   pub put_less : (s : List (ℕ × V)) (k : ℕ) (v : V) → IsEntries is_nothing s
       → length (put nat_cmp k v s) ≤ length s + 1
-  put_less s k v is = by_found (is_some (find nat_cmp k s))
-      (length-put nat_cmp nat_cmp_total k v s is.rising)
+  put_less s k v is =
+      by_found (is_some (find nat_cmp k s)) (length-put nat_cmp nat_cmp_total k v s is.rising)
     where
       by_found : (b : Bool) → length (put nat_cmp k v s) ≡ cond b (length s) (length s + 1)
           → length (put nat_cmp k v s) ≤ length s + 1
@@ -252,7 +254,8 @@ module _ {V : Type 0} (is_nothing : V → Bool) where
   pub same_values : (nothing : V) → is_nothing nothing ≡ true → (s t : List (ℕ × V))
       → IsEntries is_nothing s → IsEntries is_nothing t
       → ((q : ℕ) → value_of nothing s q ≡ value_of nothing t q) → s ≡ t
-  same_values nothing passes s t is it same = same_by_key s t is it
+  same_values nothing passes s t is it same =
+      same_by_key s t is it
       (λ q. by_found q (find nat_cmp q s) (find nat_cmp q t) refl refl (same q))
     where
       some : (q : ℕ) (u : List (ℕ × V)) (v : V) → IsEntries is_nothing u → find nat_cmp q u ≡ Some v

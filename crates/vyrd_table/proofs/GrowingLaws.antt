@@ -48,20 +48,12 @@ module _ (b most keys : ℕ) (half : keys ≤ 2 ^ b / 2) (least : 3 ≤ b) (larg
     (limit : most ≤ 20) where
   -- 2^b places become at least twice as many, and four times as many at most
   twice : 2 * 2 ^ b ≤ 2 ^ min (b + 2) most
-  twice = omega (
-    arith,
-    next_power b,
-    pow_mono {i = b + 1} {j = min (b + 2) most}
-        (omega (arith, larger)),
-  )
+  twice = omega
+      (arith, next_power b, pow_mono {i = b + 1} {j = min (b + 2) most} (omega (arith, larger)))
 
   four_times : 2 ^ min (b + 2) most ≤ 4 * 2 ^ b
-  four_times = omega (
-    arith,
-    power_after b,
-    pow_mono {i = min (b + 2) most} {j = b + 2}
-        (omega arith),
-  )
+  four_times =
+      omega (arith, power_after b, pow_mono {i = min (b + 2) most} {j = b + 2} (omega arith))
 
   pub few_keys : keys < 2 ^ 19
   few_keys = omega (arith, half, pow_mono {i = b} {j = 19} (omega (arith, larger, limit)))
@@ -70,8 +62,8 @@ module _ (b most keys : ℕ) (half : keys ≤ 2 ^ b / 2) (least : 3 ≤ b) (larg
   grown_room = first_has_room (min (b + 2) most) most keys (omega (arith, least, larger)) limit
       (omega (arith, half, twice))
 
-  pub grown_cost : moving_price keys (2 ^ b + 3) (2 ^ min (b + 2) most + 3) ≤ growing_share
-      * (2 ^ b / 4)
+  pub grown_cost : moving_price keys (2 ^ b + 3) (2 ^ min (b + 2) most + 3)
+      ≤ growing_share * (2 ^ b / 4)
   grown_cost =
       omega (
         arith,

@@ -1,4 +1,5 @@
 pub mod EntryLaws
+pub mod FirstLaws
 pub mod GrowingLaws
 pub mod MovedLaws
 pub mod NameLaws

@@ -37,8 +37,8 @@ module _ {V : Type 0} (nothing : V) (is_nothing : V → Bool) where
       ≡ option_or (held nothing is_nothing (take n pairs) q) (held_by (place_at nothing pairs n) q)
   held_more [] n q low = absurd (omega arith)
   held_more (p ∷ pairs) zero q low = refl
-  held_more (p ∷ pairs) (suc n) q low = by_place (is_nothing p.1) (q == p.0)
-      (held_more pairs n q (omega (arith, low)))
+  held_more (p ∷ pairs) (suc n) q low =
+      by_place (is_nothing p.1) (q == p.0) (held_more pairs n q (omega (arith, low)))
     where
       below : Option V
       below = held nothing is_nothing (take (suc n) pairs) q
@@ -49,7 +49,8 @@ module _ {V : Type 0} (nothing : V) (is_nothing : V → Bool) where
           (held_by (place_at nothing pairs n) q)
           → cond b (held nothing is_nothing (take (suc n) pairs) q)
           (cond same (Some p.1) (held nothing is_nothing (take (suc n) pairs) q))
-          ≡ option_or (cond b (held nothing is_nothing (take n pairs) q)
+          ≡ option_or
+          (cond b (held nothing is_nothing (take n pairs) q)
           (cond same (Some p.1) (held nothing is_nothing (take n pairs) q)))
           (held_by (place_at nothing pairs n) q)
       by_place true same more = more
@@ -72,14 +73,15 @@ module _ {V : Type 0} (nothing : V) (is_nothing : V → Bool) where
     before = entries_in is_nothing (take n pairs) base
 
     find_more : (q : ℕ) → find nat_cmp q (entries_in is_nothing (take (suc n) pairs) base)
-        ≡ option_or (option_or (held nothing is_nothing (take n pairs) q)
+        ≡ option_or
+        (option_or (held nothing is_nothing (take n pairs) q)
         (held_by (place_at nothing pairs n) q)) (find nat_cmp q base)
     find_more q = find_in nothing is_nothing (take (suc n) pairs) base q
         ∙ ap (λ o. option_or o (find nat_cmp q base)) (held_more pairs n q low)
 
     entries_free : is_nothing (place_at nothing pairs n).1 ≡ true
-        → entries_in is_nothing (take (suc n) pairs) base ≡ entries_in is_nothing
-        (take n pairs) base
+        → entries_in is_nothing (take (suc n) pairs) base
+        ≡ entries_in is_nothing (take n pairs) base
     entries_free free = same_by_key is_nothing (entries_in is_nothing (take (suc n) pairs) base)
         (entries_in is_nothing (take n pairs) base)
         (entries_formed nothing is_nothing (take (suc n) pairs) base formed)
@@ -95,11 +97,11 @@ module _ {V : Type 0} (nothing : V) (is_nothing : V → Bool) where
 
     entries_taken : is_nothing (place_at nothing pairs n).1 ≡ false
         → AreNew nothing is_nothing base pairs
-        → entries_in is_nothing (take (suc n) pairs) base ≡ with_value is_nothing
-        (entries_in is_nothing (take n pairs) base) (place_at nothing pairs n).0
-        (place_at nothing pairs n).1
-    entries_taken taken new = same_by_key is_nothing
-        (entries_in is_nothing (take (suc n) pairs) base)
+        → entries_in is_nothing (take (suc n) pairs) base
+        ≡ with_value is_nothing (entries_in is_nothing (take n pairs) base)
+        (place_at nothing pairs n).0 (place_at nothing pairs n).1
+    entries_taken taken new =
+        same_by_key is_nothing (entries_in is_nothing (take (suc n) pairs) base)
         (with_value is_nothing (entries_in is_nothing (take n pairs) base)
         (place_at nothing pairs n).0 (place_at nothing pairs n).1)
         (entries_formed nothing is_nothing (take (suc n) pairs) base formed)
@@ -120,11 +122,12 @@ module _ {V : Type 0} (nothing : V) (is_nothing : V → Bool) where
 
         unseen : held nothing is_nothing (take n pairs) (place_at nothing pairs n).0 ≡ None
         unseen = held_take_none pairs n (place_at nothing pairs n).0
-            (λ i before_n taken_i same. let is : i ≡ n = new.single i n taken_i
-            (ap not taken) same in absurd (omega (arith, is, before_n)))
+            (λ i before_n taken_i same. let is : i ≡ n =
+            new.single i n taken_i (ap not taken) same in absurd (omega (arith, is, before_n)))
 
         by_key : (q : ℕ) (b : Bool) → (q == (place_at nothing pairs n).0) ≡ b
-            → option_or (option_or (held nothing is_nothing (take n pairs) q)
+            → option_or
+            (option_or (held nothing is_nothing (take n pairs) q)
             (cond b (Some (place_at nothing pairs n).1) None)) (find nat_cmp q base)
             ≡ cond b (given_value is_nothing (place_at nothing pairs n).1)
             (find nat_cmp q (entries_in is_nothing (take n pairs) base))
@@ -156,6 +159,18 @@ module _ {V : Type 0} (nothing : V) (is_nothing : V → Bool) where
       whole (p ∷ pairs) zero all = absurd (omega (arith, all))
       whole (p ∷ pairs) (suc n) all = ap (λ ps. p ∷ ps) (whole pairs n (omega (arith, all)))
 
+  -- a key that comes isn't there before
+  pub unseen_before : (base pairs : List (ℕ × V)) (n : ℕ)
+      → is_taken is_nothing (place_at nothing pairs n) ≡ true → AreNew nothing is_nothing base pairs
+      → find nat_cmp (place_at nothing pairs n).0 (entries_in is_nothing (take n pairs) base) ≡ None
+  unseen_before base pairs n taken new =
+      find_in nothing is_nothing (take n pairs) base (place_at nothing pairs n).0
+      ∙ ap (λ o. option_or o (find nat_cmp (place_at nothing pairs n).0 base))
+      (held_take_none pairs n (place_at nothing pairs n).0 (λ i before_n taken_i same.
+      let is : i ≡ n = new.single i n taken_i taken same in
+      absurd (omega (arith, is, before_n))))
+      ∙ new.absent n taken
+
   -- one pair more: its key gets its value, unless that is nothing
   pub entries_more : (base pairs : List (ℕ × V)) (n : ℕ) → n < length pairs
       → IsEntries is_nothing base → AreNew nothing is_nothing base pairs
@@ -164,8 +179,8 @@ module _ {V : Type 0} (nothing : V) (is_nothing : V → Bool) where
       (with_value is_nothing (entries_in is_nothing (take n pairs) base)
       (place_at nothing pairs n).0 (place_at nothing pairs n).1)
   entries_more base pairs n low formed new =
-      ap (λ m. entries_in is_nothing (take m pairs) base)
-      (let one : n + 1 ≡ suc n = omega arith in one)
+      ap (λ m. entries_in is_nothing (take m pairs) base) (let one : n + 1 ≡ suc n = omega arith in
+      one)
       ∙ by_taken (is_nothing (place_at nothing pairs n).1) refl
     where
       by_taken : (b : Bool) → is_nothing (place_at nothing pairs n).1 ≡ b
@@ -178,19 +193,20 @@ module _ {V : Type 0} (nothing : V) (is_nothing : V → Bool) where
 
   -- no more keys than what was there and the places that are taken
   pub no_more : (pairs base : List (ℕ × V)) → IsEntries is_nothing base
-      → length (entries_in is_nothing pairs base) ≤ length base
-      + count_by (is_taken is_nothing) pairs
+      → length (entries_in is_nothing pairs base)
+      ≤ length base + count_by (is_taken is_nothing) pairs
   unfolding entries_in
   no_more [] base formed = omega arith
   no_more (p ∷ pairs) base formed =
-      let counted : count_by (is_taken is_nothing) (p ∷ pairs) ≡ cond (is_taken is_nothing p) 1 0
-      + count_by (is_taken is_nothing) pairs =
+      let counted : count_by (is_taken is_nothing) (p ∷ pairs)
+      ≡ cond (is_taken is_nothing p) 1 0 + count_by (is_taken is_nothing) pairs =
       sum_by-cons (λ x. cond (is_taken is_nothing x) 1 0) p pairs in
       omega (arith, counted, by_taken (is_nothing p.1) (no_more pairs base formed))
     where
-      by_taken : (b : Bool) → length (entries_in is_nothing pairs base) ≤ length base
-          + count_by (is_taken is_nothing) pairs
-          → length (cond b (entries_in is_nothing pairs base)
+      by_taken : (b : Bool) → length (entries_in is_nothing pairs base)
+          ≤ length base + count_by (is_taken is_nothing) pairs
+          → length
+          (cond b (entries_in is_nothing pairs base)
           (put nat_cmp p.0 p.1 (entries_in is_nothing pairs base)))
           ≤ length base + (cond (not b) 1 0 + count_by (is_taken is_nothing) pairs)
       by_taken true more = omega (arith, more)
@@ -205,33 +221,34 @@ module _ {V : Type 0} (nothing : V) (is_nothing : V → Bool) where
   -- and if the keys are new, just as many
   pub length_in : (pairs base : List (ℕ × V)) → IsEntries is_nothing base
       → AreNew nothing is_nothing base pairs
-      → length (entries_in is_nothing pairs base) ≡ length base
-      + count_by (is_taken is_nothing) pairs
+      → length (entries_in is_nothing pairs base)
+      ≡ length base + count_by (is_taken is_nothing) pairs
   unfolding entries_in
   length_in [] base formed new = omega arith
   length_in (p ∷ pairs) base formed new =
-      let counted : count_by (is_taken is_nothing) (p ∷ pairs) ≡ cond (is_taken is_nothing p) 1 0
-      + count_by (is_taken is_nothing) pairs =
+      let counted : count_by (is_taken is_nothing) (p ∷ pairs)
+      ≡ cond (is_taken is_nothing p) 1 0 + count_by (is_taken is_nothing) pairs =
       sum_by-cons (λ x. cond (is_taken is_nothing x) 1 0) p pairs in
       by_taken (is_nothing p.1) refl (length_in pairs base formed (record {
-        single = λ i j taken_i taken_j same. let is : suc i ≡ suc j = new.single (suc i)
-            (suc j) taken_i taken_j same in omega (arith, is);
+        single = λ i j taken_i taken_j same. let is : suc i ≡ suc j =
+            new.single (suc i) (suc j) taken_i taken_j same in omega (arith, is);
         absent = λ i taken. new.absent (suc i) taken;
       })) ∙ ap (λ m. length base + m) (sym counted)
     where
       by_taken : (b : Bool) → is_nothing p.1 ≡ b → length (entries_in is_nothing pairs base)
           ≡ length base + count_by (is_taken is_nothing) pairs
-          → length (cond b (entries_in is_nothing pairs base)
+          → length
+          (cond b (entries_in is_nothing pairs base)
           (put nat_cmp p.0 p.1 (entries_in is_nothing pairs base)))
           ≡ length base + (cond (not b) 1 0 + count_by (is_taken is_nothing) pairs)
       by_taken true e more = omega (arith, more)
       by_taken false e more =
-          let none : held nothing is_nothing pairs p.0 ≡ None = held_none nothing is_nothing pairs
-          p.0
-          (λ i taken same. let is : suc i ≡ 0 = new.single (suc i) 0 taken (ap not e) same in absurd
-          (omega (arith, is))) in
-          let unseen : find nat_cmp p.0 (entries_in is_nothing pairs base)
-          ≡ None = find_in nothing is_nothing pairs base p.0
+          let none : held nothing is_nothing pairs p.0 ≡ None =
+          held_none nothing is_nothing pairs p.0
+          (λ i taken same. let is : suc i ≡ 0 = new.single (suc i) 0 taken (ap not e) same in
+          absurd (omega (arith, is))) in
+          let unseen : find nat_cmp p.0 (entries_in is_nothing pairs base) ≡ None =
+          find_in nothing is_nothing pairs base p.0
           ∙ ap (λ o. option_or o (find nat_cmp p.0 base)) none ∙ new.absent 0 (ap not e) in
           omega (
             arith,
@@ -242,13 +259,14 @@ module _ {V : Type 0} (nothing : V) (is_nothing : V → Bool) where
 
   -- how many of the first places are taken
   pub count_more : (pairs : List (ℕ × V)) (n : ℕ) → n < length pairs
-      → count_by (is_taken is_nothing) (take (n + 1) pairs) ≡ count_by (is_taken is_nothing)
-      (take n pairs) + cond (is_nothing (place_at nothing pairs n).1) 0 1
+      → count_by (is_taken is_nothing) (take (n + 1) pairs)
+      ≡ count_by (is_taken is_nothing) (take n pairs) + cond
+      (is_nothing (place_at nothing pairs n).1) 0 1
   count_more pairs n low = by_taken (is_nothing (place_at nothing pairs n).1) refl
     where
       by_taken : (b : Bool) → is_nothing (place_at nothing pairs n).1 ≡ b
-          → count_by (is_taken is_nothing) (take (n + 1) pairs) ≡ count_by (is_taken is_nothing)
-          (take n pairs) + cond b 0 1
+          → count_by (is_taken is_nothing) (take (n + 1) pairs)
+          ≡ count_by (is_taken is_nothing) (take n pairs) + cond b 0 1
       by_taken true e =
           let more = count_by_more_no (is_taken is_nothing) pairs n (0, nothing) low (ap not e) in
           omega (arith, more)
@@ -260,8 +278,8 @@ module _ {V : Type 0} (nothing : V) (is_nothing : V → Bool) where
 
   -- and how many have a name
   pub names_more : (pairs : List (ℕ × V)) (n : ℕ) → n < length pairs
-      → count_by is_named (take (n + 1) pairs) ≡ count_by is_named (take n pairs)
-      + one_name (place_at nothing pairs n).0
+      → count_by is_named (take (n + 1) pairs)
+      ≡ count_by is_named (take n pairs) + one_name (place_at nothing pairs n).0
   names_more pairs n low = by_name ((place_at nothing pairs n).0 == 0) refl
     where
       by_name : (b : Bool) → ((place_at nothing pairs n).0 == 0) ≡ b
@@ -274,11 +292,11 @@ module _ {V : Type 0} (nothing : V) (is_nothing : V → Bool) where
   above_at : (k : ℕ) (s : List (ℕ × V)) (i : ℕ) → is_nothing nothing ≡ true
       → T (below_all nat_cmp k s)
       → is_taken is_nothing (place_at nothing s i) ≡ true → k < (place_at nothing s i).0
-  above_at k [] i passes below taken = let free : is_taken is_nothing (place_at nothing [] i)
-      ≡ false = ap not passes in absurd cc
+  above_at k [] i passes below taken =
+      let free : is_taken is_nothing (place_at nothing [] i) ≡ false = ap not passes in absurd cc
   above_at k (e ∷ s) zero passes below taken = is_greater k e.0 (first_of_and _ _ below)
-  above_at k (e ∷ s) (suc i) passes below taken = above_at k s i passes
-      (second_of_and (is_lt (nat_cmp k e.0)) _ below) taken
+  above_at k (e ∷ s) (suc i) passes below taken =
+      above_at k s i passes (second_of_and (is_lt (nat_cmp k e.0)) _ below) taken
 
   rising_single : (s : List (ℕ × V)) → is_nothing nothing ≡ true → T (is_sorted nat_cmp s)
       → (i j : ℕ)
@@ -298,17 +316,16 @@ module _ {V : Type 0} (nothing : V) (is_nothing : V → Bool) where
 
   pub entries_new : (s : List (ℕ × V)) → is_nothing nothing ≡ true → IsEntries is_nothing s
       → AreNew nothing is_nothing [] s
-  entries_new s passes is = record {
-    single = rising_single s passes is.rising;
-    absent = λ i taken. refl;
-  }
+  entries_new s passes is =
+      record { single = rising_single s passes is.rising; absent = λ i taken. refl }
 
   held_entries : (s : List (ℕ × V)) → IsEntries is_nothing s → (q : ℕ) → held nothing is_nothing s q
       ≡ find nat_cmp q s
   held_entries [] is q = refl
   held_entries (e ∷ s) is q =
       let rest : IsEntries is_nothing s =
-      record { rising = second_of_and (below_all nat_cmp e.0 s) _ is.rising; some = is.some.1 } in
+      record { rising = second_of_and (below_all nat_cmp e.0 s) _ is.rising; some = is.some.1 }
+      in
       ap (λ b. cond b (held nothing is_nothing s q)
       (cond (q == e.0) (Some e.1) (held nothing is_nothing s q))) is.some.0
       ∙ ap (λ o. cond (q == e.0) (Some e.1) o) (held_entries s rest q)
@@ -321,12 +338,12 @@ module _ {V : Type 0} (nothing : V) (is_nothing : V → Bool) where
       ∙ held_entries s is q)
 
   -- the keys in the places of a table aren't among the rest
-  pub places_new : (passes : is_nothing nothing ≡ true) (only : (v : V) → is_nothing v ≡ true
-      → v ≡ nothing) (shift : ℕ) (places rest : List (ℕ × V))
+  pub places_new : (passes : is_nothing nothing ≡ true) (only : (v : V) → is_nothing v ≡ true → v
+      ≡ nothing) (shift : ℕ) (places rest : List (ℕ × V))
       → ArePlaces nothing is_nothing shift places rest → AreNew nothing is_nothing rest places
   places_new passes only shift places rest table = record {
     single = single nothing is_nothing passes only shift places rest table;
-    absent = λ i taken. table.away i (table.reach i taken);
+    absent = λ i taken. table.away i (table.within i taken);
   }
 
 pub names_few : {V : Type 0} (pairs : List (ℕ × V)) (n : ℕ) → count_by is_named (take n pairs)

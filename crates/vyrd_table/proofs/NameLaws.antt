@@ -24,10 +24,10 @@ module _ {V : Type 0} where
       by_test true = refl
       by_test false = refl
 
-  pub counted : (p : ℕ × V) (s : List (ℕ × V)) → count_by is_named (p ∷ s) ≡ one_name p.0
-      + count_by is_named s
-  counted p s = sum_by-cons (λ x. cond (is_named x) 1 0) p s ∙ ap (λ n. n + count_by is_named s)
-      (named_by p)
+  pub counted : (p : ℕ × V) (s : List (ℕ × V)) → count_by is_named (p ∷ s)
+      ≡ one_name p.0 + count_by is_named s
+  counted p s = sum_by-cons (λ x. cond (is_named x) 1 0) p s
+      ∙ ap (λ n. n + count_by is_named s) (named_by p)
 
   -- what an ordered map's `insert` adds
   pub names_put : (k : ℕ) (v : V) (s : List (ℕ × V)) → count_by is_named (put nat_cmp k v s)
@@ -35,8 +35,8 @@ module _ {V : Type 0} where
   names_put k v [] = let c = counted (k, v) [] in omega (arith, c)
   names_put k v (e ∷ s) = by_cmp (nat_cmp k e.0) (names_put k v s)
     where
-      by_cmp : (o : Ordering) → count_by is_named (put nat_cmp k v s) ≤ count_by is_named s
-          + one_name k
+      by_cmp : (o : Ordering) → count_by is_named (put nat_cmp k v s)
+          ≤ count_by is_named s + one_name k
           → count_by is_named (by_order o ((k, v) ∷ e ∷ s) ((e.0, v) ∷ s) (e ∷ put nat_cmp k v s))
           ≤ count_by is_named (e ∷ s) + one_name k
       by_cmp Less rest = let c = counted (k, v) (e ∷ s) in omega (arith, c)
@@ -77,7 +77,8 @@ module _ {V : Type 0} where
         less,
         ap
             (λ b. count_by is_named
-            (cond b (filter (λ entry. not (entry.0 == k)) s) (put nat_cmp k v s))) none,
+            (cond b (filter (λ entry. not (entry.0 == k)) s) (put nat_cmp k v s)))
+            none,
       )
 
   -- what a place that is written adds
@@ -87,8 +88,8 @@ module _ {V : Type 0} where
   names_set (x ∷ places) zero p = let c = counted p places in let d = counted x places in
       omega (arith, c, d)
   names_set (x ∷ places) (suc i) p =
-      let c = counted x (set places i p) in let d = counted x places in let rest =
-      names_set places i p in omega (arith, c, d, rest)
+      let c = counted x (set places i p) in let d = counted x places in
+      let rest = names_set places i p in omega (arith, c, d, rest)
 
   -- and nothing, if its name stays
   pub names_stay : (nothing : V) (places : List (ℕ × V)) (i : ℕ) (p : ℕ × V)
@@ -99,17 +100,17 @@ module _ {V : Type 0} where
       let c = counted p places in let d = counted x places in let e : one_name x.0 ≡ one_name p.0 =
       ap one_name same in omega (arith, c, d, e)
   names_stay nothing (x ∷ places) (suc i) p same =
-      let c = counted x (set places i p) in let d = counted x places in let rest =
-      names_stay nothing places i p same in omega (arith, c, d, rest)
+      let c = counted x (set places i p) in let d = counted x places in
+      let rest = names_stay nothing places i p same in omega (arith, c, d, rest)
 
   -- the entries have no more names than the places and the rest
   names_entries : (is_nothing : V → Bool) (places rest : List (ℕ × V))
-      → count_by is_named (entries_in is_nothing places rest) ≤ count_by is_named places
-      + count_by is_named rest
+      → count_by is_named (entries_in is_nothing places rest)
+      ≤ count_by is_named places + count_by is_named rest
   unfolding entries_in
   names_entries is_nothing [] rest = omega arith
-  names_entries is_nothing (p ∷ places) rest = by_taken (is_nothing p.1)
-      (names_entries is_nothing places rest)
+  names_entries is_nothing (p ∷ places) rest =
+      by_taken (is_nothing p.1) (names_entries is_nothing places rest)
     where
       by_taken : (b : Bool) → count_by is_named (entries_in is_nothing places rest)
           ≤ count_by is_named places + count_by is_named rest
@@ -119,8 +120,9 @@ module _ {V : Type 0} where
           ≤ count_by is_named (p ∷ places) + count_by is_named rest
       by_taken true others = let c = counted p places in omega (arith, c, others)
       by_taken false others =
-          let c = counted p places in let more = names_put p.0 p.1
-          (entries_in is_nothing places rest) in omega (arith, c, more, others)
+          let c = counted p places in
+          let more = names_put p.0 p.1 (entries_in is_nothing places rest) in
+          omega (arith, c, more, others)
 
   -- keys that rise above one are all named
   all_named : (k : ℕ) (s : List (ℕ × V)) → T (below_all nat_cmp k s) → length s
@@ -129,8 +131,8 @@ module _ {V : Type 0} where
   all_named k (e ∷ s) below =
       let c = counted e s in
       let high : k < e.0 = is_greater k e.0 (first_of_and _ _ below) in
-      let one : one_name e.0 ≡ 1 = ap {B = ℕ} (λ b. cond b 0 1)
-      (isnt_same e.0 0 (omega (arith, high))) in
+      let one : one_name e.0 ≡ 1 =
+      ap {B = ℕ} (λ b. cond b 0 1) (isnt_same e.0 0 (omega (arith, high))) in
       let rest = all_named k s (second_of_and (is_lt (nat_cmp k e.0)) _ below) in
       omega (arith, c, one, rest)
 

@@ -23,8 +23,8 @@ module _ {V : Type 0} (nothing : V) (is_nothing : V → Bool) where
   -- what the first place with a key and a value has of it
   abbrev pub held : List (ℕ × V) → ℕ → Option V
   held [] q = None
-  held (p ∷ places) q = cond (is_nothing p.1) (held places q)
-      (cond (q == p.0) (Some p.1) (held places q))
+  held (p ∷ places) q =
+      cond (is_nothing p.1) (held places q) (cond (q == p.0) (Some p.1) (held places q))
 
   -- where a key stands in the table, if it stands anywhere
   abbrev pub StandsAt : List (ℕ × V) → ℕ → Option ℕ → Type 0
@@ -41,12 +41,13 @@ module _ {V : Type 0} (nothing : V) (is_nothing : V → Bool) where
       by_taken : (b : Bool) → is_nothing p.1 ≡ b
           → cond b (held places q) (cond (q == p.0) (Some p.1) (held places q)) ≡ held places q
       by_taken true e = refl
-      by_taken false e = ap (λ b. cond b (Some p.1) (held places q))
+      by_taken false e =
+          ap (λ b. cond b (Some p.1) (held places q))
           (isnt_same q p.0 (λ same. other (ap not e) (sym same)))
 
   pub find_in : (places rest : List (ℕ × V)) (q : ℕ)
-      → find nat_cmp q (entries_in is_nothing places rest) ≡ option_or (held places q)
-      (find nat_cmp q rest)
+      → find nat_cmp q (entries_in is_nothing places rest)
+      ≡ option_or (held places q) (find nat_cmp q rest)
   unfolding entries_in
   find_in [] rest q = refl
   find_in (p ∷ places) rest q = by_taken (is_nothing p.1) (find_in places rest q)
@@ -62,8 +63,8 @@ module _ {V : Type 0} (nothing : V) (is_nothing : V → Bool) where
           ≡ option_or (cond b (held places q) (cond (q == p.0) (Some p.1) (held places q)))
           (find nat_cmp q rest)
       by_taken true others = others
-      by_taken false others = find-put nat_cmp nat_cmp_total q p.0 p.1
-          (entries_in is_nothing places rest)
+      by_taken false others =
+          find-put nat_cmp nat_cmp_total q p.0 p.1 (entries_in is_nothing places rest)
           ∙ ap (λ b. cond b (Some p.1) (find nat_cmp q (entries_in is_nothing places rest)))
           (unsigned_tied q p.0)
           ∙ by_key (q == p.0)
@@ -78,8 +79,8 @@ module _ {V : Type 0} (nothing : V) (is_nothing : V → Bool) where
       → IsEntries is_nothing (entries_in is_nothing places rest)
   unfolding entries_in
   entries_formed [] rest formed = formed
-  entries_formed (p ∷ places) rest formed = by_taken (is_nothing p.1) refl
-      (entries_formed places rest formed)
+  entries_formed (p ∷ places) rest formed =
+      by_taken (is_nothing p.1) refl (entries_formed places rest formed)
     where
       by_taken : (b : Bool) → is_nothing p.1 ≡ b
           → IsEntries is_nothing (entries_in is_nothing places rest)
@@ -99,7 +100,8 @@ module _ {V : Type 0} (nothing : V) (is_nothing : V → Bool) where
     where
       by_taken : (b : Bool) → length rest ≤ length (entries_in is_nothing places rest)
           → length rest
-          ≤ length (cond b (entries_in is_nothing places rest)
+          ≤ length
+          (cond b (entries_in is_nothing places rest)
           (put nat_cmp p.0 p.1 (entries_in is_nothing places rest)))
       by_taken true fewer = fewer
       by_taken false fewer =
@@ -130,7 +132,8 @@ module _ {V : Type 0} (nothing : V) (is_nothing : V → Bool) where
           let taken : is_taken is_nothing p ≡ true = here.0 in absurd cc
       by_taken false e = ap (λ b. cond b (Some p.1) (held places q)) (is_same q p.0 (sym here.1))
   held_one passes (p ∷ places) q (suc i) here others =
-      skipped p places q (others zero (omega arith)) ∙ held_one passes places q i here
+      skipped p places q (others zero (omega arith))
+      ∙ held_one passes places q i here
       (λ j other. others (suc j) (λ same. other (omega (arith, same))))
 
   held_set : (places : List (ℕ × V)) (i : ℕ) (p : ℕ × V) (r : ℕ)
@@ -155,28 +158,29 @@ module _ {V : Type 0} (nothing : V) (is_nothing : V → Bool) where
           where
             by_order : (a b : Bool) → nat_lt i j ≡ a → nat_lt j i ≡ b → i ≡ j
             by_order true b e f =
-                let here : first_place shift (place_at nothing places i).0 ≡ first_place shift
-                (place_at nothing places j).0 = ap (first_place shift) same in
-                let reach = table.reach i taken_i in
-                absurd (table.first j taken_j i (omega (arith, reach.0, here))
-                (below_of i j e) same)
+                let here : first_place shift (place_at nothing places i).0
+                ≡ first_place shift (place_at nothing places j).0 = ap (first_place shift) same in
+                let reach = table.within i taken_i in
+                absurd (table.first j taken_j i (omega (arith, reach.0, here)) (below_of i j e)
+                same)
             by_order false true e f =
-                let here : first_place shift (place_at nothing places i).0 ≡ first_place shift
-                (place_at nothing places j).0 = ap (first_place shift) same in
-                let reach = table.reach j taken_j in
+                let here : first_place shift (place_at nothing places i).0
+                ≡ first_place shift (place_at nothing places j).0 = ap (first_place shift) same in
+                let reach = table.within j taken_j in
                 absurd (table.first i taken_i j (omega (arith, reach.0, here)) (below_of j i f)
                 (sym same))
             by_order false false e f = omega (arith, not_below_of i j e, not_below_of j i f)
 
         -- of the places of a key, none but the one that is found has a value
         pub others_of : (q i : ℕ) → IsFoundAt nothing shift places q (Some i) → (j : ℕ) → j ≢ i
-            → is_taken is_nothing (place_at nothing places j) ≡ true → (place_at nothing places j).0
-            ≢ q
+            → is_taken is_nothing (place_at nothing places j) ≡ true
+            → (place_at nothing places j).0 ≢ q
         others_of q i found j other taken same = by_order (nat_lt j i) refl
           where
             by_order : (b : Bool) → nat_lt j i ≡ b → ⊥
-            by_order true e = let reach = table.reach j taken in found.2 j
-                (omega (arith, reach.0, ap (first_place shift) same)) (below_of j i e) same
+            by_order true e = let reach = table.within j taken in
+                found.2 j (omega (arith, reach.0, ap (first_place shift) same)) (below_of j i e)
+                same
             by_order false e =
                 let within = found.0 in
                 table.first j taken i (omega (arith, within.0, ap (first_place shift) same))
@@ -185,7 +189,7 @@ module _ {V : Type 0} (nothing : V) (is_nothing : V → Bool) where
         -- if no place of a key has its name, it has no value in the table
         pub nowhere_of : (q : ℕ) → IsFoundAt nothing shift places q None → StandsAt places q None
         nowhere_of q missing i taken same =
-            let reach = table.reach i taken in
+            let reach = table.within i taken in
             let at : first_place shift (place_at nothing places i).0 ≡ first_place shift q =
             ap (first_place shift) same in
             missing i (omega (arith, reach.0, at), omega (arith, reach.1, at)) same
@@ -205,7 +209,8 @@ module _ {V : Type 0} (nothing : V) (is_nothing : V → Bool) where
         -- what there is of a key that isn't found, and of one that is
         pub find_missing : (q : ℕ) → IsFoundAt nothing shift places q None
             → find nat_cmp q (entries_in is_nothing places rest) ≡ find nat_cmp q rest
-        find_missing q missing = find_in places rest q ∙ ap (λ o. option_or o (find nat_cmp q rest))
+        find_missing q missing = find_in places rest q
+            ∙ ap (λ o. option_or o (find nat_cmp q rest))
             (held_none places q (nowhere_of q missing))
 
         pub rest_found : (q i : ℕ) → IsFoundAt nothing shift places q (Some i) → find nat_cmp q rest
@@ -216,8 +221,8 @@ module _ {V : Type 0} (nothing : V) (is_nothing : V → Bool) where
             ap (λ k. find nat_cmp k rest) (sym found.1) ∙ table.away i within
 
         pub find_found : (q i : ℕ) → IsFoundAt nothing shift places q (Some i)
-            → find nat_cmp q (entries_in is_nothing places rest) ≡ given_value is_nothing
-            (place_at nothing places i).1
+            → find nat_cmp q (entries_in is_nothing places rest)
+            ≡ given_value is_nothing (place_at nothing places i).1
         find_found q i found = by_nothing (is_nothing (place_at nothing places i).1) refl
           where
             by_nothing : (b : Bool) → is_nothing (place_at nothing places i).1 ≡ b
@@ -288,9 +293,9 @@ module _ {V : Type 0} (nothing : V) (is_nothing : V → Bool) where
                 (omega (arith, is, same, within.0), omega (arith, is, same, within.1))
             by_place false e =
                 let at = there j (apart_of j i e) in
-                let bounds = table.reach j (sym (ap (is_taken is_nothing) at) ∙ taken) in
-                let is : first_place shift (place_at nothing written j).0 ≡ first_place shift
-                (place_at nothing places j).0 =
+                let bounds = table.within j (sym (ap (is_taken is_nothing) at) ∙ taken) in
+                let is : first_place shift (place_at nothing written j).0
+                ≡ first_place shift (place_at nothing places j).0 =
                 ap (λ (p : ℕ × V). first_place shift p.0) at in
                 (omega (arith, is, bounds.0), omega (arith, is, bounds.1))
 
@@ -299,8 +304,8 @@ module _ {V : Type 0} (nothing : V) (is_nothing : V → Bool) where
             → (place_at nothing written k).0 ≢ (place_at nothing written j).0
         first j taken k high low_k = by_places (j == i) (k == i) refl refl
           where
-            by_places : (c d : Bool) → (j == i) ≡ c → (k == i) ≡ d → (place_at nothing written k).0
-                ≢ (place_at nothing written j).0
+            by_places : (c d : Bool) → (j == i) ≡ c → (k == i) ≡ d
+                → (place_at nothing written k).0 ≢ (place_at nothing written j).0
             by_places true true e f = absurd (omega (arith, same_of j i e, same_of k i f, low_k))
             by_places true false e f =
                 let at = there k (apart_of k i f) in
@@ -312,8 +317,8 @@ module _ {V : Type 0} (nothing : V) (is_nothing : V → Bool) where
             by_places false false e f =
                 let at_j = there j (apart_of j i e) in
                 let at_k = there k (apart_of k i f) in
-                let is : first_place shift (place_at nothing written j).0 ≡ first_place shift
-                (place_at nothing places j).0 =
+                let is : first_place shift (place_at nothing written j).0
+                ≡ first_place shift (place_at nothing places j).0 =
                 ap (λ (p : ℕ × V). first_place shift p.0) at_j in
                 λ same. table.first j (sym (ap (is_taken is_nothing) at_j) ∙ taken) k
                 (omega (arith, high, is)) low_k
@@ -334,7 +339,7 @@ module _ {V : Type 0} (nothing : V) (is_nothing : V → Bool) where
         pub written_places : ArePlaces nothing is_nothing shift (set places i (q, v)) rest
         written_places = record {
           shifted = table.shifted;
-          reach = reach;
+          within = reach;
           first = first;
           room = λ r. omega (arith, table.room r, length-set places i (q, v));
           size = length-set places i (q, v) ∙ table.size;
@@ -351,8 +356,7 @@ module _ {V : Type 0} (nothing : V) (is_nothing : V → Bool) where
         )
 
         pub written_entries : entries_in is_nothing (set places i (q, v)) rest
-            ≡ with_value is_nothing
-            (entries_in is_nothing places rest) q v
+            ≡ with_value is_nothing (entries_in is_nothing places rest) q v
         written_entries = entries_are is_nothing (entries_in is_nothing places rest)
             (entries_in is_nothing written rest) q v (entries_formed places rest table.formed)
             (entries_formed written rest table.formed) (λ r. by_key r (r == q) refl)
@@ -376,8 +380,8 @@ module _ {V : Type 0} (nothing : V) (is_nothing : V → Bool) where
       -- what stands where a key was found is the key's value
       pub read_value : (shift : ℕ) (places rest : List (ℕ × V)) (i q : ℕ) (pair : ℕ × V)
           → ArePlaces nothing is_nothing shift places rest
-          → IsFoundAt nothing shift places q (Some i) → pair ≡ slice_index_or places i pair
-          → pair.1 ≡ value_of nothing (entries_in is_nothing places rest) q
+          → IsFoundAt nothing shift places q (Some i) → pair ≡ slice_index_or places i pair → pair.1
+          ≡ value_of nothing (entries_in is_nothing places rest) q
       read_value shift places rest i q pair table found is =
           let low : i < length places = omega (arith, table.room q, found.0.1) in
           ap (λ (p : ℕ × V). p.1) (is ∙ get_or_default places i pair (0, nothing) low)
@@ -387,15 +391,17 @@ module _ {V : Type 0} (nothing : V) (is_nothing : V → Bool) where
           (table : ArePlaces nothing is_nothing shift places rest)
           (found : IsFoundAt nothing shift places q (Some i)) where
         pub found_places : ArePlaces nothing is_nothing shift (set places i (q, v)) rest
-        found_places = written_places shift places rest table i q v
-            (omega (arith, table.room q, found.0.1)) found.0 found.2
+        found_places =
+            written_places shift places rest table i q v (omega (arith, table.room q, found.0.1))
+            found.0 found.2
             (others_of shift places rest table q i found) (λ taken. found.1)
             (rest_found shift places rest table q i found)
 
-        pub found_entries : entries_in is_nothing (set places i (q, v)) rest ≡ with_value is_nothing
-            (entries_in is_nothing places rest) q v
-        found_entries = written_entries shift places rest table i q v
-            (omega (arith, table.room q, found.0.1)) found.0 found.2
+        pub found_entries : entries_in is_nothing (set places i (q, v)) rest
+            ≡ with_value is_nothing (entries_in is_nothing places rest) q v
+        found_entries =
+            written_entries shift places rest table i q v (omega (arith, table.room q, found.0.1))
+            found.0 found.2
             (others_of shift places rest table q i found) (λ taken. found.1)
             (rest_found shift places rest table q i found)
 
@@ -417,10 +423,10 @@ module _ {V : Type 0} (nothing : V) (is_nothing : V → Bool) where
             (λ j other. nowhere_of shift places rest table q missing j) not_taken
             (not_found is_nothing nothing rest q table.formed none)
 
-        pub free_entries : entries_in is_nothing (set places i (q, v)) rest ≡ with_value is_nothing
-            (entries_in is_nothing places rest) q v
-        free_entries = written_entries shift places rest table i q v
-            (omega (arith, table.room q, to))
+        pub free_entries : entries_in is_nothing (set places i (q, v)) rest
+            ≡ with_value is_nothing (entries_in is_nothing places rest) q v
+        free_entries =
+            written_entries shift places rest table i q v (omega (arith, table.room q, to))
             (from, to)
             (λ j high low. missing j (high, omega (arith, low, to)))
             (λ j other. nowhere_of shift places rest table q missing j) not_taken
@@ -433,7 +439,7 @@ module _ {V : Type 0} (nothing : V) (is_nothing : V → Bool) where
         pub rest_places : ArePlaces nothing is_nothing shift places (with_value is_nothing rest q v)
         rest_places = record {
           shifted = table.shifted;
-          reach = table.reach;
+          within = table.within;
           first = table.first;
           room = table.room;
           size = table.size;
@@ -485,13 +491,13 @@ module _ {V : Type 0} (nothing : V) (is_nothing : V → Bool) where
           → ArePlaces nothing is_nothing shift (replicate (2 ^ bits + 3) (0, nothing)) []
       new_places shift bits some sum = record {
         shifted = omega (arith, sum, some);
-        reach = λ i taken. absurd (let no = all_free (2 ^ bits + 3) i in cc);
+        within = λ i taken. absurd (let no = all_free (2 ^ bits + 3) i in cc);
         first = λ i taken. absurd (let no = all_free (2 ^ bits + 3) i in cc);
         room = λ q. omega (
           arith,
           places_within shift bits q sum,
-          length-replicate {A = ℕ × V}
-              (2 ^ bits + 3) (0, nothing),
+          length-replicate {A = ℕ × V} (2 ^ bits + 3)
+              (0, nothing),
         );
         size = length-replicate {A = ℕ × V} (2 ^ bits + 3) (0, nothing)
             ∙ ap (λ n. 2 ^ n + 3) (let e : bits ≡ 64 - shift = omega (arith, sum) in e);
@@ -502,6 +508,7 @@ module _ {V : Type 0} (nothing : V) (is_nothing : V → Bool) where
       pub new_entries : (n : ℕ) → entries_in is_nothing (replicate n (0, nothing)) [] ≡ []
       unfolding entries_in
       new_entries zero = refl
-      new_entries (suc n) = ap (λ b. cond b (entries_in is_nothing (replicate n (0, nothing)) [])
+      new_entries (suc n) =
+          ap (λ b. cond b (entries_in is_nothing (replicate n (0, nothing)) [])
           (put nat_cmp 0 nothing (entries_in is_nothing (replicate n (0, nothing)) []))) passes
           ∙ new_entries n

@@ -33,16 +33,16 @@ pub digits_counted : (n : ℕ) → n < 2 ^ 64 → 64 - count_leading_zeros 64 n 
 digits_counted n fits =
     let fit = digits_fit n in
     let few : digits n ≤ 64 = at_most (digits n) fit.1 in
-    let is : 64 - digits n ≡ count_leading_zeros 64 n = leading_unique 64 n (64 - digits n)
-    (digits n) (omega (arith, few)) fit.0 fit.1 in
+    let is : 64 - digits n ≡ count_leading_zeros 64 n =
+    leading_unique 64 n (64 - digits n) (digits n) (omega (arith, few)) fit.0 fit.1 in
     omega (arith, few, is)
   where
     at_most : (d : ℕ) → 2 ^ d ≤ 2 * n + 1 → d ≤ 64
     at_most d low = by_test (nat_lt 64 d) refl
       where
         by_test : (b : Bool) → nat_lt 64 d ≡ b → d ≤ 64
-        by_test true e = absurd
-            (omega (arith, pow_mono {i = 65} {j = d} (grind (arith, nat_tests)), low, fits))
+        by_test true e =
+            absurd (omega (arith, pow_mono {i = 65} {j = d} (grind (arith, nat_tests)), low, fits))
         by_test false e = grind (arith, nat_tests)
 
 -- a greater number has no fewer digits
@@ -64,8 +64,8 @@ digits_mono a (suc b) le = by_test (nat_le a b) refl (digits_mono a b)
     by_test true e lower = omega (arith, lower (grind (arith, nat_tests)), digits_next b)
     by_test false e lower =
         let high : b < a = grind (arith, nat_tests) in
-        let is : digits a ≡ digits (suc b) = ap digits
-        (let same : a ≡ suc b = omega (arith, le, high) in same) in omega (arith, is)
+        let is : digits a ≡ digits (suc b) =
+        ap digits (let same : a ≡ suc b = omega (arith, le, high) in same) in omega (arith, is)
 
 pub question_mono : (a b : ℕ) → a ≤ b → question a ≤ question b
 question_mono a b le = omega (arith, digits_mono a b le)

@@ -1,5 +1,6 @@
 -- When a table grows, and what it has saved by then.
 use Rattle.std.specs.Prelude.{ℕ, Bool, ◌+◌, ◌-◌, ◌/◌, ◌^◌, ◌<◌, ◌≤◌}
+use Rattle.vyrd_table.specs.Places.{bits_at_least, bits_at_most}
 use Rattle.vyrd_table.specs.Placed.{ArePlaced, names_of}
 use Rattle.vyrd_table.specs.declared.places.Places.{Places}
 
@@ -12,8 +13,8 @@ pub record HasRoom (bits names most room : ℕ) : Type 0 where
   pub half : 0 < room → names + room ≤ 2 ^ bits / 2
   pub quarter : 0 < room → room ≤ 2 ^ bits / 4
   pub larger : 0 < room → bits < most
-  pub least : 3 ≤ bits
-  pub limit : most ≤ 20
+  pub least : bits_at_least ≤ bits
+  pub limit : most ≤ bits_at_most
 
 -- what is always so of a table
 pub record IsTable {V : Type 0} (nothing : V) (is_nothing : V → Bool) (places : Places V)

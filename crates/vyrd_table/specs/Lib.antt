@@ -1,5 +1,6 @@
 pub mod Contents
 pub mod Entries
+pub mod First
 pub mod Growing
 pub mod Laws
 pub mod Moving

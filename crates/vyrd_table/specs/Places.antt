@@ -8,8 +8,19 @@ use Rattle.std.specs.FinMap.{find, put}
 use Rattle.vyrd_base.specs.Tables.{first_place, IsWithin}
 use Rattle.vyrd_table.specs.Entries.{IsEntries}
 
--- So many places there are if 2^bits of them may be the first of a key's: the last of these has three
--- more after it.
+-- so many places in a row a key may stand in
+abbrev pub reach : ℕ
+reach = 4
+
+-- a table is made for 2^3 places at least and for 2^20 at most
+abbrev pub bits_at_least : ℕ
+bits_at_least = 3
+
+abbrev pub bits_at_most : ℕ
+bits_at_most = 20
+
+-- So many places there are if 2^bits of them may be the first of a key's: three more stand after
+-- the last of these.
 abbrev pub place_count : ℕ → ℕ
 place_count bits = 2 ^ bits + 3
 
@@ -34,12 +45,12 @@ IsFoundAt nothing shift places key (Some i) =
 pub record ArePlaces {V : Type 0} (nothing : V) (is_nothing : V → Bool) (shift : ℕ)
     (places rest : List (ℕ × V)) : Type 0 where
   pub shifted : shift < 64
-  pub reach : (i : ℕ) → is_taken is_nothing (place_at nothing places i) ≡ true
+  pub within : (i : ℕ) → is_taken is_nothing (place_at nothing places i) ≡ true
       → IsWithin shift (place_at nothing places i).0 i
   pub first : (i : ℕ) → is_taken is_nothing (place_at nothing places i) ≡ true → (j : ℕ)
       → first_place shift (place_at nothing places i).0 ≤ j → j < i
       → (place_at nothing places j).0 ≢ (place_at nothing places i).0
-  pub room : (q : ℕ) → first_place shift q + 4 ≤ length places
+  pub room : (q : ℕ) → first_place shift q + reach ≤ length places
   pub size : length places ≡ place_count (64 - shift)
   pub away : (i : ℕ) → IsWithin shift (place_at nothing places i).0 i
       → find nat_cmp (place_at nothing places i).0 rest ≡ None

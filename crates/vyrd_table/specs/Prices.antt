@@ -2,7 +2,7 @@
 -- filled, or one key that is taken from one table to another. A question to an ordered map is taken
 -- to be as many steps as the number of its keys has binary digits, and one more.
 use Rattle.std.specs.Prelude.{ℕ, zero, suc, ◌+◌, ◌-◌, ◌*◌, ◌/◌, ◌^◌, ◌==◌, nat_le, nat_lt}
-use Rattle.vyrd_table.specs.Places.{place_count}
+use Rattle.vyrd_table.specs.Places.{reach, place_count}
 use Rattle.std.specs.Prelude.{if◌then◌else◌}
 
 -- how many binary digits a number has; 0 has none
@@ -13,10 +13,6 @@ digits (suc n) = if nat_le (2 ^ digits n) (suc n) then suc (digits n) else digit
 -- a question to an ordered map with so many keys
 abbrev pub question : ℕ → ℕ
 question keys = digits keys + 1
-
--- so many places a key may stand in
-abbrev pub reach : ℕ
-reach = 4
 
 -- a look-up among so many keys: the places of the key, and if none has its name, a question
 abbrev pub look_up_price : ℕ → ℕ

@@ -3,6 +3,7 @@
 ghost use Rattle.std.specs.Prelude.{◌≡◌, ◌+◌, ◌-◌, ◌*◌, ◌/◌, ◌<◌, ◌≤◌, ◌^◌, min};
 ghost use Rattle.vyrd_table.specs.Growing.{HasRoom};
 ghost use Rattle.vyrd_table.specs.Placed.{ArePlaced, entries_of, names_of};
+ghost use Rattle.vyrd_table.specs.Places.{bits_at_least, bits_at_most};
 ghost use Rattle.vyrd_table.specs.Prices.{growing_share, saved_by, first_room};
 
 use crate::places::Places;
@@ -52,9 +53,9 @@ pub(crate) fn room_after<V: Value, L: Ledger>(
 fn grow<V: Value, L: Ledger>(places: &mut Places<V>, most_bits: u32, steps: &mut Steps<L>) -> usize
     requires placed { ArePlaced V.nothing V.is_nothing places.old }
     requires half { names_of places.old ≤ 2 ^ (64 - places.old.shift) / 2 }
-    requires least { 3 ≤ 64 - places.old.shift }
+    requires least { bits_at_least ≤ 64 - places.old.shift }
     requires larger { 64 - places.old.shift < most_bits }
-    requires most { most_bits ≤ 20 }
+    requires most { most_bits ≤ bits_at_most }
     ensures placed { ArePlaced V.nothing V.is_nothing places.new }
     ensures entries { entries_of V.is_nothing places.new ≡ entries_of V.is_nothing places.old }
     ensures room { HasRoom (64 - places.new.shift) (names_of places.new) most_bits result }
@@ -74,7 +75,7 @@ fn grow<V: Value, L: Ledger>(places: &mut Places<V>, most_bits: u32, steps: &mut
 
 /// So many newcomers may come to 2^bits places before these become more, up to 2^most_bits.
 pub(crate) fn room_for(bits: u32, most_bits: u32) -> usize
-    requires { bits ≤ 20 }
+    requires { bits ≤ bits_at_most }
     ensures { result ≡ first_room bits most_bits }
 {
     if bits < most_bits {
@@ -86,7 +87,7 @@ pub(crate) fn room_for(bits: u32, most_bits: u32) -> usize
 
 /// A quarter of 2^bits.
 fn quarter_of(bits: u32) -> usize
-    requires { bits ≤ 20 }
+    requires { bits ≤ bits_at_most }
     ensures { result ≡ 2 ^ bits / 4 }
 {
     (1 << bits) >> FILLED_BITS
@@ -102,7 +103,7 @@ fn grown_bits(shift: u32, most_bits: u32) -> u32
 
 /// The table for that many keys grows up to 2^bits places: two to four for each.
 pub(crate) fn table_bits(keys: usize) -> u32
-    ensures { (3 ≤ result) × (result ≤ 20) }
+    ensures { (bits_at_least ≤ result) × (result ≤ bits_at_most) }
 {
     (usize::BITS + 1 - keys.leading_zeros())
         .max(LEAST_BITS)

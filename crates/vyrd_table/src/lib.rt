@@ -17,6 +17,9 @@
 //! A key is looked up once and its value set in the place that was found by `find` and `put`, whose
 //! [`Slot`] passes on the place.
 //!
+//! All keys with their values are given by `entries`. The least key whose value is [`Marked`] is
+//! found without memory.
+//!
 //! `places` has the places with the rest of the keys, `moved` has all keys come to new places,
 //! `growing` says when they do, and `rest` is the ordered map. `laws` says that entries are a map,
 //! and what a logarithm is; `worked` has small cases.
@@ -25,6 +28,7 @@
 mod growing;
 pub mod laws;
 mod listed;
+mod marked;
 mod moved;
 mod places;
 mod rest;
@@ -33,6 +37,7 @@ mod table;
 mod value;
 pub mod worked;
 
+pub use marked::Marked;
 pub use slot::Slot;
 pub use table::Table;
 pub use value::Value;

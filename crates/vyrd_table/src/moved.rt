@@ -3,9 +3,10 @@
 ghost use Rattle.std.specs.Prelude.{◌≡◌, ◌+◌, ◌*◌, ◌<◌, ◌≤◌, length, cond, count_by};
 ghost use Rattle.std.specs.Prelude.{OnOk, IfOk};
 ghost use Rattle.vyrd_table.specs.Entries.{with_value};
-ghost use Rattle.vyrd_table.specs.Places.{place_count, is_taken, is_named, one_name, AreNew};
+ghost use Rattle.vyrd_table.specs.Places.{reach, bits_at_most, place_count, is_taken, is_named};
+ghost use Rattle.vyrd_table.specs.Places.{one_name, AreNew};
 ghost use Rattle.vyrd_table.specs.Places.{entries_in};
-ghost use Rattle.vyrd_table.specs.Prices.{most_keys, reach, newcomer_price, transfer_price};
+ghost use Rattle.vyrd_table.specs.Prices.{most_keys, newcomer_price, transfer_price};
 ghost use Rattle.vyrd_table.specs.Prices.{moving_price};
 
 use crate::places::Places;
@@ -24,7 +25,7 @@ impl<V: Value> Places<V> {
         steps: &mut Steps<L>,
     ) -> Result<Places<V>, AllocError>
         requires placed { ArePlaced V.nothing V.is_nothing self.now }
-        requires bits { (1 ≤ bits) × (bits ≤ 20) }
+        requires bits { (1 ≤ bits) × (bits ≤ bits_at_most) }
         requires fits { length (entries_of V.is_nothing self.now) < most_keys }
         ensures placed { IfOk result (λ places. ArePlaced V.nothing V.is_nothing places) }
         ensures entries { IfOk result

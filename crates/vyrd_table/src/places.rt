@@ -4,8 +4,9 @@ ghost use Rattle.std.specs.Prelude.{◌≡◌, ◌+◌, ◌-◌, ◌<◌, ◌≤
 ghost use Rattle.std.specs.Prelude.{replicate, [], OnOk, OnErr, IfOk, IfSome, Some, None};
 ghost use Rattle.vyrd_base.specs.Tables.{first_place};
 ghost use Rattle.vyrd_table.specs.Entries.{value_of, with_value};
-ghost use Rattle.vyrd_table.specs.Places.{place_count, is_taken, one_name, place_at, IsFoundAt};
-ghost use Rattle.vyrd_table.specs.Prices.{reach, question, newcomer_price};
+ghost use Rattle.vyrd_table.specs.Places.{reach, bits_at_most, place_count, is_taken, one_name};
+ghost use Rattle.vyrd_table.specs.Places.{place_at, IsFoundAt};
+ghost use Rattle.vyrd_table.specs.Prices.{question, newcomer_price};
 
 use crate::rest::Rest;
 use crate::value::Value;
@@ -38,7 +39,7 @@ impl<V: Value> Places<V> {
         bits: u32,
         steps: &mut Steps<L>,
     ) -> Result<Places<V>, AllocError>
-        requires { (1 ≤ bits) × (bits ≤ 20) }
+        requires { (1 ≤ bits) × (bits ≤ bits_at_most) }
         ensures placed { IfOk result (λ places. ArePlaced V.nothing V.is_nothing places) }
         ensures entries { IfOk result (λ places. entries_of V.is_nothing places ≡ []) }
         ensures names { IfOk result (λ places. names_of places ≡ 1) }
@@ -65,7 +66,7 @@ impl<V: Value> Places<V> {
     #[inline(always)]
     pub(crate) fn find<L: Ledger>(&self, key: u64, steps: &mut Steps<L>) -> Option<usize>
         requires shift { self.now.shift < 64 }
-        requires room { first_place self.now.shift key + 4 ≤ length self.now.pairs.items }
+        requires room { first_place self.now.shift key + reach ≤ length self.now.pairs.items }
         ensures found { IsFoundAt V.nothing self.now.shift self.now.pairs.items key result }
         ensures steps { steps.new ≤ steps.old + reach }
     {
@@ -82,9 +83,9 @@ impl<V: Value> Places<V> {
     /// A free place for the key, if there is one.
     fn free_place<L: Ledger>(&self, key: u64, steps: &mut Steps<L>) -> Option<usize>
         requires shift { self.now.shift < 64 }
-        requires room { first_place self.now.shift key + 4 ≤ length self.now.pairs.items }
+        requires room { first_place self.now.shift key + reach ≤ length self.now.pairs.items }
         ensures from { IfSome result (λ i. first_place self.now.shift key ≤ i) }
-        ensures to { IfSome result (λ i. i < first_place self.now.shift key + 4) }
+        ensures to { IfSome result (λ i. i < first_place self.now.shift key + reach) }
         ensures free { IfSome result
             (λ i. is_taken V.is_nothing (place_at V.nothing self.now.pairs.items i) ≡ false) }
         ensures steps { steps.new ≤ steps.old + reach }
@@ -180,9 +181,9 @@ impl<V: Value> Places<V> {
     /// Nothing needs none.
     fn place_for<L: Ledger>(&self, key: u64, value: V, steps: &mut Steps<L>) -> Option<usize>
         requires shift { self.now.shift < 64 }
-        requires room { first_place self.now.shift key + 4 ≤ length self.now.pairs.items }
+        requires room { first_place self.now.shift key + reach ≤ length self.now.pairs.items }
         ensures from { IfSome result (λ i. first_place self.now.shift key ≤ i) }
-        ensures to { IfSome result (λ i. i < first_place self.now.shift key + 4) }
+        ensures to { IfSome result (λ i. i < first_place self.now.shift key + reach) }
         ensures free { IfSome result
             (λ i. is_taken V.is_nothing (place_at V.nothing self.now.pairs.items i) ≡ false) }
         ensures away { IfSome result
@@ -204,7 +205,7 @@ fn free_places<V: Value, L: Ledger>(
     bits: u32,
     steps: &mut Steps<L>,
 ) -> Result<Vec<(u64, V)>, AllocError>
-    requires { (1 ≤ bits) × (bits ≤ 20) }
+    requires { (1 ≤ bits) × (bits ≤ bits_at_most) }
     ensures free { IfOk result
         (λ places. places.items ≡ replicate (place_count bits) (0, V.nothing)) }
     ensures steps { steps.new ≡ steps.old + place_count bits }
@@ -217,7 +218,7 @@ fn free_places<V: Value, L: Ledger>(
 /// How many places there are: 2^bits, and as many more as the last of them has after it for its
 /// keys.
 fn count_of(bits: u32) -> usize
-    requires { bits ≤ 20 }
+    requires { bits ≤ bits_at_most }
     ensures { result ≡ place_count bits }
 {
     (1 << bits) + (REACH - 1)

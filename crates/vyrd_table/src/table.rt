@@ -3,10 +3,12 @@
 ghost use Rattle.std.specs.Prelude.{◌≡◌, false, ◌+◌, ◌<◌, ◌≤◌, [], length, OnOk, OnErr, IfOk, None};
 ghost use Rattle.vyrd_table.specs.Contents.{IsSlotOf};
 ghost use Rattle.vyrd_table.specs.Entries.{IsEntries, value_of, with_value};
+ghost use Rattle.vyrd_table.specs.First.{IsFirst};
 ghost use Rattle.vyrd_table.specs.Places.{IsFoundAt};
 ghost use Rattle.vyrd_table.specs.Prices.{look_up_price, put_price, set_price, new_price};
 
 use crate::growing::{room_after, room_for, table_bits};
+use crate::marked::Marked;
 use crate::places::Places;
 use crate::slot::Slot;
 use crate::value::Value;
@@ -244,6 +246,16 @@ impl<V: Value> Table<V> {
         ensures some { OnErr result (V.is_nothing value ≡ false) }
     {
         set_alone::<V, Brand>(Blank::new(1), self, key, value)
+    }
+}
+
+impl<V: Marked> Table<V> {
+    /// The least key whose value is marked, or none if there is none. It goes through the whole
+    /// table, and takes no memory.
+    pub fn first_marked(&self) -> Option<u64>
+        ensures { IsFirst V.nothing V.is_marked self.now.entries result }
+    {
+        self.places.first_marked()
     }
 }
 

@@ -25,8 +25,8 @@ take_all-requires-2-clause-formed g c =
     let copied = c.in_ok-take_all.ensures
     ∙ ap (λ base. entries_in is_nothing c.deref.result.now base) c.new-all.ensures
     ∙ ap (λ ps. entries_in is_nothing ps []) (c.deref.ensures.value ∙ c.in_ok-rest.ensures.pairs)
-    ∙ entries_again g.V.Value.nothing is_nothing c.args.self.now.rest.map.entries
-    c.requires.formed in
+    ∙ entries_again g.V.Value.nothing is_nothing c.args.self.now.rest.map.entries c.requires.formed
+    in
     subst (IsEntries is_nothing) (sym copied) c.requires.formed
 
 pub take_all-requires-2-clause-new : goal.take_all-requires-2-clause-new
@@ -53,6 +53,7 @@ returns g c =
     ∙ ap (λ ps. entries_in is_nothing ps []) (c.deref.ensures.value ∙ c.in_ok-rest.ensures.pairs)
     ∙ entries_again g.V.Value.nothing is_nothing s.rest.map.entries c.requires.formed in
     let all = c.in_ok-take_all-2.ensures
-    ∙ ap (λ ps. entries_in is_nothing ps c.take_all.new.self.map.entries) c.deref-2.ensures.value
+    ∙ ap (λ ps. entries_in is_nothing ps c.take_all.new.self.map.entries)
+    c.deref-2.ensures.value
     ∙ ap (λ base. entries_in is_nothing s.pairs.items base) copied in
     IfOk-weaker c.pairs-2.result _ _ (λ pairs is. is ∙ all) c.pairs-2.ensures.pairs

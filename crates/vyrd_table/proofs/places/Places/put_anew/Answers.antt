@@ -69,8 +69,9 @@ returns-in-None-clause-ok g c =
     let rest = s.rest.map.entries in
     let after = c.set.new.self.map.entries in
     on_ok_weaker {P = after ≡ with_value is_nothing rest c.args.key c.args.value}
-    {Q = entries_in is_nothing s.pairs.items after ≡ with_value is_nothing
-    (entries_in is_nothing s.pairs.items rest) c.args.key c.args.value} c.set.result
+    {Q = entries_in is_nothing s.pairs.items after
+    ≡ with_value is_nothing (entries_in is_nothing s.pairs.items rest) c.args.key c.args.value}
+    c.set.result
     (λ is. ap (λ r. entries_in is_nothing s.pairs.items r) is
     ∙ rest_entries nothing is_nothing g.met.V.Value.nothing_passes g.met.V.Value.only_nothing
     s.shift s.pairs.items rest c.args.key c.args.value

@@ -44,8 +44,8 @@ returns-in_err-take-clause-steps g c =
     let is_nothing = g.V.Value.is_nothing in
     let pairs = c.args.pairs.now in
     let n = c.loop-pair.pair-index in
-    let item = c.pair-item.is ∙ get_or_default pairs n c.pair-item.result
-    (0, nothing) c.loop-pair-test.true in
+    let item = c.pair-item.is
+    ∙ get_or_default pairs n c.pair-item.result (0, nothing) c.loop-pair-test.true in
     omega (
       arith,
       c.take.ensures.steps,
@@ -63,8 +63,8 @@ loop-pair-preserved g c =
     let s = c.args.self.now in
     let pairs = c.args.pairs.now in
     let n = c.loop-pair.pair-index in
-    let item = c.pair-item.is ∙ get_or_default pairs n c.pair-item.result
-    (0, nothing) c.loop-pair-test.true in
+    let item = c.pair-item.is
+    ∙ get_or_default pairs n c.pair-item.result (0, nothing) c.loop-pair-test.true in
     record {
       placed = c.take.ensures.placed;
       entries = c.in_ok-take.ensures.ok

@@ -25,8 +25,8 @@ loop-pair-preserved g c =
     let old = c.args.self.now.map.entries in
     let pairs = c.args.pairs.now in
     let n = c.loop-pair.pair-index in
-    let item = c.pair-item.is ∙ get_or_default pairs n c.pair-item.result
-    (0, nothing) c.loop-pair-test.true in
+    let item = c.pair-item.is
+    ∙ get_or_default pairs n c.pair-item.result (0, nothing) c.loop-pair-test.true in
     c.in_ok-take.ensures
     ∙ ap (λ es. cond (is_nothing c.pair-item.result.1) es
     (with_value is_nothing es c.pair-item.result.0 c.pair-item.result.1))
