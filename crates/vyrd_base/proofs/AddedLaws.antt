@@ -6,18 +6,26 @@ use Rattle.vyrd_base.specs.Places.{numbers_below}
 use Rattle.vyrd_base.specs.Amounts.{Amounts, IsAmounts, amount_of, plus_amount, collected, given}
 use Rattle.vyrd_base.proofs.PlaceLaws.{numbers_below-push}
 use Rattle.vyrd_base.proofs.AmountLaws.{IsAmounts-with_amount, same_amounts}
-use Rattle.vyrd_base.proofs.SumLaws.{given-append, amount_of-plus, amount_of-collected, IsAmounts-collected}
+use Rattle.vyrd_base.proofs.SumLaws.{given-append, amount_of-plus, amount_of-collected}
+use Rattle.vyrd_base.proofs.SumLaws.{IsAmounts-collected}
 use Rattle.vyrd_base.specs.Added.{added}
 
-pub amount_of-added : (parts : List (ℕ × ℕ)) (s : Amounts) (q : ℕ) → amount_of (added s parts) q ≡ amount_of s q + given q parts
+pub amount_of-added : (parts : List (ℕ × ℕ)) (s : Amounts) (q : ℕ) → amount_of (added s parts) q
+    ≡ amount_of s q + given q parts
 amount_of-added [] s q = omega arith
 amount_of-added (part ∷ parts) s q =
-    omega (arith, amount_of-added parts (plus_amount s part.0 part.1) q, amount_of-plus s part.0 part.1 q)
+    omega (
+      arith,
+      amount_of-added parts (plus_amount s part.0 part.1) q,
+      amount_of-plus s part.0
+          part.1 q,
+    )
 
 pub IsAmounts-added : (parts : List (ℕ × ℕ)) (s : Amounts) → IsAmounts s → IsAmounts (added s parts)
 IsAmounts-added [] s is = is
 IsAmounts-added (part ∷ parts) s is =
-    IsAmounts-added parts (plus_amount s part.0 part.1) (IsAmounts-with_amount s part.0 (amount_of s part.0 + part.1) is)
+    IsAmounts-added parts (plus_amount s part.0 part.1)
+    (IsAmounts-with_amount s part.0 (amount_of s part.0 + part.1) is)
 
 pub added-append : (xs ys : List (ℕ × ℕ)) (s : Amounts) → added s (xs ++ ys) ≡ added (added s xs) ys
 added-append [] ys s = refl
@@ -28,7 +36,14 @@ pub collected-append : (xs ys : List (ℕ × ℕ)) → collected (xs ++ ys) ≡ 
 collected-append xs ys =
     same_amounts (collected (xs ++ ys)) (added (collected xs) ys) (IsAmounts-collected (xs ++ ys))
     (IsAmounts-added ys (collected xs) (IsAmounts-collected xs))
-    (λ q. omega (arith, amount_of-collected (xs ++ ys) q, given-append q xs ys, amount_of-added ys (collected xs) q, amount_of-collected xs q))
+    (λ q. omega (
+      arith,
+      amount_of-collected (xs ++ ys) q,
+      given-append q xs ys,
+      amount_of-added ys
+          (collected xs) q,
+      amount_of-collected xs q,
+    ))
 
 -- all parts, added to nothing
 pub added-collected : (parts : List (ℕ × ℕ)) → added [] parts ≡ collected parts
@@ -39,17 +54,21 @@ append_none [] = refl
 append_none (x ∷ xs) = ap (λ ys. x ∷ ys) (append_none xs)
 
 -- the parts of one number more
-pub parts-push : (f : ℕ → List (ℕ × ℕ)) (n : ℕ) → flat_map f (numbers_below (n + 1)) ≡ flat_map f (numbers_below n) ++ f n
-parts-push f n = ap (flat_map f) (numbers_below-push n) ∙ flat_map-append f (numbers_below n) (n ∷ [])
+pub parts-push : (f : ℕ → List (ℕ × ℕ)) (n : ℕ) → flat_map f (numbers_below (n + 1))
+    ≡ flat_map f (numbers_below n) ++ f n
+parts-push f n = ap (flat_map f) (numbers_below-push n) ∙ flat_map-append f (numbers_below n)
+    (n ∷ [])
     ∙ ap (λ xs. flat_map f (numbers_below n) ++ xs) (append_none (f n))
 
 -- the amounts with the parts of one number more
-pub collected-push : (f : ℕ → List (ℕ × ℕ)) (n : ℕ) (s t : Amounts) → s ≡ collected (flat_map f (numbers_below n)) → t ≡ added s (f n)
+pub collected-push : (f : ℕ → List (ℕ × ℕ)) (n : ℕ) (s t : Amounts)
+    → s ≡ collected (flat_map f (numbers_below n)) → t ≡ added s (f n)
     → t ≡ collected (flat_map f (numbers_below (n + 1)))
 collected-push f n s t is more = more ∙ ap (λ x. added x (f n)) is
     ∙ sym (ap collected (parts-push f n) ∙ collected-append (flat_map f (numbers_below n)) (f n))
 
-pub added-push : (f : ℕ → List (ℕ × ℕ)) (n : ℕ) (r s t : Amounts) → s ≡ added r (flat_map f (numbers_below n)) → t ≡ added s (f n)
+pub added-push : (f : ℕ → List (ℕ × ℕ)) (n : ℕ) (r s t : Amounts)
+    → s ≡ added r (flat_map f (numbers_below n)) → t ≡ added s (f n)
     → t ≡ added r (flat_map f (numbers_below (n + 1)))
 added-push f n r s t is more = more ∙ ap (λ x. added x (f n)) is
     ∙ sym (ap (added r) (parts-push f n) ∙ added-append (flat_map f (numbers_below n)) (f n) r)

@@ -1,5 +1,6 @@
 -- The words of a `BTreeMap` are those of amounts.
-use Rattle.std.proofs.Common.{◌≡◌, ℕ, Bool, true, false, cond, not, List, [], ◌∷◌, Some, refl, ap, subst, ◌∙◌, sym, arith, T}
+use Rattle.std.proofs.Common.{◌≡◌, ℕ, Bool, true, false, cond, not, List, [], ◌∷◌, Some, refl, ap}
+use Rattle.std.proofs.Common.{subst, ◌∙◌, sym, arith, T}
 use Rattle.std.specs.Prelude.{◌==◌, ◌≢◌, filter}
 use Rattle.std.specs.Ordering.{nat_cmp, eq_by_cmp, match_ordering, is_lt}
 use Rattle.std.specs.declared.cmp.Ordering.{Ordering}
@@ -34,10 +35,12 @@ above_isnt : (k q : ℕ) → T (is_lt (nat_cmp k q)) → (q == k) ≡ false
 above_isnt k q h = grind (arith, nat_tests)
 
 -- keys above k are none of k
-kept_above : (k : ℕ) (es : Amounts) → T (below_all nat_cmp k es) → filter (λ entry. not (entry.0 == k)) es ≡ es
+kept_above : (k : ℕ) (es : Amounts) → T (below_all nat_cmp k es)
+    → filter (λ entry. not (entry.0 == k)) es ≡ es
 kept_above k [] h = refl
 kept_above k (e ∷ es) h =
-    ap (λ b. cond (not b) (e ∷ filter (λ entry. not (entry.0 == k)) es) (filter (λ entry. not (entry.0 == k)) es))
+    ap (λ b. cond (not b) (e ∷ filter (λ entry. not (entry.0 == k)) es)
+    (filter (λ entry. not (entry.0 == k)) es))
     (above_isnt k e.0 (first_of_and _ _ h))
     ∙ ap (λ xs. e ∷ xs) (kept_above k es (second_of_and (is_lt (nat_cmp k e.0)) _ h))
 
@@ -50,17 +53,20 @@ pub remove_entry-filter : (k : ℕ) (es : Amounts) → T (is_sorted nat_cmp es)
     → remove_entry (is_at (nat_cmp k)) es ≡ filter (λ entry. not (entry.0 == k)) es
 remove_entry-filter k [] rising = refl
 remove_entry-filter k (e ∷ es) rising =
-    by_test (remove_entry-filter k es (second_of_and (below_all nat_cmp e.0 es) _ rising)) (k == e.0) refl
+    by_test (remove_entry-filter k es (second_of_and (below_all nat_cmp e.0 es) _ rising))
+    (k == e.0) refl
   where
     kept : List (ℕ × ℕ)
     kept = filter (λ entry. not (entry.0 == k)) es
 
     by_test : remove_entry (is_at (nat_cmp k)) es ≡ kept → (b : Bool) → (k == e.0) ≡ b
-        → cond (eq_by_cmp nat_cmp k e.0) es (e ∷ remove_entry (is_at (nat_cmp k)) es) ≡ cond (not (e.0 == k)) (e ∷ kept) kept
+        → cond (eq_by_cmp nat_cmp k e.0) es (e ∷ remove_entry (is_at (nat_cmp k)) es)
+        ≡ cond (not (e.0 == k)) (e ∷ kept) kept
     by_test rest true is =
         let same : k ≡ e.0 = grind (arith, nat_tests) in
         ap (λ b. cond b es (e ∷ remove_entry (is_at (nat_cmp k)) es)) (unsigned_tied k e.0 ∙ is)
-        ∙ sym (kept_above k es (subst (λ x. T (below_all nat_cmp x es)) (sym same) (first_of_and _ _ rising)))
+        ∙ sym (kept_above k es
+        (subst (λ x. T (below_all nat_cmp x es)) (sym same) (first_of_and _ _ rising)))
         ∙ sym (ap (λ b. cond (not b) (e ∷ kept) kept) (flip k e.0 true is))
     by_test rest false isnt =
         ap (λ b. cond b es (e ∷ remove_entry (is_at (nat_cmp k)) es)) (unsigned_tied k e.0 ∙ isnt)
@@ -68,9 +74,12 @@ remove_entry-filter k (e ∷ es) rising =
         ∙ sym (ap (λ b. cond (not b) (e ∷ kept) kept) (flip k e.0 false isnt))
 
 -- an insert of an amount that isn't 0, and a remove
-pub insert-with_amount : (es : Amounts) (k v : ℕ) → v ≢ 0 → insert_entry nat_cmp es k v ≡ with_amount es k v
+pub insert-with_amount : (es : Amounts) (k v : ℕ) → v ≢ 0 → insert_entry nat_cmp es k v
+    ≡ with_amount es k v
 insert-with_amount es k v some = insert_entry-put k v es
-    ∙ ap (λ b. cond b (filter (λ entry. not (entry.0 == k)) es) (put nat_cmp k v es)) (sym (isnt_same v 0 some))
+    ∙ ap (λ b. cond b (filter (λ entry. not (entry.0 == k)) es) (put nat_cmp k v es))
+    (sym (isnt_same v 0 some))
 
-pub remove-with_amount : (es : Amounts) (k : ℕ) → T (is_sorted nat_cmp es) → remove_entry (is_at (nat_cmp k)) es ≡ with_amount es k 0
+pub remove-with_amount : (es : Amounts) (k : ℕ) → T (is_sorted nat_cmp es)
+    → remove_entry (is_at (nat_cmp k)) es ≡ with_amount es k 0
 remove-with_amount es k rising = remove_entry-filter k es rising

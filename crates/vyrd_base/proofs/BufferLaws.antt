@@ -1,5 +1,6 @@
 -- What the loop over the characters of a buffer finds.
-use Rattle.std.proofs.Common.{◌≡◌, ℕ, ◌+◌, ◌*◌, ◌^◌, ◌<◌, ◌≤◌, Bool, true, false, refl, ap, sym, arith}
+use Rattle.std.proofs.Common.{◌≡◌, ℕ, ◌+◌, ◌*◌, ◌^◌, ◌<◌, ◌≤◌, Bool, true, false, refl, ap, sym}
+use Rattle.std.proofs.Common.{arith}
 use Rattle.std.specs.Prelude.{nat_le, None}
 use Rattle.std.specs.Bool.{then_some}
 use Rattle.std.proofs.Math.Nat.{mul-le-mul_right, pow-le-pow_right}
@@ -14,7 +15,8 @@ power_below power i few is =
     let small : 256 ^ i ≤ 256 ^ 6 = pow-le-pow_right {n = 256} (omega arith) most in
     omega (arith, small, is)
 
-pub digit_below : (c power i : ℕ) → c < 255 → i < 7 → power ≡ 256 ^ i → (c + 1) * power ≤ 255 * 2 ^ 48
+pub digit_below : (c power i : ℕ) → c < 255 → i < 7 → power ≡ 256 ^ i → (c + 1) * power
+    ≤ 255 * 2 ^ 48
 digit_below c power i low few is =
     let most : c + 1 ≤ 255 = omega (arith, low) in
     let digit : (c + 1) * power ≤ 255 * power = mul-le-mul_right power most in
@@ -22,7 +24,8 @@ digit_below c power i low few is =
 
 -- a character that isn't below 255 makes the words no buffer
 pub bad_text : (b : Buffer) (i : ℕ) → i < b.count → 255 ≤ b.character i → None ≡ shown_text b
-bad_text b i low high = ap (λ s. then_some s (text_of b.character b.count)) (sym (isnt (is_buffer b) refl))
+bad_text b i low high = ap (λ s. then_some s (text_of b.character b.count))
+    (sym (isnt (is_buffer b) refl))
   where
     isnt : (s : Bool) → is_buffer b ≡ s → is_buffer b ≡ false
     isnt true e =

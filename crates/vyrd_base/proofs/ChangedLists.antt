@@ -1,6 +1,7 @@
 -- A list whose elements are changed one after the other.
 use Rattle.std.proofs.Math.Seq.{take-append_seam}
-use Rattle.std.proofs.Common.{◌≡◌, ℕ, zero, suc, ◌+◌, ◌<◌, ◌≤◌, List, [], ◌∷◌, ◌++◌, length, take, map, set, get_or, refl, ap, ◌∙◌, sym, arith}
+use Rattle.std.proofs.Common.{◌≡◌, ℕ, zero, suc, ◌+◌, ◌<◌, ◌≤◌, List, [], ◌∷◌, ◌++◌, length, take}
+use Rattle.std.proofs.Common.{map, set, get_or, refl, ap, ◌∙◌, sym, arith}
 
 -- the list once its first n elements are changed
 abbrev pub changed_below : {A : Type 0} → (A → A) → ℕ → List A → List A
@@ -16,30 +17,36 @@ one_more f zero (x ∷ xs) d within = refl
 one_more f (suc n) (x ∷ xs) d within = ap (λ ys. f x ∷ ys) (one_more f n xs d (omega arith))
 
 -- the next element is still as it was
-pub unchanged_at : {A : Type 0} (f : A → A) (n : ℕ) (xs : List A) (d : A) → get_or (changed_below f n xs) n d ≡ get_or xs n d
+pub unchanged_at : {A : Type 0} (f : A → A) (n : ℕ) (xs : List A) (d : A)
+    → get_or (changed_below f n xs) n d ≡ get_or xs n d
 unchanged_at f zero xs d = refl
 unchanged_at f (suc n) [] d = refl
 unchanged_at f (suc n) (x ∷ xs) d = unchanged_at f n xs d
 
 -- the next element is changed
-pub changed_next : {A : Type 0} (f : A → A) (n : ℕ) (xs ys : List A) (d y : A) → n < length xs → ys ≡ changed_below f n xs → y ≡ f (get_or ys n d)
+pub changed_next : {A : Type 0} (f : A → A) (n : ℕ) (xs ys : List A) (d y : A) → n < length xs
+    → ys ≡ changed_below f n xs → y ≡ f (get_or ys n d)
     → set ys n y ≡ changed_below f (n + 1) xs
 changed_next f n xs ys d y within so_far is =
     let there : get_or ys n d ≡ get_or (changed_below f n xs) n d = (λ i. get_or (so_far i) n d) in
     let same : get_or ys n d ≡ get_or xs n d = there ∙ unchanged_at f n xs d in
     let value : y ≡ f (get_or xs n d) = is ∙ ap f same in
-    let wrote : set ys n y ≡ set (changed_below f n xs) n (f (get_or xs n d)) = (λ i. set (so_far i) n (value i)) in
+    let wrote : set ys n y ≡ set (changed_below f n xs) n (f (get_or xs n d)) =
+    (λ i. set (so_far i) n (value i)) in
     let count : suc n ≡ n + 1 = omega arith in
-    let next : changed_below f (suc n) xs ≡ changed_below f (n + 1) xs = ap (λ k. changed_below f k xs) count in
+    let next : changed_below f (suc n) xs ≡ changed_below f (n + 1) xs =
+    ap (λ k. changed_below f k xs) count in
     wrote ∙ one_more f n xs d within ∙ next
 
 -- all elements are changed
-pub changed_all : {A : Type 0} (f : A → A) (n : ℕ) (xs : List A) → length xs ≤ n → changed_below f n xs ≡ map f xs
+pub changed_all : {A : Type 0} (f : A → A) (n : ℕ) (xs : List A) → length xs ≤ n
+    → changed_below f n xs ≡ map f xs
 changed_all f zero [] past = refl
 changed_all f (suc n) [] past = refl
 changed_all f zero (x ∷ xs) past = absurd (omega arith)
 changed_all f (suc n) (x ∷ xs) past = ap (λ ys. f x ∷ ys) (changed_all f n xs (omega arith))
 
 -- what is left once a whole slice of a vector was written
-pub written_back : {A : Type 0} (n : ℕ) (new more : List A) → length new ≡ n → take n (new ++ more) ≡ new
+pub written_back : {A : Type 0} (n : ℕ) (new more : List A) → length new ≡ n → take n (new ++ more)
+    ≡ new
 written_back n new more long = ap (λ k. take k (new ++ more)) (sym long) ∙ take-append_seam new more

@@ -42,7 +42,8 @@ pub commits_called : (kind : Kind) → Commits kind → commit_or_call kind ≡ 
 commits_called _ alone = refl
 commits_called _ with_block = refl
 
-pub fault_of_commit_kind : (r : Rules) (starting : List StartWord) (states : List State) (c : ℕ) (kind : Kind) (earlier later : List Entry)
+pub fault_of_commit_kind : (r : Rules) (starting : List StartWord) (states : List State) (c : ℕ)
+    (kind : Kind) (earlier later : List Entry)
     → Commits kind → fault_at r starting states (place_of (entry c kind) earlier later)
     ≡ fault_of_commit r starting states (place_of (entry c kind) earlier later)
 unfolding fault_at

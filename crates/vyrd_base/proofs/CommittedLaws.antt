@@ -1,28 +1,33 @@
 -- Executions that have committed: how one more entry changes that, what was called in them, and
 -- that those of the built-in subjects' methods commit once or never.
-use Rattle.std.proofs.Common.{◌≡◌, ℕ, Bool, true, false, not, cond, ◌&&◌, ◌||◌, List, [], ◌∷◌, ◌++◌, Some, None, refl, ap, subst, ◌∙◌, sym}
+use Rattle.std.proofs.Common.{◌≡◌, ℕ, Bool, true, false, not, cond, ◌&&◌, ◌||◌, List, [], ◌∷◌, ◌++◌}
+use Rattle.std.proofs.Common.{Some, None, refl, ap, subst, ◌∙◌, sym}
 use Rattle.std.specs.Prelude.{◌==◌, unwrap_or}
 use Rattle.std.specs.List.{list_any}
 use Rattle.std.specs.Option.{option_or, option_map_or, option_flatten}
 use Rattle.vyrd_base.specs.declared.header.Header.{Header}
 use Rattle.vyrd_base.specs.declared.log.Kind.{Kind}
-use Rattle.vyrd_base.specs.declared.log.Kind.TheVariants.{Call, Return, Write, Commit, BlockOpen, BlockClose, BlockCommit}
+use Rattle.vyrd_base.specs.declared.log.Kind.TheVariants.{Call, Return, Write, Commit, BlockOpen}
+use Rattle.vyrd_base.specs.declared.log.Kind.TheVariants.{BlockClose, BlockCommit}
 use Rattle.vyrd_base.specs.declared.log.Entry.{Entry}
 use Rattle.vyrd_base.specs.declared.verdict.Why.TheVariants.{Observer}
 use Rattle.vyrd_base.specs.Places.{newest_first, first_answer}
 use Rattle.vyrd_base.specs.Subjects.{is_observer, must_commit, is_built_in, subject_of}
-use Rattle.vyrd_base.specs.Callers.{Called, by_caller, open_call, call_or_return, has_committed, commit_or_call}
+use Rattle.vyrd_base.specs.Callers.{Called, by_caller, open_call, call_or_return, has_committed}
+use Rattle.vyrd_base.specs.Callers.{commit_or_call}
 use Rattle.vyrd_base.specs.Shape.{broken_rule, checks_at, is_observing, owes_commit}
 use Rattle.vyrd_base.specs.Front.{first_break, WellFormed}
 use Rattle.vyrd_base.specs.States.{State}
 use Rattle.vyrd_base.specs.Rules.{Rules}
 use Rattle.vyrd_base.specs.Faults.{observer_fault}
 use Rattle.vyrd_base.proofs.PlaceLaws.{newest_first-push}
-use Rattle.vyrd_base.proofs.BlockLaws.{entry, by_same, own_answer, other_answer, no_answer, open_call-quiet}
+use Rattle.vyrd_base.proofs.BlockLaws.{entry, by_same, own_answer, other_answer, no_answer}
+use Rattle.vyrd_base.proofs.BlockLaws.{open_call-quiet}
 use Rattle.vyrd_base.proofs.ShadowLaws.{all_kept, well_formed-first_break}
 use Rattle.vyrd_base.proofs.StateLaws.{open_call-other}
 use Rattle.vyrd_base.proofs.StructureLaws.{once_or_never}
-use Rattle.vyrd_base.proofs.KeptLaws.{commit_kept, block_commit_runs, return_kept, call_kept, method_subject}
+use Rattle.vyrd_base.proofs.KeptLaws.{commit_kept, block_commit_runs, return_kept, call_kept}
+use Rattle.vyrd_base.proofs.KeptLaws.{method_subject}
 
 -- another caller's entry, one that neither begins, commits nor ends an execution, and the caller's
 -- own
@@ -97,16 +102,21 @@ committed_runs h c (e ∷ earlier) wf = step (committed_runs h c earlier wf.1)
 -- an entry of the caller: it calls what is of the header's subject, or goes on with what is
 still_ours : (h : Header) (c : ℕ) (kind : Kind) (earlier : List Entry) (called : Called)
     → (open_call c earlier ≡ Some called → subject_of called.method ≡ h.subject)
-    → broken_rule h earlier (entry c kind) ≡ None → open_call c (entry c kind ∷ earlier) ≡ Some called
+    → broken_rule h earlier (entry c kind) ≡ None → open_call c (entry c kind ∷ earlier)
+    ≡ Some called
     → subject_of called.method ≡ h.subject
-still_ours h c kind earlier called before kept is = by_kind kind kept (sym (ap option_flatten (own_answer c call_or_return kind earlier)) ∙ is)
+still_ours h c kind earlier called before kept is = by_kind kind kept
+    (sym (ap option_flatten (own_answer c call_or_return kind earlier)) ∙ is)
   where
     by_kind : (k : Kind) → broken_rule h earlier (entry c k) ≡ None
-        → option_flatten (option_or (call_or_return k) (first_answer (by_caller c call_or_return) earlier)) ≡ Some called
+        → option_flatten
+        (option_or (call_or_return k) (first_answer (by_caller c call_or_return) earlier))
+        ≡ Some called
         → subject_of called.method ≡ h.subject
     by_kind (Call method args) keeps it =
         let same : record { method = method; args = args } ≡ called = cc in
-        ap (λ x. subject_of x.method) (sym same) ∙ method_subject h method args (call_kept h c method args earlier keeps)
+        ap (λ x. subject_of x.method) (sym same) ∙ method_subject h method args
+        (call_kept h c method args earlier keeps)
     by_kind (Return reply) keeps it = cc
     by_kind (Write word value) keeps it = before it
     by_kind Commit keeps it = before it
@@ -122,7 +132,8 @@ open_is_ours h c (e ∷ earlier) called wf is = by_same e.caller c
     (λ same. still_ours h c e.kind earlier called (open_is_ours h c earlier called wf.1)
     (subst (λ d. broken_rule h earlier (entry d e.kind) ≡ None) same wf.0)
     (subst (λ d. open_call c (entry d e.kind ∷ earlier) ≡ Some called) same is))
-    (λ other. open_is_ours h c earlier called wf.1 (sym (open_call-other c e.caller e.kind earlier other) ∙ is))
+    (λ other. open_is_ours h c earlier called wf.1
+    (sym (open_call-other c e.caller e.kind earlier other) ∙ is))
 
 -- an execution that returns without a commit need not have one
 pub return_free : (h : Header) (c reply : ℕ) (earlier : List Entry) (called : Called)
@@ -139,13 +150,15 @@ return_free h c reply earlier called kept opened none =
     free true false e f = cc
     free false b e f = refl
 
--- Each method of the built-in subjects commits once or never. So a return lacks a commit if its execution has none and isn't an observer's
+-- Each method of the built-in subjects commits once or never. So a return lacks a commit if its
+-- execution has none and isn't an observer's
 pub lacks_commit : (c : ℕ) (earlier : List Entry) (called : Called)
     → open_call c earlier ≡ Some called → is_built_in (subject_of called.method) ≡ true
     → (owes_commit c earlier && not (has_committed c earlier))
     ≡ not (is_observing c earlier || has_committed c earlier)
 lacks_commit c earlier called opened built =
-    ap (λ o. option_map_or (λ k. must_commit k.method) o false && not (has_committed c earlier)) opened
+    ap (λ o. option_map_or (λ k. must_commit k.method) o false && not (has_committed c earlier))
+    opened
     ∙ ap (λ b. b && not (has_committed c earlier)) (once_or_never called.method built)
     ∙ by_truth (is_observer called.method) (has_committed c earlier)
     ∙ ap (λ o. not (option_map_or (λ k. is_observer k.method) o false || has_committed c earlier))
@@ -156,7 +169,8 @@ lacks_commit c earlier called opened built =
     by_truth false b = refl
 
 -- and those that return without a commit are the observers'
-pub returns_committed : (h : Header) (c reply : ℕ) (earlier : List Entry) → is_built_in h.subject ≡ true → WellFormed h earlier
+pub returns_committed : (h : Header) (c reply : ℕ) (earlier : List Entry) → is_built_in h.subject
+    ≡ true → WellFormed h earlier
     → broken_rule h earlier (entry c (Return reply)) ≡ None
     → has_committed c earlier ≡ not (is_observing c earlier)
 returns_committed h c reply earlier built wf kept = by_truth (has_committed c earlier) refl

@@ -1,18 +1,24 @@
--- What a read of a source in memory gives; and what reads and writes do that come one after the other.
-use Rattle.std.proofs.Common.{◌≡◌, ℕ, ◌+◌, ◌≤◌, Bool, true, false, List, [], ◌∷◌, ◌++◌, length, take, drop, Some, refl, ap, ◌∙◌, sym, subst, arith, length-append}
+-- What a read of a source in memory gives; and what reads and writes do that come one after the
+-- other.
+use Rattle.std.proofs.Common.{◌≡◌, ℕ, ◌+◌, ◌≤◌, Bool, true, false, List, [], ◌∷◌, ◌++◌, length}
+use Rattle.std.proofs.Common.{take, drop, Some, refl, ap, ◌∙◌, sym, subst, arith, length-append}
 use Rattle.std.specs.Prelude.{◌==◌, option_map, IfSome}
 use Rattle.std.proofs.lemmas.List.{take-append-drop, take-append-le, drop-drop, length-take}
 use Rattle.std.proofs.lemmas.Bool.{ne_eqb}
 use Rattle.std.proofs.Math.Seq.{take-length}
-use Rattle.vyrd_base.specs.Devices.{next_count, Gives, SourceKnown, AfterReads, SinkKnown, AfterWrites}
+use Rattle.vyrd_base.specs.Devices.{next_count, Gives, SourceKnown, AfterReads, SinkKnown}
+use Rattle.vyrd_base.specs.Devices.{AfterWrites}
 
 -- as many bytes as are copied to the front of the buffer are gone from the rest
-given_bytes : (g n : ℕ) (bytes front tail : List ℕ) → front ≡ take n (drop g bytes) → n ≤ length (drop g bytes)
+given_bytes : (g n : ℕ) (bytes front tail : List ℕ) → front ≡ take n (drop g bytes)
+    → n ≤ length (drop g bytes)
     → drop g bytes ≡ take n (front ++ tail) ++ drop (g + n) bytes
 given_bytes g n bytes front tail copied fits =
     let long : length front ≡ n = ap length copied ∙ length-take n (drop g bytes) ∙ omega arith in
-    let start : take n (front ++ tail) ≡ front = take-append-le n front tail (omega arith) ∙ sym (ap (λ k. take k front) long) ∙ take-length front in
-    sym (take-append-drop n (drop g bytes)) ∙ ap (λ xs. xs ++ drop n (drop g bytes)) (sym (start ∙ copied))
+    let start : take n (front ++ tail) ≡ front = take-append-le n front tail (omega arith)
+    ∙ sym (ap (λ k. take k front) long) ∙ take-length front in
+    sym (take-append-drop n (drop g bytes)) ∙ ap (λ xs. xs ++ drop n (drop g bytes))
+    (sym (start ∙ copied))
     ∙ ap (λ xs. take n (front ++ tail) ++ xs) (drop-drop n g bytes)
 
 -- a list with no entries is empty
@@ -21,24 +27,41 @@ none_left [] e = refl
 none_left (x ∷ xs) e = absurd (omega (arith, e))
 
 -- A read gives those bytes. It says the end if it gives none, as none is left then.
-pub given_next : (before after : SourceKnown) (g n : ℕ) (bytes front tail : List ℕ) → before.rest ≡ Some (drop g bytes) → after.rest ≡ Some (drop (g + n) bytes)
-    → after.ended ≡ (n == 0) → front ≡ take n (drop g bytes) → n ≤ length (drop g bytes) → (n ≡ 0 → length (drop g bytes) ≡ 0)
+pub given_next : (before after : SourceKnown) (g n : ℕ) (bytes front tail : List ℕ) → before.rest
+    ≡ Some (drop g bytes) → after.rest ≡ Some (drop (g + n) bytes)
+    → after.ended ≡ (n == 0) → front ≡ take n (drop g bytes) → n ≤ length (drop g bytes)
+    → (n ≡ 0 → length (drop g bytes) ≡ 0)
     → Gives before n (front ++ tail) after
 given_next before after g n bytes front tail old new ended copied fits empty = record {
-  within = omega (arith, ap length copied, length-take n (drop g bytes), fits, length-append front tail);
-  bytes = old ∙ ap Some (given_bytes g n bytes front tail copied fits) ∙ sym (ap (option_map (λ rest. take n (front ++ tail) ++ rest)) new);
+  within = omega (
+    arith,
+    ap length copied,
+    length-take n (drop g bytes),
+    fits,
+    length-append front
+        tail,
+  );
+  bytes = old ∙ ap Some (given_bytes g n bytes front tail copied fits)
+      ∙ sym (ap (option_map (λ rest. take n (front ++ tail) ++ rest)) new);
   at_end = λ none. record {
     said = ended ∙ ap (λ k. k == 0) none;
-    none = subst (λ rest. IfSome rest (λ bytes. bytes ≡ [])) (sym new) (ap (λ k. drop k bytes) (omega (arith, none)) ∙ none_left (drop g bytes) (empty none));
+    none = subst (λ rest. IfSome rest (λ bytes. bytes ≡ [])) (sym new)
+        (ap (λ k. drop k bytes) (omega (arith, none)) ∙ none_left (drop g bytes) (empty none));
   };
   goes_on = λ some. ended ∙ ne_eqb n 0 (λ none. omega (arith, some, none));
 }
 
 -- what no read has done, and what two reads do of which the first didn't fail
 pub no_read : (source : SourceKnown) → AfterReads false source source
-no_read source = record { counted = refl; stopped = refl; stays_sure = λ sure. sure; never = λ sure. refl }
+no_read source = record {
+  counted = refl;
+  stopped = refl;
+  stays_sure = λ sure. sure;
+  never = λ sure. refl;
+}
 
-pub reads_in_row : (failed : Bool) (before between after : SourceKnown) → AfterReads false before between
+pub reads_in_row : (failed : Bool) (before between after : SourceKnown)
+    → AfterReads false before between
     → AfterReads failed between after → AfterReads failed before after
 reads_in_row false before between after first then = record {
   counted = then.counted ∙ first.counted;
@@ -57,7 +80,8 @@ reads_in_row true before between after first then = record {
 pub no_write : (fits : Type 0) (sink : SinkKnown) → AfterWrites false fits sink sink
 no_write fits sink = record { counted = refl; stopped = refl; never = λ sure. refl }
 
-pub writes_in_row : (failed : Bool) (all rest : Type 0) (before between after : SinkKnown) → (all → rest) → AfterWrites false all before between
+pub writes_in_row : (failed : Bool) (all rest : Type 0) (before between after : SinkKnown)
+    → (all → rest) → AfterWrites false all before between
     → AfterWrites failed rest between after → AfterWrites failed all before after
 writes_in_row false all rest before between after fits first then = record {
   counted = then.counted ∙ first.counted;

@@ -1,5 +1,6 @@
 -- The front of a log up to the first entry that breaks a rule.
-use Rattle.std.proofs.Common.{◌≡◌, ℕ, suc, ◌+◌, ◌<◌, ◌≤◌, List, [], ◌∷◌, ◌++◌, length, get_or, take, drop, Some, None, refl, ap, ◌∙◌, sym, arith, drop-cons}
+use Rattle.std.proofs.Common.{◌≡◌, ℕ, suc, ◌+◌, ◌<◌, ◌≤◌, List, [], ◌∷◌, ◌++◌, length, get_or, take}
+use Rattle.std.proofs.Common.{drop, Some, None, refl, ap, ◌∙◌, sym, arith, drop-cons}
 use Rattle.std.proofs.lemmas.List.{take_more, take-append-drop}
 use Rattle.std.proofs.Math.Seq.{take-length}
 use Rattle.vyrd_base.proofs.PlaceLaws.{newest_first-push}
@@ -14,9 +15,11 @@ use Rattle.vyrd_base.proofs.Fronts.{break_after, front_after_whole}
 use Rattle.vyrd_base.proofs.VerdictLaws.{front-append, first_break-append}
 
 -- one more entry that keeps the rules
-pub kept-push : (h : Header) (xs : List Entry) (e : Entry) → first_break h xs ≡ None → broken_rule h (newest_first xs) e ≡ None
+pub kept-push : (h : Header) (xs : List Entry) (e : Entry) → first_break h xs ≡ None
+    → broken_rule h (newest_first xs) e ≡ None
     → first_break h (xs ++ e ∷ []) ≡ None
-kept-push h xs e kept here = first_break-append h xs (e ∷ []) ∙ ap (λ o. option_or o (break_after h (newest_first xs) (e ∷ []))) kept
+kept-push h xs e kept here = first_break-append h xs (e ∷ [])
+    ∙ ap (λ o. option_or o (break_after h (newest_first xs) (e ∷ []))) kept
     ∙ ap (λ o. option_or o None) here
 
 -- if no rule is broken, all is front
@@ -25,19 +28,26 @@ unfolding front first_break
 front_whole h xs kept = front_after_whole h [] xs kept
 
 -- the front ends before the first entry that breaks a rule
-pub front_at_break : (h : Header) (xs rest : List Entry) (e : Entry) (rule : Rule) → first_break h xs ≡ None
+pub front_at_break : (h : Header) (xs rest : List Entry) (e : Entry) (rule : Rule)
+    → first_break h xs ≡ None
     → broken_rule h (newest_first xs) e ≡ Some rule → front h (xs ++ e ∷ rest) ≡ xs
 front_at_break h xs rest e rule kept here =
     front-append h xs (e ∷ rest)
     ∙ ap (λ o. front h xs ++ unless_broken o (front_after h (newest_first xs) (e ∷ rest))) kept
-    ∙ ap (λ o. front h xs ++ (elim o as (λ _. List Entry) [ None ↦ e ∷ front_after h (e ∷ newest_first xs) rest | Some r ↦ [] ])) here
+    ∙ ap (λ o. front h xs
+    ++ (elim o as (λ _. List Entry) [
+      | None ↦ e ∷ front_after h (e ∷ newest_first xs) rest
+      | Some r ↦
+          []
+    ])) here
     ∙ no_more (front h xs) ∙ front_whole h xs kept
   where
     no_more : (ys : List Entry) → ys ++ [] ≡ ys
     no_more [] = refl
     no_more (y ∷ ys) = ap (λ zs. y ∷ zs) (no_more ys)
 
-pub break_at_break : (h : Header) (xs rest : List Entry) (e : Entry) (rule : Rule) → first_break h xs ≡ None
+pub break_at_break : (h : Header) (xs rest : List Entry) (e : Entry) (rule : Rule)
+    → first_break h xs ≡ None
     → broken_rule h (newest_first xs) e ≡ Some rule → first_break h (xs ++ e ∷ rest) ≡ Some rule
 break_at_break h xs rest e rule kept here =
     first_break-append h xs (e ∷ rest)
@@ -45,37 +55,52 @@ break_at_break h xs rest e rule kept here =
     ∙ ap (λ o. option_or o (break_after h (e ∷ newest_first xs) rest)) here
 
 -- The same, entry by entry from the front of a list on, by a header that is the log's.
-pub kept_next : (h g : Header) (es : List Entry) (i : ℕ) (d : Entry) → g ≡ h → i < length es → first_break h (take i es) ≡ None
-    → broken_rule g (newest_first (take i es)) (get_or es i d) ≡ None → first_break h (take (i + 1) es) ≡ None
+pub kept_next : (h g : Header) (es : List Entry) (i : ℕ) (d : Entry) → g ≡ h → i < length es
+    → first_break h (take i es) ≡ None
+    → broken_rule g (newest_first (take i es)) (get_or es i d) ≡ None
+    → first_break h (take (i + 1) es) ≡ None
 kept_next h g es i d same within kept here = ap (first_break h) (take_more es i d within)
-    ∙ kept-push h (take i es) (get_or es i d) kept (ap (λ k. broken_rule k (newest_first (take i es)) (get_or es i d)) (sym same) ∙ here)
+    ∙ kept-push h (take i es) (get_or es i d) kept
+    (ap (λ k. broken_rule k (newest_first (take i es)) (get_or es i d)) (sym same) ∙ here)
 
-pub newest_next : (es : List Entry) (i : ℕ) (d : Entry) → i < length es → newest_first (take (i + 1) es) ≡ get_or es i d ∷ newest_first (take i es)
-newest_next es i d within = ap newest_first (take_more es i d within) ∙ newest_first-push (take i es) (get_or es i d)
+pub newest_next : (es : List Entry) (i : ℕ) (d : Entry) → i < length es
+    → newest_first (take (i + 1) es) ≡ get_or es i d ∷ newest_first (take i es)
+newest_next es i d within = ap newest_first (take_more es i d within)
+    ∙ newest_first-push (take i es) (get_or es i d)
 
-pub split_at_next : (es : List Entry) (i : ℕ) (d : Entry) → i < length es → es ≡ take i es ++ get_or es i d ∷ drop (suc i) es
-split_at_next es i d within = sym (take-append-drop i es) ∙ ap (λ rest. take i es ++ rest) (drop-cons es i d within)
+pub split_at_next : (es : List Entry) (i : ℕ) (d : Entry) → i < length es → es ≡ take i es
+    ++ get_or es i d ∷ drop (suc i) es
+split_at_next es i d within = sym (take-append-drop i es) ∙ ap (λ rest. take i es ++ rest)
+    (drop-cons es i d within)
 
-pub front_at : (h g : Header) (es : List Entry) (i : ℕ) (d : Entry) (rule : Rule) → g ≡ h → i < length es → first_break h (take i es) ≡ None
+pub front_at : (h g : Header) (es : List Entry) (i : ℕ) (d : Entry) (rule : Rule) → g ≡ h
+    → i < length es → first_break h (take i es) ≡ None
     → broken_rule g (newest_first (take i es)) (get_or es i d) ≡ Some rule → take i es ≡ front h es
 front_at h g es i d rule same within kept here =
-    sym (ap (front h) (split_at_next es i d within) ∙ front_at_break h (take i es) (drop (suc i) es) (get_or es i d) rule kept
+    sym (ap (front h) (split_at_next es i d within) ∙ front_at_break h (take i es) (drop (suc i) es)
+    (get_or es i d) rule kept
     (ap (λ k. broken_rule k (newest_first (take i es)) (get_or es i d)) (sym same) ∙ here))
 
-pub break_at : (h g : Header) (es : List Entry) (i : ℕ) (d : Entry) (rule : Rule) → g ≡ h → i < length es → first_break h (take i es) ≡ None
-    → broken_rule g (newest_first (take i es)) (get_or es i d) ≡ Some rule → Some rule ≡ first_break h es
+pub break_at : (h g : Header) (es : List Entry) (i : ℕ) (d : Entry) (rule : Rule) → g ≡ h
+    → i < length es → first_break h (take i es) ≡ None
+    → broken_rule g (newest_first (take i es)) (get_or es i d) ≡ Some rule → Some rule
+    ≡ first_break h es
 break_at h g es i d rule same within kept here =
-    sym (ap (first_break h) (split_at_next es i d within) ∙ break_at_break h (take i es) (drop (suc i) es) (get_or es i d) rule kept
+    sym (ap (first_break h) (split_at_next es i d within) ∙ break_at_break h (take i es)
+    (drop (suc i) es) (get_or es i d) rule kept
     (ap (λ k. broken_rule k (newest_first (take i es)) (get_or es i d)) (sym same) ∙ here))
 
 -- at the list's end the part that was gone through is the whole
 pub take_past : {A : Type 0} (es : List A) (i : ℕ) → i ≤ length es → length es ≤ i → take i es ≡ es
-take_past es i within past = let e : i ≡ length es = omega arith in ap (λ k. take k es) e ∙ take-length es
+take_past es i within past = let e : i ≡ length es = omega arith in ap (λ k. take k es) e
+    ∙ take-length es
 
-pub kept_all : (h : Header) (es : List Entry) (i : ℕ) → i ≤ length es → length es ≤ i → first_break h (take i es) ≡ None → first_break h es ≡ None
+pub kept_all : (h : Header) (es : List Entry) (i : ℕ) → i ≤ length es → length es ≤ i
+    → first_break h (take i es) ≡ None → first_break h es ≡ None
 kept_all h es i within past kept = ap (first_break h) (sym (take_past es i within past)) ∙ kept
 
-pub front_of_all : (h : Header) (es : List Entry) → first_break h es ≡ None → take (length es) es ≡ front h es
+pub front_of_all : (h : Header) (es : List Entry) → first_break h es ≡ None → take (length es) es
+    ≡ front h es
 front_of_all h es kept = take-length es ∙ sym (front_whole h es kept)
 
 pub nothing_broken : (h : Header) → first_break h [] ≡ None

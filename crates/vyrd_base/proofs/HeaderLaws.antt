@@ -1,11 +1,14 @@
 -- What the limits of a header say of its version, its size, its callers and its words.
-use Rattle.std.proofs.Common.{◌≡◌, ℕ, zero, suc, ◌+◌, ◌<◌, ◌≤◌, ◌^◌, true, ◌&&◌, List, length, refl, ap, ◌∙◌, sym, arith}
+use Rattle.std.proofs.Common.{◌≡◌, ℕ, zero, suc, ◌+◌, ◌<◌, ◌≤◌, ◌^◌, true, ◌&&◌, List, length, refl}
+use Rattle.std.proofs.Common.{ap, ◌∙◌, sym, arith}
 use Rattle.std.specs.Prelude.{nat_le, ◌==◌}
 use Rattle.std.proofs.lemmas.Bool.Decides.{nat_tests}
 use Rattle.vyrd_base.specs.declared.header.Header.{Header}
 use Rattle.vyrd_base.specs.declared.subject.Subject.{Subject}
-use Rattle.vyrd_base.specs.declared.subject.Subject.TheVariants.{Multiset, Cache, Tree, Buffers, Own}
-use Rattle.vyrd_base.specs.Limits.{is_known_version, is_sized, is_within, is_own_sized, is_own_within}
+use Rattle.vyrd_base.specs.declared.subject.Subject.TheVariants.{Multiset, Cache, Tree, Buffers}
+use Rattle.vyrd_base.specs.declared.subject.Subject.TheVariants.{Own}
+use Rattle.vyrd_base.specs.Limits.{is_known_version, is_sized, is_within, is_own_sized}
+use Rattle.vyrd_base.specs.Limits.{is_own_within}
 use Rattle.vyrd_base.specs.Subjects.{is_built_in, limits_of}
 use Rattle.vyrd_base.specs.Layout.{plain_words_of, lock_words_of, plain_words, lock_words}
 use Rattle.vyrd_base.proofs.StructureLaws.{words_within}
@@ -16,10 +19,12 @@ small_number n most m e = grind (arith, nat_tests)
 
 -- numbers within the limits of built-in subjects have 32 bits
 pub small_size : (size callers : ℕ) → is_sized size callers ≡ true → size < 2 ^ 32
-small_size size callers e = small_number size 1024 (omega arith) (second_true (nat_le 1 size) _ (first_true _ _ (first_true _ _ e)))
+small_size size callers e = small_number size 1024 (omega arith)
+    (second_true (nat_le 1 size) _ (first_true _ _ (first_true _ _ e)))
 
 pub small_callers : (size callers : ℕ) → is_sized size callers ≡ true → callers < 2 ^ 32
-small_callers size callers e = small_number callers 64 (omega arith) (second_true (nat_le 1 size && nat_le size 1024 && nat_le 1 callers) _ e)
+small_callers size callers e = small_number callers 64 (omega arith)
+    (second_true (nat_le 1 size && nat_le size 1024 && nat_le 1 callers) _ e)
 
 -- there are three versions
 pub known_version : (n : ℕ) → is_known_version n ≡ true → n ≤ 2
@@ -37,7 +42,8 @@ limits_built_in Tree version size callers built = refl
 limits_built_in Buffers version size callers built = refl
 limits_built_in Own version size callers built = cc
 
-pub within : (h : Header) → is_built_in h.subject ≡ true → is_within h.version h.size h.callers ≡ true
+pub within : (h : Header) → is_built_in h.subject ≡ true → is_within h.version h.size h.callers
+    ≡ true
 within h built = sym (limits_built_in h.subject h.version h.size h.callers built) ∙ h.within
 
 pub sized : (h : Header) → is_built_in h.subject ≡ true → is_sized h.size h.callers ≡ true
@@ -45,19 +51,23 @@ sized h built = second_true (is_known_version h.version) _ (within h built)
 
 -- the size is from 1 to 1,024 then
 pub some_size : (h : Header) → is_built_in h.subject ≡ true → 1 ≤ h.size
-some_size h built = at_most_of 1 h.size (first_true (nat_le 1 h.size) _ (first_true _ _ (first_true _ _ (sized h built))))
+some_size h built = at_most_of 1 h.size
+    (first_true (nat_le 1 h.size) _ (first_true _ _ (first_true _ _ (sized h built))))
 
 pub low_size : (h : Header) → is_built_in h.subject ≡ true → h.size ≤ 1024
-low_size h built = at_most_of h.size 1024 (second_true (nat_le 1 h.size) _ (first_true _ _ (first_true _ _ (sized h built))))
+low_size h built = at_most_of h.size 1024
+    (second_true (nat_le 1 h.size) _ (first_true _ _ (first_true _ _ (sized h built))))
 
 -- a header of version 1 is that of a built-in subject, since the user's own has version 3
-of_version_one : (subject : Subject) (version size callers : ℕ) → limits_of subject version size callers ≡ true → version ≡ 1 → is_built_in subject ≡ true
+of_version_one : (subject : Subject) (version size callers : ℕ)
+    → limits_of subject version size callers ≡ true → version ≡ 1 → is_built_in subject ≡ true
 of_version_one Multiset version size callers within one = refl
 of_version_one Cache version size callers within one = refl
 of_version_one Tree version size callers within one = refl
 of_version_one Buffers version size callers within one = refl
 of_version_one Own version size callers within one =
-    let three : version ≡ 3 = same_of version 3 (first_true (version == 3) _ within) in absurd (omega (arith, three, one))
+    let three : version ≡ 3 = same_of version 3 (first_true (version == 3) _ within) in absurd
+    (omega (arith, three, one))
 
 pub first_version_built_in : (h : Header) → h.version ≡ 1 → is_built_in h.subject ≡ true
 first_version_built_in h one = of_version_one h.subject h.version h.size h.callers h.within one
@@ -70,21 +80,26 @@ record AreLimited (version size callers words : ℕ) : Type 0 where
   few : callers ≤ 256
   short : words ≤ 2 ^ 16
 
-built_in_limited : (version size callers words : ℕ) → (size ≤ 1024 → words < 2 ^ 16) → is_within version size callers ≡ true
+built_in_limited : (version size callers words : ℕ) → (size ≤ 1024 → words < 2 ^ 16)
+    → is_within version size callers ≡ true
     → AreLimited version size callers words
 built_in_limited version size callers words few e =
     let sizes : is_sized size callers ≡ true = second_true (is_known_version version) _ e in
-    let low : size ≤ 1024 = at_most_of size 1024 (second_true (nat_le 1 size) _ (first_true _ _ (first_true _ _ sizes))) in
-    let many : callers ≤ 64 = at_most_of callers 64 (second_true (nat_le 1 size && nat_le size 1024 && nat_le 1 callers) _ sizes) in
+    let low : size ≤ 1024 = at_most_of size 1024
+    (second_true (nat_le 1 size) _ (first_true _ _ (first_true _ _ sizes))) in
+    let many : callers ≤ 64 = at_most_of callers 64
+    (second_true (nat_le 1 size && nat_le size 1024 && nat_le 1 callers) _ sizes) in
     record {
       known = omega (arith, known_version version (first_true _ _ e));
       sized = omega (arith, low);
-      some = at_most_of 1 callers (second_true (nat_le 1 size && nat_le size 1024) _ (first_true _ _ sizes));
+      some = at_most_of 1 callers
+          (second_true (nat_le 1 size && nat_le size 1024) _ (first_true _ _ sizes));
       few = omega (arith, many);
       short = omega (arith, few low);
     }
 
-own_limited : (version size callers : ℕ) → is_own_within version size callers ≡ true → AreLimited version size callers (size + 0)
+own_limited : (version size callers : ℕ) → is_own_within version size callers ≡ true
+    → AreLimited version size callers (size + 0)
 own_limited version size callers e =
     let sizes : is_own_sized size callers ≡ true = second_true (version == 3) _ e in
     let third : version ≡ 3 = same_of version 3 (first_true (version == 3) _ e) in
@@ -97,12 +112,17 @@ own_limited version size callers e =
       short = omega (arith, low);
     }
 
-limited : (subject : Subject) (version size callers : ℕ) → limits_of subject version size callers ≡ true
+limited : (subject : Subject) (version size callers : ℕ) → limits_of subject version size callers
+    ≡ true
     → AreLimited version size callers (plain_words_of subject size + lock_words_of subject size)
-limited Multiset version size callers e = built_in_limited version size callers _ (words_within Multiset size) e
-limited Cache version size callers e = built_in_limited version size callers _ (words_within Cache size) e
-limited Tree version size callers e = built_in_limited version size callers _ (words_within Tree size) e
-limited Buffers version size callers e = built_in_limited version size callers _ (words_within Buffers size) e
+limited Multiset version size callers e = built_in_limited version size callers _
+    (words_within Multiset size) e
+limited Cache version size callers e = built_in_limited version size callers _
+    (words_within Cache size) e
+limited Tree version size callers e = built_in_limited version size callers _
+    (words_within Tree size) e
+limited Buffers version size callers e = built_in_limited version size callers _
+    (words_within Buffers size) e
 limited Own version size callers e = own_limited version size callers e
 
 pub low_version : (h : Header) → h.version ≤ 3
@@ -129,6 +149,7 @@ pub few_words : (h : Header) → plain_words h + lock_words h ≤ 2 ^ 16
 few_words h = (limited h.subject h.version h.size h.callers h.within).short
 
 -- as many words as the header has are as many as its subject has
-pub word_count : (h : Header) (subject : Subject) (words : List ℕ) → h.subject ≡ subject → length words ≡ plain_words h
+pub word_count : (h : Header) (subject : Subject) (words : List ℕ) → h.subject ≡ subject
+    → length words ≡ plain_words h
     → length words ≡ plain_words_of subject h.size
 word_count h subject words is count = count ∙ ap (λ s. plain_words_of s h.size) is

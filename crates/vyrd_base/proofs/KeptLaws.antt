@@ -1,5 +1,6 @@
 -- What an entry that keeps the rules of shape tells.
-use Rattle.std.proofs.Common.{◌≡◌, ℕ, ◌<◌, ◌^◌, true, false, ◌&&◌, List, ◌∷◌, length, take, drop, get_or, Option, Some, None, slice_get, refl, ap, subst, ◌∙◌, sym, suc}
+use Rattle.std.proofs.Common.{◌≡◌, ℕ, ◌<◌, ◌^◌, true, false, ◌&&◌, List, ◌∷◌, length, take, drop}
+use Rattle.std.proofs.Common.{get_or, Option, Some, None, slice_get, refl, ap, subst, ◌∙◌, sym, suc}
 use Rattle.std.proofs.lemmas.Option.{slice_get_within, get_or_from_slice_get}
 use Rattle.std.specs.Prelude.{is_none}
 use Rattle.std.specs.Option.{option_or, option_map_or}
@@ -24,10 +25,12 @@ use Rattle.vyrd_base.specs.Entries.{has_method}
 use Rattle.vyrd_base.proofs.FrontLaws.{split_at_next}
 
 -- the entry at each place of a log that keeps all rules
-pub kept_at : (h : Header) (front : List Entry) (at : ℕ) (d : Entry) → at < length front → first_break h front ≡ None
+pub kept_at : (h : Header) (front : List Entry) (at : ℕ) (d : Entry) → at < length front
+    → first_break h front ≡ None
     → broken_rule h (newest_first (take at front)) (get_or front at d) ≡ None
 kept_at h front at d within kept =
-    by_parts (first_break h (take at front)) (broken_rule h (newest_first (take at front)) (get_or front at d)) _
+    by_parts (first_break h (take at front))
+    (broken_rule h (newest_first (take at front)) (get_or front at d)) _
     (sym (first_break-append h (take at front) (get_or front at d ∷ drop (suc at) front))
     ∙ sym (ap (first_break h) (split_at_next front at d within)) ∙ kept)
   where
@@ -37,10 +40,12 @@ kept_at h front at d within kept =
     by_parts (Some a) b c e = cc
 
 -- the same of an entry that was read there
-pub rules_at : (h : Header) (front : List Entry) (at : ℕ) (e : Entry) → slice_get front at ≡ Some e → first_break h front ≡ None
+pub rules_at : (h : Header) (front : List Entry) (at : ℕ) (e : Entry) → slice_get front at ≡ Some e
+    → first_break h front ≡ None
     → broken_rule h (newest_first (take at front)) e ≡ None
 rules_at h front at e here kept =
-    subst (λ x. broken_rule h (newest_first (take at front)) x ≡ None) (get_or_from_slice_get front at e e here)
+    subst (λ x. broken_rule h (newest_first (take at front)) x ≡ None)
+    (get_or_from_slice_get front at e e here)
     (kept_at h front at e (slice_get_within front at e here) kept)
 
 pub call_kept : (h : Header) (c : ℕ) (method : Method) (args : Args) (earlier : List Entry)
@@ -58,34 +63,46 @@ pub write_kept : (h : Header) (c word value : ℕ) (earlier : List Entry)
     → broken_rule h earlier (entry c (Write word value)) ≡ None → WriteFits h word value
 write_kept h c word value earlier kept =
     let checks = all_kept (checks_at h earlier (entry c (Write word value))) kept in
-    record { word_fits = above_of _ word checks.1.1.0; value_fits = above_of _ value checks.1.1.1.0 }
+    record {
+      word_fits = above_of _ word checks.1.1.0;
+      value_fits = above_of _ value checks.1.1.1.0;
+    }
 
 -- a commit stands in a mutator's execution
-is_running : (o : Option Called) → is_none o ≡ false → option_map_or (λ called. is_observer called.method) o false ≡ false
+is_running : (o : Option Called) → is_none o ≡ false
+    → option_map_or (λ called. is_observer called.method) o false ≡ false
     → (called : Called) × (o ≡ Some called) × (is_observer called.method ≡ false)
 is_running None some mutates = cc
 is_running (Some called) some mutates = (called, refl, mutates)
 
-pub commit_kept : (h : Header) (c : ℕ) (earlier : List Entry) → broken_rule h earlier (entry c Commit) ≡ None
+pub commit_kept : (h : Header) (c : ℕ) (earlier : List Entry)
+    → broken_rule h earlier (entry c Commit) ≡ None
     → (called : Called) × (open_call c earlier ≡ Some called) × (is_observer called.method ≡ false)
 commit_kept h c earlier kept =
-    let checks = all_kept (checks_at h earlier (entry c Commit)) kept in is_running (open_call c earlier) checks.1.0 checks.1.1.0
+    let checks = all_kept (checks_at h earlier (entry c Commit)) kept in is_running
+    (open_call c earlier) checks.1.0 checks.1.1.0
 
-pub block_commit_runs : (h : Header) (c : ℕ) (earlier : List Entry) → broken_rule h earlier (entry c BlockCommit) ≡ None
+pub block_commit_runs : (h : Header) (c : ℕ) (earlier : List Entry)
+    → broken_rule h earlier (entry c BlockCommit) ≡ None
     → (called : Called) × (open_call c earlier ≡ Some called) × (is_observer called.method ≡ false)
 block_commit_runs h c earlier kept =
-    let checks = all_kept (checks_at h earlier (entry c BlockCommit)) kept in is_running (open_call c earlier) checks.1.0 checks.1.1.1.0
+    let checks = all_kept (checks_at h earlier (entry c BlockCommit)) kept in is_running
+    (open_call c earlier) checks.1.0 checks.1.1.1.0
 
-pub return_kept : (h : Header) (c reply : ℕ) (earlier : List Entry) → broken_rule h earlier (entry c (Return reply)) ≡ None
+pub return_kept : (h : Header) (c reply : ℕ) (earlier : List Entry)
+    → broken_rule h earlier (entry c (Return reply)) ≡ None
     → (called : Called) × (open_call c earlier ≡ Some called)
-return_kept h c reply earlier kept = running (open_call c earlier) (all_kept (checks_at h earlier (entry c (Return reply))) kept).1.0
+return_kept h c reply earlier kept = running (open_call c earlier)
+    (all_kept (checks_at h earlier (entry c (Return reply))) kept).1.0
   where
     running : (o : Option Called) → is_none o ≡ false → (called : Called) × (o ≡ Some called)
     running None some = cc
     running (Some called) some = (called, refl)
 
-pub method_subject : (h : Header) (method : Method) (args : Args) → has_method h method args ≡ true → subject_of method ≡ h.subject
+pub method_subject : (h : Header) (method : Method) (args : Args) → has_method h method args ≡ true
+    → subject_of method ≡ h.subject
 method_subject h method args e = same_subjects (subject_of method) h.subject (first_true _ _ e)
 
-pub method_args : (h : Header) (method : Method) (args : Args) → has_method h method args ≡ true → are_args h.size method args ≡ true
+pub method_args : (h : Header) (method : Method) (args : Args) → has_method h method args ≡ true
+    → are_args h.size method args ≡ true
 method_args h method args e = second_true _ _ e

@@ -12,16 +12,20 @@ use Rattle.vyrd_base.proofs.AmountLaws.{first_of_and, second_of_and}
 lesser : (x k : ℕ) → T (is_lt (nat_cmp x k)) → x < k
 lesser x k h = grind (arith, nat_tests)
 
-lesser_than_later : (x k a : ℕ) (s rest : Amounts) → T (below_all nat_cmp x (s ++ (k, a) ∷ rest)) → x < k
+lesser_than_later : (x k a : ℕ) (s rest : Amounts) → T (below_all nat_cmp x (s ++ (k, a) ∷ rest))
+    → x < k
 lesser_than_later x k a [] rest h = lesser x k (first_of_and _ _ h)
-lesser_than_later x k a (e ∷ s) rest h = lesser_than_later x k a s rest (second_of_and (is_lt (nat_cmp x e.0)) _ h)
+lesser_than_later x k a (e ∷ s) rest h = lesser_than_later x k a s rest
+    (second_of_and (is_lt (nat_cmp x e.0)) _ h)
 
-keys_before : (s : Amounts) (k a : ℕ) (rest : Amounts) → T (is_sorted nat_cmp (s ++ (k, a) ∷ rest)) → AllByRecursion (λ p. p.0 < k) s
+keys_before : (s : Amounts) (k a : ℕ) (rest : Amounts) → T (is_sorted nat_cmp (s ++ (k, a) ∷ rest))
+    → AllByRecursion (λ p. p.0 < k) s
 keys_before [] k a rest rising = tt
 keys_before (e ∷ s) k a rest rising = (
   lesser_than_later e.0 k a s rest (first_of_and _ _ rising),
   keys_before s k a rest (second_of_and (below_all nat_cmp e.0 (s ++ (k, a) ∷ rest)) _ rising),
 )
 
-pub lesser_keys : (s : Amounts) (k a : ℕ) (rest : Amounts) → IsAmounts (s ++ (k, a) ∷ rest) → All (λ p. p.0 < k) s
+pub lesser_keys : (s : Amounts) (k a : ℕ) (rest : Amounts) → IsAmounts (s ++ (k, a) ∷ rest)
+    → All (λ p. p.0 < k) s
 lesser_keys s k a rest is = All-from_recursion (λ p. p.0 < k) s (keys_before s k a rest is.rising)

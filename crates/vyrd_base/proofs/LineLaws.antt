@@ -1,5 +1,7 @@
 -- What a line spells is read back from it.
-use Rattle.std.proofs.Common.{◌≡◌, ℕ, suc, zero, ◌<◌, ◌≤◌, ◌^◌, Bool, true, false, cond, not, ◌&&◌, ◌||◌, List, [], ◌∷◌, ◌++◌, map, take, Option, Some, None, refl, ap, ◌∙◌, sym, arith}
+use Rattle.std.proofs.Common.{◌≡◌, ℕ, suc, zero, ◌<◌, ◌≤◌, ◌^◌, Bool, true, false, cond, not, ◌&&◌}
+use Rattle.std.proofs.Common.{◌||◌, List, [], ◌∷◌, ◌++◌, map, take, Option, Some, None, refl, ap}
+use Rattle.std.proofs.Common.{◌∙◌, sym, arith}
 use Rattle.std.specs.Prelude.{◌==◌, nat_lt, codes, decimal}
 use Rattle.std.specs.Option.{option_map, option_and_then}
 use Rattle.std.specs.List.{list_all}
@@ -12,15 +14,21 @@ use Rattle.vyrd_base.specs.declared.subject.Subject.{Subject}
 use Rattle.vyrd_base.specs.declared.subject.Method.{Method}
 use Rattle.vyrd_base.specs.declared.subject.Args.{Args}
 use Rattle.vyrd_base.specs.declared.log.Kind.{Kind}
-use Rattle.vyrd_base.specs.declared.log.Kind.TheVariants.{Call, Return, Write, Commit, BlockOpen, BlockClose, BlockCommit}
+use Rattle.vyrd_base.specs.declared.log.Kind.TheVariants.{Call, Return, Write, Commit, BlockOpen}
+use Rattle.vyrd_base.specs.declared.log.Kind.TheVariants.{BlockClose, BlockCommit}
 use Rattle.vyrd_base.specs.declared.log.Entry.{Entry}
 use Rattle.vyrd_base.specs.declared.log.StartWord.{StartWord}
 use Rattle.vyrd_base.specs.Subjects.{arity_of, are_padded, is_named}
-use Rattle.vyrd_base.specs.Spelling.{spaced, arg_fields, kind_fields, start_line, entry_line, end_line, is_kind_of, is_entry_of}
-use Rattle.vyrd_base.specs.Lines.{fields_of, number_of, args_from, guessed_kind, guessed_entry, entry_in, guessed_start, start_in}
+use Rattle.vyrd_base.specs.Spelling.{spaced, arg_fields, kind_fields, start_line, entry_line}
+use Rattle.vyrd_base.specs.Spelling.{end_line, is_kind_of, is_entry_of}
+use Rattle.vyrd_base.specs.Lines.{fields_of, number_of, args_from, guessed_kind, guessed_entry}
+use Rattle.vyrd_base.specs.Lines.{entry_in, guessed_start, start_in}
 use Rattle.vyrd_base.proofs.SubjectLaws.{named_built_in}
-use Rattle.vyrd_base.proofs.StructureLaws.{plain_method, some_arguments, few_arguments, method_found}
-use Rattle.vyrd_base.proofs.SplitLaws.{is_plain_field, lacks, all_lack, split-join, lacks-join, decimal_lacks, no_space, no_line_feed, number_of_decimal, bytes_same}
+use Rattle.vyrd_base.proofs.StructureLaws.{plain_method, some_arguments, few_arguments}
+use Rattle.vyrd_base.proofs.StructureLaws.{method_found}
+use Rattle.vyrd_base.proofs.SplitLaws.{is_plain_field, lacks, all_lack, split-join, lacks-join}
+use Rattle.vyrd_base.proofs.SplitLaws.{decimal_lacks, no_space, no_line_feed, number_of_decimal}
+use Rattle.vyrd_base.proofs.SplitLaws.{bytes_same}
 use Rattle.vyrd_base.proofs.TestLaws.{both_true, first_true, second_true, same_of, is_same}
 
 pub below_32 : (n : ℕ) → nat_lt n (2 ^ 32) ≡ true → n < 2 ^ 64
@@ -39,18 +47,27 @@ record Small (args : Args) : Type 0 where
   b : args.b < 2 ^ 64
   c : args.c < 2 ^ 64
 
-args_1 : (args : Args) → are_padded 1 args ≡ true → Small args → args_from (decimal args.a ∷ []) ≡ args
+args_1 : (args : Args) → are_padded 1 args ≡ true → Small args → args_from (decimal args.a ∷ [])
+    ≡ args
 args_1 args e small =
     let b_is : args.b ≡ 0 = same_of args.b 0 (or_false _ _ (first_true _ _ e) refl) in
-    let c_is : args.c ≡ 0 = same_of args.c 0 (or_false _ _ (second_true (args.b == 0 || nat_lt 1 1) _ e) refl) in
+    let c_is : args.c ≡ 0 = same_of args.c 0
+    (or_false _ _ (second_true (args.b == 0 || nat_lt 1 1) _ e) refl) in
     λ i. record { a = number_of_decimal args.a small.a i; b = sym b_is i; c = sym c_is i }
 
-args_2 : (args : Args) → are_padded 2 args ≡ true → Small args → args_from (decimal args.a ∷ decimal args.b ∷ []) ≡ args
+args_2 : (args : Args) → are_padded 2 args ≡ true → Small args
+    → args_from (decimal args.a ∷ decimal args.b ∷ []) ≡ args
 args_2 args e small =
-    let c_is : args.c ≡ 0 = same_of args.c 0 (or_false _ _ (second_true (args.b == 0 || nat_lt 1 2) _ e) refl) in
-    λ i. record { a = number_of_decimal args.a small.a i; b = number_of_decimal args.b small.b i; c = sym c_is i }
+    let c_is : args.c ≡ 0 = same_of args.c 0
+    (or_false _ _ (second_true (args.b == 0 || nat_lt 1 2) _ e) refl) in
+    λ i. record {
+      a = number_of_decimal args.a small.a i;
+      b = number_of_decimal args.b small.b i;
+      c = sym c_is i;
+    }
 
-args_3 : (args : Args) → Small args → args_from (decimal args.a ∷ decimal args.b ∷ decimal args.c ∷ []) ≡ args
+args_3 : (args : Args) → Small args
+    → args_from (decimal args.a ∷ decimal args.b ∷ decimal args.c ∷ []) ≡ args
 args_3 args small = λ i. record {
   a = number_of_decimal args.a small.a i;
   b = number_of_decimal args.b small.b i;
@@ -59,12 +76,15 @@ args_3 args small = λ i. record {
 
 -- what the range test of a call says
 module _ (same padded : Bool) (args : Args)
-    (e : (same && padded && nat_lt args.a (2 ^ 32) && nat_lt args.b (2 ^ 32) && nat_lt args.c (2 ^ 32)) ≡ true) where
+    (e : (same && padded && nat_lt args.a (2 ^ 32) && nat_lt args.b (2 ^ 32) && nat_lt args.c
+    (2 ^ 32)) ≡ true) where
   small_of : Small args
   small_of = record {
     a = below_32 args.a (second_true (same && padded) _ (first_true _ _ (first_true _ _ e)));
-    b = below_32 args.b (second_true (same && padded && nat_lt args.a (2 ^ 32)) _ (first_true _ _ e));
-    c = below_32 args.c (second_true (same && padded && nat_lt args.a (2 ^ 32) && nat_lt args.b (2 ^ 32)) _ e);
+    b = below_32 args.b
+        (second_true (same && padded && nat_lt args.a (2 ^ 32)) _ (first_true _ _ e));
+    c = below_32 args.c
+        (second_true (same && padded && nat_lt args.a (2 ^ 32) && nat_lt args.b (2 ^ 32)) _ e);
   }
 
   padded_of : padded ≡ true
@@ -80,20 +100,26 @@ args_guess (suc (suc (suc zero))) args some few e small = args_3 args small
 args_guess (suc (suc (suc (suc n)))) args some few e small = absurd (omega (arith, few))
 
 -- a call is guessed right
-pub call_guess : (subject : Subject) (method : Method) (args : Args) → is_kind_of subject (Call method args) ≡ true
+pub call_guess : (subject : Subject) (method : Method) (args : Args)
+    → is_kind_of subject (Call method args) ≡ true
     → guessed_kind subject (kind_fields (Call method args)) ≡ Some (Call method args)
 call_guess subject method args e =
-    let named : is_named method subject ≡ true = first_true _ _ (first_true _ _ (first_true _ _ (first_true _ _ e))) in
+    let named : is_named method subject ≡ true = first_true _ _
+    (first_true _ _ (first_true _ _ (first_true _ _ e))) in
     let read : args_from (arg_fields method args) ≡ args = args_guess (arity_of method) args
-    (some_arguments method (named_built_in method subject named)) (few_arguments method (named_built_in method subject named))
+    (some_arguments method (named_built_in method subject named))
+    (few_arguments method (named_built_in method subject named))
     (padded_of (is_named method subject) _ args e)
     (small_of (is_named method subject) (are_padded (arity_of method) args) args e) in
-    ap (option_map (λ m. Call m (args_from (arg_fields method args)))) (method_found subject method named)
+    ap (option_map (λ m. Call m (args_from (arg_fields method args))))
+    (method_found subject method named)
     ∙ ap (λ x. Some (Call method x)) read
 
-kind_guess : (subject : Subject) (kind : Kind) → is_kind_of subject kind ≡ true → guessed_kind subject (kind_fields kind) ≡ Some kind
+kind_guess : (subject : Subject) (kind : Kind) → is_kind_of subject kind ≡ true
+    → guessed_kind subject (kind_fields kind) ≡ Some kind
 kind_guess subject (Call method args) e = call_guess subject method args e
-kind_guess subject (Return reply) e = ap (λ r. Some (Return r)) (number_of_decimal reply (below_64 reply e))
+kind_guess subject (Return reply) e = ap (λ r. Some (Return r))
+    (number_of_decimal reply (below_64 reply e))
 kind_guess subject (Write word value) e =
     let w = number_of_decimal word (below_32 word (first_true _ _ e)) in
     let v = number_of_decimal value (below_64 value (second_true (nat_lt word (2 ^ 32)) _ e)) in
@@ -104,35 +130,47 @@ kind_guess subject BlockClose e = refl
 kind_guess subject BlockCommit e = refl
 
 pub plain_number : (n : ℕ) → n < 2 ^ 64 → is_plain_field (decimal n) ≡ true
-plain_number n small = both_true _ _ (decimal_lacks 32 n no_space small) (decimal_lacks 10 n no_line_feed small)
+plain_number n small = both_true _ _ (decimal_lacks 32 n no_space small)
+    (decimal_lacks 10 n no_line_feed small)
 
-pub plain_spaces : (fields : List (List ℕ)) → list_all is_plain_field fields ≡ true → all_lack 32 fields ≡ true
+pub plain_spaces : (fields : List (List ℕ)) → list_all is_plain_field fields ≡ true
+    → all_lack 32 fields ≡ true
 plain_spaces [] e = refl
-plain_spaces (field ∷ fields) e = both_true _ _ (first_true _ _ (first_true _ _ e)) (plain_spaces fields (second_true (is_plain_field field) _ e))
+plain_spaces (field ∷ fields) e = both_true _ _ (first_true _ _ (first_true _ _ e))
+    (plain_spaces fields (second_true (is_plain_field field) _ e))
 
-pub plain_line_feeds : (fields : List (List ℕ)) → list_all is_plain_field fields ≡ true → all_lack 10 fields ≡ true
+pub plain_line_feeds : (fields : List (List ℕ)) → list_all is_plain_field fields ≡ true
+    → all_lack 10 fields ≡ true
 plain_line_feeds [] e = refl
 plain_line_feeds (field ∷ fields) e =
-    both_true _ _ (second_true (lacks 32 field) _ (first_true _ _ e)) (plain_line_feeds fields (second_true (is_plain_field field) _ e))
+    both_true _ _ (second_true (lacks 32 field) _ (first_true _ _ e))
+    (plain_line_feeds fields (second_true (is_plain_field field) _ e))
 
 plain_take : (n : ℕ) (numbers : List ℕ) → list_all is_plain_field (map decimal numbers) ≡ true
     → list_all is_plain_field (map decimal (take n numbers)) ≡ true
 plain_take zero numbers e = refl
 plain_take (suc n) [] e = refl
-plain_take (suc n) (x ∷ numbers) e = both_true _ _ (first_true _ _ e) (plain_take n numbers (second_true (is_plain_field (decimal x)) _ e))
+plain_take (suc n) (x ∷ numbers) e = both_true _ _ (first_true _ _ e)
+    (plain_take n numbers (second_true (is_plain_field (decimal x)) _ e))
 
-plain_args : (method : Method) (args : Args) → Small args → list_all is_plain_field (arg_fields method args) ≡ true
+plain_args : (method : Method) (args : Args) → Small args
+    → list_all is_plain_field (arg_fields method args) ≡ true
 plain_args method args small = plain_take (arity_of method) (args.a ∷ args.b ∷ args.c ∷ [])
-    (both_true _ _ (plain_number args.a small.a) (both_true _ _ (plain_number args.b small.b) (both_true _ _ (plain_number args.c small.c) refl)))
+    (both_true _ _ (plain_number args.a small.a)
+    (both_true _ _ (plain_number args.b small.b)
+    (both_true _ _ (plain_number args.c small.c) refl)))
 
-plain_kind : (subject : Subject) (kind : Kind) → is_kind_of subject kind ≡ true → list_all is_plain_field (kind_fields kind) ≡ true
+plain_kind : (subject : Subject) (kind : Kind) → is_kind_of subject kind ≡ true
+    → list_all is_plain_field (kind_fields kind) ≡ true
 plain_kind subject (Call method args) e =
     both_true _ _ (plain_method method)
-    (plain_args method args (small_of (is_named method subject) (are_padded (arity_of method) args) args e))
+    (plain_args method args
+    (small_of (is_named method subject) (are_padded (arity_of method) args) args e))
 plain_kind subject (Return reply) e = both_true _ _ (plain_number reply (below_64 reply e)) refl
 plain_kind subject (Write word value) e =
     both_true _ _ (plain_number word (below_32 word (first_true _ _ e)))
-    (both_true _ _ (plain_number value (below_64 value (second_true (nat_lt word (2 ^ 32)) _ e))) refl)
+    (both_true _ _ (plain_number value (below_64 value (second_true (nat_lt word (2 ^ 32)) _ e)))
+    refl)
 plain_kind subject Commit e = refl
 plain_kind subject BlockOpen e = refl
 plain_kind subject BlockClose e = refl
@@ -145,23 +183,28 @@ plain_entry subject e is =
     (plain_kind subject e.kind (second_true (nat_lt e.caller (2 ^ 32)) _ is))
 
 -- an entry's line is one line
-pub entry_line_whole : (subject : Subject) (e : Entry) → is_entry_of subject e ≡ true → lacks 10 (entry_line e) ≡ true
+pub entry_line_whole : (subject : Subject) (e : Entry) → is_entry_of subject e ≡ true
+    → lacks 10 (entry_line e) ≡ true
 entry_line_whole subject e is =
     lacks-join 10 32 (decimal e.caller) (kind_fields e.kind) refl
     (plain_line_feeds (decimal e.caller ∷ kind_fields e.kind) (plain_entry subject e is))
 
 -- an entry is read back from its line
-pub entry_in-entry_line : (subject : Subject) (e : Entry) → is_entry_of subject e ≡ true → entry_in subject (entry_line e) ≡ Some e
+pub entry_in-entry_line : (subject : Subject) (e : Entry) → is_entry_of subject e ≡ true
+    → entry_in subject (entry_line e) ≡ Some e
 unfolding entry_in
 entry_in-entry_line subject e is =
     let fields : fields_of (entry_line e) ≡ decimal e.caller ∷ kind_fields e.kind =
-    split-join 32 (decimal e.caller) (kind_fields e.kind) (plain_spaces (decimal e.caller ∷ kind_fields e.kind) (plain_entry subject e is)) in
+    split-join 32 (decimal e.caller) (kind_fields e.kind)
+    (plain_spaces (decimal e.caller ∷ kind_fields e.kind) (plain_entry subject e is)) in
     let guess : guessed_entry subject (fields_of (entry_line e)) ≡ Some e =
     ap (guessed_entry subject) fields
     ∙ ap (option_map (λ kind. record { caller = number_of (decimal e.caller); kind = kind }))
     (kind_guess subject e.kind (second_true (nat_lt e.caller (2 ^ 32)) _ is))
-    ∙ ap (λ c. Some (record { caller = c; kind = e.kind })) (number_of_decimal e.caller (below_32 e.caller (first_true _ _ is))) in
-    ap (option_and_then (λ x. cond (is_entry_of subject x && bytes_eq (entry_line x) (entry_line e)) (Some x) None)) guess
+    ∙ ap (λ c. Some (record { caller = c; kind = e.kind }))
+    (number_of_decimal e.caller (below_32 e.caller (first_true _ _ is))) in
+    ap (option_and_then (λ x. cond (is_entry_of subject x && bytes_eq (entry_line x) (entry_line e))
+    (Some x) None)) guess
     ∙ ap (λ b. cond b (Some e) None) (both_true _ _ is (bytes_same (entry_line e)))
 
 -- a list with a space isn't the line `end`
@@ -169,7 +212,8 @@ pub spaced_isnt_end : (xs ys : List ℕ) → lacks 32 (xs ++ 32 ∷ ys) ≡ fals
 spaced_isnt_end [] ys = refl
 spaced_isnt_end (x ∷ xs) ys = and_right (not (x == 32)) _ (spaced_isnt_end xs ys)
 
-kind_spaced : (start : List ℕ) (kind : Kind) → (rest : List ℕ) × (spaced (start ∷ kind_fields kind) ≡ start ++ 32 ∷ rest)
+kind_spaced : (start : List ℕ) (kind : Kind) → (rest : List ℕ)
+    × (spaced (start ∷ kind_fields kind) ≡ start ++ 32 ∷ rest)
 kind_spaced start (Call method args) = (_, refl)
 kind_spaced start (Return reply) = (_, refl)
 kind_spaced start (Write word value) = (_, refl)
@@ -184,7 +228,8 @@ entry_line_isnt_end e = by_test (bytes_eq (entry_line e) end_line) refl
     by_test : (b : Bool) → bytes_eq (entry_line e) end_line ≡ b → b ≡ false
     by_test true same =
         let line = kind_spaced (decimal e.caller) e.kind in
-        ap (lacks 32) (sym ((bytes_eq-Decides (entry_line e) end_line).0 same)) ∙ ap (lacks 32) line.1 ∙ spaced_isnt_end (decimal e.caller) line.0
+        ap (lacks 32) (sym ((bytes_eq-Decides (entry_line e) end_line).0 same))
+        ∙ ap (lacks 32) line.1 ∙ spaced_isnt_end (decimal e.caller) line.0
     by_test false same = refl
 
 -- whether the numbers of a starting word are in the text's ranges
@@ -195,37 +240,45 @@ is_start s = nat_lt s.word (2 ^ 32) && nat_lt s.value (2 ^ 64)
 abbrev pub start_numbers : StartWord → List (List ℕ)
 start_numbers s = decimal s.word ∷ decimal s.value ∷ []
 
-pub plain_start : (s : StartWord) → is_start s ≡ true → list_all is_plain_field (codes "start" ∷ start_numbers s) ≡ true
+pub plain_start : (s : StartWord) → is_start s ≡ true
+    → list_all is_plain_field (codes "start" ∷ start_numbers s) ≡ true
 plain_start s is =
     both_true _ _ (plain_number s.word (below_32 s.word (first_true _ _ is)))
-    (both_true _ _ (plain_number s.value (below_64 s.value (second_true (nat_lt s.word (2 ^ 32)) _ is))) refl)
+    (both_true _ _
+    (plain_number s.value (below_64 s.value (second_true (nat_lt s.word (2 ^ 32)) _ is))) refl)
 
 -- a starting word's line is one line
 pub start_line_whole : (s : StartWord) → is_start s ≡ true → lacks 10 (start_line s) ≡ true
 start_line_whole s is =
-    lacks-join 10 32 (codes "start") (start_numbers s) refl (plain_line_feeds (codes "start" ∷ start_numbers s) (plain_start s is))
+    lacks-join 10 32 (codes "start") (start_numbers s) refl
+    (plain_line_feeds (codes "start" ∷ start_numbers s) (plain_start s is))
 
 -- a starting word is read back from its line
 pub start_in-start_line : (s : StartWord) → is_start s ≡ true → start_in (start_line s) ≡ Some s
 unfolding start_in
 start_in-start_line s is =
     let fields : fields_of (start_line s) ≡ codes "start" ∷ start_numbers s =
-    split-join 32 (codes "start") (start_numbers s) (plain_spaces (codes "start" ∷ start_numbers s) (plain_start s is)) in
+    split-join 32 (codes "start") (start_numbers s)
+    (plain_spaces (codes "start" ∷ start_numbers s) (plain_start s is)) in
     let guess : guessed_start (fields_of (start_line s)) ≡ Some s =
     ap guessed_start fields
     ∙ (λ i. Some (record {
       word = number_of_decimal s.word (below_32 s.word (first_true _ _ is)) i;
-      value = number_of_decimal s.value (below_64 s.value (second_true (nat_lt s.word (2 ^ 32)) _ is)) i;
+      value = number_of_decimal s.value
+          (below_64 s.value (second_true (nat_lt s.word (2 ^ 32)) _ is)) i;
     })) in
-    ap (option_and_then (λ x. cond (is_start x && bytes_eq (start_line x) (start_line s)) (Some x) None)) guess
+    ap (option_and_then (λ x. cond (is_start x && bytes_eq (start_line x) (start_line s))
+    (Some x) None)) guess
     ∙ ap (λ b. cond b (Some s) None) (both_true _ _ is (bytes_same (start_line s)))
 
 -- a starting word that is read is spelled by the line, and its numbers are in the text's ranges
-pub start_in_sound : (line : List ℕ) (s : StartWord) → start_in line ≡ Some s → (line ≡ start_line s) × (is_start s ≡ true)
+pub start_in_sound : (line : List ℕ) (s : StartWord) → start_in line ≡ Some s
+    → (line ≡ start_line s) × (is_start s ≡ true)
 unfolding start_in
 start_in_sound line s found = by_guess (guessed_start (fields_of line)) found
   where
-    checked : (x : StartWord) (b : Bool) → (is_start x && bytes_eq (start_line x) line) ≡ b → cond b (Some x) None ≡ Some s
+    checked : (x : StartWord) (b : Bool) → (is_start x && bytes_eq (start_line x) line) ≡ b
+        → cond b (Some x) None ≡ Some s
         → (line ≡ start_line s) × (is_start s ≡ true)
     checked x false t f = cc
     checked x true t f =
@@ -233,13 +286,16 @@ start_in_sound line s found = by_guess (guessed_start (fields_of line)) found
         let spelled = (bytes_eq-Decides (start_line x) line).0 (second_true (is_start x) _ t) in
         (sym spelled ∙ ap start_line same, ap is_start (sym same) ∙ first_true _ _ t)
 
-    by_guess : (o : Option StartWord) → option_and_then (λ x. cond (is_start x && bytes_eq (start_line x) line) (Some x) None) o ≡ Some s
+    by_guess : (o : Option StartWord)
+        → option_and_then (λ x. cond (is_start x && bytes_eq (start_line x) line) (Some x) None) o
+        ≡ Some s
         → (line ≡ start_line s) × (is_start s ≡ true)
     by_guess None f = cc
     by_guess (Some x) f = checked x (is_start x && bytes_eq (start_line x) line) refl f
 
 -- what begins with a number doesn't begin with the letter s
-number_first : (digits rest more : List ℕ) → lacks 115 digits ≡ true → digits ++ 32 ∷ rest ≡ 115 ∷ more → ⊥
+number_first : (digits rest more : List ℕ) → lacks 115 digits ≡ true → digits ++ 32 ∷ rest ≡ 115
+    ∷ more → ⊥
 number_first [] rest more e same =
     let head : 32 ≡ 115 = ap first same in
     omega (arith, head)
@@ -263,7 +319,8 @@ no_letter : ¬ (digit_value 115 < 10)
 no_letter = λ h. omega arith
 
 -- an entry's line spells no starting word
-pub start_in-entry_line : (subject : Subject) (e : Entry) → is_entry_of subject e ≡ true → start_in (entry_line e) ≡ None
+pub start_in-entry_line : (subject : Subject) (e : Entry) → is_entry_of subject e ≡ true
+    → start_in (entry_line e) ≡ None
 start_in-entry_line subject e is = by_found (start_in (entry_line e)) refl
   where
     by_found : (o : Option StartWord) → start_in (entry_line e) ≡ o → o ≡ None

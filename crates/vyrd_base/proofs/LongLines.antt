@@ -1,5 +1,7 @@
 -- No line with more than 64 bytes spells anything.
-use Rattle.std.proofs.Common.{◌≡◌, ℕ, suc, zero, ◌+◌, ◌<◌, ◌≤◌, ◌^◌, Bool, true, false, cond, ◌&&◌, List, [], ◌∷◌, ◌++◌, map, take, length, Option, Some, None, Err, refl, ap, arith, length-append}
+use Rattle.std.proofs.Common.{◌≡◌, ℕ, suc, zero, ◌+◌, ◌<◌, ◌≤◌, ◌^◌, Bool, true, false, cond, ◌&&◌}
+use Rattle.std.proofs.Common.{List, [], ◌∷◌, ◌++◌, map, take, length, Option, Some, None, Err, refl}
+use Rattle.std.proofs.Common.{ap, arith, length-append}
 use Rattle.std.specs.Prelude.{nat_lt, nat_le, codes, decimal, ok_or}
 use Rattle.std.specs.Option.{option_and_then}
 use Rattle.std.specs.List.{join_with_byte}
@@ -10,14 +12,17 @@ use Rattle.std.proofs.lemmas.Slice.Eq.{bytes_eq-Decides}
 use Rattle.vyrd_base.specs.declared.subject.Subject.{Subject}
 use Rattle.vyrd_base.specs.declared.verdict.Rule.TheVariants.{BadHeader, UnknownVersion}
 use Rattle.vyrd_base.specs.declared.log.Kind.{Kind}
-use Rattle.vyrd_base.specs.declared.log.Kind.TheVariants.{Call, Return, Write, Commit, BlockOpen, BlockClose, BlockCommit}
+use Rattle.vyrd_base.specs.declared.log.Kind.TheVariants.{Call, Return, Write, Commit, BlockOpen}
+use Rattle.vyrd_base.specs.declared.log.Kind.TheVariants.{BlockClose, BlockCommit}
 use Rattle.vyrd_base.specs.declared.log.Entry.{Entry}
 use Rattle.vyrd_base.specs.declared.log.StartWord.{StartWord}
 use Rattle.vyrd_base.proofs.StructureLaws.{short_method}
 use Rattle.vyrd_base.specs.Limits.{is_sized}
 use Rattle.vyrd_base.specs.Subjects.{arity_of, are_padded, is_named}
-use Rattle.vyrd_base.specs.Spelling.{subject_name, header_line, kind_fields, start_line, entry_line, end_line, is_kind_of, is_entry_of}
-use Rattle.vyrd_base.specs.Lines.{fields_of, number_of, guessed_entry, entry_in, start_in, subject_called, header_of, header_spelled, header_from, header_in}
+use Rattle.vyrd_base.specs.Spelling.{subject_name, header_line, kind_fields, start_line, entry_line}
+use Rattle.vyrd_base.specs.Spelling.{end_line, is_kind_of, is_entry_of}
+use Rattle.vyrd_base.specs.Lines.{fields_of, number_of, guessed_entry, entry_in, start_in}
+use Rattle.vyrd_base.specs.Lines.{subject_called, header_of, header_spelled, header_from, header_in}
 use Rattle.vyrd_base.proofs.LineLaws.{is_start, start_numbers, start_in_sound}
 use Rattle.vyrd_base.proofs.TestLaws.{first_true, second_true, below_of}
 use Rattle.vyrd_base.proofs.StructureLaws.{short_subject}
@@ -27,7 +32,8 @@ abbrev pub spaced_length : List (List ℕ) → ℕ
 spaced_length [] = 0
 spaced_length (field ∷ fields) = length field + 1 + spaced_length fields
 
-length-join : (c : ℕ) (fields : List (List ℕ)) → length (join_with_byte c fields) ≤ spaced_length fields
+length-join : (c : ℕ) (fields : List (List ℕ)) → length (join_with_byte c fields)
+    ≤ spaced_length fields
 length-join c [] = omega arith
 length-join c (x ∷ []) = omega arith
 length-join c (x ∷ y ∷ fields) =
@@ -48,7 +54,8 @@ short_64 : (n : ℕ) → nat_lt n (2 ^ 64) ≡ true → length (decimal n) ≤ 2
 short_64 n e = short_value n (below_of n (2 ^ 64) e)
 
 -- fewer arguments are no longer
-fewer : (n : ℕ) (numbers : List ℕ) → spaced_length (map decimal (take n numbers)) ≤ spaced_length (map decimal numbers)
+fewer : (n : ℕ) (numbers : List ℕ) → spaced_length (map decimal (take n numbers))
+    ≤ spaced_length (map decimal numbers)
 fewer zero numbers = omega arith
 fewer (suc n) [] = omega arith
 fewer (suc n) (x ∷ numbers) =
@@ -56,15 +63,27 @@ fewer (suc n) (x ∷ numbers) =
     omega (arith, rest)
 
 -- the fields after the caller have at most 52 bytes, with their spaces
-short_kind : (subject : Subject) (kind : Kind) → is_kind_of subject kind ≡ true → spaced_length (kind_fields kind) ≤ 52
+short_kind : (subject : Subject) (kind : Kind) → is_kind_of subject kind ≡ true
+    → spaced_length (kind_fields kind) ≤ 52
 short_kind subject (Call method args) e =
-    let a = short_32 args.a (second_true (is_named method subject && are_padded (arity_of method) args) _
+    let a = short_32 args.a
+    (second_true (is_named method subject && are_padded (arity_of method) args) _
     (first_true _ _ (first_true _ _ e))) in
-    let b = short_32 args.b (second_true (is_named method subject && are_padded (arity_of method) args
+    let b = short_32 args.b
+    (second_true (is_named method subject && are_padded (arity_of method) args
     && nat_lt args.a (2 ^ 32)) _ (first_true _ _ e)) in
-    let c = short_32 args.c (second_true (is_named method subject && are_padded (arity_of method) args
+    let c = short_32 args.c
+    (second_true (is_named method subject && are_padded (arity_of method) args
     && nat_lt args.a (2 ^ 32) && nat_lt args.b (2 ^ 32)) _ e) in
-    omega (arith, short_method method, fewer (arity_of method) (args.a ∷ args.b ∷ args.c ∷ []), a, b, c)
+    omega (
+      arith,
+      short_method method,
+      fewer (arity_of method)
+          (args.a ∷ args.b ∷ args.c ∷ []),
+      a,
+      b,
+      c,
+    )
 short_kind subject (Return reply) e = omega (arith, short_64 reply e)
 short_kind subject (Write word value) e =
     let w = short_32 word (first_true _ _ e) in
@@ -76,25 +95,31 @@ short_kind subject BlockClose e = omega arith
 short_kind subject BlockCommit e = omega arith
 
 -- an entry's line has at most 64 bytes
-pub short_entry : (subject : Subject) (e : Entry) → is_entry_of subject e ≡ true → length (entry_line e) ≤ 64
+pub short_entry : (subject : Subject) (e : Entry) → is_entry_of subject e ≡ true
+    → length (entry_line e) ≤ 64
 short_entry subject e is =
     let caller = short_32 e.caller (first_true _ _ is) in
     let kind = short_kind subject e.kind (second_true (nat_lt e.caller (2 ^ 32)) _ is) in
     omega (arith, length-join 32 (decimal e.caller ∷ kind_fields e.kind), caller, kind)
 
 -- a longer line isn't an entry
-pub long_entry : (subject : Subject) (line : List ℕ) → 64 < length line → entry_in subject line ≡ None
+pub long_entry : (subject : Subject) (line : List ℕ) → 64 < length line → entry_in subject line
+    ≡ None
 unfolding entry_in
 long_entry subject line long = by_guess (guessed_entry subject (fields_of line))
   where
-    checked : (e : Entry) (b : Bool) → (is_entry_of subject e && bytes_eq (entry_line e) line) ≡ b → cond b (Some e) None ≡ None
+    checked : (e : Entry) (b : Bool) → (is_entry_of subject e && bytes_eq (entry_line e) line) ≡ b
+        → cond b (Some e) None ≡ None
     checked e false f = refl
     checked e true f =
-        let same = (bytes_eq-Decides (entry_line e) line).0 (second_true (is_entry_of subject e) _ f) in
+        let same = (bytes_eq-Decides (entry_line e) line).0
+        (second_true (is_entry_of subject e) _ f) in
         let short = short_entry subject e (first_true _ _ f) in
         absurd (omega (arith, ap length same, short))
 
-    by_guess : (o : Option Entry) → option_and_then (λ e. cond (is_entry_of subject e && bytes_eq (entry_line e) line) (Some e) None) o ≡ None
+    by_guess : (o : Option Entry)
+        → option_and_then (λ e. cond (is_entry_of subject e && bytes_eq (entry_line e) line)
+        (Some e) None) o ≡ None
     by_guess None = refl
     by_guess (Some e) = checked e (is_entry_of subject e && bytes_eq (entry_line e) line) refl
 
@@ -131,18 +156,35 @@ short_size n most m e = grind (arith, nat_tests)
 short_header : (version : ℕ) (subject : Subject) (size callers : ℕ) → nat_lt version (2 ^ 32) ≡ true
     → is_sized size callers ≡ true → length (header_line version subject size callers) ≤ 64
 short_header version subject size callers v sized =
-    let n = short_32 size (short_size size 1024 (omega arith) (second_true (nat_le 1 size) _ (first_true _ _ (first_true _ _ sized)))) in
-    let c = short_32 callers (short_size callers 64 (omega arith) (second_true (nat_le 1 size && nat_le size 1024 && nat_le 1 callers) _ sized)) in
-    omega (arith, length-join 32 (codes "vyrd" ∷ decimal version ∷ subject_name subject ∷ decimal size ∷ decimal callers ∷ []), short_32 version v, short_subject subject, n, c)
+    let n = short_32 size
+    (short_size size 1024 (omega arith)
+    (second_true (nat_le 1 size) _ (first_true _ _ (first_true _ _ sized)))) in
+    let c = short_32 callers
+    (short_size callers 64 (omega arith)
+    (second_true (nat_le 1 size && nat_le size 1024 && nat_le 1 callers) _ sized)) in
+    omega (
+      arith,
+      length-join 32 (codes "vyrd" ∷ decimal version ∷ subject_name subject
+          ∷ decimal size ∷ decimal callers ∷ []),
+      short_32 version v,
+      short_subject subject,
+      n,
+      c,
+    )
 
-long_spelled : (line : List ℕ) (version : ℕ) (subject : Option Subject) (size callers : ℕ) → 64 < length line
+long_spelled : (line : List ℕ) (version : ℕ) (subject : Option Subject) (size callers : ℕ)
+    → 64 < length line
     → header_spelled line version subject size callers ≡ Err BadHeader
 long_spelled line version None size callers long = refl
 long_spelled line version (Some subject) size callers long =
-    by_test (nat_lt version (2 ^ 32) && is_sized size callers && bytes_eq (header_line version subject size callers) line) refl
+    by_test (nat_lt version (2 ^ 32) && is_sized size callers
+    && bytes_eq (header_line version subject size callers) line) refl
   where
-    by_test : (b : Bool) → (nat_lt version (2 ^ 32) && is_sized size callers && bytes_eq (header_line version subject size callers) line) ≡ b
-        → cond b (ok_or (header_of version subject size callers) UnknownVersion) (Err BadHeader) ≡ Err BadHeader
+    by_test : (b : Bool)
+        → (nat_lt version (2 ^ 32) && is_sized size callers
+        && bytes_eq (header_line version subject size callers) line) ≡ b
+        → cond b (ok_or (header_of version subject size callers) UnknownVersion) (Err BadHeader)
+        ≡ Err BadHeader
     by_test false e = refl
     by_test true e =
         let same = (bytes_eq-Decides (header_line version subject size callers) line).0
@@ -151,13 +193,15 @@ long_spelled line version (Some subject) size callers long =
         (second_true (nat_lt version (2 ^ 32)) _ (first_true _ _ e)) in
         absurd (omega (arith, ap length same, short))
 
-long_from : (line : List ℕ) (fields : List (List ℕ)) → 64 < length line → header_from line fields ≡ Err BadHeader
+long_from : (line : List ℕ) (fields : List (List ℕ)) → 64 < length line → header_from line fields
+    ≡ Err BadHeader
 long_from line [] long = refl
 long_from line (a ∷ []) long = refl
 long_from line (a ∷ b ∷ []) long = refl
 long_from line (a ∷ b ∷ c ∷ []) long = refl
 long_from line (a ∷ b ∷ c ∷ d ∷ []) long = refl
-long_from line (a ∷ b ∷ c ∷ d ∷ e ∷ more) long = long_spelled line (number_of b) (subject_called c) (number_of d) (number_of e) long
+long_from line (a ∷ b ∷ c ∷ d ∷ e ∷ more) long = long_spelled line (number_of b) (subject_called c)
+    (number_of d) (number_of e) long
 
 -- a longer line isn't a header
 pub long_header : (line : List ℕ) → 64 < length line → header_in line ≡ Err BadHeader

@@ -1,5 +1,6 @@
 -- Without starting words the specification starts empty.
-use Rattle.std.proofs.Common.{◌≡◌, ℕ, zero, suc, ◌+◌, List, [], ◌∷◌, ◌++◌, map, length, Some, None, refl, ap, ◌∙◌, arith}
+use Rattle.std.proofs.Common.{◌≡◌, ℕ, zero, suc, ◌+◌, List, [], ◌∷◌, ◌++◌, map, length, Some, None}
+use Rattle.std.proofs.Common.{refl, ap, ◌∙◌, arith}
 use Rattle.std.specs.Prelude.{replicate, is_none, option_map}
 use Rattle.std.specs.Bool.{then_some}
 use Rattle.std.specs.Option.{option_or}
@@ -17,7 +18,9 @@ use Rattle.vyrd_base.specs.Represented.{state_of_words}
 use Rattle.vyrd_base.specs.Starts.{words_at_start, state_at_start}
 use Rattle.vyrd_base.specs.Words.{value_after}
 use Rattle.vyrd_base.specs.Commits.{states_of}
-use Rattle.vyrd_base.specs.Verdicts.{line_of, states_along, first_fault, shape_verdict, start_verdict, begun_verdict, verdict_so_far, is_call_open, end_verdict}
+use Rattle.vyrd_base.specs.Verdicts.{line_of, states_along, first_fault, shape_verdict}
+use Rattle.vyrd_base.specs.Verdicts.{start_verdict, begun_verdict, verdict_so_far, is_call_open}
+use Rattle.vyrd_base.specs.Verdicts.{end_verdict}
 use Rattle.vyrd_base.proofs.StartLaws.{zeroed_words}
 use Rattle.vyrd_base.specs.Rules.{rules_of}
 
@@ -33,17 +36,21 @@ words_at_start-none h = zeros_from 0 (plain_words h)
 pub state_at_start-none : (h : Header) → state_at_start (rules_of h) [] ≡ Some start
 unfolding state_at_start
 state_at_start-none h =
-    ap (λ ws. option_map showing (state_of_words h (ws ++ replicate (lock_words h) 0))) (words_at_start-none h)
-    ∙ ap (λ ws. option_map showing (state_of_words h ws)) (replicate-append-replicate (plain_words h) (lock_words h) 0)
+    ap (λ ws. option_map showing (state_of_words h (ws ++ replicate (lock_words h) 0)))
+    (words_at_start-none h)
+    ∙ ap (λ ws. option_map showing (state_of_words h ws))
+    (replicate-append-replicate (plain_words h) (lock_words h) 0)
     ∙ ap (option_map showing) (zeroed_words h)
 
 -- the states along a front
-pub states_along-none : (h : Header) (xs : List Entry) → states_along (rules_of h) [] xs ≡ states_of (rules_of h) (Some start) xs
+pub states_along-none : (h : Header) (xs : List Entry) → states_along (rules_of h) [] xs
+    ≡ states_of (rules_of h) (Some start) xs
 states_along-none h xs = ap (λ o. states_of (rules_of h) o xs) (state_at_start-none h)
 
 -- nothing is wrong with no starting words
 pub start_verdict-none : (h : Header) → start_verdict (rules_of h) [] ≡ None
-start_verdict-none h = ap (λ o. then_some (is_none o) (Malformed 2 StartState)) (state_at_start-none h)
+start_verdict-none h = ap (λ o. then_some (is_none o) (Malformed 2 StartState))
+    (state_at_start-none h)
 
 pub begun_verdict-none : (h : Header) (es : List Entry) → begun_verdict (rules_of h) [] es ≡ None
 begun_verdict-none h [] = refl
@@ -51,16 +58,22 @@ begun_verdict-none h (e ∷ es) = start_verdict-none h
 
 -- so the verdict is about the entries alone
 pub verdict_so_far-none : (h : Header) (es : List Entry)
-    → verdict_so_far (rules_of h) [] es ≡ option_or (first_fault (rules_of h) [] (front h es)) (shape_verdict h [] es)
+    → verdict_so_far (rules_of h) [] es ≡ option_or (first_fault (rules_of h) [] (front h es))
+    (shape_verdict h [] es)
 unfolding verdict_so_far
 verdict_so_far-none h es =
-    ap (λ o. option_or o (option_or (first_fault (rules_of h) [] (front h es)) (shape_verdict h [] es))) (begun_verdict-none h es)
+    ap (λ o. option_or o
+    (option_or (first_fault (rules_of h) [] (front h es)) (shape_verdict h [] es)))
+    (begun_verdict-none h es)
 
 pub end_verdict-none : (h : Header) (es : List Entry)
-    → end_verdict (rules_of h) [] es ≡ then_some (is_call_open h (newest_first es)) (Malformed (line_of [] (length es)) CallOpen)
+    → end_verdict (rules_of h) [] es ≡ then_some (is_call_open h (newest_first es))
+    (Malformed (line_of [] (length es)) CallOpen)
 unfolding end_verdict
 end_verdict-none h es =
-    ap (λ o. option_or o (then_some (is_call_open h (newest_first es)) (Malformed (line_of [] (length es)) CallOpen))) (start_verdict-none h)
+    ap (λ o. option_or o
+    (then_some (is_call_open h (newest_first es)) (Malformed (line_of [] (length es)) CallOpen)))
+    (start_verdict-none h)
 
 -- without starting words an entry stands two lines after its position
 pub line_of-none : (position : ℕ) → line_of [] position ≡ position + 2

@@ -1,13 +1,20 @@
 -- How the places of a list, and the first answer in it, grow with the list.
-use Rattle.std.proofs.Common.{◌≡◌, ℕ, zero, suc, ◌+◌, ◌<◌, ◌≤◌, Bool, true, List, [], ◌∷◌, ◌++◌, length, map, get_or, Option, Some, None, refl, ap, ◌∙◌, sym, arith}
+use Rattle.std.proofs.Common.{◌≡◌, ℕ, zero, suc, ◌+◌, ◌<◌, ◌≤◌, Bool, true, List, [], ◌∷◌, ◌++◌}
+use Rattle.std.proofs.Common.{length, map, get_or, Option, Some, None, refl, ap, ◌∙◌, sym, arith}
 use Rattle.std.specs.Option.{option_or}
 use Rattle.std.specs.List.{list_all}
-use Rattle.vyrd_base.specs.Places.{Place, places_after, first_answer, newest_first_onto, newest_first, numbers_from, numbers_below}
+use Rattle.vyrd_base.specs.Places.{Place, places_after, first_answer, newest_first_onto}
+use Rattle.vyrd_base.specs.Places.{newest_first, numbers_from, numbers_below}
 use Rattle.vyrd_base.proofs.TestLaws.{both_true}
 
 -- a place with more after it
 abbrev pub with_later : {A : Type 0} → List A → Place A → Place A
-with_later more place = record { earlier = place.earlier; here = place.here; later = place.later ++ more }
+with_later more place = record {
+  earlier = place.earlier;
+  here = place.here;
+  later = place.later
+      ++ more;
+}
 
 pub first_answer-append : {A B : Type 0} (f : A → Option B) (xs ys : List A)
     → first_answer f (xs ++ ys) ≡ option_or (first_answer f xs) (first_answer f ys)
@@ -19,10 +26,12 @@ first_answer-append f (x ∷ xs) ys = elim (f x) as (λ o. option_or o (first_an
     ]
 
 pub places_after-append : {A : Type 0} (earlier xs ys : List A)
-    → places_after earlier (xs ++ ys) ≡ map (with_later ys) (places_after earlier xs) ++ places_after (newest_first_onto earlier xs) ys
+    → places_after earlier (xs ++ ys) ≡ map (with_later ys) (places_after earlier xs)
+    ++ places_after (newest_first_onto earlier xs) ys
 places_after-append earlier [] ys = refl
 places_after-append earlier (x ∷ xs) ys =
-    ap (λ rest. record { earlier = earlier; here = x; later = xs ++ ys } ∷ rest) (places_after-append (x ∷ earlier) xs ys)
+    ap (λ rest. record { earlier = earlier; here = x; later = xs ++ ys } ∷ rest)
+    (places_after-append (x ∷ earlier) xs ys)
 
 pub newest_first_onto-append : {A : Type 0} (earlier xs ys : List A)
     → newest_first_onto earlier (xs ++ ys) ≡ newest_first_onto (newest_first_onto earlier xs) ys
@@ -30,11 +39,13 @@ newest_first_onto-append earlier [] ys = refl
 newest_first_onto-append earlier (x ∷ xs) ys = newest_first_onto-append (x ∷ earlier) xs ys
 
 -- one more at the end is the newest
-pub newest_first-push : {A : Type 0} (xs : List A) (x : A) → newest_first (xs ++ x ∷ []) ≡ x ∷ newest_first xs
+pub newest_first-push : {A : Type 0} (xs : List A) (x : A) → newest_first (xs ++ x ∷ []) ≡ x
+    ∷ newest_first xs
 newest_first-push xs x = newest_first_onto-append [] xs (x ∷ [])
 
 -- turning a list leaves its length
-pub length-newest_first_onto : {A : Type 0} (earlier xs : List A) → length (newest_first_onto earlier xs) ≡ length earlier + length xs
+pub length-newest_first_onto : {A : Type 0} (earlier xs : List A)
+    → length (newest_first_onto earlier xs) ≡ length earlier + length xs
 length-newest_first_onto earlier [] = omega arith
 length-newest_first_onto earlier (x ∷ xs) = length-newest_first_onto (x ∷ earlier) xs ∙ omega arith
 
@@ -47,10 +58,13 @@ numbers_from-push k zero = let e : k + 0 ≡ k = omega arith in ap (λ x. x ∷ 
 numbers_from-push k (suc n) =
     let one : suc n + 1 ≡ suc (n + 1) = omega arith in
     let at : k + 1 + n ≡ k + suc n = omega arith in
-    ap (numbers_from k) one ∙ ap (λ xs. k ∷ xs) (numbers_from-push (k + 1) n ∙ ap (λ x. numbers_from (k + 1) n ++ x ∷ []) at)
+    ap (numbers_from k) one
+    ∙ ap (λ xs. k ∷ xs)
+    (numbers_from-push (k + 1) n ∙ ap (λ x. numbers_from (k + 1) n ++ x ∷ []) at)
 
 pub numbers_below-push : (n : ℕ) → numbers_below (n + 1) ≡ numbers_below n ++ n ∷ []
-numbers_below-push n = let e : 0 + n ≡ n = omega arith in numbers_from-push 0 n ∙ ap (λ x. numbers_from 0 n ++ x ∷ []) e
+numbers_below-push n = let e : 0 + n ≡ n = omega arith in numbers_from-push 0 n
+    ∙ ap (λ x. numbers_from 0 n ++ x ∷ []) e
 
 -- a function's values at n numbers in a row are n
 pub length-mapped : {A : Type 0} (f : ℕ → A) (k n : ℕ) → length (map f (numbers_from k n)) ≡ n
@@ -61,26 +75,34 @@ pub length_below : {A : Type 0} (f : ℕ → A) (n : ℕ) → length (map f (num
 length_below f n = length-mapped f 0 n
 
 -- two functions that agree at n numbers in a row
-pub map_alike_from : {A : Type 0} (f g : ℕ → A) (k n : ℕ) → ((i : ℕ) → k ≤ i → i < k + n → f i ≡ g i) → map f (numbers_from k n) ≡ map g (numbers_from k n)
+pub map_alike_from : {A : Type 0} (f g : ℕ → A) (k n : ℕ)
+    → ((i : ℕ) → k ≤ i → i < k + n → f i ≡ g i) → map f (numbers_from k n)
+    ≡ map g (numbers_from k n)
 map_alike_from f g k zero same = refl
 map_alike_from f g k (suc n) same =
     ap (λ x. x ∷ map f (numbers_from (k + 1) n)) (same k (omega arith) (omega arith))
-    ∙ ap (λ xs. g k ∷ xs) (map_alike_from f g (k + 1) n (λ i from to. same i (omega arith) (omega arith)))
+    ∙ ap (λ xs. g k ∷ xs)
+    (map_alike_from f g (k + 1) n (λ i from to. same i (omega arith) (omega arith)))
 
-pub map_alike : {A : Type 0} (f g : ℕ → A) (n : ℕ) → ((i : ℕ) → i < n → f i ≡ g i) → map f (numbers_below n) ≡ map g (numbers_below n)
+pub map_alike : {A : Type 0} (f g : ℕ → A) (n : ℕ) → ((i : ℕ) → i < n → f i ≡ g i)
+    → map f (numbers_below n) ≡ map g (numbers_below n)
 map_alike f g n same = map_alike_from f g 0 n (λ i from to. same i (omega arith))
 
 -- a function's value at the number at a place
-pub at_map : {A : Type 0} (f : ℕ → A) (k n i : ℕ) (d : A) → i < n → get_or (map f (numbers_from k n)) i d ≡ f (k + i)
+pub at_map : {A : Type 0} (f : ℕ → A) (k n i : ℕ) (d : A) → i < n
+    → get_or (map f (numbers_from k n)) i d ≡ f (k + i)
 at_map f k zero i d low = absurd (omega (arith, low))
 at_map f k (suc n) zero d low = let here : k ≡ k + 0 = omega arith in ap f here
-at_map f k (suc n) (suc i) d low = let there : k + 1 + i ≡ k + suc i = omega arith in at_map f (k + 1) n i d (omega (arith, low)) ∙ ap f there
+at_map f k (suc n) (suc i) d low = let there : k + 1 + i ≡ k + suc i = omega arith in at_map f
+    (k + 1) n i d (omega (arith, low)) ∙ ap f there
 
-pub element_below : {A : Type 0} (f : ℕ → A) (n i : ℕ) (d : A) → i < n → get_or (map f (numbers_below n)) i d ≡ f i
+pub element_below : {A : Type 0} (f : ℕ → A) (n i : ℕ) (d : A) → i < n
+    → get_or (map f (numbers_below n)) i d ≡ f i
 element_below f n i d low = let there : 0 + i ≡ i = omega arith in at_map f 0 n i d low ∙ ap f there
 
 -- a test that each number passes, all do
-pub pass_all : (test : ℕ → Bool) (k n : ℕ) → ((i : ℕ) → k ≤ i → i < k + n → test i ≡ true) → list_all test (numbers_from k n) ≡ true
+pub pass_all : (test : ℕ → Bool) (k n : ℕ) → ((i : ℕ) → k ≤ i → i < k + n → test i ≡ true)
+    → list_all test (numbers_from k n) ≡ true
 pass_all test k zero each = refl
 pass_all test k (suc n) each =
     both_true (test k) (list_all test (numbers_from (k + 1) n)) (each k (omega arith) (omega arith))

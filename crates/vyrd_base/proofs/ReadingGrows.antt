@@ -1,5 +1,7 @@
 -- What longer bytes say: what was read stays read, and a fault of text that is known stays.
-use Rattle.std.proofs.Common.{◌≡◌, ℕ, ◌+◌, ◌<◌, ◌≤◌, Bool, true, false, cond, ◌&&◌, ◌||◌, List, [], ◌∷◌, ◌++◌, length, Option, Some, None, Result, Ok, Err, refl, ap, subst, ◌∙◌, sym, arith, length-append}
+use Rattle.std.proofs.Common.{◌≡◌, ℕ, ◌+◌, ◌<◌, ◌≤◌, Bool, true, false, cond, ◌&&◌, ◌||◌, List, []}
+use Rattle.std.proofs.Common.{◌∷◌, ◌++◌, length, Option, Some, None, Result, Ok, Err, refl, ap}
+use Rattle.std.proofs.Common.{subst, ◌∙◌, sym, arith, length-append}
 use Rattle.std.specs.Prelude.{◌==◌, nat_lt}
 use Rattle.std.specs.List.{slice_split, onto_first}
 use Rattle.std.specs.Str.{bytes_eq}
@@ -11,12 +13,16 @@ use Rattle.vyrd_base.specs.declared.subject.Subject.{Subject}
 use Rattle.vyrd_base.specs.declared.log.Entry.{Entry}
 use Rattle.vyrd_base.specs.declared.log.StartWord.{StartWord}
 use Rattle.vyrd_base.specs.declared.verdict.Rule.{Rule}
-use Rattle.vyrd_base.specs.declared.verdict.Rule.TheVariants.{TooManyLines, AfterEnd, BadHeader, BadEntry, NoLineFeed, NoEnd}
+use Rattle.vyrd_base.specs.declared.verdict.Rule.TheVariants.{TooManyLines, AfterEnd, BadHeader}
+use Rattle.vyrd_base.specs.declared.verdict.Rule.TheVariants.{BadEntry, NoLineFeed, NoEnd}
 use Rattle.vyrd_base.specs.Shape.{◌breaks◌, first_broken}
 use Rattle.vyrd_base.specs.Spelling.{end_line}
 use Rattle.vyrd_base.specs.Starts.{start_rule}
 use Rattle.vyrd_base.specs.Lines.{start_in, entry_in, header_in}
-use Rattle.vyrd_base.specs.Reading.{Reading, TextFault, Input, has_any, stopped, ended, unfinished_rule, after_end_rule, entry_before, lines_read, start_before, starts_read, body_read, header_before, text_read, reading}
+use Rattle.vyrd_base.specs.Reading.{Reading, TextFault, Input, has_any, stopped, ended}
+use Rattle.vyrd_base.specs.Reading.{unfinished_rule, after_end_rule, entry_before, lines_read}
+use Rattle.vyrd_base.specs.Reading.{start_before, starts_read, body_read, header_before, text_read}
+use Rattle.vyrd_base.specs.Reading.{reading}
 use Rattle.vyrd_base.proofs.LongLines.{long_entry, long_start, long_isnt_end, long_header}
 use Rattle.vyrd_base.proofs.ReadingLaws.{no_start_line, one_start_line}
 use Rattle.vyrd_base.proofs.TestLaws.{below_of, is_below}
@@ -33,7 +39,8 @@ longer_cons : (ps qs : List (List ℕ)) → Longer ps qs → Longer ([] ∷ ps) 
 longer_cons [] qs h = absurd h
 longer_cons (p ∷ ps) qs h = (refl, h)
 
-longer_onto : (x : ℕ) (ps qs : List (List ℕ)) → Longer ps qs → Longer (onto_first x ps) (onto_first x qs)
+longer_onto : (x : ℕ) (ps qs : List (List ℕ)) → Longer ps qs → Longer (onto_first x ps)
+    (onto_first x qs)
 longer_onto x [] qs h = absurd h
 longer_onto x (rest ∷ []) [] h = absurd h
 longer_onto x (rest ∷ []) (q ∷ qs) h = (h.0, ap (λ ys. x ∷ ys) h.1)
@@ -47,16 +54,19 @@ longer_nothing (q ∷ qs) h = (q, refl)
 
 pub some_parts : (p : ℕ → Bool) (xs : List ℕ) → 0 < length (slice_split p xs)
 some_parts p [] = omega arith
-some_parts p (x ∷ xs) = elim (p x) as (λ b. 0 < length (cond b ([] ∷ slice_split p xs) (onto_first x (slice_split p xs)))) [
-  | true ↦ omega arith
-  | false ↦ onto (slice_split p xs)
-]
+some_parts p (x ∷ xs) =
+    elim (p x) as (λ b. 0 < length
+    (cond b ([] ∷ slice_split p xs) (onto_first x (slice_split p xs)))) [
+      | true ↦ omega arith
+      | false ↦ onto (slice_split p xs)
+    ]
   where
     onto : (parts : List (List ℕ)) → 0 < length (onto_first x parts)
     onto [] = omega arith
     onto (q ∷ qs) = omega arith
 
-pub split_longer : (p : ℕ → Bool) (xs ys : List ℕ) → Longer (slice_split p xs) (slice_split p (xs ++ ys))
+pub split_longer : (p : ℕ → Bool) (xs ys : List ℕ) → Longer (slice_split p xs)
+    (slice_split p (xs ++ ys))
 split_longer p [] ys = longer_nothing (slice_split p ys) (some_parts p ys)
 split_longer p (x ∷ xs) ys =
     let rest = split_longer p xs ys in
@@ -66,14 +76,16 @@ split_longer p (x ∷ xs) ys =
       | false ↦ longer_onto x (slice_split p xs) (slice_split p (xs ++ ys)) rest
     ]
 
--- What more bytes leave: all, where a fault is known; what was read and perhaps more; all entries, where `end` was read; and all
+-- What more bytes leave: all, where a fault is known; what was read and perhaps more; all entries,
+-- where `end` was read; and all
 -- starting words, once there is an entry or `end`.
 pub record Grown (old new : Reading) : Type 0 where
   pub fault : (f : TextFault) → old.fault ≡ Some f → new ≡ old
   pub entries : old.fault ≡ None → (more : List Entry) × (new.entries ≡ old.entries ++ more)
   pub ended : old.fault ≡ None → old.ended ≡ true → (new.entries ≡ old.entries) × (new.ended ≡ true)
   pub starting : old.fault ≡ None → (more : List StartWord) × (new.starting ≡ old.starting ++ more)
-  pub begun : old.fault ≡ None → (has_any old.entries || old.ended) ≡ true → new.starting ≡ old.starting
+  pub begun : old.fault ≡ None → (has_any old.entries || old.ended) ≡ true → new.starting
+      ≡ old.starting
 
 no_more : {A : Type 0} (xs : List A) → xs ≡ xs ++ []
 no_more [] = refl
@@ -89,7 +101,8 @@ same_grown r = record {
 }
 
 -- one more entry before both, with the same starting words
-entry_grown : (n : ℕ) (o : Option Entry) (old new : Reading) → new.starting ≡ old.starting → Grown old new
+entry_grown : (n : ℕ) (o : Option Entry) (old new : Reading) → new.starting ≡ old.starting
+    → Grown old new
     → Grown (entry_before n o old) (entry_before n o new)
 entry_grown n None old new same g = same_grown (stopped n (Some BadEntry))
 entry_grown n (Some e) old new same g = record {
@@ -101,7 +114,8 @@ entry_grown n (Some e) old new same g = record {
 }
 
 -- one more starting word before both, or the rule that it breaks
-start_grown : (n : ℕ) (o : Option Rule) (s : StartWord) (old new : Reading) → Grown old new → Grown (start_before n o s old) (start_before n o s new)
+start_grown : (n : ℕ) (o : Option Rule) (s : StartWord) (old new : Reading) → Grown old new
+    → Grown (start_before n o s old) (start_before n o s new)
 start_grown n (Some rule) s old new g = same_grown (stopped n (Some rule))
 start_grown n None s old new g = record {
   fault = λ f is. ap (start_before n None s) (g.fault f is);
@@ -112,7 +126,8 @@ start_grown n None s old new g = record {
 }
 
 -- a reading that stopped with nothing read
-stopped_grown : (n : ℕ) (o : Option Rule) (new : Reading) → ((rule : Rule) → o ≡ Some rule → new ≡ stopped n o) → Grown (stopped n o) new
+stopped_grown : (n : ℕ) (o : Option Rule) (new : Reading)
+    → ((rule : Rule) → o ≡ Some rule → new ≡ stopped n o) → Grown (stopped n o) new
 stopped_grown n None new same = record {
   fault = λ f e. cc;
   entries = λ none. (new.entries, refl);
@@ -158,7 +173,8 @@ no_first xs b e = ap (λ x. has_any xs && x) e ∙ and-false (has_any xs)
 no_rule : {P : Type 0} {rule : Rule} (o : Option Rule) → o ≡ None → o ≡ Some rule → P
 no_rule o e f = absurd (let x : ⊥ = cc in x)
 
-unfinished_known : (max n : ℕ) (bad rule : Rule) (rest : List ℕ) → unfinished_rule (so_far max) n bad rest ≡ Some rule → Known max n bad rule rest
+unfinished_known : (max n : ℕ) (bad rule : Rule) (rest : List ℕ)
+    → unfinished_rule (so_far max) n bad rest ≡ Some rule → Known max n bad rule rest
 unfinished_known max n bad rule rest e = by_first (has_any rest && nat_lt max n) refl e
   where
     others : Option Rule
@@ -169,55 +185,69 @@ unfinished_known max n bad rule rest e = by_first (has_any rest && nat_lt max n)
 
     by_second : (has_any rest && nat_lt max n) ≡ false → (b : Bool) → nat_lt 64 (length rest) ≡ b
         → cond b (Some bad) others ≡ Some rule → Known max n bad rule rest
-    by_second first true is f = let h = below_of 64 (length rest) is in long h (many_bytes rest (nat_lt max n) first h) cc
+    by_second first true is f = let h = below_of 64 (length rest) is in long h
+        (many_bytes rest (nat_lt max n) first h) cc
     by_second first false is f = no_rule others no_others f
 
     by_first : (a : Bool) → (has_any rest && nat_lt max n) ≡ a
-        → cond a (Some TooManyLines) (cond (nat_lt 64 (length rest)) (Some bad) others) ≡ Some rule → Known max n bad rule rest
+        → cond a (Some TooManyLines) (cond (nat_lt 64 (length rest)) (Some bad) others) ≡ Some rule
+        → Known max n bad rule rest
     by_first true is f = let parts = some_bytes rest (nat_lt max n) is in past parts.0 parts.1 cc
     by_first false is f = by_second is (nat_lt 64 (length rest)) refl f
 
 -- the rule stays, as the unfinished line goes on
-unfinished_stays : (max n : ℕ) (whole : Bool) (bad rule : Rule) (rest more : List ℕ) → Known max n bad rule rest
+unfinished_stays : (max n : ℕ) (whole : Bool) (bad rule : Rule) (rest more : List ℕ)
+    → Known max n bad rule rest
     → unfinished_rule (input_of max whole) n bad (rest ++ more) ≡ Some rule
 unfinished_stays max n whole bad rule rest more (past some limit is) =
     let longer : 0 < length (rest ++ more) = omega (arith, length-append rest more) in
     ap (λ b. cond b (Some TooManyLines)
-    (cond (nat_lt 64 (length (rest ++ more))) (Some bad) (cond (has_any (rest ++ more) && whole) (Some NoLineFeed) (cond whole (Some NoEnd) None))))
+    (cond (nat_lt 64 (length (rest ++ more))) (Some bad)
+    (cond (has_any (rest ++ more) && whole) (Some NoLineFeed) (cond whole (Some NoEnd) None))))
     (is_some_length (rest ++ more) (nat_lt max n) longer limit)
     ∙ ap Some (sym is)
 unfinished_stays max n whole bad rule rest more (long many limit is) =
     let longer : 64 < length (rest ++ more) = omega (arith, length-append rest more) in
     ap (λ b. cond b (Some TooManyLines)
-    (cond (nat_lt 64 (length (rest ++ more))) (Some bad) (cond (has_any (rest ++ more) && whole) (Some NoLineFeed) (cond whole (Some NoEnd) None))))
+    (cond (nat_lt 64 (length (rest ++ more))) (Some bad)
+    (cond (has_any (rest ++ more) && whole) (Some NoLineFeed) (cond whole (Some NoEnd) None))))
     (no_first (rest ++ more) (nat_lt max n) limit)
-    ∙ ap (λ b. cond b (Some bad) (cond (has_any (rest ++ more) && whole) (Some NoLineFeed) (cond whole (Some NoEnd) None)))
+    ∙ ap (λ b. cond b (Some bad)
+    (cond (has_any (rest ++ more) && whole) (Some NoLineFeed) (cond whole (Some NoEnd) None)))
     (is_below 64 (length (rest ++ more)) longer)
     ∙ ap Some (sym is)
 
 -- and as it is finished
-finished_stays : (max n : ℕ) (whole : Bool) (subject : Subject) (rule : Rule) (rest more next : List ℕ) (lines : List (List ℕ))
+finished_stays : (max n : ℕ) (whole : Bool) (subject : Subject) (rule : Rule)
+    (rest more next : List ℕ) (lines : List (List ℕ))
     → Known max n BadEntry rule rest
-    → lines_read (input_of max whole) subject n ((rest ++ more) ∷ next ∷ lines) ≡ stopped n (Some rule)
+    → lines_read (input_of max whole) subject n ((rest ++ more) ∷ next ∷ lines)
+    ≡ stopped n (Some rule)
 finished_stays max n whole subject rule rest more next lines (past some limit is) =
     ap (λ b. cond b (stopped n (Some TooManyLines))
-    (cond (bytes_eq (rest ++ more) end_line) (ended (n + 1) (after_end_rule (input_of max whole) (n + 1) next lines))
-    (entry_before n (entry_in subject (rest ++ more)) (lines_read (input_of max whole) subject (n + 1) (next ∷ lines))))) limit
+    (cond (bytes_eq (rest ++ more) end_line)
+    (ended (n + 1) (after_end_rule (input_of max whole) (n + 1) next lines))
+    (entry_before n (entry_in subject (rest ++ more))
+    (lines_read (input_of max whole) subject (n + 1) (next ∷ lines))))) limit
     ∙ ap (λ r. stopped n (Some r)) (sym is)
 finished_stays max n whole subject rule rest more next lines (long many limit is) =
     let longer : 64 < length (rest ++ more) = omega (arith, length-append rest more) in
     let onward = lines_read (input_of max whole) subject (n + 1) (next ∷ lines) in
     let end = ended (n + 1) (after_end_rule (input_of max whole) (n + 1) next lines) in
     ap (λ b. cond b (stopped n (Some TooManyLines))
-    (cond (bytes_eq (rest ++ more) end_line) end (entry_before n (entry_in subject (rest ++ more)) onward))) limit
-    ∙ ap (λ b. cond b end (entry_before n (entry_in subject (rest ++ more)) onward)) (long_isnt_end (rest ++ more) longer)
+    (cond (bytes_eq (rest ++ more) end_line) end
+    (entry_before n (entry_in subject (rest ++ more)) onward))) limit
+    ∙ ap (λ b. cond b end (entry_before n (entry_in subject (rest ++ more)) onward))
+    (long_isnt_end (rest ++ more) longer)
     ∙ ap (λ o. entry_before n o onward) (long_entry subject (rest ++ more) longer)
     ∙ ap (λ r. stopped n (Some r)) (sym is)
 
 -- the break after `end` stays
-after_end_stays : (max n : ℕ) (whole : Bool) (next : List ℕ) (ps : List (List ℕ)) (q : List ℕ) (qs : List (List ℕ)) (rule : Rule)
+after_end_stays : (max n : ℕ) (whole : Bool) (next : List ℕ) (ps : List (List ℕ)) (q : List ℕ)
+    (qs : List (List ℕ)) (rule : Rule)
     → Longer (next ∷ ps) (q ∷ qs)
-    → after_end_rule (so_far max) n next ps ≡ Some rule → after_end_rule (input_of max whole) n q qs ≡ Some rule
+    → after_end_rule (so_far max) n next ps ≡ Some rule → after_end_rule (input_of max whole) n q qs
+    ≡ Some rule
 after_end_stays max n whole [] [] q qs rule h e = cc
 after_end_stays max n whole (x ∷ next) [] q qs rule h e =
     ap (λ ys. after_end_rule (input_of max whole) n ys qs) h.1 ∙ e
@@ -227,17 +257,20 @@ after_end_stays max n whole next (p ∷ ps) q [] rule h e = absurd (no_next p ps
     no_next p [] h = h
     no_next p (x ∷ ps) h = h
 after_end_stays max n whole next (p ∷ ps) q (q2 ∷ qs) rule h e =
-    ap (λ b. first_broken ((b && nat_lt max n breaks TooManyLines) ∷ (b breaks AfterEnd) ∷ [])) (or-true (has_any q)
+    ap (λ b. first_broken ((b && nat_lt max n breaks TooManyLines) ∷ (b breaks AfterEnd) ∷ []))
+    (or-true (has_any q)
     ∙ sym (or-true (has_any next))) ∙ e
 
-line_grown : (n : ℕ) (past is_end : Bool) (end end' onward onward' : Reading) → Grown end end' → Grown onward onward'
+line_grown : (n : ℕ) (past is_end : Bool) (end end' onward onward' : Reading) → Grown end end'
+    → Grown onward onward'
     → Grown (cond past (stopped n (Some TooManyLines)) (cond is_end end onward))
     (cond past (stopped n (Some TooManyLines)) (cond is_end end' onward'))
 line_grown n true is_end end end' onward onward' g h = same_grown (stopped n (Some TooManyLines))
 line_grown n false true end end' onward onward' g h = g
 line_grown n false false end end' onward onward' g h = h
 
-end_grown : (n : ℕ) (o o' : Option Rule) → ((rule : Rule) → o ≡ Some rule → o' ≡ Some rule) → Grown (ended n o) (ended n o')
+end_grown : (n : ℕ) (o o' : Option Rule) → ((rule : Rule) → o ≡ Some rule → o' ≡ Some rule)
+    → Grown (ended n o) (ended n o')
 end_grown n None o' stays = record {
   fault = λ f e. cc;
   entries = λ none. ([], refl);
@@ -254,14 +287,18 @@ end_grown n (Some rule) o' stays = record {
 }
 
 -- entries and `end` come without starting words
-pub no_starting : (input : Input) (subject : Subject) (n : ℕ) (lines : List (List ℕ)) → (lines_read input subject n lines).starting ≡ []
+pub no_starting : (input : Input) (subject : Subject) (n : ℕ) (lines : List (List ℕ))
+    → (lines_read input subject n lines).starting ≡ []
 no_starting input subject n [] = refl
 no_starting input subject n (rest ∷ []) = refl
 no_starting input subject n (line ∷ next ∷ lines) =
-    by_tests (nat_lt input.max_lines n) (bytes_eq line end_line) (entry_in subject line) (no_starting input subject (n + 1) (next ∷ lines))
+    by_tests (nat_lt input.max_lines n) (bytes_eq line end_line) (entry_in subject line)
+    (no_starting input subject (n + 1) (next ∷ lines))
   where
-    by_tests : (past is_end : Bool) (o : Option Entry) → (lines_read input subject (n + 1) (next ∷ lines)).starting ≡ []
-        → (cond past (stopped n (Some TooManyLines)) (cond is_end (ended (n + 1) (after_end_rule input (n + 1) next lines))
+    by_tests : (past is_end : Bool) (o : Option Entry)
+        → (lines_read input subject (n + 1) (next ∷ lines)).starting ≡ []
+        → (cond past (stopped n (Some TooManyLines))
+        (cond is_end (ended (n + 1) (after_end_rule input (n + 1) next lines))
         (entry_before n o (lines_read input subject (n + 1) (next ∷ lines))))).starting ≡ []
     by_tests true is_end o e = refl
     by_tests false true o e = refl
@@ -273,49 +310,65 @@ no_parts p [] h = h
 no_parts p (x ∷ ps) h = h
 
 -- the lines that more bytes make
-pub lines_grow : (max : ℕ) (whole : Bool) (subject : Subject) (n : ℕ) (ps qs : List (List ℕ)) → Longer ps qs
+pub lines_grow : (max : ℕ) (whole : Bool) (subject : Subject) (n : ℕ) (ps qs : List (List ℕ))
+    → Longer ps qs
     → Grown (lines_read (so_far max) subject n ps) (lines_read (input_of max whole) subject n qs)
 lines_grow max whole subject n [] qs h = absurd h
 lines_grow max whole subject n (rest ∷ []) [] h = absurd h
 lines_grow max whole subject n (rest ∷ []) (q ∷ []) h =
     subst (λ line. Grown (stopped n (unfinished_rule (so_far max) n BadEntry rest))
     (stopped n (unfinished_rule (input_of max whole) n BadEntry line))) (sym h.1)
-    (stopped_grown n (unfinished_rule (so_far max) n BadEntry rest) (stopped n (unfinished_rule (input_of max whole) n BadEntry (rest ++ h.0)))
-    (λ rule e. ap (stopped n) (unfinished_stays max n whole BadEntry rule rest h.0 (unfinished_known max n BadEntry rule rest e) ∙ sym e)))
+    (stopped_grown n (unfinished_rule (so_far max) n BadEntry rest)
+    (stopped n (unfinished_rule (input_of max whole) n BadEntry (rest ++ h.0)))
+    (λ rule e. ap (stopped n)
+    (unfinished_stays max n whole BadEntry rule rest h.0
+    (unfinished_known max n BadEntry rule rest e) ∙ sym e)))
 lines_grow max whole subject n (rest ∷ []) (q ∷ next ∷ qs) h =
     subst (λ line. Grown (stopped n (unfinished_rule (so_far max) n BadEntry rest))
     (lines_read (input_of max whole) subject n (line ∷ next ∷ qs))) (sym h.1)
-    (stopped_grown n (unfinished_rule (so_far max) n BadEntry rest) (lines_read (input_of max whole) subject n ((rest ++ h.0) ∷ next ∷ qs))
-    (λ rule e. finished_stays max n whole subject rule rest h.0 next qs (unfinished_known max n BadEntry rule rest e) ∙ ap (stopped n) (sym e)))
+    (stopped_grown n (unfinished_rule (so_far max) n BadEntry rest)
+    (lines_read (input_of max whole) subject n ((rest ++ h.0) ∷ next ∷ qs))
+    (λ rule e. finished_stays max n whole subject rule rest h.0 next qs
+    (unfinished_known max n BadEntry rule rest e) ∙ ap (stopped n) (sym e)))
 lines_grow max whole subject n (p ∷ next ∷ ps) [] h = absurd h
 lines_grow max whole subject n (p ∷ next ∷ ps) (q ∷ []) h = absurd (no_parts next ps h.1)
 lines_grow max whole subject n (p ∷ next ∷ ps) (q ∷ q2 ∷ qs) h =
-    subst (λ line. Grown (lines_read (so_far max) subject n (p ∷ next ∷ ps)) (lines_read (input_of max whole) subject n (line ∷ q2 ∷ qs))) (sym h.0)
+    subst (λ line. Grown (lines_read (so_far max) subject n (p ∷ next ∷ ps))
+    (lines_read (input_of max whole) subject n (line ∷ q2 ∷ qs))) (sym h.0)
     (line_grown n (nat_lt max n) (bytes_eq p end_line)
-    (ended (n + 1) (after_end_rule (so_far max) (n + 1) next ps)) (ended (n + 1) (after_end_rule (input_of max whole) (n + 1) q2 qs))
+    (ended (n + 1) (after_end_rule (so_far max) (n + 1) next ps))
+    (ended (n + 1) (after_end_rule (input_of max whole) (n + 1) q2 qs))
     (entry_before n (entry_in subject p) (lines_read (so_far max) subject (n + 1) (next ∷ ps)))
-    (entry_before n (entry_in subject p) (lines_read (input_of max whole) subject (n + 1) (q2 ∷ qs)))
-    (end_grown (n + 1) (after_end_rule (so_far max) (n + 1) next ps) (after_end_rule (input_of max whole) (n + 1) q2 qs)
+    (entry_before n (entry_in subject p)
+    (lines_read (input_of max whole) subject (n + 1) (q2 ∷ qs)))
+    (end_grown (n + 1) (after_end_rule (so_far max) (n + 1) next ps)
+    (after_end_rule (input_of max whole) (n + 1) q2 qs)
     (λ rule e. after_end_stays max (n + 1) whole next ps q2 qs rule h.1 e))
     (entry_grown n (entry_in subject p) (lines_read (so_far max) subject (n + 1) (next ∷ ps))
     (lines_read (input_of max whole) subject (n + 1) (q2 ∷ qs))
-    (no_starting (input_of max whole) subject (n + 1) (q2 ∷ qs) ∙ sym (no_starting (so_far max) subject (n + 1) (next ∷ ps)))
+    (no_starting (input_of max whole) subject (n + 1) (q2 ∷ qs)
+    ∙ sym (no_starting (so_far max) subject (n + 1) (next ∷ ps)))
     (lines_grow max whole subject (n + 1) (next ∷ ps) (q2 ∷ qs) h.1)))
 
 -- an unfinished line that is bad already stays bad where starting words may stand
-finished_start : (max n : ℕ) (whole : Bool) (h : Header) (last : Option StartWord) (rule : Rule) (rest more next : List ℕ) (lines : List (List ℕ))
+finished_start : (max n : ℕ) (whole : Bool) (h : Header) (last : Option StartWord) (rule : Rule)
+    (rest more next : List ℕ) (lines : List (List ℕ))
     → Known max n BadEntry rule rest
-    → starts_read (input_of max whole) h last n ((rest ++ more) ∷ next ∷ lines) ≡ stopped n (Some rule)
-finished_start max n whole h last rule rest more next lines known = by_line (start_in (rest ++ more)) refl known
+    → starts_read (input_of max whole) h last n ((rest ++ more) ∷ next ∷ lines)
+    ≡ stopped n (Some rule)
+finished_start max n whole h last rule rest more next lines known = by_line
+    (start_in (rest ++ more)) refl known
   where
     by_line : (o : Option StartWord) → start_in (rest ++ more) ≡ o → Known max n BadEntry rule rest
-        → starts_read (input_of max whole) h last n ((rest ++ more) ∷ next ∷ lines) ≡ stopped n (Some rule)
+        → starts_read (input_of max whole) h last n ((rest ++ more) ∷ next ∷ lines)
+        ≡ stopped n (Some rule)
     by_line None e k = no_start_line (input_of max whole) h last n (rest ++ more) next lines e
         ∙ finished_stays max n whole h.subject rule rest more next lines k
     by_line (Some s) e (past some limit is) =
         one_start_line (input_of max whole) h last n (rest ++ more) next lines s e
         ∙ ap (λ b. cond b (stopped n (Some TooManyLines))
-        (start_before n (start_rule h last s) s (starts_read (input_of max whole) h (Some s) (n + 1) (next ∷ lines)))) limit
+        (start_before n (start_rule h last s) s
+        (starts_read (input_of max whole) h (Some s) (n + 1) (next ∷ lines)))) limit
         ∙ ap (λ r. stopped n (Some r)) (sym is)
     by_line (Some s) e (long many limit is) =
         let longer : 64 < length (rest ++ more) = omega (arith, length-append rest more) in
@@ -325,43 +378,55 @@ finished_start max n whole h last rule rest more next lines known = by_line (sta
         none_is_some e = cc
 
 -- the lines that more bytes make, where starting words may stand
-pub starts_grow : (max : ℕ) (whole : Bool) (h : Header) (last : Option StartWord) (n : ℕ) (ps qs : List (List ℕ)) → Longer ps qs
+pub starts_grow : (max : ℕ) (whole : Bool) (h : Header) (last : Option StartWord) (n : ℕ)
+    (ps qs : List (List ℕ)) → Longer ps qs
     → Grown (starts_read (so_far max) h last n ps) (starts_read (input_of max whole) h last n qs)
 starts_grow max whole h last n [] qs l = absurd l
 starts_grow max whole h last n (rest ∷ []) [] l = absurd l
-starts_grow max whole h last n (rest ∷ []) (q ∷ []) l = lines_grow max whole h.subject n (rest ∷ []) (q ∷ []) l
+starts_grow max whole h last n (rest ∷ []) (q ∷ []) l = lines_grow max whole h.subject n (rest ∷ [])
+    (q ∷ []) l
 starts_grow max whole h last n (rest ∷ []) (q ∷ next ∷ qs) l =
     subst (λ line. Grown (stopped n (unfinished_rule (so_far max) n BadEntry rest))
     (starts_read (input_of max whole) h last n (line ∷ next ∷ qs))) (sym l.1)
-    (stopped_grown n (unfinished_rule (so_far max) n BadEntry rest) (starts_read (input_of max whole) h last n ((rest ++ l.0) ∷ next ∷ qs))
-    (λ rule e. finished_start max n whole h last rule rest l.0 next qs (unfinished_known max n BadEntry rule rest e) ∙ ap (stopped n) (sym e)))
+    (stopped_grown n (unfinished_rule (so_far max) n BadEntry rest)
+    (starts_read (input_of max whole) h last n ((rest ++ l.0) ∷ next ∷ qs))
+    (λ rule e. finished_start max n whole h last rule rest l.0 next qs
+    (unfinished_known max n BadEntry rule rest e) ∙ ap (stopped n) (sym e)))
 starts_grow max whole h last n (p ∷ next ∷ ps) [] l = absurd l
 starts_grow max whole h last n (p ∷ next ∷ ps) (q ∷ []) l = absurd (no_parts next ps l.1)
 starts_grow max whole h last n (p ∷ next ∷ ps) (q ∷ q2 ∷ qs) l =
-    subst (λ line. Grown (starts_read (so_far max) h last n (p ∷ next ∷ ps)) (starts_read (input_of max whole) h last n (line ∷ q2 ∷ qs))) (sym l.0)
+    subst (λ line. Grown (starts_read (so_far max) h last n (p ∷ next ∷ ps))
+    (starts_read (input_of max whole) h last n (line ∷ q2 ∷ qs))) (sym l.0)
     (by_line (start_in p) (λ s. starts_grow max whole h (Some s) (n + 1) (next ∷ ps) (q2 ∷ qs) l.1))
   where
     by_limit : (s : StartWord) (b : Bool)
-        → Grown (starts_read (so_far max) h (Some s) (n + 1) (next ∷ ps)) (starts_read (input_of max whole) h (Some s) (n + 1) (q2 ∷ qs))
+        → Grown (starts_read (so_far max) h (Some s) (n + 1) (next ∷ ps))
+        (starts_read (input_of max whole) h (Some s) (n + 1) (q2 ∷ qs))
         → Grown (cond b (stopped n (Some TooManyLines))
-        (start_before n (start_rule h last s) s (starts_read (so_far max) h (Some s) (n + 1) (next ∷ ps))))
+        (start_before n (start_rule h last s) s
+        (starts_read (so_far max) h (Some s) (n + 1) (next ∷ ps))))
         (cond b (stopped n (Some TooManyLines))
-        (start_before n (start_rule h last s) s (starts_read (input_of max whole) h (Some s) (n + 1) (q2 ∷ qs))))
+        (start_before n (start_rule h last s) s
+        (starts_read (input_of max whole) h (Some s) (n + 1) (q2 ∷ qs))))
     by_limit s true g = same_grown (stopped n (Some TooManyLines))
-    by_limit s false g = start_grown n (start_rule h last s) s (starts_read (so_far max) h (Some s) (n + 1) (next ∷ ps))
+    by_limit s false g = start_grown n (start_rule h last s) s
+        (starts_read (so_far max) h (Some s) (n + 1) (next ∷ ps))
         (starts_read (input_of max whole) h (Some s) (n + 1) (q2 ∷ qs)) g
 
     by_line : (o : Option StartWord)
-        → ((s : StartWord) → Grown (starts_read (so_far max) h (Some s) (n + 1) (next ∷ ps)) (starts_read (input_of max whole) h (Some s) (n + 1) (q2 ∷ qs)))
+        → ((s : StartWord) → Grown (starts_read (so_far max) h (Some s) (n + 1) (next ∷ ps))
+        (starts_read (input_of max whole) h (Some s) (n + 1) (q2 ∷ qs)))
         → Grown (elim o as (λ _. Reading) [
           | None ↦ lines_read (so_far max) h.subject n (p ∷ next ∷ ps)
           | Some s ↦ cond (nat_lt max n) (stopped n (Some TooManyLines))
-              (start_before n (start_rule h last s) s (starts_read (so_far max) h (Some s) (n + 1) (next ∷ ps)))
+              (start_before n (start_rule h last s) s
+              (starts_read (so_far max) h (Some s) (n + 1) (next ∷ ps)))
         ])
         (elim o as (λ _. Reading) [
           | None ↦ lines_read (input_of max whole) h.subject n (p ∷ q2 ∷ qs)
           | Some s ↦ cond (nat_lt max n) (stopped n (Some TooManyLines))
-              (start_before n (start_rule h last s) s (starts_read (input_of max whole) h (Some s) (n + 1) (q2 ∷ qs)))
+              (start_before n (start_rule h last s) s
+              (starts_read (input_of max whole) h (Some s) (n + 1) (q2 ∷ qs)))
         ])
     by_line None onward = lines_grow max whole h.subject n (p ∷ next ∷ ps) (p ∷ q2 ∷ qs) (refl, l.1)
     by_line (Some s) onward = by_limit s (nat_lt max n) (onward s)
@@ -371,8 +436,11 @@ pub body_grow : (max : ℕ) (whole : Bool) (h : Header) (ps qs : List (List ℕ)
     → Grown (body_read (so_far max) h ps) (body_read (input_of max whole) h qs)
 body_grow max whole h ps qs l = by_version (h.version == 2)
   where
-    by_version : (b : Bool) → Grown (cond b (starts_read (so_far max) h None 2 ps) (lines_read (so_far max) h.subject 2 ps))
-        (cond b (starts_read (input_of max whole) h None 2 qs) (lines_read (input_of max whole) h.subject 2 qs))
+    by_version : (b : Bool)
+        → Grown (cond b (starts_read (so_far max) h None 2 ps)
+        (lines_read (so_far max) h.subject 2 ps))
+        (cond b (starts_read (input_of max whole) h None 2 qs)
+        (lines_read (input_of max whole) h.subject 2 qs))
     by_version true = starts_grow max whole h None 2 ps qs l
     by_version false = lines_grow max whole h.subject 2 ps qs l
 
@@ -381,7 +449,8 @@ pub record TextGrown (old new : Reading) : Type 0 where
   pub grown : Grown old new
   pub header : (h : Header) → old.header ≡ Some h → new.header ≡ Some h
 
-header_grown : (h : Header) (old new : Reading) → Grown old new → TextGrown (header_before h old) (header_before h new)
+header_grown : (h : Header) (old new : Reading) → Grown old new → TextGrown (header_before h old)
+    (header_before h new)
 header_grown h old new g = record {
   grown = record {
     fault = λ f e. ap (header_before h) (g.fault f e);
@@ -393,15 +462,18 @@ header_grown h old new g = record {
   header = λ x e. e;
 }
 
-stopped_text : (n : ℕ) (o : Option Rule) (new : Reading) → ((rule : Rule) → o ≡ Some rule → new ≡ stopped n o) → TextGrown (stopped n o) new
+stopped_text : (n : ℕ) (o : Option Rule) (new : Reading)
+    → ((rule : Rule) → o ≡ Some rule → new ≡ stopped n o) → TextGrown (stopped n o) new
 stopped_text n o new same = record { grown = stopped_grown n o new same; header = λ h e. cc }
 
 in_limit : (max : ℕ) → 1 ≤ max → nat_lt max 1 ≡ true → ⊥
 in_limit max h e = let f : max < 1 = grind (arith, nat_tests) in omega arith
 
-finished_header : (max : ℕ) (whole : Bool) (rule : Rule) (rest more next : List ℕ) (lines : List (List ℕ)) → 1 ≤ max → Known max 1 BadHeader rule rest
+finished_header : (max : ℕ) (whole : Bool) (rule : Rule) (rest more next : List ℕ)
+    (lines : List (List ℕ)) → 1 ≤ max → Known max 1 BadHeader rule rest
     → text_read (input_of max whole) ((rest ++ more) ∷ next ∷ lines) ≡ stopped 1 (Some rule)
-finished_header max whole rule rest more next lines low (past some limit is) = absurd (in_limit max low limit)
+finished_header max whole rule rest more next lines low (past some limit is) = absurd
+    (in_limit max low limit)
 finished_header max whole rule rest more next lines low (long many limit is) =
     let longer : 64 < length (rest ++ more) = omega (arith, length-append rest more) in
     ap (λ r. elim r as (λ _. Reading) [
@@ -418,17 +490,23 @@ text_grow max whole (rest ∷ []) [] low h = absurd h
 text_grow max whole (rest ∷ []) (q ∷ []) low h =
     subst (λ line. TextGrown (stopped 1 (unfinished_rule (so_far max) 1 BadHeader rest))
     (stopped 1 (unfinished_rule (input_of max whole) 1 BadHeader line))) (sym h.1)
-    (stopped_text 1 (unfinished_rule (so_far max) 1 BadHeader rest) (stopped 1 (unfinished_rule (input_of max whole) 1 BadHeader (rest ++ h.0)))
-    (λ rule e. ap (stopped 1) (unfinished_stays max 1 whole BadHeader rule rest h.0 (unfinished_known max 1 BadHeader rule rest e) ∙ sym e)))
+    (stopped_text 1 (unfinished_rule (so_far max) 1 BadHeader rest)
+    (stopped 1 (unfinished_rule (input_of max whole) 1 BadHeader (rest ++ h.0)))
+    (λ rule e. ap (stopped 1)
+    (unfinished_stays max 1 whole BadHeader rule rest h.0
+    (unfinished_known max 1 BadHeader rule rest e) ∙ sym e)))
 text_grow max whole (rest ∷ []) (q ∷ next ∷ qs) low h =
     subst (λ line. TextGrown (stopped 1 (unfinished_rule (so_far max) 1 BadHeader rest))
     (text_read (input_of max whole) (line ∷ next ∷ qs))) (sym h.1)
-    (stopped_text 1 (unfinished_rule (so_far max) 1 BadHeader rest) (text_read (input_of max whole) ((rest ++ h.0) ∷ next ∷ qs))
-    (λ rule e. finished_header max whole rule rest h.0 next qs low (unfinished_known max 1 BadHeader rule rest e) ∙ ap (stopped 1) (sym e)))
+    (stopped_text 1 (unfinished_rule (so_far max) 1 BadHeader rest)
+    (text_read (input_of max whole) ((rest ++ h.0) ∷ next ∷ qs))
+    (λ rule e. finished_header max whole rule rest h.0 next qs low
+    (unfinished_known max 1 BadHeader rule rest e) ∙ ap (stopped 1) (sym e)))
 text_grow max whole (p ∷ next ∷ ps) [] low h = absurd h
 text_grow max whole (p ∷ next ∷ ps) (q ∷ []) low h = absurd (no_parts next ps h.1)
 text_grow max whole (p ∷ next ∷ ps) (q ∷ q2 ∷ qs) low h =
-    subst (λ line. TextGrown (text_read (so_far max) (p ∷ next ∷ ps)) (text_read (input_of max whole) (line ∷ q2 ∷ qs))) (sym h.0)
+    subst (λ line. TextGrown (text_read (so_far max) (p ∷ next ∷ ps))
+    (text_read (input_of max whole) (line ∷ q2 ∷ qs))) (sym h.0)
     (by_header (header_in p))
   where
     by_header : (r : Result Header Rule)
@@ -443,7 +521,8 @@ text_grow max whole (p ∷ next ∷ ps) (q ∷ q2 ∷ qs) low h =
           | Err rule ↦ stopped 1 (Some rule)
         ])
     by_header (Ok x) = header_grown x (body_read (so_far max) x (next ∷ ps))
-        (body_read (input_of max whole) x (q2 ∷ qs)) (body_grow max whole x (next ∷ ps) (q2 ∷ qs) h.1)
+        (body_read (input_of max whole) x (q2 ∷ qs))
+        (body_grow max whole x (next ∷ ps) (q2 ∷ qs) h.1)
     by_header (Err rule) = record { grown = same_grown (stopped 1 (Some rule)); header = λ x e. e }
 
 -- what longer bytes say, as bytes that may go on or as the whole input
@@ -451,4 +530,5 @@ pub reading_grows : (max : ℕ) (whole : Bool) (bytes more : List ℕ) → 1 ≤
     → TextGrown (reading (so_far max) bytes) (reading (input_of max whole) (bytes ++ more))
 unfolding reading
 reading_grows max whole bytes more low =
-    text_grow max whole (slice_split (λ b. b == 10) bytes) (slice_split (λ b. b == 10) (bytes ++ more)) low (split_longer (λ b. b == 10) bytes more)
+    text_grow max whole (slice_split (λ b. b == 10) bytes)
+    (slice_split (λ b. b == 10) (bytes ++ more)) low (split_longer (λ b. b == 10) bytes more)

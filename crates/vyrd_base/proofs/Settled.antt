@@ -1,29 +1,35 @@
--- Effects that stay however a front goes on: those of entries of which each commit has returned, so that its block has ended.
-use Rattle.std.proofs.Common.{◌≡◌, ℕ, Bool, true, false, cond, List, [], ◌∷◌, ◌++◌, Some, None, refl, ap}
+-- Effects that stay however a front goes on: those of entries of which each commit has returned, so
+-- that its block has ended.
+use Rattle.std.proofs.Common.{◌≡◌, ℕ, Bool, true, false, cond, List, [], ◌∷◌, ◌++◌, Some, None}
+use Rattle.std.proofs.Common.{refl, ap}
 use Rattle.std.specs.Option.{option_or, option_map_or}
 use Rattle.vyrd_base.specs.declared.header.Header.{Header}
 use Rattle.vyrd_base.specs.declared.log.Kind.{Kind}
-use Rattle.vyrd_base.specs.declared.log.Kind.TheVariants.{Call, Return, Write, Commit, BlockOpen, BlockClose, BlockCommit}
+use Rattle.vyrd_base.specs.declared.log.Kind.TheVariants.{Call, Return, Write, Commit, BlockOpen}
+use Rattle.vyrd_base.specs.declared.log.Kind.TheVariants.{BlockClose, BlockCommit}
 use Rattle.vyrd_base.specs.declared.log.Entry.{Entry}
 use Rattle.vyrd_base.specs.declared.log.StartWord.{StartWord}
 use Rattle.std.specs.Prelude.{◌==◌}
 use Rattle.vyrd_base.specs.Places.{Place}
 use Rattle.vyrd_base.specs.Callers.{has_block}
 use Rattle.vyrd_base.specs.Commits.{is_commit, returned, next_reply}
-use Rattle.vyrd_base.specs.Words.{block_writes, ahead_at, writes_ahead, effects_at, effects, words_with, words_at}
+use Rattle.vyrd_base.specs.Words.{block_writes, ahead_at, writes_ahead, effects_at, effects}
+use Rattle.vyrd_base.specs.Words.{words_with, words_at}
 use Rattle.vyrd_base.proofs.PlaceLaws.{with_later}
 
 -- what the caller's open block still writes is known once the caller has returned
 pub ahead_stays : (c : ℕ) (later more : List Entry) (r : ℕ) → next_reply c later ≡ Some r
     → writes_ahead c (later ++ more) ≡ writes_ahead c later
 ahead_stays c [] more r found = cc
-ahead_stays c (e ∷ later) more r found = step (λ f. ahead_stays c later more r f) (e.caller == c) e.kind found
+ahead_stays c (e ∷ later) more r found = step (λ f. ahead_stays c later more r f)
+    (e.caller == c) e.kind found
   where
     -- the claim about the entries after this one
     Rest : Type 0
     Rest = next_reply c later ≡ Some r → writes_ahead c (later ++ more) ≡ writes_ahead c later
 
-    step : Rest → (b : Bool) (kind : Kind) → option_or (cond b (returned kind) None) (next_reply c later) ≡ Some r
+    step : Rest → (b : Bool) (kind : Kind) → option_or (cond b (returned kind) None)
+        (next_reply c later) ≡ Some r
         → cond b (ahead_at kind (writes_ahead c (later ++ more))) (writes_ahead c (later ++ more))
         ≡ cond b (ahead_at kind (writes_ahead c later)) (writes_ahead c later)
     step rest false kind f = rest f
@@ -39,14 +45,16 @@ ahead_stays c (e ∷ later) more r found = step (λ f. ahead_stays c later more 
 abbrev pub IsReturned : ℕ → Kind → List Entry → Type 0
 IsReturned c kind later = is_commit kind ≡ true → (r : ℕ) × (next_reply c later ≡ Some r)
 
-pub effects_at_stays : (earlier : List Entry) (c : ℕ) (kind : Kind) (later more : List Entry) → IsReturned c kind later
+pub effects_at_stays : (earlier : List Entry) (c : ℕ) (kind : Kind) (later more : List Entry)
+    → IsReturned c kind later
     → effects_at earlier c kind (later ++ more) ≡ effects_at earlier c kind later
 effects_at_stays earlier c (Call method args) later more is = refl
 effects_at_stays earlier c (Return reply) later more is = refl
 effects_at_stays earlier c (Write word value) later more is = refl
 effects_at_stays earlier c Commit later more is =
     let reply = is refl in
-    ap (λ o. cond (has_block c earlier) (option_map_or (λ ahead. ahead ++ block_writes c earlier) o []) [])
+    ap (λ o. cond (has_block c earlier)
+    (option_map_or (λ ahead. ahead ++ block_writes c earlier) o []) [])
     (ahead_stays c later more reply.0 reply.1)
 effects_at_stays earlier c BlockOpen later more is = refl
 effects_at_stays earlier c BlockClose later more is = refl
@@ -54,19 +62,24 @@ effects_at_stays earlier c BlockCommit later more is = refl
 
 -- the effects of the entries before a place stay, whatever comes after what stands after it
 abbrev pub Settled : List Entry → List Entry → Type 0
-Settled earlier later = (more : List Entry) → effects earlier (later ++ more) ≡ effects earlier later
+Settled earlier later = (more : List Entry) → effects earlier (later ++ more)
+    ≡ effects earlier later
 
 pub settled_none : (later : List Entry) → Settled [] later
 settled_none later = λ more. refl
 
 -- one entry more before the place
-pub settled_next : (e : Entry) (earlier later : List Entry) → IsReturned e.caller e.kind later → Settled earlier (e ∷ later)
+pub settled_next : (e : Entry) (earlier later : List Entry) → IsReturned e.caller e.kind later
+    → Settled earlier (e ∷ later)
     → Settled (e ∷ earlier) later
-settled_next e earlier later is settled = λ more. λ i. effects_at_stays earlier e.caller e.kind later more is i ++ settled more i
+settled_next e earlier later is settled = λ more. λ i. effects_at_stays earlier e.caller e.kind
+    later more is i ++ settled more i
 
 -- so the words at a place stay
-pub words_at_stay : (h : Header) (starting : List StartWord) (place : Place Entry) (more : List Entry)
-    → IsReturned place.here.caller place.here.kind place.later → Settled place.earlier (place.here ∷ place.later)
+pub words_at_stay : (h : Header) (starting : List StartWord) (place : Place Entry)
+    (more : List Entry)
+    → IsReturned place.here.caller place.here.kind place.later
+    → Settled place.earlier (place.here ∷ place.later)
     → words_at h starting (with_later more place) ≡ words_at h starting place
 unfolding words_at
 words_at_stay h starting place more is settled =

@@ -1,5 +1,8 @@
--- In a well-formed log a word that no open block has written has the value that was logged last for it.
-use Rattle.std.proofs.Common.{◌≡◌, ℕ, suc, zero, ◌+◌, ◌<◌, ◌≤◌, Bool, true, false, cond, not, ◌&&◌, ◌||◌, List, [], ◌∷◌, ◌++◌, Option, Some, None, refl, ap, subst, ◌∙◌, sym, arith}
+-- In a well-formed log a word that no open block has written has the value that was logged last for
+-- it.
+use Rattle.std.proofs.Common.{◌≡◌, ℕ, suc, zero, ◌+◌, ◌<◌, ◌≤◌, Bool, true, false, cond, not, ◌&&◌}
+use Rattle.std.proofs.Common.{◌||◌, List, [], ◌∷◌, ◌++◌, Option, Some, None, refl, ap, subst, ◌∙◌}
+use Rattle.std.proofs.Common.{sym, arith}
 use Rattle.std.specs.Prelude.{◌==◌, is_some, is_none, unwrap_or}
 use Rattle.std.specs.Option.{option_or, option_flatten}
 use Rattle.std.specs.List.{list_any}
@@ -7,10 +10,12 @@ use Rattle.std.proofs.lemmas.Bool.Decides.{nat_tests}
 use Rattle.std.proofs.lemmas.Bool.{not-false}
 use Rattle.vyrd_base.specs.declared.header.Header.{Header}
 use Rattle.vyrd_base.specs.declared.log.Kind.{Kind}
-use Rattle.vyrd_base.specs.declared.log.Kind.TheVariants.{Call, Return, Write, Commit, BlockOpen, BlockClose, BlockCommit}
+use Rattle.vyrd_base.specs.declared.log.Kind.TheVariants.{Call, Return, Write, Commit, BlockOpen}
+use Rattle.vyrd_base.specs.declared.log.Kind.TheVariants.{BlockClose, BlockCommit}
 use Rattle.vyrd_base.specs.declared.log.Entry.{Entry}
 use Rattle.vyrd_base.specs.Places.{first_answer, numbers_from, newest_first_onto, newest_first}
-use Rattle.vyrd_base.specs.Callers.{by_caller, open_or_close, has_block, write_or_open, holds_word, open_call, call_or_return}
+use Rattle.vyrd_base.specs.Callers.{by_caller, open_or_close, has_block, write_or_open, holds_word}
+use Rattle.vyrd_base.specs.Callers.{open_call, call_or_return}
 use Rattle.vyrd_base.specs.Shape.{Check, first_broken, checks_at, broken_rule, is_held_by_other}
 use Rattle.vyrd_base.specs.Front.{first_break, WellFormed}
 use Rattle.vyrd_base.specs.Words.{with_write, block_writes, given_to, is_passed}
@@ -18,18 +23,22 @@ use Rattle.vyrd_base.specs.FirstVersion.{old_effects_at, old_effects, old_value_
 use Rattle.vyrd_base.specs.Verdicts.{is_call_open}
 use Rattle.vyrd_base.proofs.PlaceLaws.{first_answer-append}
 use Rattle.vyrd_base.proofs.Fronts.{break_after}
-use Rattle.vyrd_base.proofs.BlockLaws.{entry, by_same, own_answer, other_answer, no_answer, wrote, block_value, own_value, own_wrote, other_writes, wrote_is, open_call-quiet}
+use Rattle.vyrd_base.proofs.BlockLaws.{entry, by_same, own_answer, other_answer, no_answer, wrote}
+use Rattle.vyrd_base.proofs.BlockLaws.{block_value, own_value, own_wrote, other_writes, wrote_is}
+use Rattle.vyrd_base.proofs.BlockLaws.{open_call-quiet}
 use Rattle.vyrd_base.proofs.ListLaws.{both_none, isnt_some}
 use Rattle.vyrd_base.proofs.TestLaws.{above_of, same_number, flipped}
 
-pub well_formed_after : (h : Header) (earlier xs : List Entry) → WellFormed h earlier → break_after h earlier xs ≡ None
+pub well_formed_after : (h : Header) (earlier xs : List Entry) → WellFormed h earlier
+    → break_after h earlier xs ≡ None
     → WellFormed h (newest_first_onto earlier xs)
 well_formed_after h earlier [] wf e = wf
 well_formed_after h earlier (x ∷ xs) wf e =
     let parts = both_none (broken_rule h earlier x) (break_after h (x ∷ earlier) xs) e in
     well_formed_after h (x ∷ earlier) xs (parts.0, wf) parts.1
 
-pub well_formed-first_break : (h : Header) (es : List Entry) → first_break h es ≡ None → WellFormed h (newest_first es)
+pub well_formed-first_break : (h : Header) (es : List Entry) → first_break h es ≡ None
+    → WellFormed h (newest_first es)
 unfolding first_break
 well_formed-first_break h es e = well_formed_after h [] es tt e
 
@@ -44,7 +53,8 @@ all_kept (check ∷ checks) e =
     let parts = split check.broken e in
     (parts.0, all_kept checks parts.1)
   where
-    split : (b : Bool) → cond b (Some check.rule) (first_broken checks) ≡ None → (b ≡ false) × (first_broken checks ≡ None)
+    split : (b : Bool) → cond b (Some check.rule) (first_broken checks) ≡ None → (b ≡ false)
+        × (first_broken checks ≡ None)
     split true f = cc
     split false f = (refl, f)
 
@@ -59,7 +69,8 @@ or_false_right false b e = e
 apart : (k d : ℕ) → (k == d) ≡ false → k ≤ d → k + 1 ≤ d
 apart k d e low = grind (arith, nat_tests)
 
-none_of : (p : ℕ → Bool) (k n d : ℕ) → list_any p (numbers_from k n) ≡ false → k ≤ d → d < k + n → p d ≡ false
+none_of : (p : ℕ → Bool) (k n d : ℕ) → list_any p (numbers_from k n) ≡ false → k ≤ d → d < k + n
+    → p d ≡ false
 none_of p k zero d e low high = absurd (omega arith)
 none_of p k (suc n) d e low high = by_same k d
     (λ same. ap p (sym same) ∙ or_false_left (p k) _ e)
@@ -74,7 +85,8 @@ pub record WriteKept (h : Header) (c word : ℕ) (earlier : List Entry) : Type 0
   pub caller : c < h.callers
   pub free : (d : ℕ) → d < h.callers → (d == c) ≡ false → holds_word d word earlier ≡ false
 
-pub write_kept : (h : Header) (c word value : ℕ) (earlier : List Entry) → broken_rule h earlier (entry c (Write word value)) ≡ None
+pub write_kept : (h : Header) (c word value : ℕ) (earlier : List Entry)
+    → broken_rule h earlier (entry c (Write word value)) ≡ None
     → WriteKept h c word earlier
 write_kept h c word value earlier e =
     let kept = all_kept (checks_at h earlier (entry c (Write word value))) e in
@@ -82,17 +94,23 @@ write_kept h c word value earlier e =
       caller = above_of h.callers c kept.0;
       free = λ d low other. held_false (d == c) (holds_word d word earlier)
           (none_of (λ x. not (x == c) && holds_word x word earlier) 0 h.callers d
-          (or_false_left (is_held_by_other h c word earlier) (is_passed c word earlier) kept.1.1.1.1.0) (omega arith) (omega arith)) other;
+          (or_false_left (is_held_by_other h c word earlier) (is_passed c word earlier)
+          kept.1.1.1.1.0) (omega arith) (omega arith)) other;
     }
 
-pub open_kept : (h : Header) (c : ℕ) (earlier : List Entry) → broken_rule h earlier (entry c BlockOpen) ≡ None → has_block c earlier ≡ false
+pub open_kept : (h : Header) (c : ℕ) (earlier : List Entry)
+    → broken_rule h earlier (entry c BlockOpen) ≡ None → has_block c earlier ≡ false
 open_kept h c earlier e = (all_kept (checks_at h earlier (entry c BlockOpen)) e).1.1.0
 
-pub close_kept : (h : Header) (c : ℕ) (earlier : List Entry) → broken_rule h earlier (entry c BlockClose) ≡ None → has_block c earlier ≡ true
-close_kept h c earlier e = not-false (has_block c earlier) (all_kept (checks_at h earlier (entry c BlockClose)) e).1.1.0
+pub close_kept : (h : Header) (c : ℕ) (earlier : List Entry)
+    → broken_rule h earlier (entry c BlockClose) ≡ None → has_block c earlier ≡ true
+close_kept h c earlier e = not-false (has_block c earlier)
+    (all_kept (checks_at h earlier (entry c BlockClose)) e).1.1.0
 
-pub block_commit_kept : (h : Header) (c : ℕ) (earlier : List Entry) → broken_rule h earlier (entry c BlockCommit) ≡ None → has_block c earlier ≡ true
-block_commit_kept h c earlier e = not-false (has_block c earlier) (all_kept (checks_at h earlier (entry c BlockCommit)) e).1.1.0
+pub block_commit_kept : (h : Header) (c : ℕ) (earlier : List Entry)
+    → broken_rule h earlier (entry c BlockCommit) ≡ None → has_block c earlier ≡ true
+block_commit_kept h c earlier e = not-false (has_block c earlier)
+    (all_kept (checks_at h earlier (entry c BlockCommit)) e).1.1.0
 
 -- the last value that was logged for the word, in a block or not
 abbrev pub logged_value : ℕ → Kind → Option ℕ
@@ -102,10 +120,13 @@ logged_value w _ = None
 abbrev pub last_logged : ℕ → List Entry → ℕ
 last_logged w earlier = unwrap_or (first_answer (λ e. logged_value w e.kind) earlier) 0
 
--- A word that no open block has written has the value logged last, and in a block that has written it that value stands last.
+-- A word that no open block has written has the value logged last, and in a block that has written
+-- it that value stands last.
 pub record Sound (h : Header) (w : ℕ) (earlier : List Entry) : Type 0 where
-  pub free : ((d : ℕ) → d < h.callers → holds_word d w earlier ≡ false) → old_value_after (old_effects earlier) w ≡ last_logged w earlier
-  pub held : (d : ℕ) → d < h.callers → holds_word d w earlier ≡ true → block_value d w earlier ≡ Some (last_logged w earlier)
+  pub free : ((d : ℕ) → d < h.callers → holds_word d w earlier ≡ false)
+      → old_value_after (old_effects earlier) w ≡ last_logged w earlier
+  pub held : (d : ℕ) → d < h.callers → holds_word d w earlier ≡ true → block_value d w earlier
+      ≡ Some (last_logged w earlier)
 
 -- another caller's entry leaves alone what this caller holds and has written
 pub holds_other : (d c w : ℕ) (kind : Kind) (earlier : List Entry) → (c == d) ≡ false
@@ -115,8 +136,10 @@ holds_other d c w kind earlier other =
     let word = other_answer d c (write_or_open w) kind earlier other in
     λ i. unwrap_or (block i) false && unwrap_or (word i) false
 
-value_other : (d c w : ℕ) (kind : Kind) (earlier : List Entry) → (c == d) ≡ false → block_value d w (entry c kind ∷ earlier) ≡ block_value d w earlier
-value_other d c w kind earlier other = ap (first_answer (given_to w)) (other_writes d c kind earlier other)
+value_other : (d c w : ℕ) (kind : Kind) (earlier : List Entry) → (c == d) ≡ false
+    → block_value d w (entry c kind ∷ earlier) ≡ block_value d w earlier
+value_other d c w kind earlier other = ap (first_answer (given_to w))
+    (other_writes d c kind earlier other)
 
 -- an entry that touches no block and no word
 record Quiet (w c : ℕ) (kind : Kind) (earlier : List Entry) : Type 0 where
@@ -126,10 +149,12 @@ record Quiet (w c : ℕ) (kind : Kind) (earlier : List Entry) : Type 0 where
   effect : old_effects_at earlier c kind ≡ []
   logged : logged_value w kind ≡ None
 
-quiet_sound : (h : Header) (w c : ℕ) (kind : Kind) (earlier : List Entry) → Quiet w c kind earlier → Sound h w earlier
+quiet_sound : (h : Header) (w c : ℕ) (kind : Kind) (earlier : List Entry) → Quiet w c kind earlier
+    → Sound h w earlier
     → Sound h w (entry c kind ∷ earlier)
 quiet_sound h w c kind earlier quiet sound = record {
-  free = λ none. ap (λ ws. old_value_after (ws ++ old_effects earlier) w) quiet.effect ∙ sound.free (λ d low. sym (holds d) ∙ none d low) ∙ sym last;
+  free = λ none. ap (λ ws. old_value_after (ws ++ old_effects earlier) w) quiet.effect
+      ∙ sound.free (λ d low. sym (holds d) ∙ none d low) ∙ sym last;
   held = λ d low holding. value d ∙ sound.held d low (sym (holds d) ∙ holding) ∙ ap Some (sym last);
 }
   where
@@ -141,41 +166,52 @@ quiet_sound h w c kind earlier quiet sound = record {
 
     value : (d : ℕ) → block_value d w (entry c kind ∷ earlier) ≡ block_value d w earlier
     value d = by_same c d
-        (λ same. subst (λ x. block_value x w (entry c kind ∷ earlier) ≡ block_value x w earlier) same
+        (λ same. subst (λ x. block_value x w (entry c kind ∷ earlier) ≡ block_value x w earlier)
+        same
         (own_value c w kind earlier ∙ ap (first_answer (given_to w)) quiet.writes))
         (value_other d c w kind earlier)
 
     last : last_logged w (entry c kind ∷ earlier) ≡ last_logged w earlier
-    last = ap (λ o. unwrap_or (option_or o (first_answer (λ e. logged_value w e.kind) earlier)) 0) quiet.logged
+    last = ap (λ o. unwrap_or (option_or o (first_answer (λ e. logged_value w e.kind) earlier)) 0)
+        quiet.logged
 
 outside_holds : (a b : Bool) → a ≡ false → (a && b) ≡ false
 outside_holds true b e = cc
 outside_holds false b e = refl
 
 -- after its own open or close a caller holds no word
-pub own_edge : (c w : ℕ) (kind : Kind) (earlier : List Entry) (opens : Bool) → open_or_close kind ≡ Some opens
-    → (opens ≡ true → write_or_open w kind ≡ Some false) → holds_word c w (entry c kind ∷ earlier) ≡ false
+pub own_edge : (c w : ℕ) (kind : Kind) (earlier : List Entry) (opens : Bool) → open_or_close kind
+    ≡ Some opens
+    → (opens ≡ true → write_or_open w kind ≡ Some false) → holds_word c w (entry c kind ∷ earlier)
+    ≡ false
 own_edge c w kind earlier true edge word =
-    ap (λ o. unwrap_or o false && wrote c w (entry c kind ∷ earlier)) (own_answer c open_or_close kind earlier
+    ap (λ o. unwrap_or o false && wrote c w (entry c kind ∷ earlier))
+    (own_answer c open_or_close kind earlier
     ∙ ap (λ o. option_or o (first_answer (by_caller c open_or_close) earlier)) edge)
-    ∙ own_wrote c w kind earlier ∙ ap (λ o. unwrap_or (option_or o (first_answer (by_caller c (write_or_open w)) earlier)) false) (word refl)
+    ∙ own_wrote c w kind earlier
+    ∙ ap (λ o. unwrap_or (option_or o (first_answer (by_caller c (write_or_open w)) earlier)) false)
+    (word refl)
 own_edge c w kind earlier false edge word =
-    ap (λ o. unwrap_or o false && wrote c w (entry c kind ∷ earlier)) (own_answer c open_or_close kind earlier
+    ap (λ o. unwrap_or o false && wrote c w (entry c kind ∷ earlier))
+    (own_answer c open_or_close kind earlier
     ∙ ap (λ o. option_or o (first_answer (by_caller c open_or_close) earlier)) edge)
 
 never : {b : Bool} → b ≡ false → b ≡ true → ⊥
 never e f = cc
 
 -- a block's open
-open_sound : (h : Header) (w c : ℕ) (earlier : List Entry) → has_block c earlier ≡ false → Sound h w earlier → Sound h w (entry c BlockOpen ∷ earlier)
+open_sound : (h : Header) (w c : ℕ) (earlier : List Entry) → has_block c earlier ≡ false
+    → Sound h w earlier → Sound h w (entry c BlockOpen ∷ earlier)
 open_sound h w c earlier outside sound = record {
   free = λ none. sound.free (λ d low. by_same c d
-      (λ same. subst (λ x. holds_word x w earlier ≡ false) same (outside_holds (has_block c earlier) (wrote c w earlier) outside))
+      (λ same. subst (λ x. holds_word x w earlier ≡ false) same
+      (outside_holds (has_block c earlier) (wrote c w earlier) outside))
       (λ other. sym (holds_other d c w BlockOpen earlier other) ∙ none d low));
   held = λ d low holding. by_same c d
       (λ same. absurd (never (subst (λ x. holds_word x w (entry c BlockOpen ∷ earlier)
       ≡ false) same (own_edge c w BlockOpen earlier true refl (λ _. refl))) holding))
-      (λ other. value_other d c w BlockOpen earlier other ∙ sound.held d low (sym (holds_other d c w BlockOpen earlier other) ∙ holding));
+      (λ other. value_other d c w BlockOpen earlier other
+      ∙ sound.held d low (sym (holds_other d c w BlockOpen earlier other) ∙ holding));
 }
 
 record Closes (w c : ℕ) (kind : Kind) (earlier : List Entry) : Type 0 where
@@ -184,35 +220,47 @@ record Closes (w c : ℕ) (kind : Kind) (earlier : List Entry) : Type 0 where
   logged : logged_value w kind ≡ None
 
 -- the end of a block
-close_sound : (h : Header) (w c : ℕ) (kind : Kind) (earlier : List Entry) → c < h.callers → has_block c earlier ≡ true
+close_sound : (h : Header) (w c : ℕ) (kind : Kind) (earlier : List Entry) → c < h.callers
+    → has_block c earlier ≡ true
     → Closes w c kind earlier → Sound h w earlier → Sound h w (entry c kind ∷ earlier)
 close_sound h w c kind earlier low_c inside closes sound = record {
   free = λ none. new_value ∙ by_held none (holds_word c w earlier) refl ∙ sym last;
   held = λ d low holding. by_same c d
-      (λ same. absurd (never (subst (λ x. holds_word x w (entry c kind ∷ earlier) ≡ false) same no_more) holding))
-      (λ other. value_other d c w kind earlier other ∙ sound.held d low (sym (holds_other d c w kind earlier other) ∙ holding) ∙ ap Some (sym last));
+      (λ same. absurd
+      (never (subst (λ x. holds_word x w (entry c kind ∷ earlier) ≡ false) same no_more) holding))
+      (λ other. value_other d c w kind earlier other
+      ∙ sound.held d low (sym (holds_other d c w kind earlier other) ∙ holding)
+      ∙ ap Some (sym last));
 }
   where
     no_more : holds_word c w (entry c kind ∷ earlier) ≡ false
     no_more = own_edge c w kind earlier false closes.edge (λ e. cc)
 
     last : last_logged w (entry c kind ∷ earlier) ≡ last_logged w earlier
-    last = ap (λ o. unwrap_or (option_or o (first_answer (λ e. logged_value w e.kind) earlier)) 0) closes.logged
+    last = ap (λ o. unwrap_or (option_or o (first_answer (λ e. logged_value w e.kind) earlier)) 0)
+        closes.logged
 
     new_value : old_value_after (old_effects (entry c kind ∷ earlier)) w
-        ≡ unwrap_or (option_or (block_value c w earlier) (first_answer (given_to w) (old_effects earlier))) 0
+        ≡ unwrap_or (option_or (block_value c w earlier)
+        (first_answer (given_to w) (old_effects earlier))) 0
     new_value = ap (λ ws. old_value_after (ws ++ old_effects earlier) w) closes.effect
-        ∙ ap (λ o. unwrap_or o 0) (first_answer-append (given_to w) (block_writes c earlier) (old_effects earlier))
+        ∙ ap (λ o. unwrap_or o 0)
+        (first_answer-append (given_to w) (block_writes c earlier) (old_effects earlier))
 
     -- as the block is open, a word is held where the block has a value for it
     is_held : holds_word c w earlier ≡ is_some (block_value c w earlier)
     is_held = ap (λ b. b && wrote c w earlier) inside ∙ wrote_is c w earlier inside
 
-    by_held : ((d : ℕ) → d < h.callers → holds_word d w (entry c kind ∷ earlier) ≡ false) → (b : Bool) → holds_word c w earlier ≡ b
-        → unwrap_or (option_or (block_value c w earlier) (first_answer (given_to w) (old_effects earlier))) 0 ≡ last_logged w earlier
-    by_held none true holding = ap (λ o. unwrap_or (option_or o (first_answer (given_to w) (old_effects earlier))) 0) (sound.held c low_c holding)
+    by_held : ((d : ℕ) → d < h.callers → holds_word d w (entry c kind ∷ earlier) ≡ false)
+        → (b : Bool) → holds_word c w earlier ≡ b
+        → unwrap_or (option_or (block_value c w earlier)
+        (first_answer (given_to w) (old_effects earlier))) 0 ≡ last_logged w earlier
+    by_held none true holding =
+        ap (λ o. unwrap_or (option_or o (first_answer (given_to w) (old_effects earlier))) 0)
+        (sound.held c low_c holding)
     by_held none false free_c =
-        ap (λ o. unwrap_or (option_or o (first_answer (given_to w) (old_effects earlier))) 0) (isnt_some (block_value c w earlier) (sym is_held ∙ free_c))
+        ap (λ o. unwrap_or (option_or o (first_answer (given_to w) (old_effects earlier))) 0)
+        (isnt_some (block_value c w earlier) (sym is_held ∙ free_c))
         ∙ sound.free (λ d low. by_same c d
         (λ same. subst (λ x. holds_word x w earlier ≡ false) same free_c)
         (λ other. sym (holds_other d c w kind earlier other) ∙ none d low))
@@ -222,98 +270,138 @@ pub other_write : (d c w word value : ℕ) (earlier : List Entry) → (word == w
     → holds_word d w (entry c (Write word value) ∷ earlier) ≡ holds_word d w earlier
 other_write d c w word value earlier other =
     let block = no_answer d c open_or_close (Write word value) earlier refl in
-    let wrote_it = no_answer d c (write_or_open w) (Write word value) earlier (ap (λ b. cond b (Some true) None) other) in
+    let wrote_it = no_answer d c (write_or_open w) (Write word value) earlier
+    (ap (λ b. cond b (Some true) None) other) in
     λ i. unwrap_or (block i) false && unwrap_or (wrote_it i) false
 
 other_value : (d c w word value : ℕ) (earlier : List Entry) → (word == w) ≡ false
     → block_value d w (entry c (Write word value) ∷ earlier) ≡ block_value d w earlier
 other_value d c w word value earlier other = by_same c d
-    (λ same. subst (λ x. block_value x w (entry c (Write word value) ∷ earlier) ≡ block_value x w earlier) same
-    (own_value c w (Write word value) earlier ∙ ap (λ b. option_or (cond b (Some value) None) (block_value c w earlier)) other))
+    (λ same. subst (λ x. block_value x w (entry c (Write word value) ∷ earlier)
+    ≡ block_value x w earlier) same
+    (own_value c w (Write word value) earlier
+    ∙ ap (λ b. option_or (cond b (Some value) None) (block_value c w earlier)) other))
     (value_other d c w (Write word value) earlier)
 
-skipped : (w word value : ℕ) (writes : List (ℕ × ℕ)) → (word == w) ≡ false → old_value_after ((word, value) ∷ writes) w ≡ old_value_after writes w
-skipped w word value writes other = ap (λ b. unwrap_or (option_or (cond b (Some value) None) (first_answer (given_to w) writes)) 0) other
+skipped : (w word value : ℕ) (writes : List (ℕ × ℕ)) → (word == w) ≡ false
+    → old_value_after ((word, value) ∷ writes) w ≡ old_value_after writes w
+skipped w word value writes other =
+    ap (λ b. unwrap_or (option_or (cond b (Some value) None) (first_answer (given_to w) writes)) 0)
+    other
 
 -- a write of another word
-write_other_sound : (h : Header) (w c word value : ℕ) (earlier : List Entry) → (word == w) ≡ false → Sound h w earlier
+write_other_sound : (h : Header) (w c word value : ℕ) (earlier : List Entry) → (word == w) ≡ false
+    → Sound h w earlier
     → Sound h w (entry c (Write word value) ∷ earlier)
 write_other_sound h w c word value earlier other sound = record {
-  free = λ none. effect (has_block c earlier) ∙ sound.free (λ d low. sym (other_write d c w word value earlier other) ∙ none d low) ∙ sym last;
+  free = λ none. effect (has_block c earlier)
+      ∙ sound.free (λ d low. sym (other_write d c w word value earlier other) ∙ none d low)
+      ∙ sym last;
   held = λ d low holding. other_value d c w word value earlier other
-      ∙ sound.held d low (sym (other_write d c w word value earlier other) ∙ holding) ∙ ap Some (sym last);
+      ∙ sound.held d low (sym (other_write d c w word value earlier other) ∙ holding)
+      ∙ ap Some (sym last);
 }
   where
     last : last_logged w (entry c (Write word value) ∷ earlier) ≡ last_logged w earlier
-    last = ap (λ b. unwrap_or (option_or (cond b (Some value) None) (first_answer (λ e. logged_value w e.kind) earlier)) 0) other
+    last = ap (λ b. unwrap_or
+        (option_or (cond b (Some value) None) (first_answer (λ e. logged_value w e.kind) earlier))
+        0) other
 
-    effect : (b : Bool) → old_value_after (cond b [] ((word, value) ∷ []) ++ old_effects earlier) w ≡ old_value_after (old_effects earlier) w
+    effect : (b : Bool) → old_value_after (cond b [] ((word, value) ∷ []) ++ old_effects earlier) w
+        ≡ old_value_after (old_effects earlier) w
     effect true = refl
     effect false = skipped w word value (old_effects earlier) other
 
 -- a write of the word, in a block or not
-write_own_sound : (h : Header) (w c value : ℕ) (earlier : List Entry) → WriteKept h c w earlier → Sound h w (entry c (Write w value) ∷ earlier)
+write_own_sound : (h : Header) (w c value : ℕ) (earlier : List Entry) → WriteKept h c w earlier
+    → Sound h w (entry c (Write w value) ∷ earlier)
 write_own_sound h w c value earlier kept = by_block (has_block c earlier) refl
   where
     last : last_logged w (entry c (Write w value) ∷ earlier) ≡ value
-    last = ap (λ b. unwrap_or (option_or (cond b (Some value) None) (first_answer (λ e. logged_value w e.kind) earlier)) 0) (same_number w)
+    last = ap (λ b. unwrap_or
+        (option_or (cond b (Some value) None) (first_answer (λ e. logged_value w e.kind) earlier))
+        0) (same_number w)
 
-    not_held : (d : ℕ) → d < h.callers → (c == d) ≡ false → holds_word d w (entry c (Write w value) ∷ earlier) ≡ false
-    not_held d low other = holds_other d c w (Write w value) earlier other ∙ kept.free d low (flipped c d other)
+    not_held : (d : ℕ) → d < h.callers → (c == d) ≡ false
+        → holds_word d w (entry c (Write w value) ∷ earlier) ≡ false
+    not_held d low other = holds_other d c w (Write w value) earlier other
+        ∙ kept.free d low (flipped c d other)
 
     own_block_is : has_block c (entry c (Write w value) ∷ earlier) ≡ has_block c earlier
-    own_block_is = ap (λ o. unwrap_or o false) (no_answer c c open_or_close (Write w value) earlier refl)
+    own_block_is = ap (λ o. unwrap_or o false)
+        (no_answer c c open_or_close (Write w value) earlier refl)
 
     own_wrote_is : wrote c w (entry c (Write w value) ∷ earlier) ≡ true
     own_wrote_is = own_wrote c w (Write w value) earlier
-        ∙ ap (λ b. unwrap_or (option_or (cond b (Some true) None) (first_answer (by_caller c (write_or_open w)) earlier)) false) (same_number w)
+        ∙ ap (λ b. unwrap_or
+        (option_or (cond b (Some true) None) (first_answer (by_caller c (write_or_open w)) earlier))
+        false) (same_number w)
 
     by_block : (b : Bool) → has_block c earlier ≡ b → Sound h w (entry c (Write w value) ∷ earlier)
     by_block true inside = record {
-      free = λ none. absurd (never (none c kept.caller) ((λ i. own_block_is i && own_wrote_is i) ∙ ap (λ b. b && true) inside));
+      free = λ none. absurd
+          (never (none c kept.caller) ((λ i. own_block_is i && own_wrote_is i)
+          ∙ ap (λ b. b && true) inside));
       held = λ d low holding. by_same c d
-          (λ same. subst (λ x. block_value x w (entry c (Write w value) ∷ earlier) ≡ Some (last_logged w (entry c (Write w value) ∷ earlier))) same
+          (λ same. subst (λ x. block_value x w (entry c (Write w value) ∷ earlier)
+          ≡ Some (last_logged w (entry c (Write w value) ∷ earlier))) same
           (own_value c w (Write w value) earlier
-          ∙ ap (λ b. option_or (cond b (Some value) None) (block_value c w earlier)) (same_number w) ∙ ap Some (sym last)))
+          ∙ ap (λ b. option_or (cond b (Some value) None) (block_value c w earlier)) (same_number w)
+          ∙ ap Some (sym last)))
           (λ other. absurd (never (not_held d low other) holding));
     }
     by_block false outside = record {
-      free = λ none. ap (λ b. old_value_after (cond b [] ((w, value) ∷ []) ++ old_effects earlier) w) outside
-          ∙ ap (λ b. unwrap_or (option_or (cond b (Some value) None) (first_answer (given_to w) (old_effects earlier))) 0) (same_number w) ∙ sym last;
+      free = λ none. ap
+          (λ b. old_value_after (cond b [] ((w, value) ∷ []) ++ old_effects earlier) w) outside
+          ∙ ap (λ b. unwrap_or
+          (option_or (cond b (Some value) None) (first_answer (given_to w) (old_effects earlier)))
+          0) (same_number w) ∙ sym last;
       held = λ d low holding. by_same c d
           (λ same. absurd (never (subst (λ x. holds_word x w (entry c (Write w value) ∷ earlier)
-          ≡ false) same (ap (λ b. b && wrote c w (entry c (Write w value) ∷ earlier)) (own_block_is ∙ outside))) holding))
+          ≡ false) same (ap (λ b. b && wrote c w (entry c (Write w value) ∷ earlier))
+          (own_block_is ∙ outside))) holding))
           (λ other. absurd (never (not_held d low other) holding));
     }
 
 -- the range that the rules give each caller
-pub caller_kept : (h : Header) (earlier : List Entry) (e : Entry) → broken_rule h earlier e ≡ None → e.caller < h.callers
+pub caller_kept : (h : Header) (earlier : List Entry) (e : Entry) → broken_rule h earlier e ≡ None
+    → e.caller < h.callers
 caller_kept h earlier e kept = above_of h.callers e.caller (all_kept (checks_at h earlier e) kept).0
 
-step_sound : (h : Header) (w c : ℕ) (kind : Kind) (earlier : List Entry) → broken_rule h earlier (entry c kind) ≡ None
+step_sound : (h : Header) (w c : ℕ) (kind : Kind) (earlier : List Entry)
+    → broken_rule h earlier (entry c kind) ≡ None
     → Sound h w earlier → Sound h w (entry c kind ∷ earlier)
 step_sound h w c (Call method args) earlier kept sound =
-    quiet_sound h w c (Call method args) earlier (record { edge = refl; word = refl; writes = refl; effect = refl; logged = refl }) sound
+    quiet_sound h w c (Call method args) earlier
+    (record { edge = refl; word = refl; writes = refl; effect = refl; logged = refl }) sound
 step_sound h w c (Return reply) earlier kept sound =
-    quiet_sound h w c (Return reply) earlier (record { edge = refl; word = refl; writes = refl; effect = refl; logged = refl }) sound
+    quiet_sound h w c (Return reply) earlier
+    (record { edge = refl; word = refl; writes = refl; effect = refl; logged = refl }) sound
 step_sound h w c Commit earlier kept sound =
-    quiet_sound h w c Commit earlier (record { edge = refl; word = refl; writes = refl; effect = refl; logged = refl }) sound
-step_sound h w c BlockOpen earlier kept sound = open_sound h w c earlier (open_kept h c earlier kept) sound
+    quiet_sound h w c Commit earlier
+    (record { edge = refl; word = refl; writes = refl; effect = refl; logged = refl }) sound
+step_sound h w c BlockOpen earlier kept sound = open_sound h w c earlier
+    (open_kept h c earlier kept) sound
 step_sound h w c BlockClose earlier kept sound =
-    close_sound h w c BlockClose earlier (caller_kept h earlier (entry c BlockClose) kept) (close_kept h c earlier kept)
+    close_sound h w c BlockClose earlier (caller_kept h earlier (entry c BlockClose) kept)
+    (close_kept h c earlier kept)
     (record { edge = refl; effect = refl; logged = refl }) sound
 step_sound h w c BlockCommit earlier kept sound =
-    close_sound h w c BlockCommit earlier (caller_kept h earlier (entry c BlockCommit) kept) (block_commit_kept h c earlier kept)
+    close_sound h w c BlockCommit earlier (caller_kept h earlier (entry c BlockCommit) kept)
+    (block_commit_kept h c earlier kept)
     (record { edge = refl; effect = refl; logged = refl }) sound
 step_sound h w c (Write word value) earlier kept sound = by_same word w
     (λ same. subst (λ x. Sound h w (entry c (Write x value) ∷ earlier)) (sym same)
-    (write_own_sound h w c value earlier (subst (λ x. WriteKept h c x earlier) same (write_kept h c word value earlier kept))))
+    (write_own_sound h w c value earlier
+    (subst (λ x. WriteKept h c x earlier) same (write_kept h c word value earlier kept))))
     (λ other. write_other_sound h w c word value earlier other sound)
 
 -- in a well-formed log each word is so
-pub well_formed_sound : (h : Header) (w : ℕ) (earlier : List Entry) → WellFormed h earlier → Sound h w earlier
+pub well_formed_sound : (h : Header) (w : ℕ) (earlier : List Entry) → WellFormed h earlier
+    → Sound h w earlier
 well_formed_sound h w [] wf = record { free = λ none. refl; held = λ d low holding. cc }
-well_formed_sound h w (e ∷ earlier) wf = step_sound h w e.caller e.kind earlier wf.0 (well_formed_sound h w earlier wf.1)
+well_formed_sound h w (e ∷ earlier) wf = step_sound h w e.caller e.kind earlier wf.0
+    (well_formed_sound h w earlier wf.1)
 
 -- an open block stands in an open call
 abbrev pub BlockInCall : ℕ → List Entry → Type 0
@@ -324,43 +412,61 @@ is_some_of None e = cc
 is_some_of (Some a) e = refl
 
 -- an open block stands in a call, with one more entry of its caller
-own_in_call : (h : Header) (c : ℕ) (kind : Kind) (earlier : List Entry) → broken_rule h earlier (entry c kind) ≡ None
+own_in_call : (h : Header) (c : ℕ) (kind : Kind) (earlier : List Entry)
+    → broken_rule h earlier (entry c kind) ≡ None
     → BlockInCall c earlier → BlockInCall c (entry c kind ∷ earlier)
 own_in_call h c (Call method args) earlier kept so =
-    λ inside. ap (λ o. is_some (option_flatten o)) (own_answer c call_or_return (Call method args) earlier)
+    λ inside. ap (λ o. is_some (option_flatten o))
+    (own_answer c call_or_return (Call method args) earlier)
 own_in_call h c (Return reply) earlier kept so = λ inside.
     absurd (never (all_kept (checks_at h earlier (entry c (Return reply))) kept).1.1.0
-    (sym (ap (λ o. unwrap_or o false) (no_answer c c open_or_close (Return reply) earlier refl)) ∙ inside))
-own_in_call h c (Write word value) earlier kept so = λ inside. ap is_some (open_call-quiet c c (Write word value) earlier refl)
-    ∙ is_some_of (open_call c earlier) (all_kept (checks_at h earlier (entry c (Write word value))) kept).1.0
-own_in_call h c Commit earlier kept so = λ inside. ap is_some (open_call-quiet c c Commit earlier refl)
+    (sym (ap (λ o. unwrap_or o false) (no_answer c c open_or_close (Return reply) earlier refl))
+    ∙ inside))
+own_in_call h c (Write word value) earlier kept so = λ inside. ap is_some
+    (open_call-quiet c c (Write word value) earlier refl)
+    ∙ is_some_of (open_call c earlier)
+    (all_kept (checks_at h earlier (entry c (Write word value))) kept).1.0
+own_in_call h c Commit earlier kept so = λ inside. ap is_some
+    (open_call-quiet c c Commit earlier refl)
     ∙ is_some_of (open_call c earlier) (all_kept (checks_at h earlier (entry c Commit)) kept).1.0
-own_in_call h c BlockOpen earlier kept so = λ inside. ap is_some (open_call-quiet c c BlockOpen earlier refl)
+own_in_call h c BlockOpen earlier kept so = λ inside. ap is_some
+    (open_call-quiet c c BlockOpen earlier refl)
     ∙ is_some_of (open_call c earlier) (all_kept (checks_at h earlier (entry c BlockOpen)) kept).1.0
-own_in_call h c BlockClose earlier kept so = λ inside. ap is_some (open_call-quiet c c BlockClose earlier refl)
-    ∙ is_some_of (open_call c earlier) (all_kept (checks_at h earlier (entry c BlockClose)) kept).1.0
-own_in_call h c BlockCommit earlier kept so = λ inside. ap is_some (open_call-quiet c c BlockCommit earlier refl)
-    ∙ is_some_of (open_call c earlier) (all_kept (checks_at h earlier (entry c BlockCommit)) kept).1.0
+own_in_call h c BlockClose earlier kept so = λ inside. ap is_some
+    (open_call-quiet c c BlockClose earlier refl)
+    ∙ is_some_of (open_call c earlier)
+    (all_kept (checks_at h earlier (entry c BlockClose)) kept).1.0
+own_in_call h c BlockCommit earlier kept so = λ inside. ap is_some
+    (open_call-quiet c c BlockCommit earlier refl)
+    ∙ is_some_of (open_call c earlier)
+    (all_kept (checks_at h earlier (entry c BlockCommit)) kept).1.0
 
-pub block_in_call : (h : Header) (c : ℕ) (earlier : List Entry) → WellFormed h earlier → BlockInCall c earlier
+pub block_in_call : (h : Header) (c : ℕ) (earlier : List Entry) → WellFormed h earlier
+    → BlockInCall c earlier
 block_in_call h c [] wf = λ inside. cc
 block_in_call h c (e ∷ earlier) wf = step (block_in_call h c earlier wf.1)
   where
     step : BlockInCall c earlier → BlockInCall c (e ∷ earlier)
     step so = by_same e.caller c
         (λ same. subst (λ d. broken_rule h earlier (entry d e.kind) ≡ None
-        → BlockInCall c (entry d e.kind ∷ earlier)) (sym same) (λ kept. own_in_call h c e.kind earlier kept so) wf.0)
+        → BlockInCall c (entry d e.kind ∷ earlier)) (sym same)
+        (λ kept. own_in_call h c e.kind earlier kept so) wf.0)
         (λ other. λ inside.
-        ap (λ o. is_some (option_flatten o)) (other_answer c e.caller call_or_return e.kind earlier other)
-        ∙ so (sym (ap (λ o. unwrap_or o false) (other_answer c e.caller open_or_close e.kind earlier other)) ∙ inside))
+        ap (λ o. is_some (option_flatten o))
+        (other_answer c e.caller call_or_return e.kind earlier other)
+        ∙ so (sym (ap (λ o. unwrap_or o false)
+        (other_answer c e.caller open_or_close e.kind earlier other)) ∙ inside))
 
 -- with no call open, each word has the value logged last
-pub words_at_rest : (h : Header) (w : ℕ) (earlier : List Entry) → WellFormed h earlier → is_call_open h earlier ≡ false
+pub words_at_rest : (h : Header) (w : ℕ) (earlier : List Entry) → WellFormed h earlier
+    → is_call_open h earlier ≡ false
     → old_value_after (old_effects earlier) w ≡ last_logged w earlier
 words_at_rest h w earlier wf rest = (well_formed_sound h w earlier wf).free (λ d low.
     outside_holds (has_block d earlier) (wrote d w earlier)
-    (no_block d (has_block d earlier) refl (none_of (λ c. is_some (open_call c earlier)) 0 h.callers d rest (omega arith) (omega arith))))
+    (no_block d (has_block d earlier) refl
+    (none_of (λ c. is_some (open_call c earlier)) 0 h.callers d rest (omega arith) (omega arith))))
   where
-    no_block : (d : ℕ) (b : Bool) → has_block d earlier ≡ b → is_some (open_call d earlier) ≡ false → has_block d earlier ≡ false
+    no_block : (d : ℕ) (b : Bool) → has_block d earlier ≡ b → is_some (open_call d earlier) ≡ false
+        → has_block d earlier ≡ false
     no_block d true e none = absurd (never none (block_in_call h d earlier wf e))
     no_block d false e none = e

@@ -25,7 +25,8 @@ short Cut = omega arith
 short Length = omega arith
 short Read = omega arith
 
-found : (m : BuffersMethod) → find (λ x. bytes_eq (buffers.called x) (buffers.called m)) buffers.methods ≡ Some m
+found : (m : BuffersMethod) → find (λ x. bytes_eq (buffers.called x) (buffers.called m))
+    buffers.methods ≡ Some m
 found Append = refl
 found AppendFrom = refl
 found Cut = refl
@@ -60,7 +61,8 @@ few_arguments Cut = omega arith
 few_arguments Length = omega arith
 few_arguments Read = omega arith
 
-once_or_never : (m : BuffersMethod) → always_commits (buffers.commits m) ≡ not (never_commits (buffers.commits m))
+once_or_never : (m : BuffersMethod) → always_commits (buffers.commits m)
+    ≡ not (never_commits (buffers.commits m))
 once_or_never Append = refl
 once_or_never AppendFrom = refl
 once_or_never Cut = refl

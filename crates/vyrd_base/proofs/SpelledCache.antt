@@ -22,7 +22,8 @@ short Flush = omega arith
 short Evict = omega arith
 short Read = omega arith
 
-found : (m : CacheMethod) → find (λ x. bytes_eq (cache.called x) (cache.called m)) cache.methods ≡ Some m
+found : (m : CacheMethod) → find (λ x. bytes_eq (cache.called x) (cache.called m)) cache.methods
+    ≡ Some m
 found Write = refl
 found Flush = refl
 found Evict = refl
@@ -52,7 +53,8 @@ few_arguments Flush = omega arith
 few_arguments Evict = omega arith
 few_arguments Read = omega arith
 
-once_or_never : (m : CacheMethod) → always_commits (cache.commits m) ≡ not (never_commits (cache.commits m))
+once_or_never : (m : CacheMethod) → always_commits (cache.commits m)
+    ≡ not (never_commits (cache.commits m))
 once_or_never Write = refl
 once_or_never Flush = refl
 once_or_never Evict = refl

@@ -23,7 +23,8 @@ short InsertPair = omega arith
 short Delete = omega arith
 short Lookup = omega arith
 
-found : (m : MultisetMethod) → find (λ x. bytes_eq (multiset.called x) (multiset.called m)) multiset.methods ≡ Some m
+found : (m : MultisetMethod) → find (λ x. bytes_eq (multiset.called x) (multiset.called m))
+    multiset.methods ≡ Some m
 found Insert = refl
 found InsertPair = refl
 found Delete = refl
@@ -53,7 +54,8 @@ few_arguments InsertPair = omega arith
 few_arguments Delete = omega arith
 few_arguments Lookup = omega arith
 
-once_or_never : (m : MultisetMethod) → always_commits (multiset.commits m) ≡ not (never_commits (multiset.commits m))
+once_or_never : (m : MultisetMethod) → always_commits (multiset.commits m)
+    ≡ not (never_commits (multiset.commits m))
 once_or_never Insert = refl
 once_or_never InsertPair = refl
 once_or_never Delete = refl

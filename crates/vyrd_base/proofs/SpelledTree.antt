@@ -20,7 +20,8 @@ short Insert = omega arith
 short Delete = omega arith
 short Lookup = omega arith
 
-found : (m : TreeMethod) → find (λ x. bytes_eq (tree.called x) (tree.called m)) tree.methods ≡ Some m
+found : (m : TreeMethod) → find (λ x. bytes_eq (tree.called x) (tree.called m)) tree.methods
+    ≡ Some m
 found Insert = refl
 found Delete = refl
 found Lookup = refl
@@ -45,7 +46,8 @@ few_arguments Insert = omega arith
 few_arguments Delete = omega arith
 few_arguments Lookup = omega arith
 
-once_or_never : (m : TreeMethod) → always_commits (tree.commits m) ≡ not (never_commits (tree.commits m))
+once_or_never : (m : TreeMethod) → always_commits (tree.commits m)
+    ≡ not (never_commits (tree.commits m))
 once_or_never Insert = refl
 once_or_never Delete = refl
 once_or_never Lookup = refl

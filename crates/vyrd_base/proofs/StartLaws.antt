@@ -1,6 +1,9 @@
 -- Words for which a state stands where all locks are 0, and that zeroed words are the start.
-use Rattle.std.proofs.Common.{◌≡◌, ℕ, cond, zero, suc, ◌+◌, ◌*◌, ◌/◌, ◌%◌, ◌≤◌, min, Bool, true, false, not, ◌&&◌, ◌||◌, List, [], ◌∷◌, ◌++◌, length, map, Some, refl, ap, ◌∙◌, sym, arith, length-append}
-use Rattle.std.specs.Prelude.{◌==◌, nat_lt, nat_le, drop, flat_map, find, count_by, is_none, replicate, slice_index}
+use Rattle.std.proofs.Common.{◌≡◌, ℕ, cond, zero, suc, ◌+◌, ◌*◌, ◌/◌, ◌%◌, ◌≤◌, min, Bool, true}
+use Rattle.std.proofs.Common.{false, not, ◌&&◌, ◌||◌, List, [], ◌∷◌, ◌++◌, length, map, Some, refl}
+use Rattle.std.proofs.Common.{ap, ◌∙◌, sym, arith, length-append}
+use Rattle.std.specs.Prelude.{◌==◌, nat_lt, nat_le, drop, flat_map, find, count_by, is_none}
+use Rattle.std.specs.Prelude.{replicate, slice_index}
 use Rattle.std.specs.Bool.{then_some}
 use Rattle.std.specs.Option.{option_map_or}
 use Rattle.std.specs.List.{list_all, list_any}
@@ -8,7 +11,8 @@ use Rattle.std.proofs.Math.Seq.{drop-append_seam}
 use Rattle.std.proofs.lemmas.List.{replicate-append-replicate, length-replicate}
 use Rattle.vyrd_base.specs.declared.header.Header.{Header}
 use Rattle.vyrd_base.specs.declared.subject.Subject.{Subject}
-use Rattle.vyrd_base.specs.declared.subject.Subject.TheVariants.{Multiset, Cache, Tree, Buffers, Own}
+use Rattle.vyrd_base.specs.declared.subject.Subject.TheVariants.{Multiset, Cache, Tree, Buffers}
+use Rattle.vyrd_base.specs.declared.subject.Subject.TheVariants.{Own}
 use Rattle.vyrd_base.specs.Places.{numbers_from, numbers_below}
 use Rattle.vyrd_base.specs.Layout.{plain_words, lock_words}
 use Rattle.vyrd_base.specs.Amounts.{plus_amount, collected}
@@ -50,11 +54,13 @@ chunk_same v w same h = λ i. record {
 }
 
 buffer_same : (v w : List ℕ) → SameWords v w → (b : ℕ) → buffer_at v b ≡ buffer_at w b
-buffer_same v w same b = λ i. record { count = same (8 * b) i; character = λ k. same (8 * b + (1 + k)) i }
+buffer_same v w same b =
+    λ i. record { count = same (8 * b) i; character = λ k. same (8 * b + (1 + k)) i }
 
 entries_same : (v w : List ℕ) → SameWords v w → (n : ℕ) → entries_of v n ≡ entries_of w n
 entries_same v w same n = λ i.
-    map (λ j. (same (12 * n + (4 + j)) i, same (12 * n + (8 + j)) i)) (numbers_below (min (same (12 * n + 1) i) 4))
+    map (λ j. (same (12 * n + (4 + j)) i, same (12 * n + (8 + j)) i))
+    (numbers_below (min (same (12 * n + 1) i) 4))
 
 keys_same : (v w : List ℕ) → SameWords v w → (n : ℕ) → keys_at v n ≡ keys_at w n
 keys_same v w same n = ap (map (λ entry. entry.0)) (entries_same v w same n)
@@ -63,57 +69,75 @@ left_same : (v w : List ℕ) → SameWords v w → (last n : ℕ) → left_of la
 left_same v w same last n = λ i. find (λ m. same (12 * m + 3) i == n && not (n == 0)) (nodes last)
 
 low_same : (v w : List ℕ) → SameWords v w → (last n : ℕ) → low_of last v n ≡ low_of last w n
-low_same v w same last n = λ i. option_map_or (λ m. same (12 * m + 2) i) (left_same v w same last n i) 0
+low_same v w same last n = λ i. option_map_or (λ m. same (12 * m + 2) i)
+    (left_same v w same last n i) 0
 
-linked_same : (v w : List ℕ) → SameWords v w → (last n : ℕ) → is_linked last v n ≡ is_linked last w n
+linked_same : (v w : List ℕ) → SameWords v w → (last n : ℕ) → is_linked last v n
+    ≡ is_linked last w n
 linked_same v w same last n = λ i.
     nat_le (count_by (λ m. same (12 * m + 3) i == n && not (n == 0)) (nodes last)) 1
     && (same (12 * n + 3) i == 0
-    || nat_le (same (12 * n + 3) i) last && same (12 * same (12 * n + 3) i + 0) i == same (12 * n + 0) i)
+    || nat_le (same (12 * n + 3) i) last && same (12 * same (12 * n + 3) i + 0) i == same
+    (12 * n + 0) i)
 
-bounded_same : (v w : List ℕ) → SameWords v w → (last n : ℕ) → is_bounded last v n ≡ is_bounded last w n
+bounded_same : (v w : List ℕ) → SameWords v w → (last n : ℕ) → is_bounded last v n
+    ≡ is_bounded last w n
 bounded_same v w same last n = λ i.
     (same (12 * n + 2) i == 0 && same (12 * n + 3) i == 0)
     || (not (same (12 * n + 3) i == 0) && nat_lt (low_same v w same last n i) (same (12 * n + 2) i))
 
-sound_keys_same : (v w : List ℕ) → SameWords v w → (last n : ℕ) → has_sound_keys last v n ≡ has_sound_keys last w n
+sound_keys_same : (v w : List ℕ) → SameWords v w → (last n : ℕ) → has_sound_keys last v n
+    ≡ has_sound_keys last w n
 sound_keys_same v w same last n = λ i.
     nat_le (same (12 * n + 1) i) 4 && rises (keys_same v w same n i)
-    && list_all (λ key. nat_le (low_same v w same last n i) key && (same (12 * n + 2) i == 0 || nat_lt key (same (12 * n + 2) i)))
+    && list_all (λ key. nat_le (low_same v w same last n i) key
+    && (same (12 * n + 2) i == 0 || nat_lt key (same (12 * n + 2) i)))
     (keys_same v w same n i)
 
-sound_entries_same : (v w : List ℕ) → SameWords v w → (last n : ℕ) → has_sound_entries last v n ≡ has_sound_entries last w n
+sound_entries_same : (v w : List ℕ) → SameWords v w → (last n : ℕ) → has_sound_entries last v n
+    ≡ has_sound_entries last w n
 sound_entries_same v w same last n = λ i.
     (same (12 * n + 0) i == 0 && list_all is_leaf_entry (entries_same v w same n i))
     || (nat_lt 0 (same (12 * n + 0) i) && nat_le 2 (same (12 * n + 1) i)
     && begins_with (low_same v w same last n i) (keys_same v w same n i)
-    && list_all (λ entry. nat_le entry.1 last && same (12 * entry.1 + 0) i + 1 == same (12 * n + 0) i
+    && list_all (λ entry. nat_le entry.1 last && same (12 * entry.1 + 0) i
+    + 1 == same (12 * n + 0) i
     && low_same v w same last entry.1 i == entry.0) (entries_same v w same n i))
 
-only_first_same : (v w : List ℕ) → SameWords v w → (last n : ℕ) → is_only_first last v n ≡ is_only_first last w n
+only_first_same : (v w : List ℕ) → SameWords v w → (last n : ℕ) → is_only_first last v n
+    ≡ is_only_first last w n
 only_first_same v w same last n = λ i.
-    count_by (λ m. same (12 * m + 0) i == same (12 * n + 0) i && is_none (left_same v w same last m i)) (nodes last) == 1
+    count_by (λ m. same (12 * m + 0) i == same (12 * n + 0) i
+    && is_none (left_same v w same last m i)) (nodes last) == 1
 
-sound_node_same : (v w : List ℕ) → SameWords v w → (last n : ℕ) → is_sound_node last v n ≡ is_sound_node last w n
+sound_node_same : (v w : List ℕ) → SameWords v w → (last n : ℕ) → is_sound_node last v n
+    ≡ is_sound_node last w n
 sound_node_same v w same last n = λ i.
-    linked_same v w same last n i && bounded_same v w same last n i && sound_keys_same v w same last n i
+    linked_same v w same last n i && bounded_same v w same last n i
+    && sound_keys_same v w same last n i
     && sound_entries_same v w same last n i && only_first_same v w same last n i
 
 tree_same : (v w : List ℕ) → SameWords v w → (size : ℕ) → is_tree size v ≡ is_tree size w
 tree_same v w same size = λ i.
     let last = same (12 * size + 1) i in
     let root = same (12 * size) i in
-    nat_lt last size && nat_le root last && same (12 * 0 + 0) i == 0 && is_none (left_same v w same last root i)
-    && list_all (λ n. nat_le (same (12 * n + 0) i) (same (12 * root + 0) i) && sound_node_same v w same last n i) (nodes last)
+    nat_lt last size && nat_le root last && same (12 * 0 + 0) i == 0
+    && is_none (left_same v w same last root i)
+    && list_all (λ n. nat_le (same (12 * n + 0) i) (same (12 * root + 0) i)
+    && sound_node_same v w same last n i) (nodes last)
 
 -- words that have the same word in each place are sound together
-pub sound_same : (v w : List ℕ) → SameWords v w → (subject : Subject) (size : ℕ) → is_sound subject size v ≡ is_sound subject size w
+pub sound_same : (v w : List ℕ) → SameWords v w → (subject : Subject) (size : ℕ)
+    → is_sound subject size v ≡ is_sound subject size w
 sound_same v w same Multiset size = λ i.
-    list_all (λ slot. not (same (2 * slot) i == 2) || same (2 * slot + 1) i % size == slot / 4) (numbers_below (4 * size))
-sound_same v w same Cache size = λ i. list_all (λ h. is_sound_chunk (chunk_same v w same h i)) (numbers_below size)
+    list_all (λ slot. not (same (2 * slot) i == 2) || same (2 * slot + 1) i % size == slot / 4)
+    (numbers_below (4 * size))
+sound_same v w same Cache size = λ i. list_all (λ h. is_sound_chunk (chunk_same v w same h i))
+    (numbers_below size)
 sound_same v w same Tree size = tree_same v w same size
 sound_same v w same Own size = refl
-sound_same v w same Buffers size = λ i. list_all (λ b. is_buffer (buffer_same v w same b i)) (numbers_below size)
+sound_same v w same Buffers size = λ i. list_all (λ b. is_buffer (buffer_same v w same b i))
+    (numbers_below size)
 
 -- They show the same too.
 node_parts_same : (v w : List ℕ) → SameWords v w → (n : ℕ) → node_parts v n ≡ node_parts w n
@@ -124,8 +148,10 @@ chain_same : (v w : List ℕ) → SameWords v w → (size left : ℕ) (seen : Li
 chain_same v w same size zero seen n = refl
 chain_same v w same size (suc left) seen n =
     let right : right_of v n ≡ right_of w n = same (12 * n + 3) in
-    let onward : chain_parts_from size v left (n ∷ seen) (right_of v n) ≡ chain_parts_from size w left (n ∷ seen) (right_of w n)
-    = chain_same v w same size left (n ∷ seen) (right_of v n) ∙ ap (chain_parts_from size w left (n ∷ seen)) right in
+    let onward : chain_parts_from size v left (n ∷ seen) (right_of v n)
+    ≡ chain_parts_from size w left (n ∷ seen) (right_of w n)
+    = chain_same v w same size left (n ∷ seen) (right_of v n)
+    ∙ ap (chain_parts_from size w left (n ∷ seen)) right in
     λ i. node_parts_same v w same n i ++ (elim (right i == 0) [
       | true ↦ []
       | false ↦ elim (nat_le size (right i) || list_any (λ m. m == right i) (n ∷ seen)) [
@@ -134,13 +160,17 @@ chain_same v w same size (suc left) seen n =
       ]
     ])
 
-pub parts_same : (v w : List ℕ) → SameWords v w → (subject : Subject) (size : ℕ) → parts_of subject size v ≡ parts_of subject size w
+pub parts_same : (v w : List ℕ) → SameWords v w → (subject : Subject) (size : ℕ)
+    → parts_of subject size v ≡ parts_of subject size w
 parts_same v w same Multiset size = λ i.
-    flat_map (λ slot. cond (same (2 * slot) i == 2) ((same (2 * slot + 1) i, 1) ∷ []) []) (numbers_below (4 * size))
-parts_same v w same Cache size = λ i. flat_map (λ h. chunk_parts size h (chunk_same v w same h i)) (numbers_below size)
+    flat_map (λ slot. cond (same (2 * slot) i == 2) ((same (2 * slot + 1) i, 1) ∷ []) [])
+    (numbers_below (4 * size))
+parts_same v w same Cache size = λ i. flat_map (λ h. chunk_parts size h (chunk_same v w same h i))
+    (numbers_below size)
 parts_same v w same Tree size = chain_same v w same size size [] 0
 parts_same v w same Own size = refl
-parts_same v w same Buffers size = λ i. flat_map (λ b. buffer_parts size b (buffer_same v w same b i)) (numbers_below size)
+parts_same v w same Buffers size = λ i. flat_map
+    (λ b. buffer_parts size b (buffer_same v w same b i)) (numbers_below size)
 
 pub view_same : (h : Header) (v w : List ℕ) → SameWords v w → view_of_words h v ≡ view_of_words h w
 unfolding view_of_words
@@ -158,12 +188,16 @@ all_of true b false e f = cc
 
 -- If all locks are 0, the state is told by the plain words alone.
 pub with_free_locks : (h : Header) (words : List ℕ) → length words ≡ plain_words h
-    → state_of_words h (words ++ replicate (lock_words h) 0) ≡ then_some (is_sound h.subject h.size words) (view_of_words h words)
+    → state_of_words h (words ++ replicate (lock_words h) 0)
+    ≡ then_some (is_sound h.subject h.size words) (view_of_words h words)
 unfolding state_of_words
 with_free_locks h words many =
-    ap (λ b. then_some b (view_of_words h all)) (all_of _ (is_sound h.subject h.size all) _ right_length locks)
-    ∙ ap (λ b. then_some b (view_of_words h all)) (sound_same all words (padded words (lock_words h)) h.subject h.size)
-    ∙ ap (then_some (is_sound h.subject h.size words)) (view_same h all words (padded words (lock_words h)))
+    ap (λ b. then_some b (view_of_words h all))
+    (all_of _ (is_sound h.subject h.size all) _ right_length locks)
+    ∙ ap (λ b. then_some b (view_of_words h all))
+    (sound_same all words (padded words (lock_words h)) h.subject h.size)
+    ∙ ap (then_some (is_sound h.subject h.size words))
+    (view_same h all words (padded words (lock_words h)))
   where
     all : List ℕ
     all = words ++ replicate (lock_words h) 0
@@ -175,7 +209,8 @@ with_free_locks h words many =
 
     locks : list_all (λ lock. lock == 0) (drop (plain_words h) all) ≡ true
     locks = ap (λ n. list_all (λ lock. lock == 0) (drop n all)) (sym many)
-        ∙ ap (list_all (λ lock. lock == 0)) (drop-append_seam words (replicate (lock_words h) 0)) ∙ free (lock_words h)
+        ∙ ap (list_all (λ lock. lock == 0)) (drop-append_seam words (replicate (lock_words h) 0))
+        ∙ free (lock_words h)
 
 -- No words at all read as zeros do. They are sound, and show nothing.
 free_slots : (size k n : ℕ) → list_all (is_sound_slot size []) (numbers_from k n) ≡ true
@@ -190,27 +225,32 @@ free_buffers : (k n : ℕ) → list_all (λ b. is_buffer (buffer_at [] b)) (numb
 free_buffers k zero = refl
 free_buffers k (suc n) = free_buffers (k + 1) n
 
-no_words_sound : (subject : Subject) (size : ℕ) → (is_built_in subject ≡ true → 1 ≤ size) → is_sound subject size [] ≡ true
+no_words_sound : (subject : Subject) (size : ℕ) → (is_built_in subject ≡ true → 1 ≤ size)
+    → is_sound subject size [] ≡ true
 no_words_sound Multiset size some = free_slots size 0 (4 * size)
 no_words_sound Cache size some = free_chunks 0 size
 no_words_sound Buffers size some = free_buffers 0 size
 no_words_sound Own size some = refl
 no_words_sound Tree zero some = absurd (omega (arith, some refl))
-no_words_sound Tree (suc size) some = ap (λ b. b && true && true && true && true) (is_below 0 (suc size) (omega arith))
+no_words_sound Tree (suc size) some = ap (λ b. b && true && true && true && true)
+    (is_below 0 (suc size) (omega arith))
 
 no_slots : (k n : ℕ) → flat_map (slot_parts []) (numbers_from k n) ≡ []
 no_slots k zero = refl
 no_slots k (suc n) = no_slots (k + 1) n
 
-no_chunks : (size k n : ℕ) → collected (flat_map (λ h. chunk_parts size h (chunk_at [] h)) (numbers_from k n)) ≡ []
+no_chunks : (size k n : ℕ)
+    → collected (flat_map (λ h. chunk_parts size h (chunk_at [] h)) (numbers_from k n)) ≡ []
 no_chunks size k zero = refl
 no_chunks size k (suc n) = ap (λ s. plus_amount s k 0) (no_chunks size (k + 1) n)
 
-no_buffers : (size k n : ℕ) → collected (flat_map (λ b. buffer_parts size b (buffer_at [] b)) (numbers_from k n)) ≡ []
+no_buffers : (size k n : ℕ)
+    → collected (flat_map (λ b. buffer_parts size b (buffer_at [] b)) (numbers_from k n)) ≡ []
 no_buffers size k zero = refl
 no_buffers size k (suc n) = ap (λ s. plus_amount s k 0) (no_buffers size (k + 1) n)
 
-no_words_empty : (subject : Subject) (size : ℕ) → (is_built_in subject ≡ true → 1 ≤ size) → collected (parts_of subject size []) ≡ []
+no_words_empty : (subject : Subject) (size : ℕ) → (is_built_in subject ≡ true → 1 ≤ size)
+    → collected (parts_of subject size []) ≡ []
 no_words_empty Multiset size some = ap collected (no_slots 0 (4 * size))
 no_words_empty Cache size some = no_chunks size 0 size
 no_words_empty Buffers size some = no_buffers size 0 size
@@ -221,15 +261,18 @@ no_words_empty Tree (suc size) some = refl
 zeros_show_nothing : (h : Header) (k : ℕ) → view_of_words h (replicate k 0) ≡ []
 unfolding view_of_words
 zeros_show_nothing h k =
-    ap collected (parts_same (replicate k 0) [] (zeros k) h.subject h.size) ∙ no_words_empty h.subject h.size (some_size h)
+    ap collected (parts_same (replicate k 0) [] (zeros k) h.subject h.size)
+    ∙ no_words_empty h.subject h.size (some_size h)
 
 -- zeroed words stand for the empty state
-pub zeroed_words : (h : Header) → state_of_words h (replicate (plain_words h + lock_words h) 0) ≡ Some []
+pub zeroed_words : (h : Header) → state_of_words h (replicate (plain_words h + lock_words h) 0)
+    ≡ Some []
 zeroed_words h =
     ap (state_of_words h) (sym (replicate-append-replicate (plain_words h) (lock_words h) 0))
     ∙ with_free_locks h (replicate (plain_words h) 0) (length-replicate (plain_words h) 0)
     ∙ ap (λ b. then_some b (view_of_words h (replicate (plain_words h) 0)))
-    (sound_same (replicate (plain_words h) 0) [] (zeros (plain_words h)) h.subject h.size ∙ no_words_sound h.subject h.size (some_size h))
+    (sound_same (replicate (plain_words h) 0) [] (zeros (plain_words h)) h.subject h.size
+    ∙ no_words_sound h.subject h.size (some_size h))
     ∙ ap Some (zeros_show_nothing h (plain_words h))
 
 pub ruleset start_laws = (zeroed_words)

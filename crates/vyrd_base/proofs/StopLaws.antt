@@ -1,5 +1,7 @@
 -- Where the text of a whole input stops, and the verdict about it by its stop.
-use Rattle.std.proofs.Common.{◌≡◌, ℕ, ◌+◌, ◌<◌, Bool, true, false, cond, ◌&&◌, List, [], ◌∷◌, length, Option, Some, None, Result, Ok, Err, refl, ap, ◌∙◌, sym, arith}
+use Rattle.std.proofs.Common.{◌≡◌, ℕ, ◌+◌, ◌<◌, Bool, true, false, cond, ◌&&◌, List, [], ◌∷◌}
+use Rattle.std.proofs.Common.{length, Option, Some, None, Result, Ok, Err, refl, ap, ◌∙◌, sym}
+use Rattle.std.proofs.Common.{arith}
 use Rattle.std.specs.Prelude.{◌==◌, nat_lt, unwrap_or, option_map, option_and_then}
 use Rattle.std.specs.Option.{option_or, option_map_or}
 use Rattle.std.specs.List.{slice_split}
@@ -10,14 +12,18 @@ use Rattle.vyrd_base.specs.declared.subject.Subject.{Subject}
 use Rattle.vyrd_base.specs.declared.log.Entry.{Entry}
 use Rattle.vyrd_base.specs.declared.log.StartWord.{StartWord}
 use Rattle.vyrd_base.specs.declared.verdict.Rule.{Rule}
-use Rattle.vyrd_base.specs.declared.verdict.Rule.TheVariants.{TooManyLines, BadHeader, BadEntry, NoLineFeed, NoEnd}
+use Rattle.vyrd_base.specs.declared.verdict.Rule.TheVariants.{TooManyLines, BadHeader, BadEntry}
+use Rattle.vyrd_base.specs.declared.verdict.Rule.TheVariants.{NoLineFeed, NoEnd}
 use Rattle.vyrd_base.specs.declared.verdict.Stop.TheVariants.{End, Text}
 use Rattle.vyrd_base.specs.declared.verdict.Verdict.TheVariants.{Malformed}
 use Rattle.vyrd_base.specs.Shape.{◌breaks◌, first_broken}
 use Rattle.vyrd_base.specs.Spelling.{end_line}
 use Rattle.vyrd_base.specs.Starts.{start_rule}
 use Rattle.vyrd_base.specs.Lines.{start_in, entry_in, header_in}
-use Rattle.vyrd_base.specs.Reading.{Reading, TextFault, has_any, fault_on, stopped, ended, unfinished_rule, after_end_rule, entry_before, lines_read, start_before, starts_read, body_read, header_before, text_read, reading}
+use Rattle.vyrd_base.specs.Reading.{Reading, TextFault, has_any, fault_on, stopped, ended}
+use Rattle.vyrd_base.specs.Reading.{unfinished_rule, after_end_rule, entry_before, lines_read}
+use Rattle.vyrd_base.specs.Reading.{start_before, starts_read, body_read, header_before, text_read}
+use Rattle.vyrd_base.specs.Reading.{reading}
 use Rattle.vyrd_base.specs.Verdicts.{verdict_so_far, end_verdict, accepted, verdict, verdict_at}
 use Rattle.vyrd_base.specs.TextVerdicts.{entries_verdict, known_verdict, text_verdict, stop_of}
 use Rattle.vyrd_base.proofs.ReadingGrows.{input_of, some_parts}
@@ -31,11 +37,17 @@ read_lines read = length read.starting + length read.entries
 -- Where the lines from line n on stop: a fault after `end` is two lines after the last entry, any
 -- other on the line after it. Without `end` there is one.
 pub record Stops (n : ℕ) (read : Reading) : Type 0 where
-  pub behind_end : read.ended ≡ true → (f : TextFault) → read.fault ≡ Some f → f.line ≡ n + read_lines read + 1
-  pub at_fault : read.ended ≡ false → (f : TextFault) × (read.fault ≡ Some f) × (f.line ≡ n + read_lines read)
+  pub behind_end : read.ended ≡ true → (f : TextFault) → read.fault ≡ Some f
+      → f.line ≡ n + read_lines read + 1
+  pub at_fault : read.ended ≡ false → (f : TextFault) × (read.fault ≡ Some f)
+      × (f.line ≡ n + read_lines read)
 
 stops_at : (n : ℕ) (rule : Rule) → Stops n (stopped n (Some rule))
-stops_at n rule = record { behind_end = λ is f e. cc; at_fault = λ is. (record { line = n; rule = rule }, refl, omega arith) }
+stops_at n rule =
+    record {
+      behind_end = λ is f e. cc;
+      at_fault = λ is. (record { line = n; rule = rule }, refl, omega arith);
+    }
 
 fault_line : (n : ℕ) (o : Option Rule) (f : TextFault) → fault_on n o ≡ Some f → f.line ≡ n
 fault_line n None f e = cc
@@ -48,24 +60,30 @@ stops_after_end n o = record {
 }
 
 -- what stands after the last line feed of a whole input is always at fault
-stops_unfinished : (max n : ℕ) (bad : Rule) (rest : List ℕ) → Stops n (stopped n (unfinished_rule (input_of max true) n bad rest))
-stops_unfinished max n bad rest = by_tests (has_any rest && nat_lt max n) (nat_lt 64 (length rest)) (has_any rest && true)
+stops_unfinished : (max n : ℕ) (bad : Rule) (rest : List ℕ)
+    → Stops n (stopped n (unfinished_rule (input_of max true) n bad rest))
+stops_unfinished max n bad rest = by_tests (has_any rest && nat_lt max n) (nat_lt 64 (length rest))
+    (has_any rest && true)
   where
     by_tests : (past long some : Bool)
-        → Stops n (stopped n (first_broken ((past breaks TooManyLines) ∷ (long breaks bad) ∷ (some breaks NoLineFeed) ∷ (true breaks NoEnd) ∷ [])))
+        → Stops n (stopped n
+        (first_broken ((past breaks TooManyLines) ∷ (long breaks bad) ∷ (some breaks NoLineFeed)
+        ∷ (true breaks NoEnd) ∷ [])))
     by_tests true long some = stops_at n TooManyLines
     by_tests false true some = stops_at n bad
     by_tests false false true = stops_at n NoLineFeed
     by_tests false false false = stops_at n NoEnd
 
-stops_with_entry : (n : ℕ) (o : Option Entry) (read : Reading) → Stops (n + 1) read → Stops n (entry_before n o read)
+stops_with_entry : (n : ℕ) (o : Option Entry) (read : Reading) → Stops (n + 1) read
+    → Stops n (entry_before n o read)
 stops_with_entry n None read s = stops_at n BadEntry
 stops_with_entry n (Some e) read s = record {
   behind_end = λ is f at. s.behind_end is f at ∙ omega arith;
   at_fault = λ is. let found = s.at_fault is in (found.0, found.1, found.2 ∙ omega arith);
 }
 
-stops_with_start : (n : ℕ) (o : Option Rule) (s : StartWord) (read : Reading) → Stops (n + 1) read → Stops n (start_before n o s read)
+stops_with_start : (n : ℕ) (o : Option Rule) (s : StartWord) (read : Reading) → Stops (n + 1) read
+    → Stops n (start_before n o s read)
 stops_with_start n (Some rule) s read st = stops_at n rule
 stops_with_start n None s read st = record {
   behind_end = λ is f at. st.behind_end is f at ∙ omega arith;
@@ -78,51 +96,69 @@ lines_stop max subject n rest [] = stops_unfinished max n BadEntry rest
 lines_stop max subject n line (next ∷ lines) =
     by_tests (lines_stop max subject (n + 1) next lines) (nat_lt max n) (bytes_eq line end_line)
   where
-    by_tests : Stops (n + 1) (lines_read (input_of max true) subject (n + 1) (next ∷ lines)) → (past is_end : Bool)
+    by_tests : Stops (n + 1) (lines_read (input_of max true) subject (n + 1) (next ∷ lines))
+        → (past is_end : Bool)
         → Stops n (cond past (stopped n (Some TooManyLines))
         (cond is_end (ended (n + 1) (after_end_rule (input_of max true) (n + 1) next lines))
-        (entry_before n (entry_in subject line) (lines_read (input_of max true) subject (n + 1) (next ∷ lines)))))
+        (entry_before n (entry_in subject line)
+        (lines_read (input_of max true) subject (n + 1) (next ∷ lines)))))
     by_tests s true is_end = stops_at n TooManyLines
-    by_tests s false true = stops_after_end n (after_end_rule (input_of max true) (n + 1) next lines)
-    by_tests s false false = stops_with_entry n (entry_in subject line) (lines_read (input_of max true) subject (n + 1) (next ∷ lines)) s
+    by_tests s false true = stops_after_end n
+        (after_end_rule (input_of max true) (n + 1) next lines)
+    by_tests s false false = stops_with_entry n (entry_in subject line)
+        (lines_read (input_of max true) subject (n + 1) (next ∷ lines)) s
 
-starts_stop : (max : ℕ) (h : Header) (last : Option StartWord) (n : ℕ) (line : List ℕ) (lines : List (List ℕ))
+starts_stop : (max : ℕ) (h : Header) (last : Option StartWord) (n : ℕ) (line : List ℕ)
+    (lines : List (List ℕ))
     → Stops n (starts_read (input_of max true) h last n (line ∷ lines))
 starts_stop max h last n rest [] = stops_unfinished max n BadEntry rest
-starts_stop max h last n line (next ∷ lines) = by_line (start_in line) (λ s. starts_stop max h (Some s) (n + 1) next lines)
+starts_stop max h last n line (next ∷ lines) = by_line (start_in line)
+    (λ s. starts_stop max h (Some s) (n + 1) next lines)
   where
-    by_limit : (s : StartWord) (past : Bool) → Stops (n + 1) (starts_read (input_of max true) h (Some s) (n + 1) (next ∷ lines))
+    by_limit : (s : StartWord) (past : Bool)
+        → Stops (n + 1) (starts_read (input_of max true) h (Some s) (n + 1) (next ∷ lines))
         → Stops n (cond past (stopped n (Some TooManyLines))
-        (start_before n (start_rule h last s) s (starts_read (input_of max true) h (Some s) (n + 1) (next ∷ lines))))
+        (start_before n (start_rule h last s) s
+        (starts_read (input_of max true) h (Some s) (n + 1) (next ∷ lines))))
     by_limit s true st = stops_at n TooManyLines
-    by_limit s false st = stops_with_start n (start_rule h last s) s (starts_read (input_of max true) h (Some s) (n + 1) (next ∷ lines)) st
+    by_limit s false st = stops_with_start n (start_rule h last s) s
+        (starts_read (input_of max true) h (Some s) (n + 1) (next ∷ lines)) st
 
-    by_line : (o : Option StartWord) → ((s : StartWord) → Stops (n + 1) (starts_read (input_of max true) h (Some s) (n + 1) (next ∷ lines)))
+    by_line : (o : Option StartWord)
+        → ((s : StartWord)
+        → Stops (n + 1) (starts_read (input_of max true) h (Some s) (n + 1) (next ∷ lines)))
         → Stops n (elim o as (λ _. Reading) [
           | None ↦ lines_read (input_of max true) h.subject n (line ∷ next ∷ lines)
           | Some s ↦ cond (nat_lt max n) (stopped n (Some TooManyLines))
-              (start_before n (start_rule h last s) s (starts_read (input_of max true) h (Some s) (n + 1) (next ∷ lines)))
+              (start_before n (start_rule h last s) s
+              (starts_read (input_of max true) h (Some s) (n + 1) (next ∷ lines)))
         ])
     by_line None onward = lines_stop max h.subject n line (next ∷ lines)
     by_line (Some s) onward = by_limit s (nat_lt max n) (onward s)
 
-body_stop : (max : ℕ) (h : Header) (line : List ℕ) (lines : List (List ℕ)) → Stops 2 (body_read (input_of max true) h (line ∷ lines))
+body_stop : (max : ℕ) (h : Header) (line : List ℕ) (lines : List (List ℕ))
+    → Stops 2 (body_read (input_of max true) h (line ∷ lines))
 body_stop max h line lines = by_version (h.version == 2)
   where
     by_version : (b : Bool)
-        → Stops 2 (cond b (starts_read (input_of max true) h None 2 (line ∷ lines)) (lines_read (input_of max true) h.subject 2 (line ∷ lines)))
+        → Stops 2 (cond b (starts_read (input_of max true) h None 2 (line ∷ lines))
+        (lines_read (input_of max true) h.subject 2 (line ∷ lines)))
     by_version true = starts_stop max h None 2 line lines
     by_version false = lines_stop max h.subject 2 line lines
 
--- Where a whole text stops: after a header as its lines do, and without one at a fault and with no entry.
+-- Where a whole text stops: after a header as its lines do, and without one at a fault and with no
+-- entry.
 pub data TextStops (read : Reading) : Type 0 where
   headed : (h : Header) → read.header ≡ Some h → Stops 2 read → TextStops read
   headless : (f : TextFault) → read.header ≡ None → read.fault ≡ Some f → TextStops read
 
-stops_without : (max : ℕ) (rest : List ℕ) → TextStops (stopped 1 (unfinished_rule (input_of max true) 1 BadHeader rest))
-stops_without max rest = let found = (stops_unfinished max 1 BadHeader rest).at_fault refl in headless found.0 refl found.1
+stops_without : (max : ℕ) (rest : List ℕ)
+    → TextStops (stopped 1 (unfinished_rule (input_of max true) 1 BadHeader rest))
+stops_without max rest = let found = (stops_unfinished max 1 BadHeader rest).at_fault refl in
+    headless found.0 refl found.1
 
-text_stop : (max : ℕ) (parts : List (List ℕ)) → 0 < length parts → TextStops (text_read (input_of max true) parts)
+text_stop : (max : ℕ) (parts : List (List ℕ)) → 0 < length parts
+    → TextStops (text_read (input_of max true) parts)
 text_stop max [] some = absurd (omega arith)
 text_stop max (rest ∷ []) some = stops_without max rest
 text_stop max (line ∷ next ∷ lines) some = by_header (header_in line)
@@ -133,14 +169,17 @@ text_stop max (line ∷ next ∷ lines) some = by_header (header_in line)
               (body_read (input_of max true) h (next ∷ lines))
           | Err rule ↦ stopped 1 (Some rule)
         ])
-    by_header (Ok h) = let s = body_stop max h next lines in headed h refl (record { behind_end = s.behind_end; at_fault = s.at_fault })
+    by_header (Ok h) = let s = body_stop max h next lines in headed h refl
+        (record { behind_end = s.behind_end; at_fault = s.at_fault })
     by_header (Err rule) = headless (record { line = 1; rule = rule }) refl refl
 
 pub reading_stops : (max : ℕ) (bytes : List ℕ) → TextStops (reading (input_of max true) bytes)
 unfolding reading
-reading_stops max bytes = text_stop max (slice_split (λ b. b == 10) bytes) (some_parts (λ b. b == 10) bytes)
+reading_stops max bytes = text_stop max (slice_split (λ b. b == 10) bytes)
+    (some_parts (λ b. b == 10) bytes)
 
-unwrap_or-or_some : {A : Type 0} (o : Option A) (a d : A) → unwrap_or (option_or o (Some a)) d ≡ unwrap_or o a
+unwrap_or-or_some : {A : Type 0} (o : Option A) (a d : A) → unwrap_or (option_or o (Some a)) d
+    ≡ unwrap_or o a
 unwrap_or-or_some None a d = refl
 unwrap_or-or_some (Some x) a d = refl
 
@@ -151,36 +190,53 @@ is_behind line n e = grind (arith, nat_tests)
 isnt_behind : (line n : ℕ) → line ≡ 2 + n → (line == n + 2 + 1) ≡ false
 isnt_behind line n e = grind (arith, nat_tests)
 
-by_stop : (h : Header) (starting : List StartWord) (entries : List Entry) (is_ended : Bool) (fault : Option TextFault)
-    → (is_ended ≡ true → (f : TextFault) → fault ≡ Some f → f.line ≡ 2 + (length starting + length entries) + 1)
-    → (is_ended ≡ false → (f : TextFault) × (fault ≡ Some f) × (f.line ≡ 2 + (length starting + length entries)))
-    → unwrap_or (option_or (option_or (verdict_so_far (rules_of h) starting entries) (cond is_ended (end_verdict (rules_of h) starting entries) None))
+by_stop : (h : Header) (starting : List StartWord) (entries : List Entry) (is_ended : Bool)
+    (fault : Option TextFault)
+    → (is_ended ≡ true → (f : TextFault) → fault ≡ Some f
+    → f.line ≡ 2 + (length starting + length entries) + 1)
+    → (is_ended ≡ false → (f : TextFault) × (fault ≡ Some f)
+    × (f.line ≡ 2 + (length starting + length entries)))
+    → unwrap_or (option_or
+    (option_or (verdict_so_far (rules_of h) starting entries)
+    (cond is_ended (end_verdict (rules_of h) starting entries) None))
     (option_map (λ f. Malformed f.line f.rule) fault)) (accepted entries)
     ≡ verdict_at (rules_of h) starting entries (option_map_or (λ f. Text f.line f.rule) fault End)
 unfolding verdict_at verdict
 by_stop h starting entries true None behind at =
-    ap (λ o. unwrap_or o (accepted entries)) (or_none (option_or (verdict_so_far (rules_of h) starting entries) (end_verdict (rules_of h) starting entries)))
+    ap (λ o. unwrap_or o (accepted entries))
+    (or_none (option_or (verdict_so_far (rules_of h) starting entries)
+    (end_verdict (rules_of h) starting entries)))
 by_stop h starting entries true (Some f) behind at =
-    unwrap_or-or_some (option_or (verdict_so_far (rules_of h) starting entries) (end_verdict (rules_of h) starting entries)) (Malformed f.line f.rule) (accepted entries)
-    ∙ ap (λ b. unwrap_or (option_or (verdict_so_far (rules_of h) starting entries) (cond b (end_verdict (rules_of h) starting entries) None)) (Malformed f.line f.rule))
+    unwrap_or-or_some
+    (option_or (verdict_so_far (rules_of h) starting entries)
+    (end_verdict (rules_of h) starting entries)) (Malformed f.line f.rule) (accepted entries)
+    ∙ ap (λ b. unwrap_or
+    (option_or (verdict_so_far (rules_of h) starting entries)
+    (cond b (end_verdict (rules_of h) starting entries) None)) (Malformed f.line f.rule))
     (sym (is_behind f.line (length starting + length entries) (behind refl f refl)))
-by_stop h starting entries false None behind at = let found = at refl in absurd (none_is_some found.1)
+by_stop h starting entries false None behind at = let found = at refl in absurd
+    (none_is_some found.1)
   where
     none_is_some : {f : TextFault} → None ≡ Some f → ⊥
     none_is_some e = cc
 by_stop h starting entries false (Some f) behind at =
     let found = at refl in
     let same : found.0 ≡ f = the_same found.1 in
-    let line : f.line ≡ 2 + (length starting + length entries) = ap (λ g. g.line) (sym same) ∙ found.2 in
-    unwrap_or-or_some (option_or (verdict_so_far (rules_of h) starting entries) None) (Malformed f.line f.rule) (accepted entries)
-    ∙ ap (λ b. unwrap_or (option_or (verdict_so_far (rules_of h) starting entries) (cond b (end_verdict (rules_of h) starting entries) None)) (Malformed f.line f.rule))
+    let line : f.line ≡ 2 + (length starting + length entries) = ap (λ g. g.line) (sym same)
+    ∙ found.2 in
+    unwrap_or-or_some (option_or (verdict_so_far (rules_of h) starting entries) None)
+    (Malformed f.line f.rule) (accepted entries)
+    ∙ ap (λ b. unwrap_or
+    (option_or (verdict_so_far (rules_of h) starting entries)
+    (cond b (end_verdict (rules_of h) starting entries) None)) (Malformed f.line f.rule))
     (sym (isnt_behind f.line (length starting + length entries) line))
   where
     the_same : {g : TextFault} → Some f ≡ Some g → g ≡ f
     the_same e = cc
 
 with_header : (read : Reading) (h : Header) → read.header ≡ Some h → Stops 2 read
-    → unwrap_or (known_verdict read) (accepted read.entries) ≡ verdict_at (rules_of h) read.starting read.entries (stop_of read)
+    → unwrap_or (known_verdict read) (accepted read.entries) ≡ verdict_at (rules_of h) read.starting
+    read.entries (stop_of read)
 with_header read h has s =
     ap (λ o. unwrap_or (option_or (option_and_then (entries_verdict read) o)
     (option_map (λ f. Malformed f.line f.rule) read.fault)) (accepted read.entries)) has
@@ -195,8 +251,10 @@ without_header read f none at =
 
 -- The verdict about a whole input: with a header that of its starting words, its entries and how
 -- they stop, and otherwise its fault of text.
-pub text_verdict-by_stop : (max : ℕ) (bytes : List ℕ) (h : Header) → (reading (input_of max true) bytes).header ≡ Some h
-    → text_verdict max bytes ≡ verdict_at (rules_of h) (reading (input_of max true) bytes).starting (reading (input_of max true) bytes).entries
+pub text_verdict-by_stop : (max : ℕ) (bytes : List ℕ) (h : Header)
+    → (reading (input_of max true) bytes).header ≡ Some h
+    → text_verdict max bytes ≡ verdict_at (rules_of h) (reading (input_of max true) bytes).starting
+    (reading (input_of max true) bytes).entries
     (stop_of (reading (input_of max true) bytes))
 unfolding text_verdict
 text_verdict-by_stop max bytes h has = by_cases (reading_stops max bytes)
@@ -212,7 +270,10 @@ text_verdict-by_stop max bytes h has = by_cases (reading_stops max bytes)
         none_is_some : None ≡ Some h → ⊥
         none_is_some e = cc
 
-pub text_verdict-no_header : (max : ℕ) (bytes : List ℕ) (f : TextFault) → (reading (input_of max true) bytes).header ≡ None
-    → (reading (input_of max true) bytes).fault ≡ Some f → text_verdict max bytes ≡ Malformed f.line f.rule
+pub text_verdict-no_header : (max : ℕ) (bytes : List ℕ) (f : TextFault)
+    → (reading (input_of max true) bytes).header ≡ None
+    → (reading (input_of max true) bytes).fault ≡ Some f → text_verdict max bytes
+    ≡ Malformed f.line f.rule
 unfolding text_verdict
-text_verdict-no_header max bytes f none at = without_header (reading (input_of max true) bytes) f none at
+text_verdict-no_header max bytes f none at = without_header (reading (input_of max true) bytes) f
+    none at

@@ -1,12 +1,14 @@
 -- What every method and every subject meets: calls are written on lines and read again.
-use Rattle.std.proofs.Common.{◌≡◌, ℕ, zero, suc, ◌+◌, ◌<◌, ◌≤◌, ◌^◌, Bool, true, false, not, cond, List, [], ◌∷◌, length, map}
+use Rattle.std.proofs.Common.{◌≡◌, ℕ, zero, suc, ◌+◌, ◌<◌, ◌≤◌, ◌^◌, Bool, true, false, not, cond}
+use Rattle.std.proofs.Common.{List, [], ◌∷◌, length, map}
 use Rattle.std.proofs.Common.{Option, Some, None, refl, ap, ◌∙◌, sym, arith}
 use Rattle.std.specs.Prelude.{find, option_map, slice_get}
 use Rattle.std.specs.Str.{bytes_eq}
 use Rattle.std.proofs.lemmas.Option.{slice_get-map}
 use Rattle.vyrd_base.specs.Limits.{longest_subject, longest_method}
 use Rattle.vyrd_base.specs.declared.subject.Subject.{Subject}
-use Rattle.vyrd_base.specs.declared.subject.Subject.TheVariants.{Multiset, Cache, Tree, Buffers, Own}
+use Rattle.vyrd_base.specs.declared.subject.Subject.TheVariants.{Multiset, Cache, Tree, Buffers}
+use Rattle.vyrd_base.specs.declared.subject.Subject.TheVariants.{Own}
 use Rattle.vyrd_base.specs.declared.subject.Method.{Method}
 use Rattle.vyrd_base.specs.declared.subject.Method.TheVariants.{Multiset as OfMultiset}
 use Rattle.vyrd_base.specs.declared.subject.Method.TheVariants.{Cache as OfCache, Tree as OfTree}
@@ -20,7 +22,8 @@ use Rattle.vyrd_base.specs.declared.tree.TreeMethod.{TreeMethod}
 use Rattle.vyrd_base.specs.Tree.{tree}
 use Rattle.vyrd_base.specs.declared.buffers.BuffersMethod.{BuffersMethod}
 use Rattle.vyrd_base.specs.Buffers.{buffers}
-use Rattle.vyrd_base.specs.Subjects.{arity_of, subject_of, methods_of, is_observer, must_commit, is_built_in, is_named}
+use Rattle.vyrd_base.specs.Subjects.{arity_of, subject_of, methods_of, is_observer, must_commit}
+use Rattle.vyrd_base.specs.Subjects.{is_built_in, is_named}
 use Rattle.vyrd_base.specs.Layout.{plain_words_of, lock_words_of}
 use Rattle.vyrd_base.specs.Spelling.{subject_name, method_name}
 use Rattle.vyrd_base.specs.Lines.{method_called}
@@ -48,7 +51,8 @@ short_method (OwnNever i) = omega arith
 short_method (OwnAtMostOnce i) = omega arith
 short_method (OwnOnce i) = omega arith
 
-pub some_arguments : (method : Method) → is_built_in (subject_of method) ≡ true → 1 ≤ arity_of method
+pub some_arguments : (method : Method) → is_built_in (subject_of method) ≡ true
+    → 1 ≤ arity_of method
 some_arguments (OfMultiset m) built = multiset_is.some_arguments m
 some_arguments (OfCache m) built = cache_is.some_arguments m
 some_arguments (OfTree m) built = tree_is.some_arguments m
@@ -66,7 +70,8 @@ few_arguments (OwnNever i) built = cc
 few_arguments (OwnAtMostOnce i) built = cc
 few_arguments (OwnOnce i) built = cc
 
-pub once_or_never : (method : Method) → is_built_in (subject_of method) ≡ true → must_commit method ≡ not (is_observer method)
+pub once_or_never : (method : Method) → is_built_in (subject_of method) ≡ true → must_commit method
+    ≡ not (is_observer method)
 once_or_never (OfMultiset m) built = multiset_is.once_or_never m
 once_or_never (OfCache m) built = cache_is.once_or_never m
 once_or_never (OfTree m) built = tree_is.once_or_never m
@@ -76,22 +81,31 @@ once_or_never (OwnAtMostOnce i) built = cc
 once_or_never (OwnOnce i) built = cc
 
 -- a search among other names of the same things
-find_mapped : {A B : Type 0} (f : A → B) (p : B → Bool) (xs : List A) → find p (map f xs) ≡ option_map f (find (λ x. p (f x)) xs)
+find_mapped : {A B : Type 0} (f : A → B) (p : B → Bool) (xs : List A) → find p (map f xs)
+    ≡ option_map f (find (λ x. p (f x)) xs)
 find_mapped f p [] = refl
 find_mapped f p (x ∷ xs) = by_test (p (f x)) (find_mapped f p xs)
   where
     by_test : (b : Bool) → find p (map f xs) ≡ option_map f (find (λ y. p (f y)) xs)
-        → cond b (Some (f x)) (find p (map f xs)) ≡ option_map f (cond b (Some x) (find (λ y. p (f y)) xs))
+        → cond b (Some (f x)) (find p (map f xs))
+        ≡ option_map f (cond b (Some x) (find (λ y. p (f y)) xs))
     by_test true rest = refl
     by_test false rest = rest
 
 -- the method of that name is the only one of its subject
 pub method_found : (subject : Subject) (method : Method) → is_named method subject ≡ true
     → method_called subject (method_name method) ≡ Some method
-method_found Multiset (OfMultiset m) e = find_mapped OfMultiset (λ x. bytes_eq (method_name x) (multiset.called m)) multiset.methods ∙ ap (option_map OfMultiset) (multiset_is.found m)
-method_found Cache (OfCache m) e = find_mapped OfCache (λ x. bytes_eq (method_name x) (cache.called m)) cache.methods ∙ ap (option_map OfCache) (cache_is.found m)
-method_found Tree (OfTree m) e = find_mapped OfTree (λ x. bytes_eq (method_name x) (tree.called m)) tree.methods ∙ ap (option_map OfTree) (tree_is.found m)
-method_found Buffers (OfBuffers m) e = find_mapped OfBuffers (λ x. bytes_eq (method_name x) (buffers.called m)) buffers.methods ∙ ap (option_map OfBuffers) (buffers_is.found m)
+method_found Multiset (OfMultiset m) e = find_mapped OfMultiset
+    (λ x. bytes_eq (method_name x) (multiset.called m)) multiset.methods
+    ∙ ap (option_map OfMultiset) (multiset_is.found m)
+method_found Cache (OfCache m) e = find_mapped OfCache
+    (λ x. bytes_eq (method_name x) (cache.called m)) cache.methods
+    ∙ ap (option_map OfCache) (cache_is.found m)
+method_found Tree (OfTree m) e = find_mapped OfTree (λ x. bytes_eq (method_name x) (tree.called m))
+    tree.methods ∙ ap (option_map OfTree) (tree_is.found m)
+method_found Buffers (OfBuffers m) e = find_mapped OfBuffers
+    (λ x. bytes_eq (method_name x) (buffers.called m)) buffers.methods ∙ ap (option_map OfBuffers)
+    (buffers_is.found m)
 method_found _ _ e = cc
 
 -- a method's place among those of its subject
@@ -106,33 +120,46 @@ place_of (OwnOnce i) = 0
 
 pub method_listed : (subject : Subject) (method : Method) → is_named method subject ≡ true
     → slice_get (methods_of subject) (place_of method) ≡ Some method
-method_listed Multiset (OfMultiset m) e = slice_get-map OfMultiset multiset.methods (multiset_is.place m) ∙ ap (option_map OfMultiset) (multiset_is.listed m)
-method_listed Cache (OfCache m) e = slice_get-map OfCache cache.methods (cache_is.place m) ∙ ap (option_map OfCache) (cache_is.listed m)
-method_listed Tree (OfTree m) e = slice_get-map OfTree tree.methods (tree_is.place m) ∙ ap (option_map OfTree) (tree_is.listed m)
-method_listed Buffers (OfBuffers m) e = slice_get-map OfBuffers buffers.methods (buffers_is.place m) ∙ ap (option_map OfBuffers) (buffers_is.listed m)
+method_listed Multiset (OfMultiset m) e = slice_get-map OfMultiset multiset.methods
+    (multiset_is.place m) ∙ ap (option_map OfMultiset) (multiset_is.listed m)
+method_listed Cache (OfCache m) e = slice_get-map OfCache cache.methods (cache_is.place m)
+    ∙ ap (option_map OfCache) (cache_is.listed m)
+method_listed Tree (OfTree m) e = slice_get-map OfTree tree.methods (tree_is.place m)
+    ∙ ap (option_map OfTree) (tree_is.listed m)
+method_listed Buffers (OfBuffers m) e = slice_get-map OfBuffers buffers.methods (buffers_is.place m)
+    ∙ ap (option_map OfBuffers) (buffers_is.listed m)
 method_listed _ _ e = cc
 
 -- a method that stands among those of a subject is the subject's
-pub subject_listed : (subject : Subject) (i : ℕ) (method : Method) → slice_get (methods_of subject) i ≡ Some method
+pub subject_listed : (subject : Subject) (i : ℕ) (method : Method)
+    → slice_get (methods_of subject) i ≡ Some method
     → is_named method subject ≡ true
-subject_listed Multiset i method e = by_place (slice_get multiset.methods i) (sym (slice_get-map OfMultiset multiset.methods i) ∙ e)
+subject_listed Multiset i method e = by_place (slice_get multiset.methods i)
+    (sym (slice_get-map OfMultiset multiset.methods i) ∙ e)
   where
-    by_place : (o : Option MultisetMethod) → option_map OfMultiset o ≡ Some method → is_named method Multiset ≡ true
+    by_place : (o : Option MultisetMethod) → option_map OfMultiset o ≡ Some method
+        → is_named method Multiset ≡ true
     by_place None f = cc
     by_place (Some m) f = cc
-subject_listed Cache i method e = by_place (slice_get cache.methods i) (sym (slice_get-map OfCache cache.methods i) ∙ e)
+subject_listed Cache i method e = by_place (slice_get cache.methods i)
+    (sym (slice_get-map OfCache cache.methods i) ∙ e)
   where
-    by_place : (o : Option CacheMethod) → option_map OfCache o ≡ Some method → is_named method Cache ≡ true
+    by_place : (o : Option CacheMethod) → option_map OfCache o ≡ Some method → is_named method Cache
+        ≡ true
     by_place None f = cc
     by_place (Some m) f = cc
-subject_listed Tree i method e = by_place (slice_get tree.methods i) (sym (slice_get-map OfTree tree.methods i) ∙ e)
+subject_listed Tree i method e = by_place (slice_get tree.methods i)
+    (sym (slice_get-map OfTree tree.methods i) ∙ e)
   where
-    by_place : (o : Option TreeMethod) → option_map OfTree o ≡ Some method → is_named method Tree ≡ true
+    by_place : (o : Option TreeMethod) → option_map OfTree o ≡ Some method → is_named method Tree
+        ≡ true
     by_place None f = cc
     by_place (Some m) f = cc
-subject_listed Buffers i method e = by_place (slice_get buffers.methods i) (sym (slice_get-map OfBuffers buffers.methods i) ∙ e)
+subject_listed Buffers i method e = by_place (slice_get buffers.methods i)
+    (sym (slice_get-map OfBuffers buffers.methods i) ∙ e)
   where
-    by_place : (o : Option BuffersMethod) → option_map OfBuffers o ≡ Some method → is_named method Buffers ≡ true
+    by_place : (o : Option BuffersMethod) → option_map OfBuffers o ≡ Some method
+        → is_named method Buffers ≡ true
     by_place None f = cc
     by_place (Some m) f = cc
 subject_listed Own zero method e = cc
@@ -152,7 +179,8 @@ short_subject Tree = tree_is.short_name
 short_subject Buffers = buffers_is.short_name
 short_subject Own = omega arith
 
-pub words_within : (subject : Subject) → (size : ℕ) → size ≤ 1024 → plain_words_of subject size + lock_words_of subject size < 2 ^ 16
+pub words_within : (subject : Subject) → (size : ℕ) → size ≤ 1024 → plain_words_of subject size
+    + lock_words_of subject size < 2 ^ 16
 words_within Multiset size low = multiset_is.few_words size low
 words_within Cache size low = cache_is.few_words size low
 words_within Tree size low = tree_is.few_words size low

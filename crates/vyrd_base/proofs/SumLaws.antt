@@ -1,25 +1,32 @@
 -- What parts give to a key, whose amount is the sum of it.
-use Rattle.std.proofs.Common.{◌≡◌, ◌≢◌, ℕ, zero, suc, ◌+◌, ◌*◌, ◌<◌, ◌≤◌, Bool, true, false, cond, List, [], ◌∷◌, ◌++◌, length, get_or, set, refl, ap, ◌∙◌, sym, arith}
+use Rattle.std.proofs.Common.{◌≡◌, ◌≢◌, ℕ, zero, suc, ◌+◌, ◌*◌, ◌<◌, ◌≤◌, Bool, true, false, cond}
+use Rattle.std.proofs.Common.{List, [], ◌∷◌, ◌++◌, length, get_or, set, refl, ap, ◌∙◌, sym, arith}
 use Rattle.std.specs.Prelude.{◌==◌, flat_map}
 use Rattle.vyrd_base.specs.Places.{numbers_from}
-use Rattle.vyrd_base.specs.Amounts.{Amounts, IsAmounts, amount_of, plus_amount, collected, part_given, given}
+use Rattle.vyrd_base.specs.Amounts.{Amounts, IsAmounts, amount_of, plus_amount, collected}
+use Rattle.vyrd_base.specs.Amounts.{part_given, given}
 use Rattle.vyrd_base.proofs.AmountLaws.{amount_of-with_amount, IsAmounts-with_amount}
 use Rattle.vyrd_base.proofs.TestLaws.{same_of, same_number, isnt_same}
 
-pub amount_of-plus : (s : Amounts) (k a q : ℕ) → amount_of (plus_amount s k a) q ≡ amount_of s q + part_given q (k, a)
+pub amount_of-plus : (s : Amounts) (k a q : ℕ) → amount_of (plus_amount s k a) q ≡ amount_of s q
+    + part_given q (k, a)
 amount_of-plus s k a q = amount_of-with_amount s k (amount_of s k + a) q ∙ by_key (q == k) refl
   where
-    by_key : (b : Bool) → (q == k) ≡ b → cond b (amount_of s k + a) (amount_of s q) ≡ amount_of s q + cond b a 0
+    by_key : (b : Bool) → (q == k) ≡ b → cond b (amount_of s k + a) (amount_of s q) ≡ amount_of s q
+        + cond b a 0
     by_key true e = ap (λ x. amount_of s x + a) (sym (same_of q k e))
     by_key false e = omega arith
 
-pub amount_of-collected : (parts : List (ℕ × ℕ)) (q : ℕ) → amount_of (collected parts) q ≡ given q parts
+pub amount_of-collected : (parts : List (ℕ × ℕ)) (q : ℕ) → amount_of (collected parts) q
+    ≡ given q parts
 amount_of-collected [] q = refl
-amount_of-collected (part ∷ parts) q = omega (arith, amount_of-plus (collected parts) part.0 part.1 q, amount_of-collected parts q)
+amount_of-collected (part ∷ parts) q =
+    omega (arith, amount_of-plus (collected parts) part.0 part.1 q, amount_of-collected parts q)
 
 pub IsAmounts-collected : (parts : List (ℕ × ℕ)) → IsAmounts (collected parts)
 IsAmounts-collected [] = record { rising = tt; some = tt }
-IsAmounts-collected (part ∷ parts) = IsAmounts-with_amount (collected parts) part.0 (amount_of (collected parts) part.0 + part.1)
+IsAmounts-collected (part ∷ parts) = IsAmounts-with_amount (collected parts) part.0
+    (amount_of (collected parts) part.0 + part.1)
     (IsAmounts-collected parts)
 
 pub given-append : (q : ℕ) (xs ys : List (ℕ × ℕ)) → given q (xs ++ ys) ≡ given q xs + given q ys
@@ -27,13 +34,21 @@ given-append q [] ys = omega arith
 given-append q (x ∷ xs) ys = omega (arith, given-append q xs ys)
 
 -- what numbers in a row give, if each gives this much at most
-pub given_at_most : (f : ℕ → List (ℕ × ℕ)) (most q k n : ℕ) → ((j : ℕ) → given q (f j) ≤ most) → given q (flat_map f (numbers_from k n)) ≤ n * most
+pub given_at_most : (f : ℕ → List (ℕ × ℕ)) (most q k n : ℕ) → ((j : ℕ) → given q (f j) ≤ most)
+    → given q (flat_map f (numbers_from k n)) ≤ n * most
 given_at_most f most q k zero each = omega arith
 given_at_most f most q k (suc n) each =
-    omega (arith, given-append q (f k) (flat_map f (numbers_from (k + 1) n)), each k, given_at_most f most q (k + 1) n each)
+    omega (
+      arith,
+      given-append q (f k) (flat_map f (numbers_from (k + 1) n)),
+      each k,
+      given_at_most
+          f most q (k + 1) n each,
+    )
 
 -- what numbers in a row give, where none of them gives anything
-pub given_nothing : (f : ℕ → List (ℕ × ℕ)) (q k n : ℕ) → ((j : ℕ) → k ≤ j → j < k + n → given q (f j) ≡ 0)
+pub given_nothing : (f : ℕ → List (ℕ × ℕ)) (q k n : ℕ)
+    → ((j : ℕ) → k ≤ j → j < k + n → given q (f j) ≡ 0)
     → given q (flat_map f (numbers_from k n)) ≡ 0
 given_nothing f q k zero each = refl
 given_nothing f q k (suc n) each =
@@ -48,7 +63,8 @@ given_nothing f q k (suc n) each =
 
 -- one pair gives way to another
 pub given-set : (q : ℕ) (pairs : List (ℕ × ℕ)) (i : ℕ) (pair d : ℕ × ℕ) → i < length pairs
-    → given q (set pairs i pair) + part_given q (get_or pairs i d) ≡ given q pairs + part_given q pair
+    → given q (set pairs i pair) + part_given q (get_or pairs i d) ≡ given q pairs
+    + part_given q pair
 given-set q [] i pair d low = absurd (omega arith)
 given-set q (p ∷ pairs) zero pair d low = omega arith
 given-set q (p ∷ pairs) (suc i) pair d low = omega (arith, given-set q pairs i pair d (omega arith))
@@ -80,14 +96,23 @@ nothing_given q k = by_key (q == k)
     by_key false = refl
 
 -- no pair gives to the key
-pub none_gives : (q : ℕ) (pairs : List (ℕ × ℕ)) → ((j : ℕ) → part_given q (get_or pairs j (0, 0)) ≡ 0) → given q pairs ≡ 0
+pub none_gives : (q : ℕ) (pairs : List (ℕ × ℕ))
+    → ((j : ℕ) → part_given q (get_or pairs j (0, 0)) ≡ 0) → given q pairs ≡ 0
 none_gives q [] nothing = refl
-none_gives q (p ∷ pairs) nothing = omega (arith, nothing 0, none_gives q pairs (λ j. nothing (suc j)))
+none_gives q (p ∷ pairs) nothing =
+    omega (arith, nothing 0, none_gives q pairs (λ j. nothing (suc j)))
 
 -- one pair alone gives to it
-pub only_gives : (q : ℕ) (pairs : List (ℕ × ℕ)) (i : ℕ) → ((j : ℕ) → j ≢ i → part_given q (get_or pairs j (0, 0)) ≡ 0)
+pub only_gives : (q : ℕ) (pairs : List (ℕ × ℕ)) (i : ℕ)
+    → ((j : ℕ) → j ≢ i → part_given q (get_or pairs j (0, 0)) ≡ 0)
     → given q pairs ≡ part_given q (get_or pairs i (0, 0))
 only_gives q [] i nothing = sym (nothing_given q 0)
-only_gives q (p ∷ pairs) zero nothing = omega (arith, none_gives q pairs (λ j. nothing (suc j) (λ e. absurd (omega (arith, e)))))
+only_gives q (p ∷ pairs) zero nothing =
+    omega (arith, none_gives q pairs (λ j. nothing (suc j) (λ e. absurd (omega (arith, e)))))
 only_gives q (p ∷ pairs) (suc i) nothing =
-    omega (arith, nothing 0 (λ e. absurd (omega (arith, e))), only_gives q pairs i (λ j other. nothing (suc j) (λ e. other (omega (arith, e)))))
+    omega (
+      arith,
+      nothing 0 (λ e. absurd (omega (arith, e))),
+      only_gives q pairs i
+          (λ j other. nothing (suc j) (λ e. other (omega (arith, e)))),
+    )

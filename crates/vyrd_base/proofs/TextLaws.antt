@@ -1,44 +1,56 @@
 -- Texts of string buffers as numbers: how long they are, how they are joined, and how they are cut.
-use Rattle.std.proofs.Common.{◌≡◌, ℕ, zero, suc, ◌+◌, ◌-◌, ◌*◌, ◌/◌, ◌^◌, ◌%◌, ◌<◌, ◌≤◌, min, Bool, true, false, cond, ◌&&◌, refl, ap, ◌∙◌, sym, subst, arith}
+use Rattle.std.proofs.Common.{◌≡◌, ℕ, zero, suc, ◌+◌, ◌-◌, ◌*◌, ◌/◌, ◌^◌, ◌%◌, ◌<◌, ◌≤◌, min, Bool}
+use Rattle.std.proofs.Common.{true, false, cond, ◌&&◌, refl, ap, ◌∙◌, sym, subst, arith}
 use Rattle.std.specs.Prelude.{◌==◌, nat_lt, nat_le}
 use Rattle.std.proofs.Math.Bool.{and-true}
-use Rattle.std.proofs.Math.Nat.{pow-suc, pow-le-pow_right, mul-le-mul_right, add-mul-mod_self_right, mod-eq_of_lt, mod-le}
+use Rattle.std.proofs.Math.Nat.{pow-suc, pow-le-pow_right, mul-le-mul_right, add-mul-mod_self_right}
+use Rattle.std.proofs.Math.Nat.{mod-eq_of_lt, mod-le}
 use Rattle.std.proofs.lemmas.Nat.{pow-add, mul-add-lt, div-mul-add}
-use Rattle.vyrd_base.specs.Buffers.{text_of, powers_within, text_length, has_room, joined, cut_to, are_characters}
-use Rattle.vyrd_base.proofs.TestLaws.{same_of, apart_of, both_true, first_true, second_true, below_of, is_below, not_below_of, isnt_below, at_most_of, is_at_most, above_of, isnt_at_most}
+use Rattle.vyrd_base.specs.Buffers.{text_of, powers_within, text_length, has_room, joined, cut_to}
+use Rattle.vyrd_base.specs.Buffers.{are_characters}
+use Rattle.vyrd_base.proofs.TestLaws.{same_of, apart_of, both_true, first_true, second_true}
+use Rattle.vyrd_base.proofs.TestLaws.{below_of, is_below, not_below_of, isnt_below, at_most_of}
+use Rattle.vyrd_base.proofs.TestLaws.{is_at_most, above_of, isnt_at_most}
 
 -- a text has only the characters below its length
 pub text_same : (f g : ℕ → ℕ) (n : ℕ) → ((i : ℕ) → i < n → f i ≡ g i) → text_of f n ≡ text_of g n
 text_same f g zero same = refl
 text_same f g (suc n) same = λ k.
-    text_same f g n (λ i low. same i (omega (arith, low))) k + (same n (omega arith) k + 1) * 256 ^ n
+    text_same f g n (λ i low. same i (omega (arith, low))) k + (same n (omega arith) k + 1)
+    * 256 ^ n
 
-pub characters_same : (f g : ℕ → ℕ) (n : ℕ) → ((i : ℕ) → i < n → f i ≡ g i) → are_characters f n ≡ are_characters g n
+pub characters_same : (f g : ℕ → ℕ) (n : ℕ) → ((i : ℕ) → i < n → f i ≡ g i) → are_characters f n
+    ≡ are_characters g n
 characters_same f g zero same = refl
 characters_same f g (suc n) same = λ k.
-    characters_same f g n (λ i low. same i (omega (arith, low))) k && nat_lt (same n (omega arith) k) 255
+    characters_same f g n (λ i low. same i (omega (arith, low))) k
+    && nat_lt (same n (omega arith) k) 255
 
 -- each character of a text is below 255
 pub character_below : (f : ℕ → ℕ) (n : ℕ) → are_characters f n ≡ true → (i : ℕ) → i < n → f i < 255
 character_below f zero e i low = absurd (omega (arith, low))
-character_below f (suc n) e i low = by_place (character_below f n (first_true (are_characters f n) _ e) i) (i == n) refl
+character_below f (suc n) e i low = by_place
+    (character_below f n (first_true (are_characters f n) _ e) i) (i == n) refl
   where
     by_place : (i < n → f i < 255) → (b : Bool) → (i == n) ≡ b → f i < 255
     by_place before true same =
-        subst (λ j. f j < 255) (sym (same_of i n same)) (below_of (f n) 255 (second_true (are_characters f n) _ e))
+        subst (λ j. f j < 255) (sym (same_of i n same))
+        (below_of (f n) 255 (second_true (are_characters f n) _ e))
     by_place before false apart = before (let isnt = apart_of i n apart in omega (arith, low, isnt))
 
 pub all_characters : (f : ℕ → ℕ) (n : ℕ) → ((i : ℕ) → i < n → f i < 255) → are_characters f n ≡ true
 all_characters f zero each = refl
 all_characters f (suc n) each =
-    both_true _ _ (all_characters f n (λ i low. each i (omega (arith, low)))) (is_below (f n) 255 (each n (omega arith)))
+    both_true _ _ (all_characters f n (λ i low. each i (omega (arith, low))))
+    (is_below (f n) 255 (each n (omega arith)))
 
 and_again : (a b c : Bool) → ((a && b) && c) ≡ (a && (b && c))
 and_again true b c = refl
 and_again false b c = refl
 
 -- characters, and those after them
-pub characters_split : (f : ℕ → ℕ) (n m : ℕ) → are_characters f (n + m) ≡ (are_characters f n && are_characters (λ i. f (n + i)) m)
+pub characters_split : (f : ℕ → ℕ) (n m : ℕ) → are_characters f (n + m)
+    ≡ (are_characters f n && are_characters (λ i. f (n + i)) m)
 characters_split f n zero =
     let none : n + 0 ≡ n = omega arith in
     ap (are_characters f) none ∙ sym (and-true (are_characters f n))
@@ -47,7 +59,8 @@ characters_split f n (suc m) =
     ap (are_characters f) one ∙ ap (λ b. b && nat_lt (f (n + m)) 255) (characters_split f n m)
     ∙ and_again (are_characters f n) (are_characters (λ i. f (n + i)) m) (nat_lt (f (n + m)) 255)
 
-pub text_split : (f : ℕ → ℕ) (n m : ℕ) → text_of f (n + m) ≡ text_of f n + text_of (λ i. f (n + i)) m * 256 ^ n
+pub text_split : (f : ℕ → ℕ) (n m : ℕ) → text_of f (n + m) ≡ text_of f n
+    + text_of (λ i. f (n + i)) m * 256 ^ n
 text_split f n zero =
     let none : n + 0 ≡ n = omega arith in
     let alone : text_of f n ≡ text_of f n + 0 * 256 ^ n = omega arith in
@@ -65,13 +78,16 @@ text_below f zero e = omega arith
 text_below f (suc n) e =
     let before = text_below f n (first_true (are_characters f n) _ e) in
     let low = below_of (f n) 255 (second_true (are_characters f n) _ e) in
-    let digit : (f n + 1) * 256 ^ n ≤ 255 * 256 ^ n = mul-le-mul_right (256 ^ n) (omega (arith, low)) in
+    let digit : (f n + 1) * 256 ^ n ≤ 255 * 256 ^ n = mul-le-mul_right (256 ^ n)
+    (omega (arith, low)) in
     omega (arith, before, digit, pow-suc 256 n)
 
 -- how many powers of 256 are at most a text that has n characters
-powers_counted : (text n k : ℕ) → text < 256 ^ n → ((i : ℕ) → i < n → 256 ^ i ≤ text) → powers_within k text ≡ min k n
+powers_counted : (text n k : ℕ) → text < 256 ^ n → ((i : ℕ) → i < n → 256 ^ i ≤ text)
+    → powers_within k text ≡ min k n
 powers_counted text n zero below each = omega arith
-powers_counted text n (suc k) below each = by_power (powers_counted text n k below each) (nat_lt k n) refl
+powers_counted text n (suc k) below each = by_power (powers_counted text n k below each)
+    (nat_lt k n) refl
   where
     by_power : powers_within k text ≡ min k n → (b : Bool) → nat_lt k n ≡ b
         → powers_within k text + cond (nat_le (256 ^ k) text) 1 0 ≡ min (suc k) n
@@ -82,7 +98,8 @@ powers_counted text n (suc k) below each = by_power (powers_counted text n k bel
     by_power before false high =
         let k_high = not_below_of k n high in
         let power : 256 ^ n ≤ 256 ^ k = pow-le-pow_right (omega arith) k_high in
-        let here : nat_le (256 ^ k) text ≡ false = isnt_at_most (256 ^ k) text (omega (arith, below, power)) in
+        let here : nat_le (256 ^ k) text ≡ false = isnt_at_most (256 ^ k) text
+        (omega (arith, below, power)) in
         ap (λ b. powers_within k text + cond b 1 0) here ∙ omega (arith, before, k_high)
 
 -- a character makes a text no less than the power at its place
@@ -90,15 +107,18 @@ power_within : (f : ℕ → ℕ) (n i : ℕ) → i < n → 256 ^ i ≤ text_of f
 power_within f zero i low = absurd (omega (arith, low))
 power_within f (suc n) i low = by_place (power_within f n i) (i == n) refl
   where
-    by_place : (i < n → 256 ^ i ≤ text_of f n) → (b : Bool) → (i == n) ≡ b → 256 ^ i ≤ text_of f n + (f n + 1) * 256 ^ n
+    by_place : (i < n → 256 ^ i ≤ text_of f n) → (b : Bool) → (i == n) ≡ b → 256 ^ i ≤ text_of f n
+        + (f n + 1) * 256 ^ n
     by_place before true same =
-        subst (λ j. 256 ^ j ≤ text_of f n + (f n + 1) * 256 ^ n) (sym (same_of i n same)) (omega arith)
+        subst (λ j. 256 ^ j ≤ text_of f n + (f n + 1) * 256 ^ n) (sym (same_of i n same))
+        (omega arith)
     by_place before false apart =
         let isnt = apart_of i n apart in
         let at_most = before (omega (arith, low, isnt)) in
         omega (arith, at_most)
 
-pub length_of_text : (f : ℕ → ℕ) (n : ℕ) → n ≤ 7 → are_characters f n ≡ true → text_length (text_of f n) ≡ n
+pub length_of_text : (f : ℕ → ℕ) (n : ℕ) → n ≤ 7 → are_characters f n ≡ true
+    → text_length (text_of f n) ≡ n
 unfolding text_length
 length_of_text f n few e =
     let counted = powers_counted (text_of f n) n 7 (text_below f n e) (power_within f n) in
@@ -107,29 +127,36 @@ length_of_text f n few e =
 pub one_character : (x : ℕ) → x < 255 → text_length (x + 1) ≡ 1
 one_character x low =
     let same : x + 1 ≡ text_of (λ i. x) 1 = omega arith in
-    ap text_length same ∙ length_of_text (λ i. x) 1 (omega arith) (both_true _ _ refl (is_below x 255 low))
+    ap text_length same ∙ length_of_text (λ i. x) 1 (omega arith)
+    (both_true _ _ refl (is_below x 255 low))
 
 pub joined_texts : (f g : ℕ → ℕ) (n m : ℕ) → n ≤ 7 → are_characters f n ≡ true
     → joined (text_of f n) (text_of g m) ≡ text_of f n + text_of g m * 256 ^ n
-joined_texts f g n m few e = ap (λ l. text_of f n + text_of g m * 256 ^ l) (length_of_text f n few e)
+joined_texts f g n m few e = ap (λ l. text_of f n + text_of g m * 256 ^ l)
+    (length_of_text f n few e)
 
 -- the characters after the first n are joined after them
 pub joined_characters : (f : ℕ → ℕ) (n m : ℕ) → n ≤ 7 → are_characters f n ≡ true
     → joined (text_of f n) (text_of (λ i. f (n + i)) m) ≡ text_of f (n + m)
 joined_characters f n m few e = joined_texts f (λ i. f (n + i)) n m few e ∙ sym (text_split f n m)
 
-pub cut_text : (f : ℕ → ℕ) (n k : ℕ) → n ≤ 7 → are_characters f n ≡ true → k < n → cut_to k (text_of f n) ≡ text_of f k
+pub cut_text : (f : ℕ → ℕ) (n k : ℕ) → n ≤ 7 → are_characters f n ≡ true → k < n
+    → cut_to k (text_of f n) ≡ text_of f k
 cut_text f n k few e low =
     ap (λ l. cond (nat_lt k l) (text_of f n % 256 ^ k) (text_of f n)) (length_of_text f n few e)
     ∙ ap (λ b. cond b (text_of f n % 256 ^ k) (text_of f n)) (is_below k n low)
     ∙ ap (λ t. t % 256 ^ k) (ap (text_of f) whole ∙ text_split f k (n - k))
     ∙ add-mul-mod_self_right (text_of f k) (text_of (λ i. f (k + i)) (n - k)) (256 ^ k)
-    ∙ mod-eq_of_lt (text_below f k (first_true (are_characters f k) _ (sym (characters_split f k (n - k)) ∙ ap (are_characters f) (sym whole) ∙ e)))
+    ∙ mod-eq_of_lt
+    (text_below f k
+    (first_true (are_characters f k) _ (sym (characters_split f k (n - k))
+    ∙ ap (are_characters f) (sym whole) ∙ e)))
   where
     whole : n ≡ k + (n - k)
     whole = omega (arith, low)
 
-pub uncut_text : (f : ℕ → ℕ) (n k : ℕ) → n ≤ 7 → are_characters f n ≡ true → n ≤ k → cut_to k (text_of f n) ≡ text_of f n
+pub uncut_text : (f : ℕ → ℕ) (n k : ℕ) → n ≤ 7 → are_characters f n ≡ true → n ≤ k
+    → cut_to k (text_of f n) ≡ text_of f n
 uncut_text f n k few e high =
     ap (λ l. cond (nat_lt k l) (text_of f n % 256 ^ k) (text_of f n)) (length_of_text f n few e)
     ∙ ap (λ b. cond b (text_of f n % 256 ^ k) (text_of f n)) (isnt_below k n high)
@@ -150,11 +177,13 @@ cut_characters f n k few e = by_length (nat_lt k n) refl
 -- the last character of a text, plus 1
 last_digit : (f : ℕ → ℕ) (n : ℕ) → are_characters f n ≡ true → text_of f (suc n) / 256 ^ n ≡ f n + 1
 last_digit f n e =
-    let places : text_of f n + (f n + 1) * 256 ^ n ≡ (f n + 1) * 256 ^ n + text_of f n = omega arith in
+    let places : text_of f n + (f n + 1) * 256 ^ n ≡ (f n + 1) * 256 ^ n + text_of f n =
+    omega arith in
     ap (λ t. t / 256 ^ n) places ∙ div-mul-add (f n + 1) (256 ^ n) (text_of f n) (text_below f n e)
 
 -- the characters before the last
-digits_before : (f : ℕ → ℕ) (n : ℕ) → are_characters f n ≡ true → text_of f (suc n) % 256 ^ n ≡ text_of f n
+digits_before : (f : ℕ → ℕ) (n : ℕ) → are_characters f n ≡ true → text_of f (suc n) % 256 ^ n
+    ≡ text_of f n
 digits_before f n e =
     add-mul-mod_self_right (text_of f n) (f n + 1) (256 ^ n) ∙ mod-eq_of_lt (text_below f n e)
 
@@ -178,7 +207,8 @@ same_characters f g (suc n) fs gs same i low =
         omega (arith, plus_one)
 
     before : text_of f n ≡ text_of g n
-    before = sym (digits_before f n before_f) ∙ ap (λ t. t % 256 ^ n) same ∙ digits_before g n before_g
+    before = sym (digits_before f n before_f) ∙ ap (λ t. t % 256 ^ n) same
+        ∙ digits_before g n before_g
 
     by_place : ((j : ℕ) → j < n → f j ≡ g j) → (b : Bool) → (i == n) ≡ b → f i ≡ g i
     by_place each true here = subst (λ j. f j ≡ g j) (sym (same_of i n here)) last
@@ -208,7 +238,8 @@ below_power : (k text : ℕ) → text < 256 ^ k → text < 256 ^ powers_within k
 below_power zero text below = below
 below_power (suc k) text below = by_power (below_power k text) (nat_le (256 ^ k) text) refl
   where
-    by_power : (text < 256 ^ k → text < 256 ^ powers_within k text) → (b : Bool) → nat_le (256 ^ k) text ≡ b
+    by_power : (text < 256 ^ k → text < 256 ^ powers_within k text) → (b : Bool)
+        → nat_le (256 ^ k) text ≡ b
         → text < 256 ^ (powers_within k text + cond (nat_le (256 ^ k) text) 1 0)
     by_power before true high =
         subst (λ n. text < 256 ^ n) (sym (all_within k text (at_most_of (256 ^ k) text high))) below
@@ -221,9 +252,11 @@ pub within_length : (text : ℕ) → text < 256 ^ 7 → text < 256 ^ text_length
 unfolding text_length
 within_length text below = below_power 7 text below
 
-pub joined_below : (text more : ℕ) → text < 256 ^ 7 → more < 256 ^ 7 → has_room text more ≡ true → joined text more < 256 ^ 7
+pub joined_below : (text more : ℕ) → text < 256 ^ 7 → more < 256 ^ 7 → has_room text more ≡ true
+    → joined text more < 256 ^ 7
 joined_below text more text_low more_low room =
-    let place = mul-add-lt more (256 ^ text_length text) text (256 ^ text_length more) (within_length more more_low) (within_length text text_low) in
+    let place = mul-add-lt more (256 ^ text_length text) text (256 ^ text_length more)
+    (within_length more more_low) (within_length text text_low) in
     let power : 256 ^ (text_length text + text_length more) ≤ 256 ^ 7 =
     pow-le-pow_right (omega arith) (at_most_of (text_length text + text_length more) 7 room) in
     omega (arith, place, power, pow-add 256 (text_length text) (text_length more))

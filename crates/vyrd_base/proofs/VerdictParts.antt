@@ -1,6 +1,7 @@
 -- The verdict by its parts: a fault in the front, a break of shape, an open call at `end`, the
 -- text, and acceptance. The starting words stand for a state, so that nothing is wrong with them.
-use Rattle.std.proofs.Common.{◌≡◌, ℕ, ◌+◌, Bool, true, false, cond, List, [], ◌∷◌, length, Option, Some, None, refl, ap, ◌∙◌, sym, arith}
+use Rattle.std.proofs.Common.{◌≡◌, ℕ, ◌+◌, Bool, true, false, cond, List, [], ◌∷◌, length, Option}
+use Rattle.std.proofs.Common.{Some, None, refl, ap, ◌∙◌, sym, arith}
 use Rattle.std.specs.Prelude.{◌==◌, is_none, option_map, unwrap_or}
 use Rattle.std.specs.Option.{option_or}
 use Rattle.std.specs.Bool.{then_some}
@@ -16,7 +17,9 @@ use Rattle.vyrd_base.specs.Places.{newest_first}
 use Rattle.vyrd_base.specs.States.{State}
 use Rattle.vyrd_base.specs.Starts.{state_at_start}
 use Rattle.vyrd_base.specs.Front.{front, first_break}
-use Rattle.vyrd_base.specs.Verdicts.{line_of, first_fault, shape_verdict, start_verdict, begun_verdict, verdict_so_far, is_call_open, end_verdict, accepted, verdict, verdict_at}
+use Rattle.vyrd_base.specs.Verdicts.{line_of, first_fault, shape_verdict, start_verdict}
+use Rattle.vyrd_base.specs.Verdicts.{begun_verdict, verdict_so_far, is_call_open, end_verdict}
+use Rattle.vyrd_base.specs.Verdicts.{accepted, verdict, verdict_at}
 use Rattle.vyrd_base.proofs.FrontLaws.{front_whole}
 use Rattle.vyrd_base.specs.Rules.{Rules}
 
@@ -58,7 +61,8 @@ so_far_by : (r : Rules) (starting : List StartWord) (entries kept : List Entry)
 unfolding verdict_so_far
 so_far_by r starting entries kept sound is_front =
     ap (λ o. option_or o
-    (option_or (first_fault r starting (front r.header entries)) (shape_verdict r.header starting entries)))
+    (option_or (first_fault r starting (front r.header entries))
+    (shape_verdict r.header starting entries)))
     (sound_begun r starting entries sound)
     ∙ ap (λ es. option_or (first_fault r starting es) (shape_verdict r.header starting entries))
     (sym is_front)
@@ -124,7 +128,8 @@ end_by : (r : Rules) (starting : List StartWord) (entries : List Entry) (is_open
     → end_verdict r starting entries ≡ open_fault starting entries is_open
 unfolding end_verdict
 end_by r starting entries is_open sound opened =
-    ap (λ o. option_or o (open_fault starting entries (is_call_open r.header (newest_first entries))))
+    ap (λ o. option_or o
+    (open_fault starting entries (is_call_open r.header (newest_first entries))))
     sound ∙ ap (open_fault starting entries) opened
 
 -- the verdict at `end`, by what stands so far and whether a call is open
@@ -134,7 +139,8 @@ end_answer starting entries so_far is_open =
 
 at_end : (r : Rules) (starting : List StartWord) (entries : List Entry) (is_open : Bool)
     → start_verdict r starting ≡ None
-    → verdict_so_far r starting entries ≡ None → is_call_open r.header (newest_first entries) ≡ is_open
+    → verdict_so_far r starting entries ≡ None → is_call_open r.header (newest_first entries)
+    ≡ is_open
     → end_answer starting entries None is_open ≡ verdict_at r starting entries End
 unfolding verdict_at verdict
 at_end r starting entries is_open sound none opened =
@@ -150,7 +156,8 @@ at_end_open r starting entries sound none is_open =
 
 pub at_end_accepted : (r : Rules) (starting : List StartWord) (entries : List Entry)
     → start_verdict r starting ≡ None
-    → verdict_so_far r starting entries ≡ None → is_call_open r.header (newest_first entries) ≡ false
+    → verdict_so_far r starting entries ≡ None → is_call_open r.header (newest_first entries)
+    ≡ false
     → accepted entries ≡ verdict_at r starting entries End
 at_end_accepted r starting entries sound none closed =
     at_end r starting entries false sound none closed
@@ -195,7 +202,8 @@ pub at_text_before : (r : Rules) (starting : List StartWord) (entries : List Ent
     → (line == line_of starting (length entries) + 1) ≡ false
     → Malformed line rule ≡ verdict_at r starting entries (Text line rule)
 at_text_before r starting entries line rule sound none before =
-    at_text r starting entries line rule false (is_call_open r.header (newest_first entries)) sound none
+    at_text r starting entries line rule false (is_call_open r.header (newest_first entries)) sound
+    none
     before refl
 
 pub at_text_closed : (r : Rules) (starting : List StartWord) (entries : List Entry) (line : ℕ)

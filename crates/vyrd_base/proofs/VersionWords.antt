@@ -1,19 +1,28 @@
--- In version 1 no commit stands inside a block, so the words of a well-formed log are those of version 1's definition.
-use Rattle.std.proofs.Common.{◌≡◌, ℕ, ◌^◌, Bool, true, false, cond, ◌&&◌, ◌||◌, List, [], ◌∷◌, ◌++◌, None, refl, ap, subst, ◌∙◌, sym}
+-- In version 1 no commit stands inside a block, so the words of a well-formed log are those of
+-- version 1's definition.
+use Rattle.std.proofs.Common.{◌≡◌, ℕ, ◌^◌, Bool, true, false, cond, ◌&&◌, ◌||◌, List, [], ◌∷◌, ◌++◌}
+use Rattle.std.proofs.Common.{None, refl, ap, subst, ◌∙◌, sym}
 use Rattle.std.specs.Prelude.{◌==◌, is_none, nat_le}
 use Rattle.std.specs.List.{list_any}
 use Rattle.std.specs.Option.{option_map_or}
 use Rattle.vyrd_base.specs.declared.header.Header.{Header}
 use Rattle.vyrd_base.specs.declared.log.Kind.{Kind}
-use Rattle.vyrd_base.specs.declared.log.Kind.TheVariants.{Call, Return, Write, Commit, BlockOpen, BlockClose, BlockCommit}
+use Rattle.vyrd_base.specs.declared.log.Kind.TheVariants.{Call, Return, Write, Commit, BlockOpen}
+use Rattle.vyrd_base.specs.declared.log.Kind.TheVariants.{BlockClose, BlockCommit}
 use Rattle.vyrd_base.specs.declared.log.Entry.{Entry}
-use Rattle.vyrd_base.specs.declared.verdict.Rule.TheVariants.{NoCall, WordRange, ValueRange, BlockRaced, ObserverCommit, SecondCommit, CommitInBlock, CallerRange}
+use Rattle.vyrd_base.specs.declared.verdict.Rule.TheVariants.{NoCall, WordRange, ValueRange}
+use Rattle.vyrd_base.specs.declared.verdict.Rule.TheVariants.{BlockRaced, ObserverCommit}
+use Rattle.vyrd_base.specs.declared.verdict.Rule.TheVariants.{SecondCommit, CommitInBlock}
+use Rattle.vyrd_base.specs.declared.verdict.Rule.TheVariants.{CallerRange}
 use Rattle.vyrd_base.specs.Places.{Place}
 use Rattle.vyrd_base.specs.Callers.{open_call, has_block, has_committed, has_inner_commit}
 use Rattle.vyrd_base.specs.Layout.{plain_words}
-use Rattle.vyrd_base.specs.Shape.{◌breaks◌, first_broken, checks_at, broken_rule, is_observing, is_held_by_other}
-use Rattle.vyrd_base.specs.Words.{block_writes, writes_ahead, effects_at, effects, effects_of_others, words_with, words_at}
-use Rattle.vyrd_base.specs.FirstVersion.{old_broken_rule, old_effects_at, old_effects, old_words_after}
+use Rattle.vyrd_base.specs.Shape.{◌breaks◌, first_broken, checks_at, broken_rule, is_observing}
+use Rattle.vyrd_base.specs.Shape.{is_held_by_other}
+use Rattle.vyrd_base.specs.Words.{block_writes, writes_ahead, effects_at, effects}
+use Rattle.vyrd_base.specs.Words.{effects_of_others, words_with, words_at}
+use Rattle.vyrd_base.specs.FirstVersion.{old_broken_rule, old_effects_at, old_effects}
+use Rattle.vyrd_base.specs.FirstVersion.{old_words_after}
 use Rattle.vyrd_base.specs.Front.{WellFormed}
 use Rattle.vyrd_base.proofs.BlockLaws.{entry, by_same}
 use Rattle.vyrd_base.proofs.ShadowLaws.{all_kept}
@@ -21,78 +30,100 @@ use Rattle.vyrd_base.proofs.EffectLaws.{own_inner, other_inner}
 use Rattle.vyrd_base.proofs.TestLaws.{is_same}
 
 -- a lone commit stands in no block
-first_commit_kept : (h : Header) (c : ℕ) (earlier : List Entry) → h.version ≡ 1 → broken_rule h earlier (entry c Commit) ≡ None
+first_commit_kept : (h : Header) (c : ℕ) (earlier : List Entry) → h.version ≡ 1
+    → broken_rule h earlier (entry c Commit) ≡ None
     → has_block c earlier ≡ false
-first_commit_kept h c earlier first kept = sym (ap (λ b. b && has_block c earlier) (is_same h.version 1 first))
+first_commit_kept h c earlier first kept =
+    sym (ap (λ b. b && has_block c earlier) (is_same h.version 1 first))
     ∙ (all_kept (checks_at h earlier (entry c Commit)) kept).1.1.1.1.0
 
 -- so no block has one in it
-own_has_none : (h : Header) (c : ℕ) (kind : Kind) (earlier : List Entry) → h.version ≡ 1 → broken_rule h earlier (entry c kind) ≡ None
+own_has_none : (h : Header) (c : ℕ) (kind : Kind) (earlier : List Entry) → h.version ≡ 1
+    → broken_rule h earlier (entry c kind) ≡ None
     → has_inner_commit c earlier ≡ false → has_inner_commit c (entry c kind ∷ earlier) ≡ false
-own_has_none h c (Call method args) earlier first kept none = own_inner c (Call method args) earlier ∙ none
+own_has_none h c (Call method args) earlier first kept none = own_inner c (Call method args) earlier
+    ∙ none
 own_has_none h c (Return reply) earlier first kept none = own_inner c (Return reply) earlier ∙ none
-own_has_none h c (Write word value) earlier first kept none = own_inner c (Write word value) earlier ∙ none
+own_has_none h c (Write word value) earlier first kept none = own_inner c (Write word value) earlier
+    ∙ none
 own_has_none h c Commit earlier first kept none =
     own_inner c Commit earlier ∙ ap (λ b. b && true) (first_commit_kept h c earlier first kept)
 own_has_none h c BlockOpen earlier first kept none = own_inner c BlockOpen earlier
 own_has_none h c BlockClose earlier first kept none = own_inner c BlockClose earlier
 own_has_none h c BlockCommit earlier first kept none = own_inner c BlockCommit earlier
 
-pub no_inner_commit : (h : Header) (c : ℕ) (earlier : List Entry) → h.version ≡ 1 → WellFormed h earlier → has_inner_commit c earlier ≡ false
+pub no_inner_commit : (h : Header) (c : ℕ) (earlier : List Entry) → h.version ≡ 1
+    → WellFormed h earlier → has_inner_commit c earlier ≡ false
 no_inner_commit h c [] first wf = refl
 no_inner_commit h c (e ∷ earlier) first wf = step (no_inner_commit h c earlier first wf.1)
   where
     step : has_inner_commit c earlier ≡ false → has_inner_commit c (e ∷ earlier) ≡ false
     step none = by_same e.caller c
-        (λ same. subst (λ d. broken_rule h earlier (entry d e.kind) ≡ None → has_inner_commit c (entry d e.kind ∷ earlier) ≡ false) (sym same)
+        (λ same. subst (λ d. broken_rule h earlier (entry d e.kind) ≡ None
+        → has_inner_commit c (entry d e.kind ∷ earlier) ≡ false) (sym same)
         (λ kept. own_has_none h c e.kind earlier first kept none) wf.0)
         (λ other. other_inner c e.caller e.kind earlier other ∙ none)
 
 -- and each entry does what it did
-first_effects_at : (h : Header) (c : ℕ) (kind : Kind) (earlier later : List Entry) → h.version ≡ 1 → WellFormed h (entry c kind ∷ earlier)
+first_effects_at : (h : Header) (c : ℕ) (kind : Kind) (earlier later : List Entry) → h.version ≡ 1
+    → WellFormed h (entry c kind ∷ earlier)
     → effects_at earlier c kind later ≡ old_effects_at earlier c kind
 first_effects_at h c (Call method args) earlier later first wf = refl
 first_effects_at h c (Return reply) earlier later first wf = refl
 first_effects_at h c (Write word value) earlier later first wf = refl
 first_effects_at h c Commit earlier later first wf =
-    ap (λ b. cond b (option_map_or (λ ahead. ahead ++ block_writes c earlier) (writes_ahead c later) []) []) (first_commit_kept h c earlier first wf.0)
+    ap (λ b. cond b (option_map_or (λ ahead. ahead ++ block_writes c earlier) (writes_ahead c later)
+    []) []) (first_commit_kept h c earlier first wf.0)
 first_effects_at h c BlockOpen earlier later first wf = refl
-first_effects_at h c BlockClose earlier later first wf = ap (λ b. cond b [] (block_writes c earlier)) (no_inner_commit h c earlier first wf.1)
-first_effects_at h c BlockCommit earlier later first wf = ap (λ b. cond b [] (block_writes c earlier)) (no_inner_commit h c earlier first wf.1)
+first_effects_at h c BlockClose earlier later first wf =
+    ap (λ b. cond b [] (block_writes c earlier)) (no_inner_commit h c earlier first wf.1)
+first_effects_at h c BlockCommit earlier later first wf =
+    ap (λ b. cond b [] (block_writes c earlier)) (no_inner_commit h c earlier first wf.1)
 
-pub first_effects : (h : Header) (earlier later : List Entry) → h.version ≡ 1 → WellFormed h earlier → effects earlier later ≡ old_effects earlier
+pub first_effects : (h : Header) (earlier later : List Entry) → h.version ≡ 1 → WellFormed h earlier
+    → effects earlier later ≡ old_effects earlier
 first_effects h [] later first wf = refl
 first_effects h (e ∷ earlier) later first wf =
     let here = first_effects_at h e.caller e.kind earlier later first wf in
     let before = first_effects h earlier (e ∷ later) first wf.1 in
     λ i. here i ++ before i
 
-pub first_words_at : (h : Header) (place : Place Entry) → h.version ≡ 1 → WellFormed h (place.here ∷ place.earlier)
+pub first_words_at : (h : Header) (place : Place Entry) → h.version ≡ 1
+    → WellFormed h (place.here ∷ place.earlier)
     → words_at h [] place ≡ old_words_after h (place.here ∷ place.earlier)
 unfolding words_at old_words_after
-first_words_at h place first wf = ap (words_with h []) (first_effects h (place.here ∷ place.earlier) place.later first wf)
+first_words_at h place first wf = ap (words_with h [])
+    (first_effects h (place.here ∷ place.earlier) place.later first wf)
 
 or_none : (a b : Bool) → b ≡ false → (a || b) ≡ a
 or_none true b e = refl
 or_none false b e = e
 
 -- so are the rules
-pub broken_rule-old : (h : Header) (earlier : List Entry) (e : Entry) → h.version ≡ 1 → WellFormed h earlier
+pub broken_rule-old : (h : Header) (earlier : List Entry) (e : Entry) → h.version ≡ 1
+    → WellFormed h earlier
     → broken_rule h earlier e ≡ old_broken_rule h earlier e
 broken_rule-old h earlier e one wf = by_kind e.kind
   where
-    by_kind : (kind : Kind) → broken_rule h earlier (entry e.caller kind) ≡ old_broken_rule h earlier (entry e.caller kind)
+    by_kind : (kind : Kind) → broken_rule h earlier (entry e.caller kind)
+        ≡ old_broken_rule h earlier (entry e.caller kind)
     by_kind (Call method args) = refl
     by_kind (Return reply) = refl
     by_kind (Write word value) =
         let free = or_none (is_held_by_other h e.caller word earlier)
-        (has_inner_commit e.caller earlier && list_any (λ write. write.0 == word) (effects_of_others e.caller earlier []))
-        (ap (λ b. b && list_any (λ write. write.0 == word) (effects_of_others e.caller earlier [])) (no_inner_commit h e.caller earlier one wf)) in
-        ap (λ b. first_broken ((nat_le h.callers e.caller breaks CallerRange) ∷ (is_none (open_call e.caller earlier) breaks NoCall)
-        ∷ (nat_le (plain_words h) word breaks WordRange) ∷ (nat_le (2 ^ 63) value breaks ValueRange) ∷ (b breaks BlockRaced) ∷ [])) free
+        (has_inner_commit e.caller earlier && list_any (λ write. write.0 == word)
+        (effects_of_others e.caller earlier []))
+        (ap (λ b. b && list_any (λ write. write.0 == word) (effects_of_others e.caller earlier []))
+        (no_inner_commit h e.caller earlier one wf)) in
+        ap (λ b. first_broken ((nat_le h.callers e.caller breaks CallerRange)
+        ∷ (is_none (open_call e.caller earlier) breaks NoCall)
+        ∷ (nat_le (plain_words h) word breaks WordRange) ∷ (nat_le (2 ^ 63) value breaks ValueRange)
+        ∷ (b breaks BlockRaced) ∷ [])) free
     by_kind Commit =
-        ap (λ n. first_broken ((nat_le h.callers e.caller breaks CallerRange) ∷ (is_none (open_call e.caller earlier) breaks NoCall)
-        ∷ (is_observing e.caller earlier breaks ObserverCommit) ∷ (has_committed e.caller earlier breaks SecondCommit)
+        ap (λ n. first_broken ((nat_le h.callers e.caller breaks CallerRange)
+        ∷ (is_none (open_call e.caller earlier) breaks NoCall)
+        ∷ (is_observing e.caller earlier breaks ObserverCommit)
+        ∷ (has_committed e.caller earlier breaks SecondCommit)
         ∷ (n == 1 && has_block e.caller earlier breaks CommitInBlock) ∷ [])) one
     by_kind BlockOpen = refl
     by_kind BlockClose = refl

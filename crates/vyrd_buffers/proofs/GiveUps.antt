@@ -1,5 +1,6 @@
 -- When an operation gives up, by what the specification allows.
-use Rattle.std.proofs.Common.{◌≡◌, ℕ, zero, suc, ◌+◌, ◌<◌, ◌≤◌, Bool, true, false, not, Option, Some, None, refl, ap, ◌∙◌, sym, subst, arith}
+use Rattle.std.proofs.Common.{◌≡◌, ℕ, zero, suc, ◌+◌, ◌<◌, ◌≤◌, Bool, true, false, not, Option}
+use Rattle.std.proofs.Common.{Some, None, refl, ap, ◌∙◌, sym, subst, arith}
 use Rattle.std.specs.Prelude.{IsSome, nat_le}
 use Rattle.std.specs.Bool.{then_some}
 use Rattle.std.proofs.lemmas.Bool.Decides.{nat_tests}
@@ -15,37 +16,48 @@ use Rattle.vyrd_base.proofs.ListLaws.{none_isnt_some}
 use Rattle.vyrd_memory.specs.declared.op.Op.{Op}
 use Rattle.vyrd_memory.specs.declared.op.Variant.TheVariants.{Correct}
 use Rattle.vyrd_memory.specs.Scripts.{Script}
-use Rattle.vyrd_memory.specs.Alone.{Memory, state_in, alone, GivesUpWhere, state_after, MeetsSpecification}
+use Rattle.vyrd_memory.specs.Alone.{Memory, state_in, alone, GivesUpWhere, state_after}
+use Rattle.vyrd_memory.specs.Alone.{MeetsSpecification}
 use Rattle.vyrd_memory.proofs.Memories.{represents}
 use Rattle.vyrd_buffers.specs.Procedures.{append, append_from, cut}
 use Rattle.vyrd_buffers.specs.Laws.Alone.{append_alone, append_from_alone, cut_alone}
 use Rattle.vyrd_buffers.specs.Laws.Alone.Done.{Appends}
 
--- an append that is allowed to reply 0 has no room, and one that has no room is allowed no other reply
-without_room : (state : Amounts) (b more : ℕ) → IsSome (after_append 0 state b more) → has_room (amount_of state b) more ≡ false
+-- an append that is allowed to reply 0 has no room, and one that has no room is allowed no other
+-- reply
+without_room : (state : Amounts) (b more : ℕ) → IsSome (after_append 0 state b more)
+    → has_room (amount_of state b) more ≡ false
 without_room state b more some = by_room (has_room (amount_of state b) more) some
   where
     by_room : (room : Bool) → IsSome (then_some (not room) state) → room ≡ false
     by_room true some = absurd (none_isnt_some {A = Amounts} None refl some)
     by_room false some = refl
 
-only_zero : (reply : ℕ) (state : Amounts) (b more : ℕ) → has_room (amount_of state b) more ≡ false → IsSome (after_append reply state b more)
+only_zero : (reply : ℕ) (state : Amounts) (b more : ℕ) → has_room (amount_of state b) more ≡ false
+    → IsSome (after_append reply state b more)
     → reply ≡ 0
 only_zero zero state b more full some = refl
 only_zero (suc zero) state b more full some =
-    absurd (none_isnt_some (then_some (has_room (amount_of state b) more) (with_amount state b (joined (amount_of state b) more)))
+    absurd (none_isnt_some
+    (then_some (has_room (amount_of state b) more)
+    (with_amount state b (joined (amount_of state b) more)))
     (ap (λ room. then_some room (with_amount state b (joined (amount_of state b) more))) full) some)
-only_zero (suc (suc zero)) state b more full some = absurd (none_isnt_some {A = Amounts} None refl some)
-only_zero (suc (suc (suc reply))) state b more full some = absurd (none_isnt_some {A = Amounts} None refl some)
+only_zero (suc (suc zero)) state b more full some = absurd
+    (none_isnt_some {A = Amounts} None refl some)
+only_zero (suc (suc (suc reply))) state b more full some = absurd
+    (none_isnt_some {A = Amounts} None refl some)
 
 -- so it gives up exactly when there is no room
-append_meets : (h : Header) (op : Op) (script : Script) (c : ℕ) (memory : Memory) (state : Amounts) (b more : ℕ) → Appends op state b more
+append_meets : (h : Header) (op : Op) (script : Script) (c : ℕ) (memory : Memory) (state : Amounts)
+    (b more : ℕ) → Appends op state b more
     → MeetsSpecification h op script c memory state → (P : Type 0)
-    → (has_room (amount_of state b) more ≡ false → P) → (P → has_room (amount_of state b) more ≡ false)
+    → (has_room (amount_of state b) more ≡ false → P)
+    → (P → has_room (amount_of state b) more ≡ false)
     → GivesUpWhere P (alone c script memory)
 append_meets h op script c memory state b more says m P to from =
     subst (GivesUpWhere P) (sym m.ends) (
-      (λ none. to (without_room state b more (subst (λ reply. IsSome (after_append reply state b more)) none some))),
+      (λ none. to (without_room state b more
+          (subst (λ reply. IsSome (after_append reply state b more)) none some))),
       (λ p. only_zero m.outcome.reply state b more (from p) some),
     )
   where
@@ -60,9 +72,11 @@ pub append_gives_up : (h : Header) (memory : Memory) (state : Amounts) (c b x : 
     → GivesUpWhere (text_length (amount_of state b) ≡ 7) (alone c (append h b x) memory)
 append_gives_up h memory state c b x is low small e =
     append_meets h op (append h b x) c memory state b (x + 1) (λ reply. refl)
-    (append_alone h op c b x memory state is (represents h memory state e) low small (λ reply. refl))
+    (append_alone h op c b x memory state is (represents h memory state e) low small
+    (λ reply. refl))
     (text_length (amount_of state b) ≡ 7)
-    (λ full. seven (text_length (amount_of state b)) (length_at_most (amount_of state b)) (sym (full_length (amount_of state b) x small) ∙ full))
+    (λ full. seven (text_length (amount_of state b)) (length_at_most (amount_of state b))
+    (sym (full_length (amount_of state b) x small) ∙ full))
     (λ all. full_length (amount_of state b) x small ∙ ap (λ n. nat_le (n + 1) 7) all)
   where
     op : Op
@@ -73,18 +87,23 @@ append_gives_up h memory state c b x is low small e =
 
 pub append_from_gives_up : (h : Header) (memory : Memory) (state : Amounts) (c b s : ℕ)
     → h.subject ≡ Buffers → b < h.size → s < h.size → state_in h memory ≡ Some state
-    → GivesUpWhere (has_room (amount_of state b) (amount_of state s) ≡ false) (alone c (append_from h Correct b s) memory)
+    → GivesUpWhere (has_room (amount_of state b) (amount_of state s) ≡ false)
+    (alone c (append_from h Correct b s) memory)
 append_from_gives_up h memory state c b s is low low_s e =
-    append_meets h op (append_from h Correct b s) c memory state b (amount_of state s) (λ reply. refl)
-    (append_from_alone h op c b s memory state is (represents h memory state e) low low_s (λ reply. refl))
+    append_meets h op (append_from h Correct b s) c memory state b (amount_of state s)
+    (λ reply. refl)
+    (append_from_alone h op c b s memory state is (represents h memory state e) low low_s
+    (λ reply. refl))
     (has_room (amount_of state b) (amount_of state s) ≡ false) (λ full. full) (λ full. full)
   where
     op : Op
     op = record { method = OfBuffers AppendFrom; args = record { a = b; b = s; c = 0 } }
 
 pub cut_never_gives_up : (h : Header) (memory : Memory) (state : Amounts) (c b n : ℕ)
-    → h.subject ≡ Buffers → b < h.size → state_in h memory ≡ Some state → GivesUpWhere ⊥ (alone c (cut h b n) memory)
-cut_never_gives_up h memory state c b n is low e = subst (GivesUpWhere ⊥) (sym m.ends) (refuses, λ none. absurd none)
+    → h.subject ≡ Buffers → b < h.size → state_in h memory ≡ Some state
+    → GivesUpWhere ⊥ (alone c (cut h b n) memory)
+cut_never_gives_up h memory state c b n is low e = subst (GivesUpWhere ⊥) (sym m.ends)
+    (refuses, λ none. absurd none)
   where
     op : Op
     op = record { method = OfBuffers Cut; args = record { a = b; b = n; c = 0 } }

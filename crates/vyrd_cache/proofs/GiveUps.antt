@@ -37,7 +37,8 @@ refused (OwnOnce i) args state of changes = cc
 pub never_gives_up : (h : Header) (memory : Memory) (state : Amounts) (c : ℕ) (op : Op)
     → h.subject ≡ Cache → subject_of op.method ≡ Cache → is_observer op.method ≡ false
     → are_args h.size op.method op.args ≡ true → are_small op.args ≡ true
-    → state_in h memory ≡ Some state → GivesUpWhere ⊥ (alone c (cache_procedure h Correct op) memory)
+    → state_in h memory ≡ Some state
+    → GivesUpWhere ⊥ (alone c (cache_procedure h Correct op) memory)
 never_gives_up h memory state c op is of changes fit small e =
     subst (GivesUpWhere ⊥) (sym m.ends) (refuses, λ none. absurd none)
   where

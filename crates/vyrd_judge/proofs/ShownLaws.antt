@@ -21,7 +21,8 @@ use Rattle.vyrd_judge.specs.Shown.{ShowsFew}
 pub start_shows : (c : Charter) (starting : List StartWord) (state : State)
     → state_at_start (rules_by c) starting ≡ Some state → ShowsFew (rules_by c) starting state
 unfolding state_at_start
-start_shows c starting state begins = record { writes = []; few = starts.few; formed = starts.formed }
+start_shows c starting state begins =
+    record { writes = []; few = starts.few; formed = starts.formed }
   where
     starts : StartsFew (rules_by c) (words_at_start (rules_by c).header starting) state
     starts = starts_few c (words_at_start (rules_by c).header starting) state

@@ -1,5 +1,7 @@
--- A caller's situation is what the log says of it: its open call, whether it has committed, and whether it has an open block.
-use Rattle.std.proofs.Common.{◌≡◌, ℕ, Bool, true, false, cond, not, ◌&&◌, ◌||◌, List, [], ◌∷◌, Option, Some, None, option_map, refl, ap, ◌∙◌, subst, arith}
+-- A caller's situation is what the log says of it: its open call, whether it has committed, and
+-- whether it has an open block.
+use Rattle.std.proofs.Common.{◌≡◌, ℕ, Bool, true, false, cond, not, ◌&&◌, ◌||◌, List, [], ◌∷◌}
+use Rattle.std.proofs.Common.{Option, Some, None, option_map, refl, ap, ◌∙◌, subst, arith}
 use Rattle.std.specs.Prelude.{◌==◌, is_some, is_none, unwrap_or, filter_map}
 use Rattle.std.specs.Option.{option_or, option_flatten}
 use Rattle.std.specs.List.{cons_option}
@@ -9,20 +11,23 @@ use Rattle.vyrd_base.specs.declared.header.Header.{Header}
 use Rattle.vyrd_base.specs.declared.subject.Method.{Method}
 use Rattle.vyrd_base.specs.declared.subject.Args.{Args}
 use Rattle.vyrd_base.specs.declared.log.Kind.{Kind}
-use Rattle.vyrd_base.specs.declared.log.Kind.TheVariants.{Call, Return, Write, Commit, BlockOpen, BlockClose, BlockCommit}
+use Rattle.vyrd_base.specs.declared.log.Kind.TheVariants.{Call, Return, Write, Commit, BlockOpen}
+use Rattle.vyrd_base.specs.declared.log.Kind.TheVariants.{BlockClose, BlockCommit}
 use Rattle.vyrd_base.specs.declared.log.Entry.{Entry}
 use Rattle.vyrd_base.specs.declared.history.Did.{Did}
 use Rattle.vyrd_base.specs.declared.history.Did.TheVariants.{Read, Wrote, Took, Gave, Marked}
 use Rattle.vyrd_base.specs.declared.history.Stamped.{Stamped}
 use Rattle.vyrd_base.specs.Places.{first_answer}
 use Rattle.vyrd_base.specs.Subjects.{same_subject, subject_of, are_args}
-use Rattle.vyrd_base.specs.Callers.{Called, by_caller, call_or_return, open_call, open_or_close, has_block, commit_or_call, has_committed}
+use Rattle.vyrd_base.specs.Callers.{Called, by_caller, call_or_return, open_call, open_or_close}
+use Rattle.vyrd_base.specs.Callers.{has_block, commit_or_call, has_committed}
 use Rattle.vyrd_base.specs.Histories.{logged}
 use Rattle.vyrd_base.proofs.HistoryLaws.{log_entry}
 use Rattle.vyrd_base.proofs.BlockLaws.{entry, own_answer, other_answer, own_block}
 use Rattle.vyrd_base.proofs.TestLaws.{first_true, second_true}
 use Rattle.vyrd_base.proofs.EffectLaws.{own_committed}
-use Rattle.vyrd_memory.specs.Soundness.{Situation, holds_none, observes, is_at_rest, may_act, may_mark, after_act, after_mark}
+use Rattle.vyrd_memory.specs.Soundness.{Situation, holds_none, observes, is_at_rest, may_act}
+use Rattle.vyrd_memory.specs.Soundness.{may_mark, after_act, after_mark}
 use Rattle.vyrd_memory.specs.Turns.{part_of}
 use Rattle.vyrd_memory.proofs.Situations.{act_of_event, situation_after, KeepsTo}
 
@@ -38,9 +43,15 @@ pub record Agrees (c : ℕ) (s : Situation) (log : List Entry) : Type 0 where
 
 -- three tests and four that hold together
 pub three_true : (a b c : Bool) → (a && b && c) ≡ true → (a ≡ true) × (b ≡ true) × (c ≡ true)
-three_true a b c e = (first_true a b (first_true (a && b) c e), second_true a b (first_true (a && b) c e), second_true (a && b) c e)
+three_true a b c e = (
+  first_true a b (first_true (a && b) c e),
+  second_true a b
+      (first_true (a && b) c e),
+  second_true (a && b) c e,
+)
 
-pub four_true : (a b c d : Bool) → (a && b && c && d) ≡ true → (a ≡ true) × (b ≡ true) × (c ≡ true) × (d ≡ true)
+pub four_true : (a b c d : Bool) → (a && b && c && d) ≡ true → (a ≡ true) × (b ≡ true) × (c ≡ true)
+    × (d ≡ true)
 four_true a b c d e =
     let front : (a && b && c) ≡ true = first_true (a && b && c) d e in (
       first_true a b (first_true (a && b) c front),
@@ -59,33 +70,48 @@ pub record Rests (s : Situation) : Type 0 where
 rests : (s : Situation) → is_at_rest s ≡ true → Rests s
 rests s e =
     let parts = four_true (holds_none s) (is_none s.called) (not s.committed) (not s.in_block) e in
-    record { locks = parts.0; called = parts.1; committed = not-true s.committed parts.2; in_block = not-true s.in_block parts.3 }
+    record {
+      locks = parts.0;
+      called = parts.1;
+      committed = not-true s.committed parts.2;
+      in_block = not-true s.in_block parts.3;
+    }
 
 -- what is said where an act may come
-pub may_call : (h : Header) (s : Situation) (method : Method) (args : Args) → may_mark h s (Call method args) ≡ true
-    → (same_subject (subject_of method) h.subject ≡ true) × (are_args h.size method args ≡ true) × Rests s
+pub may_call : (h : Header) (s : Situation) (method : Method) (args : Args)
+    → may_mark h s (Call method args) ≡ true
+    → (same_subject (subject_of method) h.subject ≡ true) × (are_args h.size method args ≡ true)
+    × Rests s
 may_call h s method args may =
-    let parts = three_true (same_subject (subject_of method) h.subject) (are_args h.size method args) (is_at_rest s) may in
+    let parts = three_true (same_subject (subject_of method) h.subject)
+    (are_args h.size method args) (is_at_rest s) may in
     (parts.0, parts.1, rests s parts.2)
 
 pub may_return : (h : Header) (s : Situation) (reply : ℕ) → may_mark h s (Return reply) ≡ true
-    → (is_some s.called ≡ true) × (s.in_block ≡ false) × ((observes s || s.committed) ≡ true) × (holds_none s ≡ true)
+    → (is_some s.called ≡ true) × (s.in_block ≡ false) × ((observes s || s.committed) ≡ true)
+    × (holds_none s ≡ true)
 may_return h s reply may =
-    let parts = four_true (is_some s.called) (not s.in_block) (observes s || s.committed) (holds_none s) may in
+    let parts = four_true (is_some s.called) (not s.in_block) (observes s || s.committed)
+    (holds_none s) may in
     (parts.0, not-true s.in_block parts.1, parts.2, parts.3)
 
 -- the caller's own entry
 own_method : (c : ℕ) (kind : Kind) (log : List Entry)
     → open_method c (entry c kind ∷ log)
-    ≡ option_map (λ called. called.method) (option_flatten (option_or (call_or_return kind) (first_answer (by_caller c call_or_return) log)))
-own_method c kind log = ap (λ o. option_map (λ (called : Called). called.method) (option_flatten o)) (own_answer c call_or_return kind log)
+    ≡ option_map (λ called. called.method)
+    (option_flatten
+    (option_or (call_or_return kind) (first_answer (by_caller c call_or_return) log)))
+own_method c kind log = ap (λ o. option_map (λ (called : Called). called.method) (option_flatten o))
+    (own_answer c call_or_return kind log)
 
-own_mark : (h : Header) (c : ℕ) (kind : Kind) (s : Situation) (log : List Entry) → may_mark h s kind ≡ true → Agrees c s log
+own_mark : (h : Header) (c : ℕ) (kind : Kind) (s : Situation) (log : List Entry) → may_mark h s kind
+    ≡ true → Agrees c s log
     → Agrees c (after_mark s kind) (entry c kind ∷ log)
 own_mark h c (Call method args) s log may a = record {
   called = own_method c (Call method args) log;
   committed = own_committed c (Call method args) log;
-  in_block = own_block c (Call method args) log ∙ a.in_block ∙ (may_call h s method args may).2.in_block;
+  in_block = own_block c (Call method args) log ∙ a.in_block
+      ∙ (may_call h s method args may).2.in_block;
 }
 own_mark h c (Return reply) s log may a = record {
   called = own_method c (Return reply) log;
@@ -114,7 +140,8 @@ own_mark h c BlockCommit s log may a = record {
   in_block = own_block c BlockCommit log;
 }
 
-own_event : (h : Header) (c : ℕ) (did : Did) (s : Situation) (log : List Entry) → may_act h s (act_of_event did) ≡ true → Agrees c s log
+own_event : (h : Header) (c : ℕ) (did : Did) (s : Situation) (log : List Entry)
+    → may_act h s (act_of_event did) ≡ true → Agrees c s log
     → Agrees c (after_act s (act_of_event did)) (cons_option (logged c did) log)
 own_event h c (Read cell value) s log may a = a
 own_event h c (Wrote cell value) s log may a = record {
@@ -122,19 +149,26 @@ own_event h c (Wrote cell value) s log may a = record {
   committed = own_committed c (Write cell value) log ∙ a.committed;
   in_block = own_block c (Write cell value) log ∙ a.in_block;
 }
-own_event h c (Took lock) s log may a = record { called = a.called; committed = a.committed; in_block = a.in_block }
-own_event h c (Gave lock) s log may a = record { called = a.called; committed = a.committed; in_block = a.in_block }
+own_event h c (Took lock) s log may a =
+    record { called = a.called; committed = a.committed; in_block = a.in_block }
+own_event h c (Gave lock) s log may a =
+    record { called = a.called; committed = a.committed; in_block = a.in_block }
 own_event h c (Marked kind) s log may a = own_mark h c kind s log may a
 
 -- another caller's entry says nothing of the caller
-other_entry : (c d : ℕ) (kind : Kind) (s : Situation) (log : List Entry) → (d == c) ≡ false → Agrees c s log → Agrees c s (entry d kind ∷ log)
+other_entry : (c d : ℕ) (kind : Kind) (s : Situation) (log : List Entry) → (d == c) ≡ false
+    → Agrees c s log → Agrees c s (entry d kind ∷ log)
 other_entry c d kind s log apart a = record {
-  called = ap (λ o. option_map (λ (called : Called). called.method) (option_flatten o)) (other_answer c d call_or_return kind log apart) ∙ a.called;
-  committed = ap (λ o. unwrap_or o false) (other_answer c d commit_or_call kind log apart) ∙ a.committed;
-  in_block = ap (λ o. unwrap_or o false) (other_answer c d open_or_close kind log apart) ∙ a.in_block;
+  called = ap (λ o. option_map (λ (called : Called). called.method) (option_flatten o))
+      (other_answer c d call_or_return kind log apart) ∙ a.called;
+  committed = ap (λ o. unwrap_or o false) (other_answer c d commit_or_call kind log apart)
+      ∙ a.committed;
+  in_block = ap (λ o. unwrap_or o false) (other_answer c d open_or_close kind log apart)
+      ∙ a.in_block;
 }
 
-other_event : (c d : ℕ) (did : Did) (s : Situation) (log : List Entry) → (d == c) ≡ false → Agrees c s log
+other_event : (c d : ℕ) (did : Did) (s : Situation) (log : List Entry) → (d == c) ≡ false
+    → Agrees c s log
     → Agrees c s (cons_option (logged d did) log)
 other_event c d (Read cell value) s log apart a = a
 other_event c d (Wrote cell value) s log apart a = other_entry c d (Write cell value) s log apart a
@@ -143,29 +177,37 @@ other_event c d (Gave lock) s log apart a = a
 other_event c d (Marked kind) s log apart a = other_entry c d kind s log apart a
 
 -- what is left of the caller's events without the newest event of all
-pub keeps_before : (h : Header) (c : ℕ) (e : Stamped) (earlier : List Stamped) → KeepsTo h (part_of c (e ∷ earlier)) → KeepsTo h (part_of c earlier)
+pub keeps_before : (h : Header) (c : ℕ) (e : Stamped) (earlier : List Stamped)
+    → KeepsTo h (part_of c (e ∷ earlier)) → KeepsTo h (part_of c earlier)
 keeps_before h c e earlier keeps = by_test (e.caller == c) keeps
   where
-    by_test : (b : Bool) → KeepsTo h (cons_option (cond b (Some e.did) None) (part_of c earlier)) → KeepsTo h (part_of c earlier)
+    by_test : (b : Bool) → KeepsTo h (cons_option (cond b (Some e.did) None) (part_of c earlier))
+        → KeepsTo h (part_of c earlier)
     by_test true keeps = keeps.1
     by_test false keeps = keeps
 
-next_agrees : (h : Header) (c d : ℕ) (did : Did) (earlier : List Did) (log : List Entry) (b : Bool) → (d == c) ≡ b
-    → KeepsTo h (cons_option (cond b (Some did) None) earlier) → Agrees c (situation_after earlier) log
-    → Agrees c (situation_after (cons_option (cond b (Some did) None) earlier)) (cons_option (logged d did) log)
+next_agrees : (h : Header) (c d : ℕ) (did : Did) (earlier : List Did) (log : List Entry) (b : Bool)
+    → (d == c) ≡ b
+    → KeepsTo h (cons_option (cond b (Some did) None) earlier)
+    → Agrees c (situation_after earlier) log
+    → Agrees c (situation_after (cons_option (cond b (Some did) None) earlier))
+    (cons_option (logged d did) log)
 next_agrees h c d did earlier log true e keeps a =
     let same : c ≡ d = same_number c d e in
-    subst (λ d. Agrees c (after_act (situation_after earlier) (act_of_event did)) (cons_option (logged d did) log)) same
+    subst (λ d. Agrees c (after_act (situation_after earlier) (act_of_event did))
+    (cons_option (logged d did) log)) same
     (own_event h c did (situation_after earlier) log keeps.0 a)
   where
     same_number : (c d : ℕ) → (d == c) ≡ true → c ≡ d
     same_number c d e = grind (arith, nat_tests)
-next_agrees h c d did earlier log false e keeps a = other_event c d did (situation_after earlier) log e a
+next_agrees h c d did earlier log false e keeps a = other_event c d did (situation_after earlier)
+    log e a
 
 -- so a caller's situation is what the log of the history says of it
 pub agrees : (h : Header) (c : ℕ) (earlier : List Stamped) → KeepsTo h (part_of c earlier)
     → Agrees c (situation_after (part_of c earlier)) (filter_map log_entry earlier)
 agrees h c [] keeps = record { called = refl; committed = refl; in_block = refl }
 agrees h c (e ∷ earlier) keeps =
-    next_agrees h c e.caller e.did (part_of c earlier) (filter_map log_entry earlier) (e.caller == c) refl keeps
+    next_agrees h c e.caller e.did (part_of c earlier) (filter_map log_entry earlier)
+    (e.caller == c) refl keeps
     (agrees h c earlier (keeps_before h c e earlier keeps))

@@ -1,5 +1,7 @@
--- What is said of a script that is played alone: how it ends, and locks that are taken and given back.
-use Rattle.std.proofs.Common.{◌≡◌, ◌≢◌, ℕ, ◌+◌, Bool, true, false, cond, not, Option, Some, None, refl, ap, ◌∙◌, sym, subst}
+-- What is said of a script that is played alone: how it ends, and locks that are taken and given
+-- back.
+use Rattle.std.proofs.Common.{◌≡◌, ◌≢◌, ℕ, ◌+◌, Bool, true, false, cond, not, Option, Some, None}
+use Rattle.std.proofs.Common.{refl, ap, ◌∙◌, sym, subst}
 use Rattle.std.specs.Prelude.{◌==◌, IsSome}
 use Rattle.vyrd_base.specs.declared.header.Header.{Header}
 use Rattle.vyrd_base.specs.Subjects.{is_observer}
@@ -9,7 +11,8 @@ use Rattle.vyrd_base.proofs.TestLaws.{same_of, apart_of, isnt_same}
 use Rattle.vyrd_memory.specs.declared.act.Act.TheVariants.{Take}
 use Rattle.vyrd_memory.specs.declared.op.Op.{Op}
 use Rattle.vyrd_memory.specs.Scripts.{Script, perform}
-use Rattle.vyrd_memory.specs.Alone.{Memory, with_cell, Outcome, alone, state_after, MeetsSpecification, GivesUpWhere}
+use Rattle.vyrd_memory.specs.Alone.{Memory, with_cell, Outcome, alone, state_after}
+use Rattle.vyrd_memory.specs.Alone.{MeetsSpecification, GivesUpWhere}
 use Rattle.vyrd_memory.proofs.Memories.{Represents, represented, changed_cell, other_cell}
 
 -- there is an outcome, and this holds of its reply and its memory
@@ -23,9 +26,11 @@ ended_with None says e = absurd e
 ended_with (Some outcome) says e = (outcome, refl, e)
 
 -- an operation that ends so, if the specification allows it
-pub met : (h : Header) (op : Op) (script : Script) (c : ℕ) (old new : Memory) (state next : Amounts) (reply : ℕ)
+pub met : (h : Header) (op : Op) (script : Script) (c : ℕ) (old new : Memory) (state next : Amounts)
+    (reply : ℕ)
     → alone c script old ≡ Some (record { reply = reply; memory = new }) → Represents h new next
-    → state_after (is_observer op.method) op reply state ≡ Some next → MeetsSpecification h op script c old state
+    → state_after (is_observer op.method) op reply state ≡ Some next
+    → MeetsSpecification h op script c old state
 met h op script c old new state next reply ends is allowed = record {
   outcome = record { reply = reply; memory = new };
   ends = ends;
@@ -42,23 +47,31 @@ isnt_there s x none = ap (λ n. not (n == 0)) none
 
 -- an operation that ends so gives up where this says that its reply is 0
 pub gives_up : (P : Type 0) (says : ℕ → Memory → Type 0) (o : Option Outcome) → EndsSo o says
-    → ((reply : ℕ) (after : Memory) → says reply after → (reply ≡ 0 → P) × (P → reply ≡ 0)) → GivesUpWhere P o
+    → ((reply : ℕ) (after : Memory) → says reply after → (reply ≡ 0 → P) × (P → reply ≡ 0))
+    → GivesUpWhere P o
 gives_up P says None e where_zero = absurd e
-gives_up P says (Some outcome) e where_zero = let both = where_zero outcome.reply outcome.memory e in (both.0, both.1)
+gives_up P says (Some outcome) e where_zero = let both = where_zero outcome.reply outcome.memory
+    e in (both.0, both.1)
 
 -- a free lock is taken
-pub take_played : (c lock : ℕ) (later : Script) (memory : Memory) (Q : Option Outcome → Type 0) → memory lock ≡ 0
-    → Q (alone c later (with_cell memory lock (c + 1))) → Q (alone c (perform (Take lock) later) memory)
+pub take_played : (c lock : ℕ) (later : Script) (memory : Memory) (Q : Option Outcome → Type 0)
+    → memory lock ≡ 0
+    → Q (alone c later (with_cell memory lock (c + 1)))
+    → Q (alone c (perform (Take lock) later) memory)
 take_played c lock later memory Q free e =
-    subst (λ b. Q (cond b (alone c later (with_cell memory lock (c + 1))) None)) (sym (ap (λ n. n == 0) free)) e
+    subst (λ b. Q (cond b (alone c later (with_cell memory lock (c + 1))) None))
+    (sym (ap (λ n. n == 0) free)) e
 
 -- a lock that was free is given back: the cell is as it was
-pub given_back : (before during : Memory) (lock cell : ℕ) → before lock ≡ 0 → (cell ≢ lock → during cell ≡ before cell)
+pub given_back : (before during : Memory) (lock cell : ℕ) → before lock ≡ 0
+    → (cell ≢ lock → during cell ≡ before cell)
     → with_cell during lock 0 cell ≡ before cell
 given_back before during lock cell free same = by_place (cell == lock) refl
   where
     by_place : (b : Bool) → (cell == lock) ≡ b → with_cell during lock 0 cell ≡ before cell
     by_place true e =
         let at : cell ≡ lock = same_of cell lock e in
-        subst (λ n. with_cell during lock 0 n ≡ before n) (sym at) (changed_cell during lock 0 ∙ sym free)
-    by_place false e = let apart = apart_of cell lock e in other_cell during lock 0 cell apart ∙ same apart
+        subst (λ n. with_cell during lock 0 n ≡ before n) (sym at)
+        (changed_cell during lock 0 ∙ sym free)
+    by_place false e = let apart = apart_of cell lock e in other_cell during lock 0 cell apart
+        ∙ same apart

@@ -10,10 +10,17 @@ pub bounds_of-more : (h : Header) (ops : List Op) (i : ℕ) (d : Op) → i < len
 bounds_of-more h [] i d low = absurd (omega (arith, low))
 bounds_of-more h (op ∷ ops) zero d low = omega arith
 bounds_of-more h (op ∷ ops) (suc i) d low = let e : suc i + 1 ≡ suc (i + 1) = omega arith in
-    omega (arith, ap (λ n. bounds_of h (take n (op ∷ ops))) e, bounds_of-more h ops i d (omega arith))
+    omega (
+      arith,
+      ap (λ n. bounds_of h (take n (op ∷ ops))) e,
+      bounds_of-more h ops i d
+          (omega arith),
+    )
 
 -- a sum that has come so far, with the bound of one operation more
-pub sum_more : (h : Header) (ops : List Op) (i sum bound : ℕ) (d : Op) → sum ≡ bounds_of h (take i ops)
+pub sum_more : (h : Header) (ops : List Op) (i sum bound : ℕ) (d : Op)
+    → sum ≡ bounds_of h (take i ops)
     → bound ≡ bound_of h (get_or ops i d).method → i < length ops
     → sum + bound ≡ bounds_of h (take (i + 1) ops)
-sum_more h ops i sum bound d so_far more low = omega (arith, so_far, more, bounds_of-more h ops i d low)
+sum_more h ops i sum bound d so_far more low =
+    omega (arith, so_far, more, bounds_of-more h ops i d low)

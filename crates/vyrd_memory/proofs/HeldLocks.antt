@@ -1,13 +1,15 @@
 -- A lock that is held has its holder's number plus 1. So a caller holds exactly the locks that have
 -- its own.
-use Rattle.std.proofs.Common.{◌≡◌, ℕ, ◌+◌, ◌^◌, Bool, true, false, cond, not, ◌||◌, List, [], ◌∷◌, Some, None, refl, ap, ◌∙◌, sym, subst, arith}
+use Rattle.std.proofs.Common.{◌≡◌, ℕ, ◌+◌, ◌^◌, Bool, true, false, cond, not, ◌||◌, List, [], ◌∷◌}
+use Rattle.std.proofs.Common.{Some, None, refl, ap, ◌∙◌, sym, subst, arith}
 use Rattle.std.specs.Prelude.{◌==◌, nat_lt, is_some, unwrap_or, filter}
 use Rattle.std.specs.Option.{option_or}
 use Rattle.std.specs.List.{cons_option, list_any}
 use Rattle.std.proofs.lemmas.Bool.Decides.{nat_tests}
 use Rattle.vyrd_base.specs.declared.header.Header.{Header}
 use Rattle.vyrd_base.specs.declared.log.Kind.{Kind}
-use Rattle.vyrd_base.specs.declared.log.Kind.TheVariants.{Call, Return, Write, Commit, BlockOpen, BlockClose, BlockCommit}
+use Rattle.vyrd_base.specs.declared.log.Kind.TheVariants.{Call, Return, Write, Commit, BlockOpen}
+use Rattle.vyrd_base.specs.declared.log.Kind.TheVariants.{BlockClose, BlockCommit}
 use Rattle.vyrd_base.specs.declared.history.Did.{Did}
 use Rattle.vyrd_base.specs.declared.history.Did.TheVariants.{Read, Wrote, Took, Gave, Marked}
 use Rattle.vyrd_base.specs.declared.history.Stamped.{Stamped}
@@ -15,7 +17,8 @@ use Rattle.vyrd_base.specs.Places.{first_answer}
 use Rattle.vyrd_base.specs.Histories.{Cells, cells_of, is_plain, is_lock, made_of, value_in, may_do}
 use Rattle.vyrd_base.proofs.TestLaws.{first_true, second_true, same_number, same_of}
 use Rattle.vyrd_base.proofs.CellLaws.{plain_isnt}
-use Rattle.vyrd_memory.specs.Soundness.{Situation, is_nil, holds, may_act, may_mark, after_act, after_mark}
+use Rattle.vyrd_memory.specs.Soundness.{Situation, is_nil, holds, may_act, may_mark, after_act}
+use Rattle.vyrd_memory.specs.Soundness.{after_mark}
 use Rattle.vyrd_memory.specs.Turns.{part_of}
 use Rattle.vyrd_memory.proofs.Situations.{act_of_event, situation_after, KeepsTo}
 use Rattle.vyrd_memory.proofs.LegalEvents.{AreLegal, does, value_with}
@@ -49,22 +52,28 @@ abbrev without : ℕ → List ℕ → List ℕ
 without other locks = filter (λ held. not (held == other)) locks
 
 -- a lock that was taken out isn't there any more, and any other is as before
-taken_out : (other lock : ℕ) (locks : List ℕ) → (other == lock) ≡ true → has_lock lock (without other locks) ≡ false
+taken_out : (other lock : ℕ) (locks : List ℕ) → (other == lock) ≡ true
+    → has_lock lock (without other locks) ≡ false
 taken_out other lock [] e = refl
 taken_out other lock (x ∷ locks) e = by_place (x == other) refl (taken_out other lock locks e)
   where
     by_place : (b : Bool) → (x == other) ≡ b → has_lock lock (without other locks) ≡ false
         → has_lock lock (cond (not b) (x ∷ without other locks) (without other locks)) ≡ false
     by_place true apart rest = rest
-    by_place false apart rest = ap (λ b. b || has_lock lock (without other locks)) (apart_too x other lock apart e) ∙ rest
+    by_place false apart rest = ap (λ b. b || has_lock lock (without other locks))
+        (apart_too x other lock apart e) ∙ rest
 
-left_in : (other lock : ℕ) (locks : List ℕ) → (other == lock) ≡ false → has_lock lock (without other locks) ≡ has_lock lock locks
+left_in : (other lock : ℕ) (locks : List ℕ) → (other == lock) ≡ false
+    → has_lock lock (without other locks) ≡ has_lock lock locks
 left_in other lock [] e = refl
 left_in other lock (x ∷ locks) e = by_place (x == other) refl (left_in other lock locks e)
   where
-    by_place : (b : Bool) → (x == other) ≡ b → has_lock lock (without other locks) ≡ has_lock lock locks
-        → has_lock lock (cond (not b) (x ∷ without other locks) (without other locks)) ≡ ((x == lock) || has_lock lock locks)
-    by_place true same rest = rest ∙ ap (λ b. b || has_lock lock locks) (sym (apart_then x other lock same e))
+    by_place : (b : Bool) → (x == other) ≡ b → has_lock lock (without other locks)
+        ≡ has_lock lock locks
+        → has_lock lock (cond (not b) (x ∷ without other locks) (without other locks))
+        ≡ ((x == lock) || has_lock lock locks)
+    by_place true same rest = rest ∙ ap (λ b. b || has_lock lock locks)
+        (sym (apart_then x other lock same e))
     by_place false same rest = ap (λ b. (x == lock) || b) rest
 
 none_held : (locks : List ℕ) (lock : ℕ) → is_nil locks ≡ true → has_lock lock locks ≡ false
@@ -72,8 +81,10 @@ none_held [] lock e = refl
 none_held (x ∷ locks) lock e = cc
 
 -- a mark that may be left changes nothing of what is held
-mark_held : (h : Header) (s : Situation) (kind : Kind) (lock : ℕ) → may_mark h s kind ≡ true → holds (after_mark s kind) lock ≡ holds s lock
-mark_held h s (Call method args) lock may = sym (none_held s.locks lock (may_call h s method args may).2.locks)
+mark_held : (h : Header) (s : Situation) (kind : Kind) (lock : ℕ) → may_mark h s kind ≡ true
+    → holds (after_mark s kind) lock ≡ holds s lock
+mark_held h s (Call method args) lock may =
+    sym (none_held s.locks lock (may_call h s method args may).2.locks)
 mark_held h s (Return reply) lock may = sym (none_held s.locks lock (may_return h s reply may).3)
 mark_held h s (Write word value) lock may = refl
 mark_held h s Commit lock may = refl
@@ -82,69 +93,99 @@ mark_held h s BlockClose lock may = refl
 mark_held h s BlockCommit lock may = refl
 
 -- the caller's own event
-own_held : (h : Header) (c : ℕ) (did : Did) (s : Situation) (earlier : List Stamped) (lock : ℕ) → may_act h s (act_of_event did) ≡ true
+own_held : (h : Header) (c : ℕ) (did : Did) (s : Situation) (earlier : List Stamped) (lock : ℕ)
+    → may_act h s (act_of_event did) ≡ true
     → is_lock (cells_of h) lock ≡ true → holds s lock ≡ (value_in earlier lock == c + 1)
     → holds (after_act s (act_of_event did)) lock ≡ (value_with earlier lock c did == c + 1)
 own_held h c (Read cell value) s earlier lock may is before = before
 own_held h c (Wrote cell value) s earlier lock may is before =
-    let plain : is_plain (cells_of h) cell ≡ true = (three_true (is_plain (cells_of h) cell) (nat_lt value (2 ^ 63)) (is_some s.called) may).0 in
-    before ∙ ap (λ b. unwrap_or (option_or (cond b (Some value) None) (first_answer (λ e. made_of lock e.caller e.did) earlier)) 0 == c + 1)
+    let plain : is_plain (cells_of h) cell
+    ≡ true = (three_true (is_plain (cells_of h) cell) (nat_lt value (2 ^ 63))
+    (is_some s.called) may).0 in
+    before ∙ ap (λ b. unwrap_or
+    (option_or (cond b (Some value) None) (first_answer (λ e. made_of lock e.caller e.did) earlier))
+    0 == c + 1)
     (sym (plain_isnt (cells_of h) cell lock plain is))
 own_held h c (Took other) s earlier lock may is before = by_place (other == lock)
   where
     by_place : (b : Bool) → (b || has_lock lock s.locks)
-        ≡ (unwrap_or (option_or (cond b (Some (c + 1)) None) (first_answer (λ e. made_of lock e.caller e.did) earlier)) 0 == c + 1)
+        ≡ (unwrap_or
+        (option_or (cond b (Some (c + 1)) None)
+        (first_answer (λ e. made_of lock e.caller e.did) earlier)) 0 == c + 1)
     by_place true = sym (same_number (c + 1))
     by_place false = before
 own_held h c (Gave other) s earlier lock may is before = by_place (other == lock) refl
   where
     by_place : (b : Bool) → (other == lock) ≡ b → has_lock lock (without other s.locks)
-        ≡ (unwrap_or (option_or (cond b (Some 0) None) (first_answer (λ e. made_of lock e.caller e.did) earlier)) 0 == c + 1)
+        ≡ (unwrap_or
+        (option_or (cond b (Some 0) None) (first_answer (λ e. made_of lock e.caller e.did) earlier))
+        0 == c + 1)
     by_place true e = taken_out other lock s.locks e ∙ sym (zero_isnt c)
     by_place false e = left_in other lock s.locks e ∙ before
 own_held h c (Marked kind) s earlier lock may is before = mark_held h s kind lock may ∙ before
 
 -- another caller's event gives the lock to nobody else, and takes it from nobody else
-other_held : (cells : Cells) (c d : ℕ) (did : Did) (earlier : List Stamped) (lock : ℕ) → may_do cells earlier d did ≡ true
+other_held : (cells : Cells) (c d : ℕ) (did : Did) (earlier : List Stamped) (lock : ℕ)
+    → may_do cells earlier d did ≡ true
     → is_lock cells lock ≡ true → (d == c) ≡ false
     → (value_in earlier lock == c + 1) ≡ (value_with earlier lock d did == c + 1)
 other_held cells c d (Read cell value) earlier lock may is apart = refl
 other_held cells c d (Wrote cell value) earlier lock may is apart =
-    ap (λ b. unwrap_or (option_or (cond b (Some value) None) (first_answer (λ e. made_of lock e.caller e.did) earlier)) 0 == c + 1)
-    (sym (plain_isnt cells cell lock (first_true (is_plain cells cell) (nat_lt value (2 ^ 63)) may) is))
+    ap (λ b. unwrap_or
+    (option_or (cond b (Some value) None) (first_answer (λ e. made_of lock e.caller e.did) earlier))
+    0 == c + 1)
+    (sym (plain_isnt cells cell lock (first_true (is_plain cells cell) (nat_lt value (2 ^ 63)) may)
+    is))
 other_held cells c d (Took other) earlier lock may is apart = by_place (other == lock) refl
   where
     by_place : (b : Bool) → (other == lock) ≡ b → (value_in earlier lock == c + 1)
-        ≡ (unwrap_or (option_or (cond b (Some (d + 1)) None) (first_answer (λ e. made_of lock e.caller e.did) earlier)) 0 == c + 1)
+        ≡ (unwrap_or
+        (option_or (cond b (Some (d + 1)) None)
+        (first_answer (λ e. made_of lock e.caller e.did) earlier)) 0 == c + 1)
     by_place true e =
-        let free : (value_in earlier other == 0) ≡ true = second_true (is_lock cells other) (value_in earlier other == 0) may in
-        free_isnt (value_in earlier lock) c (subst (λ cell. (value_in earlier cell == 0) ≡ true) (same_of other lock e) free)
+        let free : (value_in earlier other == 0) ≡ true = second_true (is_lock cells other)
+        (value_in earlier other == 0) may in
+        free_isnt (value_in earlier lock) c
+        (subst (λ cell. (value_in earlier cell == 0) ≡ true) (same_of other lock e) free)
         ∙ sym (other_isnt c d apart)
     by_place false e = refl
 other_held cells c d (Gave other) earlier lock may is apart = by_place (other == lock) refl
   where
     by_place : (b : Bool) → (other == lock) ≡ b → (value_in earlier lock == c + 1)
-        ≡ (unwrap_or (option_or (cond b (Some 0) None) (first_answer (λ e. made_of lock e.caller e.did) earlier)) 0 == c + 1)
+        ≡ (unwrap_or
+        (option_or (cond b (Some 0) None) (first_answer (λ e. made_of lock e.caller e.did) earlier))
+        0 == c + 1)
     by_place true e =
-        let its : (value_in earlier other == d + 1) ≡ true = second_true (is_lock cells other) (value_in earlier other == d + 1) may in
+        let its : (value_in earlier other == d + 1) ≡ true = second_true (is_lock cells other)
+        (value_in earlier other == d + 1) may in
         others_isnt (value_in earlier lock) c d
-        (subst (λ cell. (value_in earlier cell == d + 1) ≡ true) (same_of other lock e) its) apart ∙ sym (zero_isnt c)
+        (subst (λ cell. (value_in earlier cell == d + 1) ≡ true) (same_of other lock e) its) apart
+        ∙ sym (zero_isnt c)
     by_place false e = refl
 other_held cells c d (Marked kind) earlier lock may is apart = refl
 
-next_held : (h : Header) (c d : ℕ) (did : Did) (dids : List Did) (earlier : List Stamped) (lock : ℕ) (b : Bool) → (d == c) ≡ b
-    → may_do (cells_of h) earlier d did ≡ true → KeepsTo h (cons_option (cond b (Some did) None) dids) → is_lock (cells_of h) lock ≡ true
+next_held : (h : Header) (c d : ℕ) (did : Did) (dids : List Did) (earlier : List Stamped) (lock : ℕ)
+    (b : Bool) → (d == c) ≡ b
+    → may_do (cells_of h) earlier d did ≡ true
+    → KeepsTo h (cons_option (cond b (Some did) None) dids) → is_lock (cells_of h) lock ≡ true
     → holds (situation_after dids) lock ≡ (value_in earlier lock == c + 1)
-    → holds (situation_after (cons_option (cond b (Some did) None) dids)) lock ≡ (value_with earlier lock d did == c + 1)
+    → holds (situation_after (cons_option (cond b (Some did) None) dids)) lock
+    ≡ (value_with earlier lock d did == c + 1)
 next_held h c d did dids earlier lock true e may keeps is before =
-    subst (λ d. holds (after_act (situation_after dids) (act_of_event did)) lock ≡ (value_with earlier lock d did == c + 1)) (sym (same_of d c e))
+    subst (λ d. holds (after_act (situation_after dids) (act_of_event did)) lock
+    ≡ (value_with earlier lock d did == c + 1)) (sym (same_of d c e))
     (own_held h c did (situation_after dids) earlier lock keeps.0 is before)
-next_held h c d did dids earlier lock false e may keeps is before = before ∙ other_held (cells_of h) c d did earlier lock may is e
+next_held h c d did dids earlier lock false e may keeps is before = before
+    ∙ other_held (cells_of h) c d did earlier lock may is e
 
--- in a legal history a caller that keeps to what may be done holds the locks that have its number plus 1
-pub held_is : (h : Header) (c : ℕ) (earlier : List Stamped) (lock : ℕ) → AreLegal (cells_of h) earlier → KeepsTo h (part_of c earlier)
-    → is_lock (cells_of h) lock ≡ true → holds (situation_after (part_of c earlier)) lock ≡ (value_in earlier lock == c + 1)
+-- in a legal history a caller that keeps to what may be done holds the locks that have its number
+-- plus 1
+pub held_is : (h : Header) (c : ℕ) (earlier : List Stamped) (lock : ℕ)
+    → AreLegal (cells_of h) earlier → KeepsTo h (part_of c earlier)
+    → is_lock (cells_of h) lock ≡ true → holds (situation_after (part_of c earlier)) lock
+    ≡ (value_in earlier lock == c + 1)
 held_is h c [] lock legal keeps is = sym (zero_isnt c)
 held_is h c (e ∷ earlier) lock legal keeps is =
-    next_held h c e.caller e.did (part_of c earlier) earlier lock (e.caller == c) refl (does (cells_of h) earlier e legal.0) keeps is
+    next_held h c e.caller e.did (part_of c earlier) earlier lock (e.caller == c) refl
+    (does (cells_of h) earlier e legal.0) keeps is
     (held_is h c earlier lock legal.1 (keeps_before h c e earlier keeps) is)

@@ -1,5 +1,6 @@
 -- The part of one caller that plays a sound script keeps the rules, whatever the others do.
-use Rattle.std.proofs.Common.{◌≡◌, ℕ, ◌<◌, Bool, true, false, cond, List, [], ◌∷◌, Some, None, refl, ap, ◌∙◌, sym, subst, arith}
+use Rattle.std.proofs.Common.{◌≡◌, ℕ, ◌<◌, Bool, true, false, cond, List, [], ◌∷◌, Some, None, refl}
+use Rattle.std.proofs.Common.{ap, ◌∙◌, sym, subst, arith}
 use Rattle.std.specs.Prelude.{◌==◌, is_none, filter_map}
 use Rattle.std.specs.List.{cons_option}
 use Rattle.std.proofs.lemmas.Bool.Decides.{nat_tests}
@@ -17,7 +18,8 @@ use Rattle.vyrd_memory.specs.Scripts.{Script, left_after, Plays, PlaysToTheEnd}
 use Rattle.vyrd_memory.specs.Soundness.{Situation, at_rest, may_act, IsSound}
 use Rattle.vyrd_memory.specs.Turns.{part_of}
 use Rattle.vyrd_memory.specs.LaneRules.{AreSmallReads, KeepsTheRules}
-use Rattle.vyrd_memory.proofs.Situations.{act_of_event, situation_after, KeepsTo, AreAnswers, sound_keeps, sound_left, rests_at_stop}
+use Rattle.vyrd_memory.proofs.Situations.{act_of_event, situation_after, KeepsTo, AreAnswers}
+use Rattle.vyrd_memory.proofs.Situations.{sound_keeps, sound_left, rests_at_stop}
 use Rattle.vyrd_memory.proofs.Agreements.{Agrees, agrees, keeps_before}
 use Rattle.vyrd_memory.proofs.KeptRules.{isnt_open, write_kept, mark_kept}
 use Rattle.vyrd_memory.proofs.RaceLaws.{newest_log}
@@ -32,13 +34,16 @@ are_answers (Gave lock ∷ earlier) small = (refl, are_answers earlier small)
 are_answers (Marked kind ∷ earlier) small = (refl, are_answers earlier small)
 
 -- one event more of the caller, and of another
-own_keeps : (h : Header) (c : ℕ) (did : Did) (s : Situation) (log : List Entry) → c < h.callers → may_act h s (act_of_event did) ≡ true
+own_keeps : (h : Header) (c : ℕ) (did : Did) (s : Situation) (log : List Entry) → c < h.callers
+    → may_act h s (act_of_event did) ≡ true
     → Agrees c s log → KeepsTheRules h c log → KeepsTheRules h c (cons_option (logged c did) log)
 own_keeps h c (Read cell value) s log low may a keeps = keeps
-own_keeps h c (Wrote cell value) s log low may a keeps = (λ same. (write_kept h c cell value s log low may a).raced, keeps)
+own_keeps h c (Wrote cell value) s log low may a keeps =
+    (λ same. (write_kept h c cell value s log low may a).raced, keeps)
 own_keeps h c (Took lock) s log low may a keeps = keeps
 own_keeps h c (Gave lock) s log low may a keeps = keeps
-own_keeps h c (Marked kind) s log low may a keeps = (λ same. (mark_kept h c kind s log low may a).raced, keeps)
+own_keeps h c (Marked kind) s log low may a keeps =
+    (λ same. (mark_kept h c kind s log low may a).raced, keeps)
 
 differ : (d c : ℕ) → (d == c) ≡ false → d ≡ c → ⊥
 differ d c apart same = grind (arith, nat_tests)
@@ -46,42 +51,56 @@ differ d c apart same = grind (arith, nat_tests)
 other_keeps : (h : Header) (c d : ℕ) (did : Did) (log : List Entry) → (d == c) ≡ false
     → KeepsTheRules h c log → KeepsTheRules h c (cons_option (logged d did) log)
 other_keeps h c d (Read cell value) log apart keeps = keeps
-other_keeps h c d (Wrote cell value) log apart keeps = (λ same. absurd (differ d c apart same), keeps)
+other_keeps h c d (Wrote cell value) log apart keeps =
+    (λ same. absurd (differ d c apart same), keeps)
 other_keeps h c d (Took lock) log apart keeps = keeps
 other_keeps h c d (Gave lock) log apart keeps = keeps
 other_keeps h c d (Marked kind) log apart keeps = (λ same. absurd (differ d c apart same), keeps)
 
-event_keeps : (h : Header) (c : ℕ) (e : Stamped) (earlier : List Stamped) → c < h.callers → (b : Bool) → (e.caller == c) ≡ b
-    → KeepsTo h (cons_option (cond b (Some e.did) None) (part_of c earlier)) → KeepsTheRules h c (filter_map log_entry earlier)
+event_keeps : (h : Header) (c : ℕ) (e : Stamped) (earlier : List Stamped) → c < h.callers
+    → (b : Bool) → (e.caller == c) ≡ b
+    → KeepsTo h (cons_option (cond b (Some e.did) None) (part_of c earlier))
+    → KeepsTheRules h c (filter_map log_entry earlier)
     → KeepsTheRules h c (cons_option (logged e.caller e.did) (filter_map log_entry earlier))
 event_keeps h c e earlier low true is keeps rest =
     let same : c ≡ e.caller = grind (arith, nat_tests) in
-    subst (λ d. KeepsTheRules h c (cons_option (logged d e.did) (filter_map log_entry earlier))) same
-    (own_keeps h c e.did (situation_after (part_of c earlier)) (filter_map log_entry earlier) low keeps.0 (agrees h c earlier keeps.1) rest)
-event_keeps h c e earlier low false is keeps rest = other_keeps h c e.caller e.did (filter_map log_entry earlier) is rest
+    subst (λ d. KeepsTheRules h c (cons_option (logged d e.did) (filter_map log_entry earlier)))
+    same
+    (own_keeps h c e.did (situation_after (part_of c earlier)) (filter_map log_entry earlier) low
+    keeps.0 (agrees h c earlier keeps.1) rest)
+event_keeps h c e earlier low false is keeps rest = other_keeps h c e.caller e.did
+    (filter_map log_entry earlier) is rest
 
 -- so the log of events in which the caller keeps to what it may do
-events_keep : (h : Header) (c : ℕ) (earlier : List Stamped) → c < h.callers → KeepsTo h (part_of c earlier)
+events_keep : (h : Header) (c : ℕ) (earlier : List Stamped) → c < h.callers
+    → KeepsTo h (part_of c earlier)
     → KeepsTheRules h c (filter_map log_entry earlier)
 events_keep h c [] low keeps = tt
 events_keep h c (e ∷ earlier) low keeps =
-    event_keeps h c e earlier low (e.caller == c) refl keeps (events_keep h c earlier low (keeps_before h c e earlier keeps))
+    event_keeps h c e earlier low (e.caller == c) refl keeps
+    (events_keep h c earlier low (keeps_before h c e earlier keeps))
 
-pub lane_keeps : (h : Header) (c : ℕ) (script : Script) (history : List Stamped) → c < h.callers → IsSound h at_rest script
-    → Plays script (part_of c (newest_first history)) → AreSmallReads (part_of c (newest_first history))
+pub lane_keeps : (h : Header) (c : ℕ) (script : Script) (history : List Stamped) → c < h.callers
+    → IsSound h at_rest script
+    → Plays script (part_of c (newest_first history))
+    → AreSmallReads (part_of c (newest_first history))
     → KeepsTheRules h c (newest_first (log_of history))
 lane_keeps h c script history low sound plays small =
     subst (KeepsTheRules h c) (sym (newest_log history))
     (events_keep h c (newest_first history) low
-    (sound_keeps h script (part_of c (newest_first history)) sound plays (are_answers (part_of c (newest_first history)) small)))
+    (sound_keeps h script (part_of c (newest_first history)) sound plays
+    (are_answers (part_of c (newest_first history)) small)))
 
-pub lane_is_closed : (h : Header) (c : ℕ) (script : Script) (history : List Stamped) → c < h.callers → IsSound h at_rest script
-    → PlaysToTheEnd script (part_of c (newest_first history)) → AreSmallReads (part_of c (newest_first history))
+pub lane_is_closed : (h : Header) (c : ℕ) (script : Script) (history : List Stamped) → c < h.callers
+    → IsSound h at_rest script
+    → PlaysToTheEnd script (part_of c (newest_first history))
+    → AreSmallReads (part_of c (newest_first history))
     → open_call c (newest_first (log_of history)) ≡ None
 lane_is_closed h c script history low sound plays small =
     ap (open_call c) (newest_log history)
     ∙ isnt_some (open_call c (filter_map log_entry (newest_first history)))
-    (isnt_open c (situation_after part) (filter_map log_entry (newest_first history)) (agrees h c (newest_first history) keeps)
+    (isnt_open c (situation_after part) (filter_map log_entry (newest_first history))
+    (agrees h c (newest_first history) keeps)
     (ap (λ s. is_none s.called) at_end))
   where
     part : List Did
@@ -94,4 +113,5 @@ lane_is_closed h c script history low sound plays small =
     keeps = sound_keeps h script part sound plays.plays answers
 
     at_end : situation_after part ≡ at_rest
-    at_end = rests_at_stop h (situation_after part) (left_after script part) (sound_left h script part sound plays.plays answers) plays.done
+    at_end = rests_at_stop h (situation_after part) (left_after script part)
+        (sound_left h script part sound plays.plays answers) plays.done

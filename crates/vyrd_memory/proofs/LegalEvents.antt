@@ -1,5 +1,6 @@
 -- Legal histories, the newest event first: each event may come after the events before it.
-use Rattle.std.proofs.Common.{◌≡◌, ℕ, ◌+◌, ◌<◌, ◌^◌, Bool, true, false, cond, ◌&&◌, List, [], ◌∷◌, Some, None, refl, arith}
+use Rattle.std.proofs.Common.{◌≡◌, ℕ, ◌+◌, ◌<◌, ◌^◌, Bool, true, false, cond, ◌&&◌, List, [], ◌∷◌}
+use Rattle.std.proofs.Common.{Some, None, refl, arith}
 use Rattle.std.specs.Prelude.{◌==◌, nat_lt, unwrap_or, length}
 use Rattle.std.specs.Option.{option_or}
 use Rattle.std.specs.List.{list_all, cons_option}
@@ -8,7 +9,8 @@ use Rattle.vyrd_base.specs.declared.history.Did.{Did}
 use Rattle.vyrd_base.specs.declared.history.Did.TheVariants.{Read, Wrote, Took, Gave, Marked}
 use Rattle.vyrd_base.specs.declared.history.Stamped.{Stamped}
 use Rattle.vyrd_base.specs.Places.{places_after, first_answer, newest_first_onto, newest_first}
-use Rattle.vyrd_base.specs.Histories.{Cells, is_plain, is_lock, made_of, value_in, may_do, is_legal_at, is_legal}
+use Rattle.vyrd_base.specs.Histories.{Cells, is_plain, is_lock, made_of, value_in, may_do}
+use Rattle.vyrd_base.specs.Histories.{is_legal_at, is_legal}
 use Rattle.vyrd_base.proofs.TestLaws.{both_true, first_true, second_true}
 use Rattle.vyrd_base.proofs.CellLaws.{plain_isnt}
 use Rattle.vyrd_memory.specs.Scripts.{IsAnswer, answer_of}
@@ -24,67 +26,89 @@ abbrev pub AreLegal : Cells → List Stamped → Type 0
 AreLegal cells [] = Unit {0}
 AreLegal cells (e ∷ earlier) = (may_come cells earlier e ≡ true) × AreLegal cells earlier
 
-legal_onto : (cells : Cells) (earlier xs : List Stamped) → AreLegal cells earlier → list_all (is_legal_at cells) (places_after earlier xs) ≡ true
+legal_onto : (cells : Cells) (earlier xs : List Stamped) → AreLegal cells earlier
+    → list_all (is_legal_at cells) (places_after earlier xs) ≡ true
     → AreLegal cells (newest_first_onto earlier xs)
 legal_onto cells earlier [] legal e = legal
 legal_onto cells earlier (x ∷ xs) legal e =
-    legal_onto cells (x ∷ earlier) xs
-    (first_true (may_come cells earlier x) (list_all (is_legal_at cells) (places_after (x ∷ earlier) xs)) e, legal)
-    (second_true (may_come cells earlier x) (list_all (is_legal_at cells) (places_after (x ∷ earlier) xs)) e)
+    legal_onto cells (x ∷ earlier) xs (
+      first_true (may_come cells earlier x)
+          (list_all (is_legal_at cells) (places_after (x ∷ earlier) xs)) e,
+      legal,
+    )
+    (second_true (may_come cells earlier x)
+    (list_all (is_legal_at cells) (places_after (x ∷ earlier) xs)) e)
 
-legal_before : (cells : Cells) (earlier xs : List Stamped) → AreLegal cells (newest_first_onto earlier xs) → AreLegal cells earlier
+legal_before : (cells : Cells) (earlier xs : List Stamped)
+    → AreLegal cells (newest_first_onto earlier xs) → AreLegal cells earlier
 legal_before cells earlier [] legal = legal
 legal_before cells earlier (x ∷ xs) legal = (legal_before cells (x ∷ earlier) xs legal).1
 
-onto_legal : (cells : Cells) (earlier xs : List Stamped) → AreLegal cells (newest_first_onto earlier xs)
+onto_legal : (cells : Cells) (earlier xs : List Stamped)
+    → AreLegal cells (newest_first_onto earlier xs)
     → list_all (is_legal_at cells) (places_after earlier xs) ≡ true
 onto_legal cells earlier [] legal = refl
 onto_legal cells earlier (x ∷ xs) legal =
-    both_true (may_come cells earlier x) (list_all (is_legal_at cells) (places_after (x ∷ earlier) xs))
+    both_true (may_come cells earlier x)
+    (list_all (is_legal_at cells) (places_after (x ∷ earlier) xs))
     (legal_before cells (x ∷ earlier) xs legal).0 (onto_legal cells (x ∷ earlier) xs legal)
 
 -- the test and the events one by one say the same
-pub legal_events : (cells : Cells) (history : List Stamped) → is_legal cells history ≡ true → AreLegal cells (newest_first history)
+pub legal_events : (cells : Cells) (history : List Stamped) → is_legal cells history ≡ true
+    → AreLegal cells (newest_first history)
 unfolding is_legal
 legal_events cells history e = legal_onto cells [] history tt e
 
-pub legal_history : (cells : Cells) (history : List Stamped) → AreLegal cells (newest_first history) → is_legal cells history ≡ true
+pub legal_history : (cells : Cells) (history : List Stamped) → AreLegal cells (newest_first history)
+    → is_legal cells history ≡ true
 unfolding is_legal
 legal_history cells history legal = onto_legal cells [] history legal
 
 -- the caller of an event is in range, and it may do what it did
-pub caller_low : (cells : Cells) (earlier : List Stamped) (e : Stamped) → may_come cells earlier e ≡ true → e.caller < cells.callers
+pub caller_low : (cells : Cells) (earlier : List Stamped) (e : Stamped) → may_come cells earlier e
+    ≡ true → e.caller < cells.callers
 caller_low cells earlier e may =
     let test : nat_lt e.caller cells.callers ≡ true =
     second_true (e.number == length earlier) (nat_lt e.caller cells.callers)
-    (first_true (e.number == length earlier && nat_lt e.caller cells.callers) (may_do cells earlier e.caller e.did) may) in
+    (first_true (e.number == length earlier && nat_lt e.caller cells.callers)
+    (may_do cells earlier e.caller e.did) may) in
     grind (arith, nat_tests)
 
-pub does : (cells : Cells) (earlier : List Stamped) (e : Stamped) → may_come cells earlier e ≡ true → may_do cells earlier e.caller e.did ≡ true
-does cells earlier e may = second_true (e.number == length earlier && nat_lt e.caller cells.callers) (may_do cells earlier e.caller e.did) may
+pub does : (cells : Cells) (earlier : List Stamped) (e : Stamped) → may_come cells earlier e ≡ true
+    → may_do cells earlier e.caller e.did ≡ true
+does cells earlier e may = second_true (e.number == length earlier && nat_lt e.caller cells.callers)
+    (may_do cells earlier e.caller e.did) may
 
 -- the cell's value after one more event
 abbrev pub value_with : List Stamped → ℕ → ℕ → Did → ℕ
-value_with earlier cell caller did = unwrap_or (option_or (made_of cell caller did) (first_answer (λ e. made_of cell e.caller e.did) earlier)) 0
+value_with earlier cell caller did = unwrap_or
+    (option_or (made_of cell caller did) (first_answer (λ e. made_of cell e.caller e.did) earlier))
+    0
 
 -- values of plain cells are below 2^63
-next_small : (cells : Cells) (earlier : List Stamped) (cell caller : ℕ) (did : Did) → may_do cells earlier caller did ≡ true
+next_small : (cells : Cells) (earlier : List Stamped) (cell caller : ℕ) (did : Did)
+    → may_do cells earlier caller did ≡ true
     → is_plain cells cell ≡ true
     → value_in earlier cell < 2 ^ 63 → value_with earlier cell caller did < 2 ^ 63
 next_small cells earlier cell caller (Read other value) may plain small = small
 next_small cells earlier cell caller (Wrote other value) may plain small = by_place (other == cell)
   where
-    by_place : (b : Bool) → unwrap_or (option_or (cond b (Some value) None) (first_answer (λ e. made_of cell e.caller e.did) earlier)) 0 < 2 ^ 63
-    by_place true = let test : nat_lt value (2 ^ 63) ≡ true = second_true (is_plain cells other) (nat_lt value (2 ^ 63)) may in
+    by_place : (b : Bool)
+        → unwrap_or (option_or (cond b (Some value) None)
+        (first_answer (λ e. made_of cell e.caller e.did) earlier)) 0 < 2 ^ 63
+    by_place true = let test : nat_lt value (2 ^ 63) ≡ true = second_true (is_plain cells other)
+        (nat_lt value (2 ^ 63)) may in
         grind (arith, nat_tests)
     by_place false = small
 next_small cells earlier cell caller (Took other) may plain small = by_place (other == cell) refl
   where
     by_place : (b : Bool) → (other == cell) ≡ b
-        → unwrap_or (option_or (cond b (Some (caller + 1)) None) (first_answer (λ e. made_of cell e.caller e.did) earlier)) 0 < 2 ^ 63
+        → unwrap_or (option_or (cond b (Some (caller + 1)) None)
+        (first_answer (λ e. made_of cell e.caller e.did) earlier)) 0 < 2 ^ 63
     by_place true e =
         let apart : (cell == other) ≡ false =
-        plain_isnt cells cell other plain (first_true (is_lock cells other) (value_in earlier other == 0) may) in
+        plain_isnt cells cell other plain
+        (first_true (is_lock cells other) (value_in earlier other == 0) may) in
         absurd (not_both other cell e apart)
       where
         not_both : (a b : ℕ) → (a == b) ≡ true → (b == a) ≡ false → ⊥
@@ -92,24 +116,31 @@ next_small cells earlier cell caller (Took other) may plain small = by_place (ot
     by_place false e = small
 next_small cells earlier cell caller (Gave other) may plain small = by_place (other == cell)
   where
-    by_place : (b : Bool) → unwrap_or (option_or (cond b (Some 0) None) (first_answer (λ e. made_of cell e.caller e.did) earlier)) 0 < 2 ^ 63
+    by_place : (b : Bool)
+        → unwrap_or (option_or (cond b (Some 0) None)
+        (first_answer (λ e. made_of cell e.caller e.did) earlier)) 0 < 2 ^ 63
     by_place true = omega arith
     by_place false = small
 next_small cells earlier cell caller (Marked kind) may plain small = small
 
-pub plain_small : (cells : Cells) (earlier : List Stamped) (cell : ℕ) → AreLegal cells earlier → is_plain cells cell ≡ true
+pub plain_small : (cells : Cells) (earlier : List Stamped) (cell : ℕ) → AreLegal cells earlier
+    → is_plain cells cell ≡ true
     → value_in earlier cell < 2 ^ 63
 plain_small cells [] cell legal plain = omega arith
 plain_small cells (e ∷ earlier) cell legal plain =
-    next_small cells earlier cell e.caller e.did (does cells earlier e legal.0) plain (plain_small cells earlier cell legal.1 plain)
+    next_small cells earlier cell e.caller e.did (does cells earlier e legal.0) plain
+    (plain_small cells earlier cell legal.1 plain)
 
 -- so each event gave an answer that its act may have
-answer_is : (cells : Cells) (earlier : List Stamped) (caller : ℕ) (did : Did) → AreLegal cells earlier → may_do cells earlier caller did ≡ true
+answer_is : (cells : Cells) (earlier : List Stamped) (caller : ℕ) (did : Did)
+    → AreLegal cells earlier → may_do cells earlier caller did ≡ true
     → IsAnswer (act_of_event did) (answer_of did)
 answer_is cells earlier caller (Read cell value) legal may =
     let small : value_in earlier cell
-    < 2 ^ 63 = plain_small cells earlier cell legal (first_true (is_plain cells cell) (value == value_in earlier cell) may) in
-    let same : (value == value_in earlier cell) ≡ true = second_true (is_plain cells cell) (value == value_in earlier cell) may in
+    < 2 ^ 63 = plain_small cells earlier cell legal
+    (first_true (is_plain cells cell) (value == value_in earlier cell) may) in
+    let same : (value == value_in earlier cell) ≡ true = second_true (is_plain cells cell)
+    (value == value_in earlier cell) may in
     small_too value (value_in earlier cell) same small
   where
     small_too : (a b : ℕ) → (a == b) ≡ true → b < 2 ^ 63 → a < 2 ^ 63
@@ -119,10 +150,14 @@ answer_is cells earlier caller (Took lock) legal may = refl
 answer_is cells earlier caller (Gave lock) legal may = refl
 answer_is cells earlier caller (Marked kind) legal may = refl
 
-pub are_answers : (cells : Cells) (earlier : List Stamped) (c : ℕ) → AreLegal cells earlier → AreAnswers (part_of c earlier)
+pub are_answers : (cells : Cells) (earlier : List Stamped) (c : ℕ) → AreLegal cells earlier
+    → AreAnswers (part_of c earlier)
 are_answers cells [] c legal = tt
-are_answers cells (e ∷ earlier) c legal = by_caller (e.caller == c) (are_answers cells earlier c legal.1)
+are_answers cells (e ∷ earlier) c legal = by_caller (e.caller == c)
+    (are_answers cells earlier c legal.1)
   where
-    by_caller : (b : Bool) → AreAnswers (part_of c earlier) → AreAnswers (cons_option (cond b (Some e.did) None) (part_of c earlier))
-    by_caller true before = (answer_is cells earlier e.caller e.did legal.1 (does cells earlier e legal.0), before)
+    by_caller : (b : Bool) → AreAnswers (part_of c earlier)
+        → AreAnswers (cons_option (cond b (Some e.did) None) (part_of c earlier))
+    by_caller true before =
+        (answer_is cells earlier e.caller e.did legal.1 (does cells earlier e legal.0), before)
     by_caller false before = before

@@ -1,28 +1,35 @@
--- The run by turns of sound scripts: each turn adds an event that may come, and each caller plays its script.
+-- The run by turns of sound scripts: each turn adds an event that may come, and each caller plays
+-- its script.
 use Rattle.std.proofs.Common.{◌≡◌, ℕ, zero, suc, ◌+◌, ◌<◌, ◌≤◌, ◌^◌, Bool, true, false, cond, not}
-use Rattle.std.proofs.Common.{◌&&◌, List, [], ◌∷◌, Option, Some, None, refl, ap, ◌∙◌, sym, subst, arith}
+use Rattle.std.proofs.Common.{◌&&◌, List, [], ◌∷◌, Option, Some, None, refl, ap, ◌∙◌, sym, subst}
+use Rattle.std.proofs.Common.{arith}
 use Rattle.std.specs.Prelude.{◌==◌, nat_lt, is_some, length}
 use Rattle.std.specs.List.{cons_option}
 use Rattle.std.proofs.lemmas.Bool.Decides.{nat_tests}
 use Rattle.std.proofs.lemmas.Option.{same_Some}
 use Rattle.vyrd_base.specs.declared.header.Header.{Header}
 use Rattle.vyrd_base.specs.declared.log.Kind.{Kind}
-use Rattle.vyrd_base.specs.declared.log.Kind.TheVariants.{Call, Return, Write, Commit, BlockOpen, BlockClose, BlockCommit}
+use Rattle.vyrd_base.specs.declared.log.Kind.TheVariants.{Call, Return, Write, Commit, BlockOpen}
+use Rattle.vyrd_base.specs.declared.log.Kind.TheVariants.{BlockClose, BlockCommit}
 use Rattle.vyrd_base.specs.declared.history.Did.{Did}
 use Rattle.vyrd_base.specs.declared.history.Did.TheVariants.{Read, Wrote, Took, Gave, Marked}
 use Rattle.vyrd_base.specs.declared.history.Stamped.{Stamped}
 use Rattle.vyrd_base.specs.Places.{newest_first, numbers_below}
-use Rattle.vyrd_base.specs.Histories.{cells_of, is_plain, is_lock, value_in, is_write, may_do, is_legal}
+use Rattle.vyrd_base.specs.Histories.{cells_of, is_plain, is_lock, value_in, is_write, may_do}
+use Rattle.vyrd_base.specs.Histories.{is_legal}
 use Rattle.vyrd_base.proofs.TestLaws.{both_true, first_true, second_true, same_number, is_below}
 use Rattle.vyrd_memory.specs.declared.act.Act.{Act}
 use Rattle.vyrd_memory.specs.declared.act.Act.TheVariants.{Load, Store, Take, Give, Mark, Done}
 use Rattle.vyrd_memory.specs.declared.op.Turn.{Turn}
-use Rattle.vyrd_memory.specs.Scripts.{Script, stop, step, next_act, event_of, answer_of, left_after, Plays}
+use Rattle.vyrd_memory.specs.Scripts.{Script, stop, step, next_act, event_of, answer_of, left_after}
+use Rattle.vyrd_memory.specs.Scripts.{Plays}
 use Rattle.vyrd_memory.specs.Soundness.{Situation, IsSound, holds, may_act, may_mark}
-use Rattle.vyrd_memory.specs.Turns.{part_of, script_of, act_of, event_now, with_event, after_turn, after_turns, after_rounds, turns_of, is_done, RunsTo}
+use Rattle.vyrd_memory.specs.Turns.{part_of, script_of, act_of, event_now, with_event, after_turn}
+use Rattle.vyrd_memory.specs.Turns.{after_turns, after_rounds, turns_of, is_done, RunsTo}
 use Rattle.vyrd_memory.specs.Runs.{AreSoundScripts, PlayToTheEnd}
 use Rattle.vyrd_memory.proofs.NumberLists.{all_pass}
-use Rattle.vyrd_memory.proofs.Situations.{situation_after, KeepsTo, sound_left, sound_keeps, done_is_stop, left_of_stop}
+use Rattle.vyrd_memory.proofs.Situations.{situation_after, KeepsTo, sound_left, sound_keeps}
+use Rattle.vyrd_memory.proofs.Situations.{done_is_stop, left_of_stop}
 use Rattle.vyrd_memory.proofs.LegalEvents.{AreLegal, legal_history, are_answers}
 use Rattle.vyrd_memory.proofs.HeldLocks.{held_is}
 
@@ -32,7 +39,8 @@ pub record IsRun (h : Header) (scripts : List Script) (earlier : List Stamped) :
   pub plays : (c : ℕ) → Plays (script_of scripts c) (part_of c earlier)
 
 -- a mark that may be left isn't a write
-is_mark : (h : Header) (s : Situation) (kind : Kind) → may_mark h s kind ≡ true → not (is_write kind) ≡ true
+is_mark : (h : Header) (s : Situation) (kind : Kind) → may_mark h s kind ≡ true
+    → not (is_write kind) ≡ true
 is_mark h s (Call method args) may = refl
 is_mark h s (Return reply) may = refl
 is_mark h s (Write word value) may = may
@@ -42,35 +50,45 @@ is_mark h s BlockClose may = refl
 is_mark h s BlockCommit may = refl
 
 -- the event of an act that may come may happen
-event_may : (h : Header) (c : ℕ) (earlier : List Stamped) (s : Situation) (act : Act) (did : Did) → may_act h s act ≡ true
-    → ((lock : ℕ) → is_lock (cells_of h) lock ≡ true → holds s lock ≡ (value_in earlier lock == c + 1))
+event_may : (h : Header) (c : ℕ) (earlier : List Stamped) (s : Situation) (act : Act) (did : Did)
+    → may_act h s act ≡ true
+    → ((lock : ℕ) → is_lock (cells_of h) lock ≡ true → holds s lock
+    ≡ (value_in earlier lock == c + 1))
     → event_now earlier act ≡ Some did → may_do (cells_of h) earlier c did ≡ true
 event_may h c earlier s (Load cell) did may held e =
-    subst (λ did. may_do (cells_of h) earlier c did ≡ true) (same_Some (Read cell (value_in earlier cell)) did e)
-    (both_true (is_plain (cells_of h) cell) (value_in earlier cell == value_in earlier cell) may (same_number (value_in earlier cell)))
+    subst (λ did. may_do (cells_of h) earlier c did ≡ true)
+    (same_Some (Read cell (value_in earlier cell)) did e)
+    (both_true (is_plain (cells_of h) cell) (value_in earlier cell == value_in earlier cell) may
+    (same_number (value_in earlier cell)))
 event_may h c earlier s (Store cell value) did may held e =
     subst (λ did. may_do (cells_of h) earlier c did ≡ true) (same_Some (Wrote cell value) did e)
     (first_true (is_plain (cells_of h) cell && nat_lt value (2 ^ 63)) (is_some s.called) may)
 event_may h c earlier s (Take lock) did may held e = by_value (value_in earlier lock == 0) refl e
   where
-    by_value : (b : Bool) → (value_in earlier lock == 0) ≡ b → cond b (Some (Took lock)) None ≡ Some did → may_do (cells_of h) earlier c did ≡ true
+    by_value : (b : Bool) → (value_in earlier lock == 0) ≡ b → cond b (Some (Took lock)) None
+        ≡ Some did → may_do (cells_of h) earlier c did ≡ true
     by_value true free e =
         subst (λ did. may_do (cells_of h) earlier c did ≡ true) (same_Some (Took lock) did e)
-        (both_true (is_lock (cells_of h) lock) (value_in earlier lock == 0) (first_true (is_lock (cells_of h) lock) (not (holds s lock)) may) free)
+        (both_true (is_lock (cells_of h) lock) (value_in earlier lock == 0)
+        (first_true (is_lock (cells_of h) lock) (not (holds s lock)) may) free)
     by_value false free e = cc
 event_may h c earlier s (Give lock) did may held e =
-    let is : is_lock (cells_of h) lock ≡ true = first_true (is_lock (cells_of h) lock) (holds s lock) may in
+    let is : is_lock (cells_of h) lock ≡ true = first_true (is_lock (cells_of h) lock)
+    (holds s lock) may in
     subst (λ did. may_do (cells_of h) earlier c did ≡ true) (same_Some (Gave lock) did e)
     (both_true (is_lock (cells_of h) lock) (value_in earlier lock == c + 1) is
     (sym (held lock is) ∙ second_true (is_lock (cells_of h) lock) (holds s lock) may))
 event_may h c earlier s (Mark kind) did may held e =
-    subst (λ did. may_do (cells_of h) earlier c did ≡ true) (same_Some (Marked kind) did e) (is_mark h s kind may)
+    subst (λ did. may_do (cells_of h) earlier c did ≡ true) (same_Some (Marked kind) did e)
+    (is_mark h s kind may)
 event_may h c earlier s Done did may held e = cc
 
 -- it is the event that the script wants
-event_plays : (earlier : List Stamped) (act : Act) (did : Did) → event_now earlier act ≡ Some did → event_of act (answer_of did) ≡ Some did
+event_plays : (earlier : List Stamped) (act : Act) (did : Did) → event_now earlier act ≡ Some did
+    → event_of act (answer_of did) ≡ Some did
 event_plays earlier (Load cell) did e =
-    subst (λ did. event_of (Load cell) (answer_of did) ≡ Some did) (same_Some (Read cell (value_in earlier cell)) did e) refl
+    subst (λ did. event_of (Load cell) (answer_of did) ≡ Some did)
+    (same_Some (Read cell (value_in earlier cell)) did e) refl
 event_plays earlier (Store cell value) did e = e
 event_plays earlier (Take lock) did e = by_value (value_in earlier lock == 0) e
   where
@@ -81,7 +99,8 @@ event_plays earlier (Give lock) did e = e
 event_plays earlier (Mark kind) did e = e
 event_plays earlier Done did e = cc
 
-next_may : (h : Header) (s : Situation) (script : Script) (earlier : List Stamped) (did : Did) → IsSound h s script
+next_may : (h : Header) (s : Situation) (script : Script) (earlier : List Stamped) (did : Did)
+    → IsSound h s script
     → event_now earlier (next_act script) ≡ Some did
     → may_act h s (next_act script) ≡ true
 next_may h s stop earlier did sound e = cc
@@ -95,7 +114,8 @@ no_script (script ∷ scripts) (suc c) high = no_script scripts c (omega arith)
 
 nothing_left : (scripts : List Script) (c : ℕ) (earlier : List Stamped) → length scripts ≤ c
     → left_after (script_of scripts c) (part_of c earlier) ≡ stop
-nothing_left scripts c earlier high = ap (λ script. left_after script (part_of c earlier)) (no_script scripts c high)
+nothing_left scripts c earlier high = ap (λ script. left_after script (part_of c earlier))
+    (no_script scripts c high)
     ∙ left_of_stop (part_of c earlier)
 
 -- a caller's number is in range or not
@@ -106,38 +126,51 @@ in_range_or_not {P} c n low high = by_test (nat_lt c n) refl
     by_test true e = low (grind (arith, nat_tests))
     by_test false e = high (grind (arith, nat_tests))
 
--- what is left of a caller's script is sound in the caller's situation, and its part keeps to what may be done
-pub run_sound : (h : Header) (scripts : List Script) (earlier : List Stamped) (c : ℕ) → AreSoundScripts h scripts
+-- what is left of a caller's script is sound in the caller's situation, and its part keeps to what
+-- may be done
+pub run_sound : (h : Header) (scripts : List Script) (earlier : List Stamped) (c : ℕ)
+    → AreSoundScripts h scripts
     → IsRun h scripts earlier → c < h.callers
-    → IsSound h (situation_after (part_of c earlier)) (left_after (script_of scripts c) (part_of c earlier))
+    → IsSound h (situation_after (part_of c earlier))
+    (left_after (script_of scripts c) (part_of c earlier))
 run_sound h scripts earlier c sound run low =
-    sound_left h (script_of scripts c) (part_of c earlier) (sound.sound c low) (run.plays c) (are_answers (cells_of h) earlier c run.legal)
+    sound_left h (script_of scripts c) (part_of c earlier) (sound.sound c low) (run.plays c)
+    (are_answers (cells_of h) earlier c run.legal)
 
-pub run_keeps : (h : Header) (scripts : List Script) (earlier : List Stamped) (c : ℕ) → AreSoundScripts h scripts
+pub run_keeps : (h : Header) (scripts : List Script) (earlier : List Stamped) (c : ℕ)
+    → AreSoundScripts h scripts
     → IsRun h scripts earlier → c < h.callers
     → KeepsTo h (part_of c earlier)
 run_keeps h scripts earlier c sound run low =
-    sound_keeps h (script_of scripts c) (part_of c earlier) (sound.sound c low) (run.plays c) (are_answers (cells_of h) earlier c run.legal)
+    sound_keeps h (script_of scripts c) (part_of c earlier) (sound.sound c low) (run.plays c)
+    (are_answers (cells_of h) earlier c run.legal)
 
 -- one event more
-event_runs : (h : Header) (scripts : List Script) (earlier : List Stamped) (c : ℕ) (did : Did) → AreSoundScripts h scripts
+event_runs : (h : Header) (scripts : List Script) (earlier : List Stamped) (c : ℕ) (did : Did)
+    → AreSoundScripts h scripts
     → IsRun h scripts earlier → c < h.callers
-    → event_now earlier (act_of scripts c earlier) ≡ Some did → IsRun h scripts (record { number = length earlier; caller = c; did = did } ∷ earlier)
+    → event_now earlier (act_of scripts c earlier) ≡ Some did
+    → IsRun h scripts (record { number = length earlier; caller = c; did = did } ∷ earlier)
 event_runs h scripts earlier c did sound run low e = record {
   legal = (
-    both_true (length earlier == length earlier && nat_lt c h.callers) (may_do (cells_of h) earlier c did)
-        (both_true (length earlier == length earlier) (nat_lt c h.callers) (same_number (length earlier)) (is_below c h.callers low))
+    both_true (length earlier == length earlier && nat_lt c h.callers)
+        (may_do (cells_of h) earlier c did)
+        (both_true (length earlier == length earlier) (nat_lt c h.callers)
+        (same_number (length earlier)) (is_below c h.callers low))
         (event_may h c earlier (situation_after (part_of c earlier)) (act_of scripts c earlier) did
-        (next_may h (situation_after (part_of c earlier)) (left_after (script_of scripts c) (part_of c earlier)) earlier did
+        (next_may h (situation_after (part_of c earlier))
+        (left_after (script_of scripts c) (part_of c earlier)) earlier did
         (run_sound h scripts earlier c sound run low) e)
-        (λ lock is. held_is h c earlier lock run.legal (run_keeps h scripts earlier c sound run low) is)
+        (λ lock is. held_is h c earlier lock run.legal (run_keeps h scripts earlier c sound run low)
+        is)
         e),
     run.legal,
   );
   plays = λ i. by_caller i (c == i) refl;
 }
   where
-    by_caller : (i : ℕ) (b : Bool) → (c == i) ≡ b → Plays (script_of scripts i) (cons_option (cond b (Some did) None) (part_of i earlier))
+    by_caller : (i : ℕ) (b : Bool) → (c == i) ≡ b → Plays (script_of scripts i)
+        (cons_option (cond b (Some did) None) (part_of i earlier))
     by_caller i true is =
         let same : c ≡ i = grind (arith, nat_tests) in (
           subst (λ i. event_of (act_of scripts i earlier) (answer_of did)
@@ -147,34 +180,44 @@ event_runs h scripts earlier c did sound run low e = record {
     by_caller i false is = run.plays i
 
 -- a turn, turns and rounds
-turn_runs : (h : Header) (scripts : List Script) (earlier : List Stamped) (c : ℕ) → AreSoundScripts h scripts → IsRun h scripts earlier
+turn_runs : (h : Header) (scripts : List Script) (earlier : List Stamped) (c : ℕ)
+    → AreSoundScripts h scripts → IsRun h scripts earlier
     → IsRun h scripts (after_turn scripts c earlier)
-turn_runs h scripts earlier c sound run = by_event (event_now earlier (act_of scripts c earlier)) refl
+turn_runs h scripts earlier c sound run = by_event (event_now earlier (act_of scripts c earlier))
+    refl
   where
     none : (did : Did) → event_now earlier (act_of scripts c earlier) ≡ Some did → h.callers ≤ c → ⊥
     none did e high =
-        let idle : act_of scripts c earlier ≡ Done = ap next_act (nothing_left scripts c earlier (omega (arith, high, sound.count))) in
+        let idle : act_of scripts c earlier ≡ Done = ap next_act
+        (nothing_left scripts c earlier (omega (arith, high, sound.count))) in
         let no : None ≡ Some did = sym (ap (event_now earlier) idle) ∙ e in
         cc
 
-    by_event : (o : Option Did) → event_now earlier (act_of scripts c earlier) ≡ o → IsRun h scripts (with_event c earlier o)
+    by_event : (o : Option Did) → event_now earlier (act_of scripts c earlier) ≡ o
+        → IsRun h scripts (with_event c earlier o)
     by_event None e = run
-    by_event (Some did) e = in_range_or_not c h.callers (λ low. event_runs h scripts earlier c did sound run low e) (λ high. absurd (none did e high))
+    by_event (Some did) e = in_range_or_not c h.callers
+        (λ low. event_runs h scripts earlier c did sound run low e)
+        (λ high. absurd (none did e high))
 
-pub turns_run : (h : Header) (scripts : List Script) (callers : List ℕ) (earlier : List Stamped) → AreSoundScripts h scripts → IsRun h scripts earlier
+pub turns_run : (h : Header) (scripts : List Script) (callers : List ℕ) (earlier : List Stamped)
+    → AreSoundScripts h scripts → IsRun h scripts earlier
     → IsRun h scripts (after_turns scripts callers earlier)
 turns_run h scripts [] earlier sound run = run
 turns_run h scripts (c ∷ callers) earlier sound run =
-    turns_run h scripts callers (after_turn scripts c earlier) sound (turn_runs h scripts earlier c sound run)
+    turns_run h scripts callers (after_turn scripts c earlier) sound
+    (turn_runs h scripts earlier c sound run)
 
-pub rounds_run : (h : Header) (scripts : List Script) (rounds : ℕ) (earlier : List Stamped) → AreSoundScripts h scripts → IsRun h scripts earlier
+pub rounds_run : (h : Header) (scripts : List Script) (rounds : ℕ) (earlier : List Stamped)
+    → AreSoundScripts h scripts → IsRun h scripts earlier
     → IsRun h scripts (after_rounds scripts rounds earlier)
 rounds_run h scripts zero earlier sound run = run
 rounds_run h scripts (suc rounds) earlier sound run =
     rounds_run h scripts rounds (after_turns scripts (numbers_below (length scripts)) earlier) sound
     (turns_run h scripts (numbers_below (length scripts)) earlier sound run)
 
-whole_run : (h : Header) (scripts : List Script) (turns : List Turn) (history : List Stamped) → AreSoundScripts h scripts
+whole_run : (h : Header) (scripts : List Script) (turns : List Turn) (history : List Stamped)
+    → AreSoundScripts h scripts
     → RunsTo scripts turns history
     → IsRun h scripts (newest_first history)
 whole_run h scripts turns history sound to =
@@ -183,19 +226,25 @@ whole_run h scripts turns history sound to =
     (turns_run h scripts (turns_of turns) [] sound (record { legal = tt; plays = λ c. tt })))
 
 -- the history of the run is legal, and each script is played to its end
-pub run_is_legal : (h : Header) (scripts : List Script) (turns : List Turn) (history : List Stamped) → AreSoundScripts h scripts
+pub run_is_legal : (h : Header) (scripts : List Script) (turns : List Turn) (history : List Stamped)
+    → AreSoundScripts h scripts
     → RunsTo scripts turns history
     → is_legal (cells_of h) history ≡ true
-run_is_legal h scripts turns history sound to = legal_history (cells_of h) history (whole_run h scripts turns history sound to).legal
+run_is_legal h scripts turns history sound to = legal_history (cells_of h) history
+    (whole_run h scripts turns history sound to).legal
 
-pub run_plays : (h : Header) (scripts : List Script) (turns : List Turn) (history : List Stamped) → AreSoundScripts h scripts
+pub run_plays : (h : Header) (scripts : List Script) (turns : List Turn) (history : List Stamped)
+    → AreSoundScripts h scripts
     → RunsTo scripts turns history
     → PlayToTheEnd scripts history
 run_plays h scripts turns history sound to c = record {
   plays = (whole_run h scripts turns history sound to).plays c;
   done = in_range_or_not c (length scripts)
-      (λ low. done_is_stop h (situation_after (part_of c (newest_first history))) (left_after (script_of scripts c) (part_of c (newest_first history)))
-      (run_sound h scripts (newest_first history) c sound (whole_run h scripts turns history sound to) (omega (arith, low, sound.count)))
-      (all_pass (λ c. is_done (act_of scripts c (newest_first history))) 0 (length scripts) to.done c (omega arith) (omega arith)))
+      (λ low. done_is_stop h (situation_after (part_of c (newest_first history)))
+      (left_after (script_of scripts c) (part_of c (newest_first history)))
+      (run_sound h scripts (newest_first history) c sound
+      (whole_run h scripts turns history sound to) (omega (arith, low, sound.count)))
+      (all_pass (λ c. is_done (act_of scripts c (newest_first history))) 0 (length scripts) to.done
+      c (omega arith) (omega arith)))
       (nothing_left scripts c (newest_first history));
 }

@@ -1,10 +1,12 @@
--- The calls in the log of a legal history of sound scripts are of the header's subject, and their arguments are in range.
+-- The calls in the log of a legal history of sound scripts are of the header's subject, and their
+-- arguments are in range.
 use Rattle.std.proofs.Common.{◌≡◌, ℕ, true, cond, ◌&&◌, List, [], ◌∷◌, Some, None, refl, subst, sym}
 use Rattle.std.specs.Prelude.{filter_map}
 use Rattle.std.specs.List.{cons_option, AllByRecursion}
 use Rattle.vyrd_base.specs.declared.header.Header.{Header}
 use Rattle.vyrd_base.specs.declared.log.Kind.{Kind}
-use Rattle.vyrd_base.specs.declared.log.Kind.TheVariants.{Call, Return, Write, Commit, BlockOpen, BlockClose, BlockCommit}
+use Rattle.vyrd_base.specs.declared.log.Kind.TheVariants.{Call, Return, Write, Commit, BlockOpen}
+use Rattle.vyrd_base.specs.declared.log.Kind.TheVariants.{BlockClose, BlockCommit}
 use Rattle.vyrd_base.specs.declared.log.Entry.{Entry}
 use Rattle.vyrd_base.specs.declared.history.Did.{Did}
 use Rattle.vyrd_base.specs.declared.history.Did.TheVariants.{Read, Wrote, Took, Gave, Marked}
@@ -27,8 +29,10 @@ use Rattle.vyrd_memory.proofs.RaceLaws.{AllKeep, all_keep, newest_log}
 abbrev pub AreCallsOf : Header → List Entry → Type 0
 AreCallsOf h entries = AllByRecursion (λ e. is_call_of h e.kind ≡ true) entries
 
-mark_fits : (h : Header) (s : Situation) (kind : Kind) → may_mark h s kind ≡ true → is_call_of h kind ≡ true
-mark_fits h s (Call method args) may = first_true (same_subject (subject_of method) h.subject && are_args h.size method args) (is_at_rest s) may
+mark_fits : (h : Header) (s : Situation) (kind : Kind) → may_mark h s kind ≡ true
+    → is_call_of h kind ≡ true
+mark_fits h s (Call method args) may = first_true (same_subject (subject_of method) h.subject
+    && are_args h.size method args) (is_at_rest s) may
 mark_fits h s (Return reply) may = refl
 mark_fits h s (Write word value) may = refl
 mark_fits h s Commit may = refl
@@ -36,7 +40,8 @@ mark_fits h s BlockOpen may = refl
 mark_fits h s BlockClose may = refl
 mark_fits h s BlockCommit may = refl
 
-event_fits : (h : Header) (c : ℕ) (did : Did) (s : Situation) (log : List Entry) → may_act h s (act_of_event did) ≡ true → AreCallsOf h log
+event_fits : (h : Header) (c : ℕ) (did : Did) (s : Situation) (log : List Entry)
+    → may_act h s (act_of_event did) ≡ true → AreCallsOf h log
     → AreCallsOf h (cons_option (logged c did) log)
 event_fits h c (Read cell value) s log may fit = fit
 event_fits h c (Wrote cell value) s log may fit = (refl, fit)
@@ -44,21 +49,28 @@ event_fits h c (Took lock) s log may fit = fit
 event_fits h c (Gave lock) s log may fit = fit
 event_fits h c (Marked kind) s log may fit = (mark_fits h s kind may, fit)
 
-log_fits : (h : Header) (earlier : List Stamped) → AreLegal (cells_of h) earlier → AllKeep h earlier → AreCallsOf h (filter_map log_entry earlier)
+log_fits : (h : Header) (earlier : List Stamped) → AreLegal (cells_of h) earlier → AllKeep h earlier
+    → AreCallsOf h (filter_map log_entry earlier)
 log_fits h [] legal keep = tt
 log_fits h (e ∷ earlier) legal keep =
     let low = caller_low (cells_of h) earlier e legal.0 in
     let own : KeepsTo h (e.did ∷ part_of e.caller earlier) =
-    subst (λ b. KeepsTo h (cons_option (cond b (Some e.did) None) (part_of e.caller earlier))) (same_number e.caller) (keep e.caller low) in
-    event_fits h e.caller e.did (situation_after (part_of e.caller earlier)) (filter_map log_entry earlier) own.0
+    subst (λ b. KeepsTo h (cons_option (cond b (Some e.did) None) (part_of e.caller earlier)))
+    (same_number e.caller) (keep e.caller low) in
+    event_fits h e.caller e.did (situation_after (part_of e.caller earlier))
+    (filter_map log_entry earlier) own.0
     (log_fits h earlier legal.1 (λ c low. keeps_before h c e earlier (keep c low)))
 
-turned : (h : Header) (earlier xs : List Entry) → AreCallsOf h (newest_first_onto earlier xs) → AreCallsOf h earlier × AreCallsOf h xs
+turned : (h : Header) (earlier xs : List Entry) → AreCallsOf h (newest_first_onto earlier xs)
+    → AreCallsOf h earlier × AreCallsOf h xs
 turned h earlier [] fit = (fit, tt)
-turned h earlier (x ∷ xs) fit = let rest = turned h (x ∷ earlier) xs fit in (rest.0.1, (rest.0.0, rest.1))
+turned h earlier (x ∷ xs) fit = let rest = turned h (x ∷ earlier) xs fit in
+    (rest.0.1, (rest.0.0, rest.1))
 
-pub calls_fit : (h : Header) (scripts : List Script) (history : List Stamped) → AreSoundScripts h scripts → is_legal (cells_of h) history ≡ true
-    → PlayToTheEnd scripts history → AllByRecursion (λ e. is_call_of h e.kind ≡ true) (log_of history)
+pub calls_fit : (h : Header) (scripts : List Script) (history : List Stamped)
+    → AreSoundScripts h scripts → is_legal (cells_of h) history ≡ true
+    → PlayToTheEnd scripts history → AllByRecursion (λ e. is_call_of h e.kind ≡ true)
+    (log_of history)
 calls_fit h scripts history sound is_legal_ played =
     let legal = legal_events (cells_of h) history is_legal_ in
     (turned h [] (log_of history) (subst (AreCallsOf h) (sym (newest_log history))

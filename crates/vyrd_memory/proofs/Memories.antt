@@ -1,5 +1,6 @@
 -- What it says of a memory that it represents a state.
-use Rattle.std.proofs.Common.{◌≡◌, ℕ, ◌+◌, ◌<◌, ◌≤◌, Bool, true, false, cond, length, map, Some, refl, ap, ◌∙◌, sym, subst, arith, rules}
+use Rattle.std.proofs.Common.{◌≡◌, ℕ, ◌+◌, ◌<◌, ◌≤◌, Bool, true, false, cond, length, map, Some}
+use Rattle.std.proofs.Common.{refl, ap, ◌∙◌, sym, subst, arith, rules}
 use Rattle.std.specs.Prelude.{◌==◌, ◌≢◌, ◌&&◌, drop, slice_index}
 use Rattle.std.specs.Bool.{then_some}
 use Rattle.std.specs.List.{list_all}
@@ -20,11 +21,13 @@ use Rattle.vyrd_memory.proofs.NumberLists.{element_below, drop-from, all_pass}
 -- the words are sound, the locks are free, and the state is what the words show
 pub record Represents (h : Header) (memory : Memory) (state : Amounts) : Type 0 where
   pub sound : is_sound h.subject h.size (words_in h memory) ≡ true
-  pub free : (lock : ℕ) → plain_words h ≤ lock → lock < plain_words h + lock_words h → memory lock ≡ 0
+  pub free : (lock : ℕ) → plain_words h ≤ lock → lock < plain_words h + lock_words h → memory lock
+      ≡ 0
   pub shows : view_of_words h (words_in h memory) ≡ state
 
 -- a plain word or a lock among the words
-pub word_at : (h : Header) (memory : Memory) (cell : ℕ) → cell < plain_words h + lock_words h → slice_index (words_in h memory) cell ≡ memory cell
+pub word_at : (h : Header) (memory : Memory) (cell : ℕ) → cell < plain_words h + lock_words h
+    → slice_index (words_in h memory) cell ≡ memory cell
 word_at h memory cell low = element_below memory (plain_words h + lock_words h) cell low
 
 -- the test by which a lock is free
@@ -32,65 +35,85 @@ abbrev pub is_free : ℕ → Bool
 is_free lock = lock == 0
 
 free_list : (memory : Memory) (k n : ℕ)
-    → list_all is_free (map memory (numbers_from k n)) ≡ list_all (λ lock. is_free (memory lock)) (numbers_from k n)
+    → list_all is_free (map memory (numbers_from k n)) ≡ list_all (λ lock. is_free (memory lock))
+    (numbers_from k n)
 free_list memory k n = list_all-map is_free memory (numbers_from k n)
 
-locks_are : (h : Header) (memory : Memory) → drop (plain_words h) (words_in h memory) ≡ map memory (numbers_from (plain_words h) (lock_words h))
+locks_are : (h : Header) (memory : Memory) → drop (plain_words h) (words_in h memory)
+    ≡ map memory (numbers_from (plain_words h) (lock_words h))
 locks_are h memory =
     let e : 0 + plain_words h ≡ plain_words h = omega arith in
-    drop-from memory 0 (plain_words h) (lock_words h) ∙ ap (λ k. map memory (numbers_from k (lock_words h))) e
+    drop-from memory 0 (plain_words h) (lock_words h)
+    ∙ ap (λ k. map memory (numbers_from k (lock_words h))) e
 
 zero_of : (n : ℕ) → is_free n ≡ true → n ≡ 0
 zero_of n e = grind (arith, nat_tests)
 
 -- the words are as many as the header says
-right_length : (h : Header) (memory : Memory) → (length (words_in h memory) == plain_words h + lock_words h) ≡ true
+right_length : (h : Header) (memory : Memory)
+    → (length (words_in h memory) == plain_words h + lock_words h) ≡ true
 right_length h memory =
-    let is : length (words_in h memory) ≡ plain_words h + lock_words h = length-mapped memory 0 (plain_words h + lock_words h) in
+    let is : length (words_in h memory) ≡ plain_words h + lock_words h = length-mapped memory 0
+    (plain_words h + lock_words h) in
     grind (arith, nat_tests)
 
 -- what a memory that represents a state is
-pub represents : (h : Header) (memory : Memory) (state : Amounts) → state_in h memory ≡ Some state → Represents h memory state
+pub represents : (h : Header) (memory : Memory) (state : Amounts) → state_in h memory ≡ Some state
+    → Represents h memory state
 unfolding state_of_words
 represents h memory state e = record {
-  sound = first_true (is_sound h.subject h.size (words_in h memory)) (list_all is_free (drop (plain_words h) (words_in h memory))) both;
-  free = λ lock from to. zero_of (memory lock) (all_pass (λ lock. is_free (memory lock)) (plain_words h) (lock_words h) free lock from to);
+  sound = first_true (is_sound h.subject h.size (words_in h memory))
+      (list_all is_free (drop (plain_words h) (words_in h memory))) both;
+  free = λ lock from to. zero_of (memory lock)
+      (all_pass (λ lock. is_free (memory lock)) (plain_words h) (lock_words h) free lock from to);
   shows = all.1;
 }
   where
     all : ((length (words_in h memory) == plain_words h + lock_words h
-        && (is_sound h.subject h.size (words_in h memory) && list_all is_free (drop (plain_words h) (words_in h memory)))) ≡ true)
+        && (is_sound h.subject h.size (words_in h memory) && list_all is_free
+        (drop (plain_words h) (words_in h memory)))) ≡ true)
         × (view_of_words h (words_in h memory) ≡ state)
     all = then_some_true _ (view_of_words h (words_in h memory)) state e
 
-    both : (is_sound h.subject h.size (words_in h memory) && list_all is_free (drop (plain_words h) (words_in h memory))) ≡ true
+    both : (is_sound h.subject h.size (words_in h memory) && list_all is_free
+        (drop (plain_words h) (words_in h memory))) ≡ true
     both = second_true (length (words_in h memory) == plain_words h + lock_words h) _ all.0
 
-    free : list_all (λ lock. is_free (memory lock)) (numbers_from (plain_words h) (lock_words h)) ≡ true
+    free : list_all (λ lock. is_free (memory lock)) (numbers_from (plain_words h) (lock_words h))
+        ≡ true
     free =
-        sym (ap (list_all is_free) (locks_are h memory) ∙ free_list memory (plain_words h) (lock_words h))
-        ∙ second_true (is_sound h.subject h.size (words_in h memory)) (list_all is_free (drop (plain_words h) (words_in h memory))) both
+        sym (ap (list_all is_free) (locks_are h memory) ∙ free_list memory (plain_words h)
+        (lock_words h))
+        ∙ second_true (is_sound h.subject h.size (words_in h memory))
+        (list_all is_free (drop (plain_words h) (words_in h memory))) both
 
 -- a memory that is so represents the state
-pub represented : (h : Header) (memory : Memory) (state : Amounts) → Represents h memory state → state_in h memory ≡ Some state
+pub represented : (h : Header) (memory : Memory) (state : Amounts) → Represents h memory state
+    → state_in h memory ≡ Some state
 unfolding state_of_words
 represented h memory state s =
-    ap (λ b. then_some b (view_of_words h (words_in h memory))) (both_true _ _ (right_length h memory) (both_true _ _ s.sound free)) ∙ ap Some s.shows
+    ap (λ b. then_some b (view_of_words h (words_in h memory)))
+    (both_true _ _ (right_length h memory) (both_true _ _ s.sound free)) ∙ ap Some s.shows
   where
     free : list_all is_free (drop (plain_words h) (words_in h memory)) ≡ true
-    free = ap (list_all is_free) (locks_are h memory) ∙ free_list memory (plain_words h) (lock_words h)
-        ∙ pass_all (λ lock. is_free (memory lock)) (plain_words h) (lock_words h) (λ lock from to. ap is_free (s.free lock from to))
+    free = ap (list_all is_free) (locks_are h memory) ∙ free_list memory (plain_words h)
+        (lock_words h)
+        ∙ pass_all (λ lock. is_free (memory lock)) (plain_words h) (lock_words h)
+        (λ lock from to. ap is_free (s.free lock from to))
 
 -- the state that a memory represents is a map
-pub is_amounts : (h : Header) (memory : Memory) (state : Amounts) → Represents h memory state → IsAmounts state
+pub is_amounts : (h : Header) (memory : Memory) (state : Amounts) → Represents h memory state
+    → IsAmounts state
 unfolding view_of_words
-is_amounts h memory state s = subst IsAmounts s.shows (IsAmounts-collected (parts_of h.subject h.size (words_in h memory)))
+is_amounts h memory state s = subst IsAmounts s.shows
+    (IsAmounts-collected (parts_of h.subject h.size (words_in h memory)))
 
 -- the cell that was changed, and every other cell
 pub changed_cell : (memory : Memory) (cell value : ℕ) → with_cell memory cell value cell ≡ value
 changed_cell memory cell value = search rules
 
-pub other_cell : (memory : Memory) (cell value other : ℕ) → other ≢ cell → with_cell memory cell value other ≡ memory other
+pub other_cell : (memory : Memory) (cell value other : ℕ) → other ≢ cell
+    → with_cell memory cell value other ≡ memory other
 other_cell memory cell value other apart = by_place (other == cell) refl
   where
     by_place : (b : Bool) → (other == cell) ≡ b → with_cell memory cell value other ≡ memory other

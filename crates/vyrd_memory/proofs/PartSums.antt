@@ -1,5 +1,6 @@
 -- What parts give to a key where the part of one number changes.
-use Rattle.std.proofs.Common.{◌≡◌, ℕ, zero, suc, ◌+◌, ◌<◌, ◌≤◌, Bool, true, false, List, refl, ap, ◌∙◌, arith}
+use Rattle.std.proofs.Common.{◌≡◌, ℕ, zero, suc, ◌+◌, ◌<◌, ◌≤◌, Bool, true, false, List, refl, ap}
+use Rattle.std.proofs.Common.{◌∙◌, arith}
 use Rattle.std.specs.Prelude.{◌≢◌, ◌==◌, flat_map}
 use Rattle.std.proofs.lemmas.Bool.Decides.{nat_tests}
 use Rattle.vyrd_base.specs.Places.{numbers_from}
@@ -9,19 +10,25 @@ use Rattle.vyrd_base.proofs.SumLaws.{given-append, amount_of-collected, IsAmount
 use Rattle.vyrd_memory.proofs.NumberLists.{flat_map_alike}
 
 -- the part of number i changes from f i to g i, and no other
-pub given-changed : (f g : ℕ → List (ℕ × ℕ)) (q k n i : ℕ) → k ≤ i → i < k + n → ((j : ℕ) → k ≤ j → j < k + n → j ≢ i → f j ≡ g j)
-    → given q (flat_map g (numbers_from k n)) + given q (f i) ≡ given q (flat_map f (numbers_from k n)) + given q (g i)
+pub given-changed : (f g : ℕ → List (ℕ × ℕ)) (q k n i : ℕ) → k ≤ i → i < k + n
+    → ((j : ℕ) → k ≤ j → j < k + n → j ≢ i → f j ≡ g j)
+    → given q (flat_map g (numbers_from k n)) + given q (f i)
+    ≡ given q (flat_map f (numbers_from k n)) + given q (g i)
 given-changed f g q k zero i from to same = absurd (omega (arith, from, to))
 given-changed f g q k (suc n) i from to same =
-    by_place (k == i) refl (λ apart. given-changed f g q (k + 1) n i (omega arith) (omega arith) (λ j low high. same j (omega arith) (omega arith)))
+    by_place (k == i) refl (λ apart. given-changed f g q (k + 1) n i (omega arith) (omega arith)
+    (λ j low high. same j (omega arith) (omega arith)))
   where
     by_place : (b : Bool) → (k == i) ≡ b
-        → (k ≢ i → given q (flat_map g (numbers_from (k + 1) n)) + given q (f i) ≡ given q (flat_map f (numbers_from (k + 1) n)) + given q (g i))
-        → given q (flat_map g (numbers_from k (suc n))) + given q (f i) ≡ given q (flat_map f (numbers_from k (suc n))) + given q (g i)
+        → (k ≢ i → given q (flat_map g (numbers_from (k + 1) n)) + given q (f i)
+        ≡ given q (flat_map f (numbers_from (k + 1) n)) + given q (g i))
+        → given q (flat_map g (numbers_from k (suc n))) + given q (f i)
+        ≡ given q (flat_map f (numbers_from k (suc n))) + given q (g i)
     by_place true e later =
         let here : i ≡ k = grind (arith, nat_tests) in
         let rest : flat_map f (numbers_from (k + 1) n) ≡ flat_map g (numbers_from (k + 1) n) =
-        flat_map_alike f g (k + 1) n (λ j low high. same j (omega arith) (omega arith) (omega arith)) in
+        flat_map_alike f g (k + 1) n
+        (λ j low high. same j (omega arith) (omega arith) (omega arith)) in
         omega (
           arith,
           ap (λ j. given q (f j)) here,
@@ -41,5 +48,7 @@ given-changed f g q k (suc n) i from to same =
         )
 
 -- the amounts of parts are those of a list of amounts where each key is given as much
-pub collected-is : (parts : List (ℕ × ℕ)) (s : Amounts) → IsAmounts s → ((q : ℕ) → given q parts ≡ amount_of s q) → collected parts ≡ s
-collected-is parts s is same = same_amounts (collected parts) s (IsAmounts-collected parts) is (λ q. amount_of-collected parts q ∙ same q)
+pub collected-is : (parts : List (ℕ × ℕ)) (s : Amounts) → IsAmounts s
+    → ((q : ℕ) → given q parts ≡ amount_of s q) → collected parts ≡ s
+collected-is parts s is same = same_amounts (collected parts) s (IsAmounts-collected parts) is
+    (λ q. amount_of-collected parts q ∙ same q)

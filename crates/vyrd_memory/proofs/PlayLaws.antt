@@ -1,7 +1,9 @@
 -- One event of a run by turns, in the plain memory and in the history.
-use Rattle.std.proofs.Common.{◌≡◌, ℕ, zero, suc, ◌+◌, ◌<◌, ◌^◌, Bool, true, false, cond, not, ◌&&◌, List, [], ◌∷◌, ◌++◌, map, Option, Some, None, refl, ap, ◌∙◌, sym}
+use Rattle.std.proofs.Common.{◌≡◌, ℕ, zero, suc, ◌+◌, ◌<◌, ◌^◌, Bool, true, false, cond, not, ◌&&◌}
+use Rattle.std.proofs.Common.{List, [], ◌∷◌, ◌++◌, map, Option, Some, None, refl, ap, ◌∙◌, sym}
 use Rattle.std.proofs.Common.{subst, arith}
-use Rattle.std.specs.Prelude.{◌≢◌, ◌==◌, nat_lt, nat_le, is_some, length, slice_get, slice_index, set, unwrap_or}
+use Rattle.std.specs.Prelude.{◌≢◌, ◌==◌, nat_lt, nat_le, is_some, length, slice_get, slice_index}
+use Rattle.std.specs.Prelude.{set, unwrap_or}
 use Rattle.std.specs.Option.{option_or}
 use Rattle.std.specs.List.{cons_option}
 use Rattle.std.proofs.lemmas.Bool.Decides.{nat_tests}
@@ -20,10 +22,12 @@ use Rattle.vyrd_base.proofs.PlaceLaws.{newest_first-push, length-newest_first, m
 use Rattle.vyrd_base.proofs.TestLaws.{first_true, second_true, same_number}
 use Rattle.vyrd_memory.specs.declared.act.Act.{Act}
 use Rattle.vyrd_memory.specs.declared.act.Act.TheVariants.{Load, Store, Take, Give, Mark, Done}
-use Rattle.vyrd_memory.specs.Scripts.{Script, stop, step, next_act, after_answer, answer_of, left_after}
+use Rattle.vyrd_memory.specs.Scripts.{Script, stop, step, next_act, after_answer, answer_of}
+use Rattle.vyrd_memory.specs.Scripts.{left_after}
 use Rattle.vyrd_memory.specs.Soundness.{Situation, IsSound, IsSoundSomewhere, may_act, holds}
 use Rattle.vyrd_memory.specs.Turns.{part_of, script_of, act_of, event_now, with_event, after_turn}
-use Rattle.vyrd_memory.specs.Playing.{event_in, words_with, IsWithin, IsReady, IsPlaying, HasPlayed, scene, memory_after, total}
+use Rattle.vyrd_memory.specs.Playing.{event_in, words_with, IsWithin, IsReady, IsPlaying, HasPlayed}
+use Rattle.vyrd_memory.specs.Playing.{scene, memory_after, total}
 use Rattle.vyrd_memory.proofs.NumberLists.{element_below}
 
 -- the same as `IsWithin`, as a test
@@ -38,20 +42,24 @@ within_test n Done = true
 plain_within : (p l cell : ℕ) → nat_lt cell p ≡ true → nat_lt cell (p + l) ≡ true
 plain_within p l cell e = grind (arith, nat_tests)
 
-may_within : (h : Header) (s : Situation) (act : Act) → may_act h s act ≡ true → within_test (plain_words h + lock_words h) act ≡ true
+may_within : (h : Header) (s : Situation) (act : Act) → may_act h s act ≡ true
+    → within_test (plain_words h + lock_words h) act ≡ true
 unfolding within_test
 may_within h s (Load cell) may = plain_within (plain_words h) (lock_words h) cell may
 may_within h s (Store cell value) may =
     let both : (nat_lt cell (plain_words h) && nat_lt value (2 ^ 63))
-    ≡ true = first_true (is_plain (cells_of h) cell && nat_lt value (2 ^ 63)) (is_some s.called) may in
-    let low : nat_lt cell (plain_words h) ≡ true = first_true (nat_lt cell (plain_words h)) (nat_lt value (2 ^ 63)) both in
+    ≡ true = first_true (is_plain (cells_of h) cell && nat_lt value (2 ^ 63))
+    (is_some s.called) may in
+    let low : nat_lt cell (plain_words h) ≡ true = first_true (nat_lt cell (plain_words h))
+    (nat_lt value (2 ^ 63)) both in
     ap (λ b. b && nat_lt value (2 ^ 63)) (plain_within (plain_words h) (lock_words h) cell low)
     ∙ second_true (nat_lt cell (plain_words h)) (nat_lt value (2 ^ 63)) both
 may_within h s (Take lock) may =
     second_true (nat_le (plain_words h) lock) (nat_lt lock (plain_words h + lock_words h))
     (first_true (is_lock (cells_of h) lock) (not (holds s lock)) may)
 may_within h s (Give lock) may =
-    second_true (nat_le (plain_words h) lock) (nat_lt lock (plain_words h + lock_words h)) (first_true (is_lock (cells_of h) lock) (holds s lock) may)
+    second_true (nat_le (plain_words h) lock) (nat_lt lock (plain_words h + lock_words h))
+    (first_true (is_lock (cells_of h) lock) (holds s lock) may)
 may_within h s (Mark kind) may = refl
 may_within h s Done may = refl
 
@@ -76,18 +84,23 @@ sound_within h stop sound = refl
 sound_within h (step act rest) sound = may_within h sound.0 act sound.1.0
 
 -- what a sound script does next keeps to its memory
-pub within : (h : Header) (script : Script) (n : ℕ) → n ≡ plain_words h + lock_words h → IsSoundSomewhere h script → IsWithin n (next_act script)
+pub within : (h : Header) (script : Script) (n : ℕ) → n ≡ plain_words h + lock_words h
+    → IsSoundSomewhere h script → IsWithin n (next_act script)
 within h script n e sound =
     subst (λ n. IsWithin n (next_act script)) (sym e)
-    (tested (plain_words h + lock_words h) (next_act script) (∥∥₁_elim sound (Bool-set _ _) (sound_within h script)))
+    (tested (plain_words h + lock_words h) (next_act script)
+    (∥∥₁_elim sound (Bool-set _ _) (sound_within h script)))
 
 -- an act finds in the memory what it finds in the history
-pub same_event : (h : Header) (earlier : List Stamped) (act : Act) → IsWithin (plain_words h + lock_words h) act
+pub same_event : (h : Header) (earlier : List Stamped) (act : Act)
+    → IsWithin (plain_words h + lock_words h) act
     → event_in (memory_after h earlier) act ≡ event_now earlier act
-same_event h earlier (Load cell) is = ap (λ value. Some (Read cell value)) (element_below (value_in earlier) (plain_words h + lock_words h) cell is)
+same_event h earlier (Load cell) is = ap (λ value. Some (Read cell value))
+    (element_below (value_in earlier) (plain_words h + lock_words h) cell is)
 same_event h earlier (Store cell value) is = refl
 same_event h earlier (Take lock) is =
-    ap (λ value. cond (value == 0) (Some (Took lock)) None) (element_below (value_in earlier) (plain_words h + lock_words h) lock is)
+    ap (λ value. cond (value == 0) (Some (Took lock)) None)
+    (element_below (value_in earlier) (plain_words h + lock_words h) lock is)
 same_event h earlier (Give lock) is = refl
 same_event h earlier (Mark kind) is = refl
 same_event h earlier Done is = refl
@@ -103,29 +116,41 @@ set_from f g k (suc n) zero v low is same =
 set_from f g k (suc n) (suc i) v low is same =
     let there : k + 1 + i ≡ k + suc i = omega arith in
     ap (λ x. x ∷ set (map f (numbers_from (k + 1) n)) i v) (same k (omega arith))
-    ∙ ap (λ xs. g k ∷ xs) (set_from f g (k + 1) n i v (omega arith) (ap g there ∙ is) (λ j apart. same j (omega arith)))
+    ∙ ap (λ xs. g k ∷ xs)
+    (set_from f g (k + 1) n i v (omega arith) (ap g there ∙ is) (λ j apart. same j (omega arith)))
 
 -- the value of a cell after an event that makes it so, and of every other cell
-made_here : (n cell value : ℕ) (o : Option ℕ) → n ≡ cell → unwrap_or (option_or (cond (cell == n) (Some value) None) o) 0 ≡ value
-made_here n cell value o e = ap (λ b. unwrap_or (option_or (cond b (Some value) None) o) 0) (ap (λ n. cell == n) e ∙ same_number cell)
+made_here : (n cell value : ℕ) (o : Option ℕ) → n ≡ cell
+    → unwrap_or (option_or (cond (cell == n) (Some value) None) o) 0 ≡ value
+made_here n cell value o e = ap (λ b. unwrap_or (option_or (cond b (Some value) None) o) 0)
+    (ap (λ n. cell == n) e ∙ same_number cell)
 
-made_there : (n cell value : ℕ) (o : Option ℕ) → n ≢ cell → unwrap_or o 0 ≡ unwrap_or (option_or (cond (cell == n) (Some value) None) o) 0
+made_there : (n cell value : ℕ) (o : Option ℕ) → n ≢ cell → unwrap_or o 0
+    ≡ unwrap_or (option_or (cond (cell == n) (Some value) None) o) 0
 made_there n cell value o apart = by_place (cell == n) refl
   where
-    by_place : (b : Bool) → (cell == n) ≡ b → unwrap_or o 0 ≡ unwrap_or (option_or (cond b (Some value) None) o) 0
+    by_place : (b : Bool) → (cell == n) ≡ b → unwrap_or o 0
+        ≡ unwrap_or (option_or (cond b (Some value) None) o) 0
     by_place true e = let same : n ≡ cell = grind (arith, nat_tests) in absurd (apart same)
     by_place false e = refl
 
-changed_memory : (h : Header) (e : Stamped) (earlier : List Stamped) (cell value : ℕ) → cell < plain_words h + lock_words h
+changed_memory : (h : Header) (e : Stamped) (earlier : List Stamped) (cell value : ℕ)
+    → cell < plain_words h + lock_words h
     → ((n : ℕ) → made_of n e.caller e.did ≡ cond (cell == n) (Some value) None)
     → set (memory_after h earlier) cell value ≡ memory_after h (e ∷ earlier)
 changed_memory h e earlier cell value low made =
     let here : 0 + cell ≡ cell = omega arith in
-    set_from (value_in earlier) (value_in (e ∷ earlier)) 0 (plain_words h + lock_words h) cell value low
-    (ap (λ o. unwrap_or (option_or o (first_answer (λ e. made_of (0 + cell) e.caller e.did) earlier)) 0) (made (0 + cell))
-    ∙ made_here (0 + cell) cell value (first_answer (λ e. made_of (0 + cell) e.caller e.did) earlier) here)
-    (λ j apart. made_there j cell value (first_answer (λ e. made_of j e.caller e.did) earlier) (λ e. apart (e ∙ sym here))
-    ∙ ap (λ o. unwrap_or (option_or o (first_answer (λ e. made_of j e.caller e.did) earlier)) 0) (sym (made j)))
+    set_from (value_in earlier) (value_in (e ∷ earlier)) 0 (plain_words h + lock_words h) cell value
+    low
+    (ap (λ o. unwrap_or
+    (option_or o (first_answer (λ e. made_of (0 + cell) e.caller e.did) earlier)) 0)
+    (made (0 + cell))
+    ∙ made_here (0 + cell) cell value
+    (first_answer (λ e. made_of (0 + cell) e.caller e.did) earlier) here)
+    (λ j apart. made_there j cell value (first_answer (λ e. made_of j e.caller e.did) earlier)
+    (λ e. apart (e ∙ sym here))
+    ∙ ap (λ o. unwrap_or (option_or o (first_answer (λ e. made_of j e.caller e.did) earlier)) 0)
+    (sym (made j)))
 
 -- what an event has to keep to: that of an act that keeps to the memory
 WithinMemory : ℕ → Did → Type 0
@@ -135,43 +160,55 @@ WithinMemory n (Took lock) = lock < n
 WithinMemory n (Gave lock) = lock < n
 WithinMemory n (Marked kind) = Unit {0}
 
-event_within : (n : ℕ) (words : List ℕ) (act : Act) (did : Did) → IsWithin n act → event_in words act ≡ Some did → WithinMemory n did
+event_within : (n : ℕ) (words : List ℕ) (act : Act) (did : Did) → IsWithin n act
+    → event_in words act ≡ Some did → WithinMemory n did
 unfolding WithinMemory
-event_within n words (Load cell) did is e = subst (WithinMemory n) (same_Some (Read cell (slice_index words cell)) did e) is
-event_within n words (Store cell value) did is e = subst (WithinMemory n) (same_Some (Wrote cell value) did e) is
+event_within n words (Load cell) did is e = subst (WithinMemory n)
+    (same_Some (Read cell (slice_index words cell)) did e) is
+event_within n words (Store cell value) did is e = subst (WithinMemory n)
+    (same_Some (Wrote cell value) did e) is
 event_within n words (Take lock) did is e = by_value (slice_index words lock == 0) e
   where
     by_value : (b : Bool) → cond b (Some (Took lock)) None ≡ Some did → WithinMemory n did
     by_value true e = subst (WithinMemory n) (same_Some (Took lock) did e) is
     by_value false e = cc
 event_within n words (Give lock) did is e = subst (WithinMemory n) (same_Some (Gave lock) did e) is
-event_within n words (Mark kind) did is e = subst (WithinMemory n) (same_Some (Marked kind) did e) tt
+event_within n words (Mark kind) did is e = subst (WithinMemory n) (same_Some (Marked kind) did e)
+    tt
 event_within n words Done did is e = cc
 
-next_memory : (h : Header) (earlier : List Stamped) (number c : ℕ) (did : Did) → WithinMemory (plain_words h + lock_words h) did
-    → words_with (memory_after h earlier) c did ≡ memory_after h (record { number = number; caller = c; did = did } ∷ earlier)
+next_memory : (h : Header) (earlier : List Stamped) (number c : ℕ) (did : Did)
+    → WithinMemory (plain_words h + lock_words h) did
+    → words_with (memory_after h earlier) c did ≡ memory_after h
+    (record { number = number; caller = c; did = did } ∷ earlier)
 unfolding WithinMemory
 next_memory h earlier number c (Read cell value) is = refl
 next_memory h earlier number c (Wrote cell value) is =
-    changed_memory h (record { number = number; caller = c; did = Wrote cell value }) earlier cell value is.0 (λ n. refl)
+    changed_memory h (record { number = number; caller = c; did = Wrote cell value }) earlier cell
+    value is.0 (λ n. refl)
 next_memory h earlier number c (Took lock) is =
-    changed_memory h (record { number = number; caller = c; did = Took lock }) earlier lock (c + 1) is (λ n. refl)
+    changed_memory h (record { number = number; caller = c; did = Took lock }) earlier lock
+    (c + 1) is (λ n. refl)
 next_memory h earlier number c (Gave lock) is =
-    changed_memory h (record { number = number; caller = c; did = Gave lock }) earlier lock 0 is (λ n. refl)
+    changed_memory h (record { number = number; caller = c; did = Gave lock }) earlier lock 0 is
+    (λ n. refl)
 next_memory h earlier number c (Marked kind) is = refl
 
-small_set : (words : List ℕ) (i v : ℕ) → i < length words → v < 2 ^ 63 → ((cell : ℕ) → slice_index words cell < 2 ^ 63) → (cell : ℕ)
+small_set : (words : List ℕ) (i v : ℕ) → i < length words → v < 2 ^ 63
+    → ((cell : ℕ) → slice_index words cell < 2 ^ 63) → (cell : ℕ)
     → slice_index (set words i v) cell < 2 ^ 63
 small_set words i v low small all cell = by_place (cell == i) refl
   where
     by_place : (b : Bool) → (cell == i) ≡ b → slice_index (set words i v) cell < 2 ^ 63
     by_place true e =
-        let same : i ≡ cell = grind (arith, nat_tests) in subst (λ j. slice_index (set words i v) j < 2 ^ 63) same
+        let same : i ≡ cell = grind (arith, nat_tests) in
+        subst (λ j. slice_index (set words i v) j < 2 ^ 63) same
         (subst (λ x. x < 2 ^ 63) (sym (get_or-set_same words i v 0 low)) small)
     by_place false e = let apart : cell ≢ i = grind (arith, nat_tests) in
         subst (λ x. x < 2 ^ 63) (sym (get_or-set_other words i cell v 0 apart)) (all cell)
 
-next_small : (words : List ℕ) (c : ℕ) (did : Did) → c < 2 ^ 32 → WithinMemory (length words) did → ((cell : ℕ) → slice_index words cell < 2 ^ 63)
+next_small : (words : List ℕ) (c : ℕ) (did : Did) → c < 2 ^ 32 → WithinMemory (length words) did
+    → ((cell : ℕ) → slice_index words cell < 2 ^ 63)
     → (cell : ℕ) → slice_index (words_with words c did) cell < 2 ^ 63
 unfolding WithinMemory
 next_small words c (Read cell value) low is all = all
@@ -188,28 +225,36 @@ next_length words c (Gave lock) = length-set words lock 0
 next_length words c (Marked kind) = refl
 
 -- what stands in a list where one element was changed
-pub slice_get-set : {A : Type 0} (xs : List A) (c i : ℕ) (x : A) → c < length xs → slice_get (set xs c x) i ≡ cond (i == c) (Some x) (slice_get xs i)
+pub slice_get-set : {A : Type 0} (xs : List A) (c i : ℕ) (x : A) → c < length xs
+    → slice_get (set xs c x) i ≡ cond (i == c) (Some x) (slice_get xs i)
 slice_get-set [] c i x low = absurd (omega (arith, low))
 slice_get-set (y ∷ xs) zero zero x low = refl
-slice_get-set (y ∷ xs) zero (suc i) x low = let e : (suc i == 0) ≡ false = grind (arith, nat_tests) in
+slice_get-set (y ∷ xs) zero (suc i) x low = let e : (suc i == 0)
+    ≡ false = grind (arith, nat_tests) in
     ap (λ b. cond b (Some x) (slice_get xs i)) (sym e)
-slice_get-set (y ∷ xs) (suc c) zero x low = let e : (0 == suc c) ≡ false = grind (arith, nat_tests) in ap (λ b. cond b (Some x) (Some y)) (sym e)
+slice_get-set (y ∷ xs) (suc c) zero x low = let e : (0 == suc c)
+    ≡ false = grind (arith, nat_tests) in ap (λ b. cond b (Some x) (Some y)) (sym e)
 slice_get-set (y ∷ xs) (suc c) (suc i) x low =
-    let e : (suc i == suc c) ≡ (i == c) = grind (arith, nat_tests) in slice_get-set xs c i x (omega arith)
+    let e : (suc i == suc c) ≡ (i == c) = grind (arith, nat_tests) in slice_get-set xs c i x
+    (omega arith)
     ∙ ap (λ b. cond b (Some x) (slice_get xs i)) (sym e)
 
-total-set : {M : Type 0} (ahead : M → ℕ) (machines : List M) (c : ℕ) (m n : M) → slice_get machines c ≡ Some m
+total-set : {M : Type 0} (ahead : M → ℕ) (machines : List M) (c : ℕ) (m n : M)
+    → slice_get machines c ≡ Some m
     → total ahead (set machines c n) + ahead m ≡ total ahead machines + ahead n
 total-set ahead [] c m n is = cc
-total-set ahead (x ∷ machines) zero m n is = let same : x ≡ m = same_Some x m is in omega (arith, ap ahead same)
+total-set ahead (x ∷ machines) zero m n is = let same : x ≡ m = same_Some x m is in
+    omega (arith, ap ahead same)
 total-set ahead (x ∷ machines) (suc c) m n is = omega (arith, total-set ahead machines c m n is)
 
-pub total_falls : {M : Type 0} (ahead : M → ℕ) (machines : List M) (c : ℕ) (m n : M) → slice_get machines c ≡ Some m → ahead n < ahead m
+pub total_falls : {M : Type 0} (ahead : M → ℕ) (machines : List M) (c : ℕ) (m n : M)
+    → slice_get machines c ≡ Some m → ahead n < ahead m
     → total ahead (set machines c n) < total ahead machines
 total_falls ahead machines c m n is falls = omega (arith, total-set ahead machines c m n is, falls)
 
 -- what is known of a turn that makes an event
-pub record IsTurn {M : Type 0} (h : Header) (header_of : M → Header) (script : M → Script) (machines : List M) (c : ℕ) (m n : M) (words : List ℕ)
+pub record IsTurn {M : Type 0} (h : Header) (header_of : M → Header) (script : M → Script)
+    (machines : List M) (c : ℕ) (m n : M) (words : List ℕ)
     (did : Did) : Type 0 where
   pub ready : IsReady h header_of machines words
   pub caller : c < 2 ^ 32
@@ -222,52 +267,68 @@ pub record IsTurn {M : Type 0} (h : Header) (header_of : M → Header) (script :
 -- the act keeps to the memory
 turn_within : {M : Type 0} (h : Header) (header_of : M → Header) (script : M
     → Script) (machines : List M) (c : ℕ) (m n : M) (words : List ℕ) (did : Did)
-    → IsTurn h header_of script machines c m n words did → IsWithin (plain_words h + lock_words h) (next_act (script m))
+    → IsTurn h header_of script machines c m n words did → IsWithin (plain_words h + lock_words h)
+    (next_act (script m))
 turn_within h header_of script machines c m n words did t =
-    within h (script m) (plain_words h + lock_words h) refl (subst (λ h. IsSoundSomewhere h (script m)) (t.ready.made c m t.here) t.sound)
+    within h (script m) (plain_words h + lock_words h) refl
+    (subst (λ h. IsSoundSomewhere h (script m)) (t.ready.made c m t.here) t.sound)
 
 turn_did_within : {M : Type 0} (h : Header) (header_of : M → Header) (script : M
     → Script) (machines : List M) (c : ℕ) (m n : M) (words : List ℕ) (did : Did)
-    → IsTurn h header_of script machines c m n words did → WithinMemory (plain_words h + lock_words h) did
+    → IsTurn h header_of script machines c m n words did
+    → WithinMemory (plain_words h + lock_words h) did
 turn_did_within h header_of script machines c m n words did t =
-    event_within (plain_words h + lock_words h) words (next_act (script m)) did (turn_within h header_of script machines c m n words did t) t.event
+    event_within (plain_words h + lock_words h) words (next_act (script m)) did
+    (turn_within h header_of script machines c m n words did t) t.event
 
 pub next_ready : {M : Type 0} (h : Header) (header_of : M → Header) (script : M
     → Script) (machines : List M) (c : ℕ) (m n : M) (words : List ℕ) (did : Did)
-    → IsTurn h header_of script machines c m n words did → IsReady h header_of (set machines c n) (words_with words c did)
+    → IsTurn h header_of script machines c m n words did → IsReady h header_of (set machines c n)
+    (words_with words c did)
 next_ready h header_of script machines c m n words did t = record {
-  made = λ i x is. by_place i x (i == c) (sym (slice_get-set machines c i n (slice_get_within machines c m t.here)) ∙ is);
+  made = λ i x is. by_place i x (i == c)
+      (sym (slice_get-set machines c i n (slice_get_within machines c m t.here)) ∙ is);
   room = next_length words c did ∙ t.ready.room;
   small =
       next_small words c did t.caller
-      (subst (λ k. WithinMemory k did) (sym t.ready.room) (turn_did_within h header_of script machines c m n words did t)) t.ready.small;
+      (subst (λ k. WithinMemory k did) (sym t.ready.room)
+      (turn_did_within h header_of script machines c m n words did t)) t.ready.small;
 }
   where
-    by_place : (i : ℕ) (x : _) (b : Bool) → cond b (Some n) (slice_get machines i) ≡ Some x → header_of x ≡ h
-    by_place i x true is = ap header_of (sym (same_Some n x is)) ∙ t.header ∙ t.ready.made c m t.here
+    by_place : (i : ℕ) (x : _) (b : Bool) → cond b (Some n) (slice_get machines i) ≡ Some x
+        → header_of x ≡ h
+    by_place i x true is = ap header_of (sym (same_Some n x is)) ∙ t.header
+        ∙ t.ready.made c m t.here
     by_place i x false is = t.ready.made i x is
 
 -- the caller's part has one event more, and the others' are as before
 part_here : (c number : ℕ) (did : Did) (earlier : List Stamped)
-    → part_of c (record { number = number; caller = c; did = did } ∷ earlier) ≡ did ∷ part_of c earlier
-part_here c number did earlier = ap (λ b. cons_option (cond b (Some did) None) (part_of c earlier)) (same_number c)
+    → part_of c (record { number = number; caller = c; did = did } ∷ earlier) ≡ did
+    ∷ part_of c earlier
+part_here c number did earlier = ap (λ b. cons_option (cond b (Some did) None) (part_of c earlier))
+    (same_number c)
 
 pub part_there : (i c number : ℕ) (did : Did) (earlier : List Stamped) → (c == i) ≡ false
     → part_of i (record { number = number; caller = c; did = did } ∷ earlier) ≡ part_of i earlier
-part_there i c number did earlier apart = ap (λ b. cons_option (cond b (Some did) None) (part_of i earlier)) apart
+part_there i c number did earlier apart =
+    ap (λ b. cons_option (cond b (Some did) None) (part_of i earlier)) apart
 
 pub next_playing : {M : Type 0} (h : Header) (header_of : M → Header) (script : M
     → Script) (machines : List M) (c number : ℕ) (m n : M) (words : List ℕ)
     (did : Did) (history : List Stamped)
-    → IsTurn h header_of script machines c m n words did → (scripts : List Script) → IsPlaying h script scripts machines words history
-    → IsPlaying h script scripts (set machines c n) (words_with words c did) (history ++ record { number = number; caller = c; did = did } ∷ [])
+    → IsTurn h header_of script machines c m n words did → (scripts : List Script)
+    → IsPlaying h script scripts machines words history
+    → IsPlaying h script scripts (set machines c n) (words_with words c did)
+    (history ++ record { number = number; caller = c; did = did } ∷ [])
 next_playing h header_of script machines c number m n words did history t scripts playing = record {
   count = length-set machines c n ∙ playing.count;
   left =
       λ i x is. ap_left i (newest_first-push history event)
-      (by_place i x (i == c) refl (sym (slice_get-set machines c i n (slice_get_within machines c m t.here)) ∙ is));
+      (by_place i x (i == c) refl
+      (sym (slice_get-set machines c i n (slice_get_within machines c m t.here)) ∙ is));
   words_are = ap (λ words. words_with words c did) playing.words_are
-      ∙ next_memory h (newest_first history) number c did (turn_did_within h header_of script machines c m n words did t)
+      ∙ next_memory h (newest_first history) number c did
+      (turn_did_within h header_of script machines c m n words did t)
       ∙ ap (memory_after h) (sym (newest_first-push history event));
 }
   where
@@ -275,35 +336,46 @@ next_playing h header_of script machines c number m n words did history t script
     event = record { number = number; caller = c; did = did }
 
     ap_left : (i : ℕ) {s : Script} {later : List Stamped} → later ≡ event ∷ newest_first history
-        → s ≡ left_after (script_of scripts i) (part_of i (event ∷ newest_first history)) → s ≡ left_after (script_of scripts i) (part_of i later)
+        → s ≡ left_after (script_of scripts i) (part_of i (event ∷ newest_first history))
+        → s ≡ left_after (script_of scripts i) (part_of i later)
     ap_left i e is = is ∙ ap (λ later. left_after (script_of scripts i) (part_of i later)) (sym e)
 
-    by_place : (i : ℕ) (x : _) (b : Bool) → (i == c) ≡ b → cond b (Some n) (slice_get machines i) ≡ Some x
+    by_place : (i : ℕ) (x : _) (b : Bool) → (i == c) ≡ b → cond b (Some n) (slice_get machines i)
+        ≡ Some x
         → script x ≡ left_after (script_of scripts i) (part_of i (event ∷ newest_first history))
     by_place i x true e is =
         let same : i ≡ c = grind (arith, nat_tests) in
-        ap script (sym (same_Some n x is)) ∙ t.script_is ∙ ap (λ s. after_answer s (answer_of did)) (playing.left c m t.here)
-        ∙ ap (λ part. left_after (script_of scripts c) part) (sym (part_here c number did (newest_first history)))
-        ∙ ap (λ i. left_after (script_of scripts i) (part_of i (event ∷ newest_first history))) (sym same)
+        ap script (sym (same_Some n x is)) ∙ t.script_is ∙ ap (λ s. after_answer s (answer_of did))
+        (playing.left c m t.here)
+        ∙ ap (λ part. left_after (script_of scripts c) part)
+        (sym (part_here c number did (newest_first history)))
+        ∙ ap (λ i. left_after (script_of scripts i) (part_of i (event ∷ newest_first history)))
+        (sym same)
     by_place i x false e is =
         let apart : (c == i) ≡ false = grind (arith, nat_tests) in
-        playing.left i x is ∙ ap (left_after (script_of scripts i)) (sym (part_there i c number did (newest_first history) apart))
+        playing.left i x is ∙ ap (left_after (script_of scripts i))
+        (sym (part_there i c number did (newest_first history) apart))
 
 -- the act of a machine is that of its caller
 pub act_is : {M : Type 0} (h : Header) (script : M
-    → Script) (scripts : List Script) (machines : List M) (words : List ℕ) (history : List Stamped) (c : ℕ) (m : M)
+    → Script) (scripts : List Script) (machines : List M) (words : List ℕ) (history : List Stamped)
+    (c : ℕ) (m : M)
     → IsPlaying h script scripts machines words history → slice_get machines c ≡ Some m
     → act_of scripts c (newest_first history) ≡ next_act (script m)
-act_is h script scripts machines words history c m playing here = ap next_act (sym (playing.left c m here))
+act_is h script scripts machines words history c m playing here = ap next_act
+    (sym (playing.left c m here))
 
 -- the event of a machine is that of its caller
 pub event_is : {M : Type 0} (h : Header) (script : M
-    → Script) (scripts : List Script) (machines : List M) (words : List ℕ) (history : List Stamped) (c : ℕ) (m : M)
+    → Script) (scripts : List Script) (machines : List M) (words : List ℕ) (history : List Stamped)
+    (c : ℕ) (m : M)
     → IsPlaying h script scripts machines words history → slice_get machines c ≡ Some m
     → IsWithin (plain_words h + lock_words h) (next_act (script m))
-    → event_now (newest_first history) (act_of scripts c (newest_first history)) ≡ event_in words (next_act (script m))
+    → event_now (newest_first history) (act_of scripts c (newest_first history)) ≡ event_in words
+    (next_act (script m))
 event_is h script scripts machines words history c m playing here is =
-    ap (event_now (newest_first history)) (act_is h script scripts machines words history c m playing here)
+    ap (event_now (newest_first history))
+    (act_is h script scripts machines words history c m playing here)
     ∙ sym (same_event h (newest_first history) (next_act (script m)) is)
     ∙ ap (λ words. event_in words (next_act (script m))) (sym playing.words_are)
 
@@ -311,59 +383,83 @@ event_is h script scripts machines words history c m playing here is =
 pub turn_is : {M : Type 0} (h : Header) (header_of : M → Header) (script : M
     → Script) (machines : List M) (c : ℕ) (m n : M) (words : List ℕ) (did : Did)
     (history : List Stamped)
-    → IsTurn h header_of script machines c m n words did → (scripts : List Script) → IsPlaying h script scripts machines words history
-    → newest_first (history ++ record { number = length history; caller = c; did = did } ∷ []) ≡ after_turn scripts c (newest_first history)
+    → IsTurn h header_of script machines c m n words did → (scripts : List Script)
+    → IsPlaying h script scripts machines words history
+    → newest_first (history ++ record { number = length history; caller = c; did = did } ∷ [])
+    ≡ after_turn scripts c (newest_first history)
 turn_is h header_of script machines c m n words did history t scripts playing =
     newest_first-push history (record { number = length history; caller = c; did = did })
-    ∙ ap (λ k. record { number = k; caller = c; did = did } ∷ newest_first history) (sym (length-newest_first history))
+    ∙ ap (λ k. record { number = k; caller = c; did = did } ∷ newest_first history)
+    (sym (length-newest_first history))
     ∙ ap (with_event c (newest_first history))
-    (sym (event_is h script scripts machines words history c m playing t.here (turn_within h header_of script machines c m n words did t) ∙ t.event))
+    (sym (event_is h script scripts machines words history c m playing t.here
+    (turn_within h header_of script machines c m n words did t) ∙ t.event))
 
 -- a turn without an event is too
 pub no_turn_is : {M : Type 0} (h : Header) (header_of : M → Header) (script : M
     → Script) (machines : List M) (c : ℕ) (m : M) (words : List ℕ) (history : List Stamped)
-    → IsReady h header_of machines words → slice_get machines c ≡ Some m → IsSoundSomewhere (header_of m) (script m)
+    → IsReady h header_of machines words → slice_get machines c ≡ Some m
+    → IsSoundSomewhere (header_of m) (script m)
     → event_in words (next_act (script m)) ≡ None
-    → (scripts : List Script) → IsPlaying h script scripts machines words history → newest_first history ≡ after_turn scripts c (newest_first history)
+    → (scripts : List Script) → IsPlaying h script scripts machines words history
+    → newest_first history ≡ after_turn scripts c (newest_first history)
 no_turn_is h header_of script machines c m words history ready here sound none scripts playing =
-    ap (with_event c (newest_first history)) (sym (event_is h script scripts machines words history c m playing here
-    (within h (script m) (plain_words h + lock_words h) refl (subst (λ h. IsSoundSomewhere h (script m)) (ready.made c m here) sound)) ∙ none))
+    ap (with_event c (newest_first history))
+    (sym (event_is h script scripts machines words history c m playing here
+    (within h (script m) (plain_words h + lock_words h) refl
+    (subst (λ h. IsSoundSomewhere h (script m)) (ready.made c m here) sound)) ∙ none))
 
 -- the act of a machine that is ready keeps to the memory
 pub machine_within : {M : Type 0} (h : Header) (header_of : M → Header) (script : M
     → Script) (machines : List M) (c : ℕ) (m : M) (words : List ℕ) (act : Act)
-    → IsReady h header_of machines words → slice_get machines c ≡ Some m → IsSoundSomewhere (header_of m) (script m) → act ≡ next_act (script m)
+    → IsReady h header_of machines words → slice_get machines c ≡ Some m
+    → IsSoundSomewhere (header_of m) (script m) → act ≡ next_act (script m)
     → IsWithin (length words) act
 machine_within h header_of script machines c m words act ready here sound is =
     subst (IsWithin (length words)) (sym is)
-    (within h (script m) (length words) ready.room (subst (λ h. IsSoundSomewhere h (script m)) (ready.made c m here) sound))
+    (within h (script m) (length words) ready.room
+    (subst (λ h. IsSoundSomewhere h (script m)) (ready.made c m here) sound))
 
 -- the turn that has been played
 pub turn_played : {M : Type 0} (h : Header) (header_of : M → Header) (script : M
     → Script) (machines : List M) (c : ℕ) (m n : M) (words later_words : List ℕ) (did : Did)
-    (history later_history : List Stamped) → IsTurn h header_of script machines c m n words did → later_words ≡ words_with words c did
+    (history later_history : List Stamped) → IsTurn h header_of script machines c m n words did
+    → later_words ≡ words_with words c did
     → later_history ≡ history ++ record { number = length history; caller = c; did = did } ∷ []
-    → HasPlayed h header_of script (c ∷ []) (scene machines words history) (scene (set machines c n) later_words later_history)
-turn_played h header_of script machines c m n words later_words did history later_history t words_are history_is = record {
-  ready = subst (IsReady h header_of (set machines c n)) (sym words_are) (next_ready h header_of script machines c m n words did t);
-  count = length-set machines c n;
-  plays = λ scripts playing. subst (λ words. IsPlaying h script scripts (set machines c n) words later_history) (sym words_are)
-      (subst (IsPlaying h script scripts (set machines c n) (words_with words c did)) (sym history_is)
-      (next_playing h header_of script machines c (length history) m n words did history t scripts playing));
-  history = λ scripts playing. ap newest_first history_is ∙ turn_is h header_of script machines c m n words did history t scripts playing;
-}
+    → HasPlayed h header_of script (c ∷ []) (scene machines words history)
+    (scene (set machines c n) later_words later_history)
+turn_played h header_of script machines c m n words later_words did history later_history t
+    words_are history_is = record {
+      ready = subst (IsReady h header_of (set machines c n)) (sym words_are)
+          (next_ready h header_of script machines c m n words did t);
+      count = length-set machines c n;
+      plays = λ scripts playing. subst
+          (λ words. IsPlaying h script scripts (set machines c n) words later_history)
+          (sym words_are)
+          (subst (IsPlaying h script scripts (set machines c n) (words_with words c did))
+          (sym history_is)
+          (next_playing h header_of script machines c (length history) m n words did history t
+          scripts
+          playing));
+      history = λ scripts playing. ap newest_first history_is
+          ∙ turn_is h header_of script machines c m n words did history t scripts playing;
+    }
 
 -- a turn without an event has been played too
 pub no_turn_played : {M : Type 0} (h : Header) (header_of : M → Header) (script : M
     → Script) (machines : List M) (c : ℕ) (m : M) (words later_words : List ℕ)
     (history : List Stamped)
-    → IsReady h header_of machines words → slice_get machines c ≡ Some m → IsSoundSomewhere (header_of m) (script m)
+    → IsReady h header_of machines words → slice_get machines c ≡ Some m
+    → IsSoundSomewhere (header_of m) (script m)
     → event_in words (next_act (script m)) ≡ None
     → later_words ≡ words
-    → HasPlayed h header_of script (c ∷ []) (scene machines words history) (scene machines later_words history)
-no_turn_played h header_of script machines c m words later_words history ready here sound none words_are = record {
-  ready = subst (IsReady h header_of machines) (sym words_are) ready;
-  count = refl;
-  plays = λ scripts playing. subst (λ words. IsPlaying h script scripts machines words history) (sym words_are) playing;
-  history = no_turn_is h header_of script machines c m words history ready here sound none;
-}
+    → HasPlayed h header_of script (c ∷ []) (scene machines words history)
+    (scene machines later_words history)
+no_turn_played h header_of script machines c m words later_words history ready here sound none
+    words_are = record {
+      ready = subst (IsReady h header_of machines) (sym words_are) ready;
+      count = refl;
+      plays = λ scripts playing. subst (λ words. IsPlaying h script scripts machines words history)
+          (sym words_are) playing;
+      history = no_turn_is h header_of script machines c m words history ready here sound none;
+    }

@@ -1,5 +1,6 @@
 -- Turns that have been played, one after the other.
-use Rattle.std.proofs.Common.{◌≡◌, ℕ, zero, suc, ◌+◌, ◌<◌, ◌≤◌, List, [], ◌∷◌, ◌++◌, replicate, take, Option, Some, None, refl, ap, ◌∙◌, sym, arith, append-nil}
+use Rattle.std.proofs.Common.{◌≡◌, ℕ, zero, suc, ◌+◌, ◌<◌, ◌≤◌, List, [], ◌∷◌, ◌++◌, replicate}
+use Rattle.std.proofs.Common.{take, Option, Some, None, refl, ap, ◌∙◌, sym, arith, append-nil}
 use Rattle.std.specs.Prelude.{length, get_or}
 use Rattle.vyrd_base.specs.declared.header.Header.{Header}
 use Rattle.vyrd_base.specs.declared.history.Stamped.{Stamped}
@@ -8,31 +9,40 @@ use Rattle.vyrd_base.specs.declared.history.Did.{Did}
 use Rattle.vyrd_base.proofs.PlaceLaws.{length-newest_first}
 use Rattle.vyrd_memory.specs.declared.op.Turn.{Turn}
 use Rattle.vyrd_memory.specs.Scripts.{Script}
-use Rattle.vyrd_memory.specs.Turns.{act_of, event_now, with_event, after_turn, after_turns, turns_of}
+use Rattle.vyrd_memory.specs.Turns.{act_of, event_now, with_event, after_turn, after_turns}
+use Rattle.vyrd_memory.specs.Turns.{turns_of}
 use Rattle.vyrd_memory.specs.Playing.{HasPlayed, HaveComeToRest, Scene, rounds_over}
 
 pub after_turns-append : (scripts : List Script) (xs ys : List ℕ) (earlier : List Stamped)
-    → after_turns scripts (xs ++ ys) earlier ≡ after_turns scripts ys (after_turns scripts xs earlier)
+    → after_turns scripts (xs ++ ys) earlier ≡ after_turns scripts ys
+    (after_turns scripts xs earlier)
 after_turns-append scripts [] ys earlier = refl
-after_turns-append scripts (x ∷ xs) ys earlier = after_turns-append scripts xs ys (after_turn scripts x earlier)
+after_turns-append scripts (x ∷ xs) ys earlier = after_turns-append scripts xs ys
+    (after_turn scripts x earlier)
 
 -- further turns
-pub played_more : {M : Type 0} (h : Header) (header_of : M → Header) (script : M → Script) (xs ys zs : List ℕ) (a b c : Scene M)
-    → HasPlayed h header_of script xs a b → HasPlayed h header_of script ys b c → zs ≡ xs ++ ys → HasPlayed h header_of script zs a c
+pub played_more : {M : Type 0} (h : Header) (header_of : M → Header) (script : M → Script)
+    (xs ys zs : List ℕ) (a b c : Scene M)
+    → HasPlayed h header_of script xs a b → HasPlayed h header_of script ys b c → zs ≡ xs ++ ys
+    → HasPlayed h header_of script zs a c
 played_more h header_of script xs ys zs a b c first second e = record {
   ready = second.ready;
   count = second.count ∙ first.count;
   plays = λ scripts is. second.plays scripts (first.plays scripts is);
-  history = λ scripts is. second.history scripts (first.plays scripts is) ∙ ap (after_turns scripts ys) (first.history scripts is)
-      ∙ sym (after_turns-append scripts xs ys (newest_first a.history)) ∙ ap (λ zs. after_turns scripts zs (newest_first a.history)) (sym e);
+  history = λ scripts is. second.history scripts (first.plays scripts is)
+      ∙ ap (after_turns scripts ys) (first.history scripts is)
+      ∙ sym (after_turns-append scripts xs ys (newest_first a.history))
+      ∙ ap (λ zs. after_turns scripts zs (newest_first a.history)) (sym e);
 }
 
 pub one_more : {A : Type 0} (n : ℕ) (x : A) → replicate (n + 1) x ≡ replicate n x ++ x ∷ []
 one_more zero x = refl
-one_more (suc n) x = let e : suc n + 1 ≡ suc (n + 1) = omega arith in ap (λ n. replicate n x) e ∙ ap (λ xs. x ∷ xs) (one_more n x)
+one_more (suc n) x = let e : suc n + 1 ≡ suc (n + 1) = omega arith in ap (λ n. replicate n x) e
+    ∙ ap (λ xs. x ∷ xs) (one_more n x)
 
 pub turns_more : (turns : List Turn) (i : ℕ) (d : Turn) → i < length turns
-    → turns_of (take (i + 1) turns) ≡ turns_of (take i turns) ++ replicate (get_or turns i d).count (get_or turns i d).caller
+    → turns_of (take (i + 1) turns) ≡ turns_of (take i turns) ++ replicate (get_or turns i d).count
+    (get_or turns i d).caller
 turns_more [] i d low = absurd (omega (arith, low))
 turns_more (turn ∷ turns) zero d low = append-nil (replicate turn.count turn.caller)
   where
@@ -41,8 +51,10 @@ turns_more (turn ∷ turns) zero d low = append-nil (replicate turn.count turn.c
     append-nil (x ∷ xs) = ap (λ ys. x ∷ ys) (append-nil xs)
 turns_more (turn ∷ turns) (suc i) d low =
     let e : suc i + 1 ≡ suc (i + 1) = omega arith in
-    ap (λ n. turns_of (take n (turn ∷ turns))) e ∙ ap (λ xs. replicate turn.count turn.caller ++ xs) (turns_more turns i d (omega arith))
-    ∙ sym (append_assoc (replicate turn.count turn.caller) (turns_of (take i turns)) (replicate (get_or turns i d).count (get_or turns i d).caller))
+    ap (λ n. turns_of (take n (turn ∷ turns))) e ∙ ap (λ xs. replicate turn.count turn.caller ++ xs)
+    (turns_more turns i d (omega arith))
+    ∙ sym (append_assoc (replicate turn.count turn.caller) (turns_of (take i turns))
+    (replicate (get_or turns i d).count (get_or turns i d).caller))
   where
     append_assoc : (xs ys zs : List ℕ) → (xs ++ ys) ++ zs ≡ xs ++ (ys ++ zs)
     append_assoc [] ys zs = refl
@@ -52,7 +64,8 @@ append_assoc : {A : Type 0} (xs ys zs : List A) → (xs ++ ys) ++ zs ≡ xs ++ (
 append_assoc [] ys zs = refl
 append_assoc (x ∷ xs) ys zs = ap (λ rest. x ∷ rest) (append_assoc xs ys zs)
 
-pub rounds_more : (n rounds : ℕ) → rounds_over n (rounds + 1) ≡ rounds_over n rounds ++ numbers_below n
+pub rounds_more : (n rounds : ℕ) → rounds_over n (rounds + 1) ≡ rounds_over n rounds
+    ++ numbers_below n
 rounds_more n zero = append-nil (numbers_below n)
 rounds_more n (suc rounds) =
     let e : suc rounds + 1 ≡ suc (rounds + 1) = omega arith in
@@ -60,45 +73,65 @@ rounds_more n (suc rounds) =
     ∙ sym (append_assoc (numbers_below n) (rounds_over n rounds) (numbers_below n))
 
 -- one round more
-pub one_round_more : {M : Type 0} (h : Header) (header_of : M → Header) (script : M → Script) (a b c : Scene M) (rounds : ℕ)
-    → HasPlayed h header_of script (rounds_over (length a.machines) rounds) a b → HasPlayed h header_of script (numbers_below (length b.machines)) b c
+pub one_round_more : {M : Type 0} (h : Header) (header_of : M → Header) (script : M → Script)
+    (a b c : Scene M) (rounds : ℕ)
+    → HasPlayed h header_of script (rounds_over (length a.machines) rounds) a b
+    → HasPlayed h header_of script (numbers_below (length b.machines)) b c
     → HasPlayed h header_of script (rounds_over (length a.machines) (rounds + 1)) a c
 one_round_more h header_of script a b c rounds first second =
-    played_more h header_of script (rounds_over (length a.machines) rounds) (numbers_below (length b.machines))
+    played_more h header_of script (rounds_over (length a.machines) rounds)
+    (numbers_below (length b.machines))
     (rounds_over (length a.machines) (rounds + 1)) a b c first second
-    (rounds_more (length a.machines) rounds ∙ ap (λ n. rounds_over (length a.machines) rounds ++ numbers_below n) (sym first.count))
+    (rounds_more (length a.machines) rounds
+    ∙ ap (λ n. rounds_over (length a.machines) rounds ++ numbers_below n) (sym first.count))
 
 -- a history only grows, by one event in a turn at most
-turn_grows : (scripts : List Script) (c : ℕ) (earlier : List Stamped) → length earlier ≤ length (after_turn scripts c earlier)
+turn_grows : (scripts : List Script) (c : ℕ) (earlier : List Stamped) → length earlier
+    ≤ length (after_turn scripts c earlier)
 turn_grows scripts c earlier = by_event (event_now earlier (act_of scripts c earlier))
   where
     by_event : (o : Option Did) → length earlier ≤ length (with_event c earlier o)
     by_event None = omega arith
     by_event (Some did) = omega arith
 
-pub turns_grow : (scripts : List Script) (callers : List ℕ) (earlier : List Stamped) → length earlier ≤ length (after_turns scripts callers earlier)
+pub turns_grow : (scripts : List Script) (callers : List ℕ) (earlier : List Stamped)
+    → length earlier ≤ length (after_turns scripts callers earlier)
 turns_grow scripts [] earlier = omega arith
-turns_grow scripts (c ∷ callers) earlier = omega (arith, turn_grows scripts c earlier, turns_grow scripts callers (after_turn scripts c earlier))
+turns_grow scripts (c ∷ callers) earlier =
+    omega (
+      arith,
+      turn_grows scripts c earlier,
+      turns_grow scripts callers
+          (after_turn scripts c earlier),
+    )
 
 -- turns after which the history is as long as before have no event
-unmoved : (scripts : List Script) (callers : List ℕ) (earlier : List Stamped) → length (after_turns scripts callers earlier) ≡ length earlier
+unmoved : (scripts : List Script) (callers : List ℕ) (earlier : List Stamped)
+    → length (after_turns scripts callers earlier) ≡ length earlier
     → after_turns scripts callers earlier ≡ earlier
 unmoved scripts [] earlier same = refl
-unmoved scripts (c ∷ callers) earlier same = by_event (event_now earlier (act_of scripts c earlier)) refl (unmoved scripts callers earlier)
+unmoved scripts (c ∷ callers) earlier same = by_event (event_now earlier (act_of scripts c earlier))
+    refl (unmoved scripts callers earlier)
   where
     by_event : (o : Option Did) → event_now earlier (act_of scripts c earlier) ≡ o
-        → (length (after_turns scripts callers earlier) ≡ length earlier → after_turns scripts callers earlier ≡ earlier)
+        → (length (after_turns scripts callers earlier) ≡ length earlier
+        → after_turns scripts callers earlier ≡ earlier)
         → after_turns scripts (c ∷ callers) earlier ≡ earlier
     by_event None e others =
         let here : after_turn scripts c earlier ≡ earlier = ap (with_event c earlier) e in
-        ap (after_turns scripts callers) here ∙ others (ap (λ xs. length (after_turns scripts callers xs)) (sym here) ∙ same)
+        ap (after_turns scripts callers) here
+        ∙ others (ap (λ xs. length (after_turns scripts callers xs)) (sym here) ∙ same)
     by_event (Some did) e others =
-        let longer : length (after_turn scripts c earlier) ≡ suc (length earlier) = ap (λ o. length (with_event c earlier o)) e in
-        absurd (omega (arith, turns_grow scripts callers (after_turn scripts c earlier), longer, same))
+        let longer : length (after_turn scripts c earlier) ≡ suc (length earlier) =
+        ap (λ o. length (with_event c earlier o)) e in
+        absurd (omega
+        (arith, turns_grow scripts callers (after_turn scripts c earlier), longer, same))
 
 -- a round without an event is the last
-pub come_to_rest : {M : Type 0} (h : Header) (header_of : M → Header) (script : M → Script) (a b c : Scene M) (rounds : ℕ)
-    → HasPlayed h header_of script (rounds_over (length a.machines) rounds) a b → HasPlayed h header_of script (numbers_below (length b.machines)) b c
+pub come_to_rest : {M : Type 0} (h : Header) (header_of : M → Header) (script : M → Script)
+    (a b c : Scene M) (rounds : ℕ)
+    → HasPlayed h header_of script (rounds_over (length a.machines) rounds) a b
+    → HasPlayed h header_of script (numbers_below (length b.machines)) b c
     → length c.history ≡ length b.history → HaveComeToRest h header_of script a c
 come_to_rest h header_of script a b c rounds first second same = record {
   rounds = rounds + 1;
@@ -106,9 +139,12 @@ come_to_rest h header_of script a b c rounds first second same = record {
   still = λ scripts is.
       let callers = numbers_below (length b.machines) in
       let played = second.history scripts (first.plays scripts is) in
-      let kept : length (after_turns scripts callers (newest_first b.history)) ≡ length (newest_first b.history) =
-      ap length (sym played) ∙ length-newest_first c.history ∙ same ∙ sym (length-newest_first b.history) in
+      let kept : length (after_turns scripts callers (newest_first b.history))
+      ≡ length (newest_first b.history) =
+      ap length (sym played) ∙ length-newest_first c.history ∙ same
+      ∙ sym (length-newest_first b.history) in
       ap (λ n. after_turns scripts (numbers_below n) (newest_first c.history)) (sym first.count)
-      ∙ ap (after_turns scripts callers) (played ∙ unmoved scripts callers (newest_first b.history) kept)
+      ∙ ap (after_turns scripts callers)
+      (played ∙ unmoved scripts callers (newest_first b.history) kept)
       ∙ sym played;
 }

@@ -1,6 +1,7 @@
 -- The log of a legal history of sound scripts breaks no rule, except that blocks may be raced.
 use Rattle.std.proofs.Common.{◌≡◌, ℕ, zero, suc, ◌+◌, ◌<◌, ◌≤◌, Bool, true, false, cond, ◌||◌}
-use Rattle.std.proofs.Common.{List, [], ◌∷◌, Option, Some, None, option_map, refl, ap, ◌∙◌, sym, subst, arith}
+use Rattle.std.proofs.Common.{List, [], ◌∷◌, Option, Some, None, option_map, refl, ap, ◌∙◌, sym}
+use Rattle.std.proofs.Common.{subst, arith}
 use Rattle.std.specs.Prelude.{is_some, is_none, unwrap_or, filter_map, length}
 use Rattle.std.specs.Option.{option_or}
 use Rattle.std.specs.Bool.{then_some}
@@ -15,13 +16,15 @@ use Rattle.vyrd_base.specs.declared.verdict.Rule.TheVariants.{BlockRaced, CallOp
 use Rattle.vyrd_base.specs.declared.verdict.Why.{Why}
 use Rattle.vyrd_base.specs.declared.verdict.Verdict.{Verdict}
 use Rattle.vyrd_base.specs.declared.verdict.Verdict.TheVariants.{Violation, Malformed}
-use Rattle.vyrd_base.specs.Places.{Place, places, position_of, first_answer, newest_first_onto, newest_first, numbers_from}
+use Rattle.vyrd_base.specs.Places.{Place, places, position_of, first_answer, newest_first_onto}
+use Rattle.vyrd_base.specs.Places.{newest_first, numbers_from}
 use Rattle.vyrd_base.specs.Callers.{open_call}
 use Rattle.vyrd_base.specs.Shape.{broken_rule}
 use Rattle.vyrd_base.specs.Front.{front, first_break}
 use Rattle.vyrd_base.specs.States.{State}
 use Rattle.vyrd_base.specs.Faults.{fault_at}
-use Rattle.vyrd_base.specs.Verdicts.{line_of, violation_at, states_along, first_fault, shape_verdict, is_call_open, end_verdict, accepted, verdict}
+use Rattle.vyrd_base.specs.Verdicts.{line_of, violation_at, states_along, first_fault}
+use Rattle.vyrd_base.specs.Verdicts.{shape_verdict, is_call_open, end_verdict, accepted, verdict}
 use Rattle.vyrd_base.proofs.NoStart.{verdict_so_far-none, end_verdict-none}
 use Rattle.vyrd_base.specs.Histories.{cells_of, is_legal, logged, log_of}
 use Rattle.vyrd_base.proofs.HistoryLaws.{log_entry, reversed_map}
@@ -31,7 +34,8 @@ use Rattle.vyrd_memory.specs.Scripts.{Script, left_after}
 use Rattle.vyrd_memory.specs.Soundness.{Situation, at_rest, may_act}
 use Rattle.vyrd_memory.specs.Turns.{part_of, script_of}
 use Rattle.vyrd_memory.specs.Runs.{AreSoundScripts, PlayToTheEnd}
-use Rattle.vyrd_memory.proofs.Situations.{act_of_event, situation_after, KeepsTo, sound_left, sound_keeps, rests_at_stop}
+use Rattle.vyrd_memory.proofs.Situations.{act_of_event, situation_after, KeepsTo, sound_left}
+use Rattle.vyrd_memory.proofs.Situations.{sound_keeps, rests_at_stop}
 use Rattle.vyrd_memory.proofs.LegalEvents.{AreLegal, legal_events, caller_low, are_answers}
 use Rattle.vyrd_memory.proofs.Agreements.{Agrees, agrees, keeps_before}
 use Rattle.vyrd_memory.proofs.KeptRules.{OnlyRaced, none_broken, isnt_open, write_kept, mark_kept}
@@ -42,7 +46,8 @@ abbrev pub AreOnlyRaced : Header → List Entry → Type 0
 AreOnlyRaced h [] = Unit {0}
 AreOnlyRaced h (e ∷ earlier) = OnlyRaced (broken_rule h earlier e) × AreOnlyRaced h earlier
 
-only_before : (h : Header) (earlier xs : List Entry) → AreOnlyRaced h (newest_first_onto earlier xs) → AreOnlyRaced h earlier
+only_before : (h : Header) (earlier xs : List Entry) → AreOnlyRaced h (newest_first_onto earlier xs)
+    → AreOnlyRaced h earlier
 only_before h earlier [] only = only
 only_before h earlier (x ∷ xs) only = (only_before h (x ∷ earlier) xs only).1
 
@@ -50,12 +55,15 @@ or_only : (a b : Option Rule) → OnlyRaced a → OnlyRaced b → OnlyRaced (opt
 or_only None b first later = later
 or_only (Some rule) b first later = first
 
-break_only : (h : Header) (earlier xs : List Entry) → AreOnlyRaced h (newest_first_onto earlier xs) → OnlyRaced (break_after h earlier xs)
+break_only : (h : Header) (earlier xs : List Entry) → AreOnlyRaced h (newest_first_onto earlier xs)
+    → OnlyRaced (break_after h earlier xs)
 break_only h earlier [] only = none_broken
 break_only h earlier (x ∷ xs) only =
-    or_only (broken_rule h earlier x) (break_after h (x ∷ earlier) xs) (only_before h (x ∷ earlier) xs only).0 (break_only h (x ∷ earlier) xs only)
+    or_only (broken_rule h earlier x) (break_after h (x ∷ earlier) xs)
+    (only_before h (x ∷ earlier) xs only).0 (break_only h (x ∷ earlier) xs only)
 
-pub first_break_only : (h : Header) (entries : List Entry) → AreOnlyRaced h (newest_first entries) → OnlyRaced (first_break h entries)
+pub first_break_only : (h : Header) (entries : List Entry) → AreOnlyRaced h (newest_first entries)
+    → OnlyRaced (first_break h entries)
 unfolding first_break
 first_break_only h entries only = break_only h [] entries only
 
@@ -64,7 +72,8 @@ event_only : (h : Header) (c : ℕ) (did : Did) (s : Situation) (log : List Entr
     → may_act h s (act_of_event did) ≡ true → Agrees c s log
     → AreOnlyRaced h log → AreOnlyRaced h (cons_option (logged c did) log)
 event_only h c (Read cell value) s log low may a only = only
-event_only h c (Wrote cell value) s log low may a only = (write_kept h c cell value s log low may a, only)
+event_only h c (Wrote cell value) s log low may a only =
+    (write_kept h c cell value s log low may a, only)
 event_only h c (Took lock) s log low may a only = only
 event_only h c (Gave lock) s log low may a only = only
 event_only h c (Marked kind) s log low may a only = (mark_kept h c kind s log low may a, only)
@@ -73,95 +82,125 @@ event_only h c (Marked kind) s log low may a only = (mark_kept h c kind s log lo
 abbrev pub AllKeep : Header → List Stamped → Type 0
 AllKeep h earlier = (c : ℕ) → c < h.callers → KeepsTo h (part_of c earlier)
 
-log_only : (h : Header) (earlier : List Stamped) → AreLegal (cells_of h) earlier → AllKeep h earlier → AreOnlyRaced h (filter_map log_entry earlier)
+log_only : (h : Header) (earlier : List Stamped) → AreLegal (cells_of h) earlier → AllKeep h earlier
+    → AreOnlyRaced h (filter_map log_entry earlier)
 log_only h [] legal keep = tt
 log_only h (e ∷ earlier) legal keep =
     let low = caller_low (cells_of h) earlier e legal.0 in
     let own : KeepsTo h (e.did ∷ part_of e.caller earlier) =
-    subst (λ b. KeepsTo h (cons_option (cond b (Some e.did) None) (part_of e.caller earlier))) (same_number e.caller) (keep e.caller low) in
-    event_only h e.caller e.did (situation_after (part_of e.caller earlier)) (filter_map log_entry earlier) low own.0
+    subst (λ b. KeepsTo h (cons_option (cond b (Some e.did) None) (part_of e.caller earlier)))
+    (same_number e.caller) (keep e.caller low) in
+    event_only h e.caller e.did (situation_after (part_of e.caller earlier))
+    (filter_map log_entry earlier) low own.0
     (agrees h e.caller earlier own.1)
     (log_only h earlier legal.1 (λ c low. keeps_before h c e earlier (keep c low)))
 
 -- the newest entries first are those of the newest events first
-pub newest_log : (history : List Stamped) → newest_first (log_of history) ≡ filter_map log_entry (newest_first history)
+pub newest_log : (history : List Stamped) → newest_first (log_of history) ≡ filter_map log_entry
+    (newest_first history)
 unfolding log_of
 newest_log history = reversed_map [] history
 
 -- no call is open at the end
-pub none_any : (test : ℕ → Bool) (k n : ℕ) → ((i : ℕ) → k ≤ i → i < k + n → test i ≡ false) → list_any test (numbers_from k n) ≡ false
+pub none_any : (test : ℕ → Bool) (k n : ℕ) → ((i : ℕ) → k ≤ i → i < k + n → test i ≡ false)
+    → list_any test (numbers_from k n) ≡ false
 none_any test k zero each = refl
 none_any test k (suc n) each =
     ap (λ b. b || list_any test (numbers_from (k + 1) n)) (each k (omega arith) (omega arith))
     ∙ none_any test (k + 1) n (λ i from to. each i (omega arith) (omega arith))
 
-pub none_open : (h : Header) (earlier : List Stamped) → AllKeep h earlier → ((c : ℕ) → c < h.callers → situation_after (part_of c earlier) ≡ at_rest)
+pub none_open : (h : Header) (earlier : List Stamped) → AllKeep h earlier
+    → ((c : ℕ) → c < h.callers → situation_after (part_of c earlier) ≡ at_rest)
     → is_call_open h (filter_map log_entry earlier) ≡ false
-none_open h earlier keep rest = none_any (λ c. is_some (open_call c (filter_map log_entry earlier))) 0 h.callers (λ c from to.
+none_open h earlier keep rest = none_any (λ c. is_some (open_call c (filter_map log_entry earlier)))
+    0 h.callers (λ c from to.
     let low : c < h.callers = omega arith in
-    isnt_open c (situation_after (part_of c earlier)) (filter_map log_entry earlier) (agrees h c earlier (keep c low))
+    isnt_open c (situation_after (part_of c earlier)) (filter_map log_entry earlier)
+    (agrees h c earlier (keep c low))
     (ap (λ s. is_none s.called) (rest c low)))
 
 -- a fault is no broken rule
 fault_isnt : (h : Header) (states : List State) (ps : List (Place Entry)) (line : ℕ) (rule : Rule)
     → first_answer (violation_at (rules_of h) [] states) ps ≡ Some (Malformed line rule) → ⊥
 fault_isnt h states [] line rule e = cc
-fault_isnt h states (place ∷ ps) line rule e = by_fault (fault_at (rules_of h) [] states place) (fault_isnt h states ps line rule) e
+fault_isnt h states (place ∷ ps) line rule e = by_fault (fault_at (rules_of h) [] states place)
+    (fault_isnt h states ps line rule) e
   where
-    by_fault : (o : Option Why) → (first_answer (violation_at (rules_of h) [] states) ps ≡ Some (Malformed line rule) → ⊥)
-        → option_or (option_map (Violation (line_of [] (position_of place))) o) (first_answer (violation_at (rules_of h) [] states) ps)
+    by_fault : (o : Option Why)
+        → (first_answer (violation_at (rules_of h) [] states) ps ≡ Some (Malformed line rule) → ⊥)
+        → option_or (option_map (Violation (line_of [] (position_of place))) o)
+        (first_answer (violation_at (rules_of h) [] states) ps)
         ≡ Some (Malformed line rule) → ⊥
     by_fault None later e = later e
     by_fault (Some why) later e = cc
 
-first_fault_isnt : (h : Header) (entries : List Entry) (line : ℕ) (rule : Rule) → first_fault (rules_of h) [] entries ≡ Some (Malformed line rule) → ⊥
+first_fault_isnt : (h : Header) (entries : List Entry) (line : ℕ) (rule : Rule)
+    → first_fault (rules_of h) [] entries ≡ Some (Malformed line rule) → ⊥
 unfolding first_fault
-first_fault_isnt h entries line rule e = fault_isnt h (states_along (rules_of h) [] entries) (places entries) line rule e
+first_fault_isnt h entries line rule e = fault_isnt h (states_along (rules_of h) [] entries)
+    (places entries) line rule e
 
 -- a verdict that names a rule names a broken one
-named : (fault : Option Verdict) (broken : Option Rule) (open_ : Bool) (at end : ℕ) (good : Verdict) (line : ℕ) (rule : Rule)
+named : (fault : Option Verdict) (broken : Option Rule) (open_ : Bool) (at end : ℕ) (good : Verdict)
+    (line : ℕ) (rule : Rule)
     → (fault ≡ Some (Malformed line rule) → ⊥) → open_ ≡ false → (good ≡ Malformed line rule → ⊥)
-    → unwrap_or (option_or (option_or fault (option_map (Malformed at) broken)) (then_some open_ (Malformed end CallOpen))) good ≡ Malformed line rule
+    → unwrap_or (option_or (option_or fault (option_map (Malformed at) broken))
+    (then_some open_ (Malformed end CallOpen))) good ≡ Malformed line rule
     → broken ≡ Some rule
 named (Some v) broken open_ at end good line rule isnt closed fine e = absurd (isnt (ap Some e))
-named None (Some broken) open_ at end good line rule isnt closed fine e = let same : broken ≡ rule = cc in ap Some same
+named None (Some broken) open_ at end good line rule isnt closed fine e = let same : broken
+    ≡ rule = cc in ap Some same
 named None None true at end good line rule isnt closed fine e = cc
 named None None false at end good line rule isnt closed fine e = absurd (fine e)
 
-accepted_isnt : (entries : List Entry) (line : ℕ) (rule : Rule) → accepted entries ≡ Malformed line rule → ⊥
+accepted_isnt : (entries : List Entry) (line : ℕ) (rule : Rule) → accepted entries
+    ≡ Malformed line rule → ⊥
 unfolding accepted
 accepted_isnt entries line rule e = cc
 
 -- without starting words a verdict has these parts
 parts : (h : Header) (entries : List Entry) → verdict (rules_of h) [] entries ≡ unwrap_or
-    (option_or (option_or (first_fault (rules_of h) [] (front h entries)) (shape_verdict h [] entries))
-    (then_some (is_call_open h (newest_first entries)) (Malformed (line_of [] (length entries)) CallOpen))) (accepted entries)
+    (option_or (option_or (first_fault (rules_of h) [] (front h entries))
+    (shape_verdict h [] entries))
+    (then_some (is_call_open h (newest_first entries))
+    (Malformed (line_of [] (length entries)) CallOpen))) (accepted entries)
 unfolding verdict
 parts h entries =
-    ap (λ o. unwrap_or (option_or o (end_verdict (rules_of h) [] entries)) (accepted entries)) (verdict_so_far-none h entries)
-    ∙ ap (λ o. unwrap_or (option_or (option_or (first_fault (rules_of h) [] (front h entries)) (shape_verdict h [] entries)) o) (accepted entries))
+    ap (λ o. unwrap_or (option_or o (end_verdict (rules_of h) [] entries)) (accepted entries))
+    (verdict_so_far-none h entries)
+    ∙ ap (λ o. unwrap_or
+    (option_or (option_or (first_fault (rules_of h) [] (front h entries))
+    (shape_verdict h [] entries)) o) (accepted entries))
     (end_verdict-none h entries)
 
-named_is_broken : (h : Header) (entries : List Entry) (line : ℕ) (rule : Rule) → is_call_open h (newest_first entries) ≡ false
+named_is_broken : (h : Header) (entries : List Entry) (line : ℕ) (rule : Rule)
+    → is_call_open h (newest_first entries) ≡ false
     → verdict (rules_of h) [] entries ≡ Malformed line rule
     → first_break h entries ≡ Some rule
 unfolding verdict shape_verdict
 named_is_broken h entries line rule closed e =
-    named (first_fault (rules_of h) [] (front h entries)) (first_break h entries) (is_call_open h (newest_first entries))
+    named (first_fault (rules_of h) [] (front h entries)) (first_break h entries)
+    (is_call_open h (newest_first entries))
     (line_of [] (length (front h entries))) (line_of [] (length entries))
-    (accepted entries) line rule (first_fault_isnt h (front h entries) line rule) closed (accepted_isnt entries line rule)
+    (accepted entries) line rule (first_fault_isnt h (front h entries) line rule) closed
+    (accepted_isnt entries line rule)
     (sym (parts h entries) ∙ e)
 
--- in a legal history sound scripts that are played keep to what may be done, and at their end the caller is at rest
-pub all_keep : (h : Header) (scripts : List Script) (history : List Stamped) → AreSoundScripts h scripts
+-- in a legal history sound scripts that are played keep to what may be done, and at their end the
+-- caller is at rest
+pub all_keep : (h : Header) (scripts : List Script) (history : List Stamped)
+    → AreSoundScripts h scripts
     → AreLegal (cells_of h) (newest_first history)
     → PlayToTheEnd scripts history → AllKeep h (newest_first history)
 all_keep h scripts history sound legal played c low =
     let part = part_of c (newest_first history) in
-    sound_keeps h (script_of scripts c) part (sound.sound c low) (played c).plays (are_answers (cells_of h) (newest_first history) c legal)
+    sound_keeps h (script_of scripts c) part (sound.sound c low) (played c).plays
+    (are_answers (cells_of h) (newest_first history) c legal)
 
-pub all_rest : (h : Header) (scripts : List Script) (history : List Stamped) → AreSoundScripts h scripts → AreLegal (cells_of h) (newest_first history)
-    → PlayToTheEnd scripts history → (c : ℕ) → c < h.callers → situation_after (part_of c (newest_first history)) ≡ at_rest
+pub all_rest : (h : Header) (scripts : List Script) (history : List Stamped)
+    → AreSoundScripts h scripts → AreLegal (cells_of h) (newest_first history)
+    → PlayToTheEnd scripts history → (c : ℕ) → c < h.callers
+    → situation_after (part_of c (newest_first history)) ≡ at_rest
 all_rest h scripts history sound legal played c low =
     let part = part_of c (newest_first history) in
     rests_at_stop h (situation_after part) (left_after (script_of scripts c) part)
@@ -169,23 +208,31 @@ all_rest h scripts history sound legal played c low =
     (are_answers (cells_of h) (newest_first history) c legal)) (played c).done
 
 -- so the first break is of that rule, and no call is open at the end
-pub only_races_break : (h : Header) (scripts : List Script) (history : List Stamped) → AreSoundScripts h scripts
-    → is_legal (cells_of h) history ≡ true → PlayToTheEnd scripts history → OnlyRaced (first_break h (log_of history))
+pub only_races_break : (h : Header) (scripts : List Script) (history : List Stamped)
+    → AreSoundScripts h scripts
+    → is_legal (cells_of h) history ≡ true → PlayToTheEnd scripts history
+    → OnlyRaced (first_break h (log_of history))
 only_races_break h scripts history sound is_legal_ played =
     let legal = legal_events (cells_of h) history is_legal_ in
     first_break_only h (log_of history) (subst (AreOnlyRaced h) (sym (newest_log history))
     (log_only h (newest_first history) legal (all_keep h scripts history sound legal played)))
 
-pub none_is_open : (h : Header) (scripts : List Script) (history : List Stamped) → AreSoundScripts h scripts
-    → is_legal (cells_of h) history ≡ true → PlayToTheEnd scripts history → is_call_open h (newest_first (log_of history)) ≡ false
+pub none_is_open : (h : Header) (scripts : List Script) (history : List Stamped)
+    → AreSoundScripts h scripts
+    → is_legal (cells_of h) history ≡ true → PlayToTheEnd scripts history
+    → is_call_open h (newest_first (log_of history)) ≡ false
 none_is_open h scripts history sound is_legal_ played =
     let legal = legal_events (cells_of h) history is_legal_ in
     ap (is_call_open h) (newest_log history)
-    ∙ none_open h (newest_first history) (all_keep h scripts history sound legal played) (all_rest h scripts history sound legal played)
+    ∙ none_open h (newest_first history) (all_keep h scripts history sound legal played)
+    (all_rest h scripts history sound legal played)
 
 -- and a broken rule that the verdict names is that of raced blocks
-pub only_races : (h : Header) (scripts : List Script) (history : List Stamped) → AreSoundScripts h scripts → is_legal (cells_of h) history ≡ true
-    → PlayToTheEnd scripts history → (line : ℕ) (rule : Rule) → verdict (rules_of h) [] (log_of history) ≡ Malformed line rule → rule ≡ BlockRaced
+pub only_races : (h : Header) (scripts : List Script) (history : List Stamped)
+    → AreSoundScripts h scripts → is_legal (cells_of h) history ≡ true
+    → PlayToTheEnd scripts history → (line : ℕ) (rule : Rule)
+    → verdict (rules_of h) [] (log_of history) ≡ Malformed line rule → rule ≡ BlockRaced
 only_races h scripts history sound is_legal_ played line rule e =
     (only_races_break h scripts history sound is_legal_ played).raced rule
-    (named_is_broken h (log_of history) line rule (none_is_open h scripts history sound is_legal_ played) e)
+    (named_is_broken h (log_of history) line rule
+    (none_is_open h scripts history sound is_legal_ played) e)

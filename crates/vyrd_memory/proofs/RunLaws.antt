@@ -1,5 +1,6 @@
 -- The whole run by turns: how it begins, and where it ends.
-use Rattle.std.proofs.Common.{◌≡◌, ℕ, zero, suc, ◌+◌, ◌<◌, ◌^◌, Bool, true, false, cond, not, ◌&&◌, ◌||◌, List, [], ◌∷◌, map, replicate, Option, Some, None}
+use Rattle.std.proofs.Common.{◌≡◌, ℕ, zero, suc, ◌+◌, ◌<◌, ◌^◌, Bool, true, false, cond, not, ◌&&◌}
+use Rattle.std.proofs.Common.{◌||◌, List, [], ◌∷◌, map, replicate, Option, Some, None}
 use Rattle.std.proofs.Common.{option_map, refl, ap, ◌∙◌, sym, subst, arith}
 use Rattle.std.specs.Prelude.{◌==◌, length, slice_get, slice_index, All}
 use Rattle.std.specs.List.{list_all}
@@ -18,54 +19,72 @@ use Rattle.vyrd_memory.specs.declared.act.Act.{Act}
 use Rattle.vyrd_memory.specs.declared.act.Act.TheVariants.{Load, Store, Take, Give, Mark, Done}
 use Rattle.vyrd_memory.specs.declared.op.Turn.{Turn}
 use Rattle.vyrd_memory.specs.Scripts.{Script, stop, next_act, left_after}
-use Rattle.vyrd_memory.specs.Turns.{script_of, part_of, act_of, event_now, with_event, after_turn, after_turns, after_rounds, turns_of, run_for, is_done, are_done}
+use Rattle.vyrd_memory.specs.Turns.{script_of, part_of, act_of, event_now, with_event, after_turn}
+use Rattle.vyrd_memory.specs.Turns.{after_turns, after_rounds, turns_of, run_for, is_done, are_done}
 use Rattle.vyrd_memory.specs.Turns.{is_held_up, are_stuck, RunsTo, GetsStuck}
 use Rattle.vyrd_memory.specs.StuckThere.{AreStuckThere}
-use Rattle.vyrd_memory.specs.Playing.{IsReady, IsPlaying, HasPlayed, HaveComeToRest, Scene, memory_after, rounds_over}
+use Rattle.vyrd_memory.specs.Playing.{IsReady, IsPlaying, HasPlayed, HaveComeToRest, Scene}
+use Rattle.vyrd_memory.specs.Playing.{memory_after, rounds_over}
 use Rattle.vyrd_memory.proofs.PlayLaws.{act_is}
 use Rattle.vyrd_memory.proofs.PlayedLaws.{after_turns-append, turns_grow}
 
 -- rounds as turns
 rounds_are : (scripts : List Script) (rounds : ℕ) (earlier : List Stamped)
-    → after_turns scripts (rounds_over (length scripts) rounds) earlier ≡ after_rounds scripts rounds earlier
+    → after_turns scripts (rounds_over (length scripts) rounds) earlier
+    ≡ after_rounds scripts rounds earlier
 rounds_are scripts zero earlier = refl
 rounds_are scripts (suc rounds) earlier =
-    after_turns-append scripts (numbers_below (length scripts)) (rounds_over (length scripts) rounds) earlier
+    after_turns-append scripts (numbers_below (length scripts))
+    (rounds_over (length scripts) rounds) earlier
     ∙ rounds_are scripts rounds (after_turns scripts (numbers_below (length scripts)) earlier)
 
 -- one test of machines, and one of their numbers
 all_by_number : {M : Type 0} (p : M → Bool) (q : ℕ → Bool) (machines : List M) (k : ℕ)
-    → ((i : ℕ) (m : M) → slice_get machines i ≡ Some m → p m ≡ q (k + i)) → list_all p machines ≡ list_all q (numbers_from k (length machines))
+    → ((i : ℕ) (m : M) → slice_get machines i ≡ Some m → p m ≡ q (k + i)) → list_all p machines
+    ≡ list_all q (numbers_from k (length machines))
 all_by_number p q [] k same = refl
 all_by_number p q (m ∷ machines) k same =
     let here : k + 0 ≡ k = omega arith in
     ap (λ b. b && list_all p machines) (same 0 m refl ∙ ap q here)
-    ∙ ap (λ b. q k && b) (all_by_number p q machines (k + 1) (λ i x is. let there : k + suc i ≡ k + 1 + i = omega arith in
+    ∙ ap (λ b. q k && b)
+    (all_by_number p q machines (k + 1)
+    (λ i x is. let there : k + suc i ≡ k + 1 + i = omega arith in
     same (suc i) x is ∙ ap q there))
 
-pub done_is : {M : Type 0} (h : Header) (script : M → Script) (scripts : List Script) (machines : List M) (words : List ℕ) (history : List Stamped)
+pub done_is : {M : Type 0} (h : Header) (script : M → Script) (scripts : List Script)
+    (machines : List M) (words : List ℕ) (history : List Stamped)
     → IsPlaying h script scripts machines words history
-    → list_all (λ m. is_done (next_act (script m))) machines ≡ are_done scripts (newest_first history)
+    → list_all (λ m. is_done (next_act (script m))) machines ≡ are_done scripts
+    (newest_first history)
 done_is h script scripts machines words history playing =
-    all_by_number (λ m. is_done (next_act (script m))) (λ c. is_done (act_of scripts c (newest_first history))) machines 0
-    (λ i m is. let e : 0 + i ≡ i = omega arith in ap is_done (sym (act_is h script scripts machines words history i m playing is))
+    all_by_number (λ m. is_done (next_act (script m)))
+    (λ c. is_done (act_of scripts c (newest_first history))) machines 0
+    (λ i m is. let e : 0 + i ≡ i = omega arith in ap is_done
+    (sym (act_is h script scripts machines words history i m playing is))
     ∙ ap (λ i. is_done (act_of scripts i (newest_first history))) (sym e))
-    ∙ ap (λ n. list_all (λ c. is_done (act_of scripts c (newest_first history))) (numbers_below n)) playing.count
+    ∙ ap (λ n. list_all (λ c. is_done (act_of scripts c (newest_first history))) (numbers_below n))
+    playing.count
 
 -- turns that leave the history as it is have no event
-no_event : (scripts : List Script) (c : ℕ) (callers : List ℕ) (earlier : List Stamped) → after_turns scripts (c ∷ callers) earlier ≡ earlier
+no_event : (scripts : List Script) (c : ℕ) (callers : List ℕ) (earlier : List Stamped)
+    → after_turns scripts (c ∷ callers) earlier ≡ earlier
     → event_now earlier (act_of scripts c earlier) ≡ None
-no_event scripts c callers earlier same = by_event (event_now earlier (act_of scripts c earlier)) refl
+no_event scripts c callers earlier same = by_event (event_now earlier (act_of scripts c earlier))
+    refl
   where
     by_event : (o : Option Did) → event_now earlier (act_of scripts c earlier) ≡ o → o ≡ None
     by_event None e = refl
     by_event (Some did) e =
-        let longer : length (after_turn scripts c earlier) ≡ suc (length earlier) = ap (λ o. length (with_event c earlier o)) e in
-        let kept : length (after_turns scripts callers (after_turn scripts c earlier)) ≡ length earlier = ap length same in
-        absurd (omega (arith, turns_grow scripts callers (after_turn scripts c earlier), longer, kept))
+        let longer : length (after_turn scripts c earlier) ≡ suc (length earlier) =
+        ap (λ o. length (with_event c earlier o)) e in
+        let kept : length (after_turns scripts callers (after_turn scripts c earlier))
+        ≡ length earlier = ap length same in
+        absurd (omega
+        (arith, turns_grow scripts callers (after_turn scripts c earlier), longer, kept))
 
 -- an act without an event is none, or is held up
-held_up : (earlier : List Stamped) (act : Act) → event_now earlier act ≡ None → (is_done act || is_held_up earlier act) ≡ true
+held_up : (earlier : List Stamped) (act : Act) → event_now earlier act ≡ None
+    → (is_done act || is_held_up earlier act) ≡ true
 held_up earlier (Load cell) e = cc
 held_up earlier (Store cell value) e = cc
 held_up earlier (Take lock) e = by_value (value_in earlier lock == 0) e
@@ -77,29 +96,37 @@ held_up earlier (Give lock) e = cc
 held_up earlier (Mark kind) e = cc
 held_up earlier Done e = refl
 
-all_held_up : (scripts : List Script) (earlier : List Stamped) (k n : ℕ) → after_turns scripts (numbers_from k n) earlier ≡ earlier
-    → list_all (λ c. is_done (act_of scripts c earlier) || is_held_up earlier (act_of scripts c earlier)) (numbers_from k n) ≡ true
+all_held_up : (scripts : List Script) (earlier : List Stamped) (k n : ℕ)
+    → after_turns scripts (numbers_from k n) earlier ≡ earlier
+    → list_all (λ c. is_done (act_of scripts c earlier) || is_held_up earlier
+    (act_of scripts c earlier)) (numbers_from k n) ≡ true
 all_held_up scripts earlier k zero same = refl
 all_held_up scripts earlier k (suc n) same =
     let none = no_event scripts k (numbers_from (k + 1) n) earlier same in
     both_true (is_done (act_of scripts k earlier) || is_held_up earlier (act_of scripts k earlier))
-    (list_all (λ c. is_done (act_of scripts c earlier) || is_held_up earlier (act_of scripts c earlier)) (numbers_from (k + 1) n))
+    (list_all (λ c. is_done (act_of scripts c earlier) || is_held_up earlier
+    (act_of scripts c earlier)) (numbers_from (k + 1) n))
     (held_up earlier (act_of scripts k earlier) none)
-    (all_held_up scripts earlier (k + 1) n (sym (ap (λ o. after_turns scripts (numbers_from (k + 1) n) (with_event k earlier o)) none) ∙ same))
+    (all_held_up scripts earlier (k + 1) n
+    (sym (ap (λ o. after_turns scripts (numbers_from (k + 1) n) (with_event k earlier o)) none)
+    ∙ same))
 
 -- what holds of each element holds of the one at a place
-all_at : {A : Type 0} (P : A → Type 0) (xs : List A) → All P xs → (i : ℕ) (x : A) → slice_get xs i ≡ Some x → P x
+all_at : {A : Type 0} (P : A → Type 0) (xs : List A) → All P xs → (i : ℕ) (x : A) → slice_get xs i
+    ≡ Some x → P x
 all_at P [] all i x is = cc
 all_at P (y ∷ xs) all zero x is = let same : y ≡ x = cc in subst P same (All-head P y xs all)
 all_at P (y ∷ xs) all (suc i) x is = all_at P xs (All-tail P y xs all) i x is
 
 -- how the run begins
-pub ready_start : {M : Type 0} (h : Header) (header_of : M → Header) (machines : List M) (words : List ℕ) → All (λ m. header_of m ≡ h) machines
+pub ready_start : {M : Type 0} (h : Header) (header_of : M → Header) (machines : List M)
+    (words : List ℕ) → All (λ m. header_of m ≡ h) machines
     → words ≡ replicate (plain_words h + lock_words h) 0 → IsReady h header_of machines words
 ready_start h header_of machines words made zeros = record {
   made = λ i m is. all_at (λ m. header_of m ≡ h) machines made i m is;
   room = ap length zeros ∙ length-replicate (plain_words h + lock_words h) 0;
-  small = λ cell. subst (λ words. slice_index words cell < 2 ^ 63) (sym zeros) (zero_small (plain_words h + lock_words h) cell);
+  small = λ cell. subst (λ words. slice_index words cell < 2 ^ 63) (sym zeros)
+      (zero_small (plain_words h + lock_words h) cell);
 }
   where
     zero_small : (n cell : ℕ) → slice_index (replicate n 0) cell < 2 ^ 63
@@ -111,31 +138,44 @@ zeros_are : (k n : ℕ) → replicate n 0 ≡ map (value_in []) (numbers_from k 
 zeros_are k zero = refl
 zeros_are k (suc n) = ap (λ xs. 0 ∷ xs) (zeros_are (k + 1) n)
 
-pub playing_start : {M : Type 0} (h : Header) (script : M → Script) (machines : List M) (words : List ℕ) (history : List Stamped) → history ≡ []
-    → words ≡ replicate (plain_words h + lock_words h) 0 → IsPlaying h script (map script machines) machines words history
+pub playing_start : {M : Type 0} (h : Header) (script : M → Script) (machines : List M)
+    (words : List ℕ) (history : List Stamped) → history ≡ []
+    → words ≡ replicate (plain_words h + lock_words h) 0
+    → IsPlaying h script (map script machines) machines words history
 playing_start h script machines words history none zeros = record {
   count = sym (length-map machines script);
-  left = λ i m is. sym (get_or_from_slice_get (map script machines) i (script m) stop (slice_get-map script machines i ∙ ap (option_map script) is))
-      ∙ ap (λ history. left_after (script_of (map script machines) i) (part_of i (newest_first history))) (sym none);
-  words_are = zeros ∙ zeros_are 0 (plain_words h + lock_words h) ∙ ap (λ history. memory_after h (newest_first history)) (sym none);
+  left = λ i m is. sym (get_or_from_slice_get (map script machines) i (script m) stop
+      (slice_get-map script machines i ∙ ap (option_map script) is))
+      ∙ ap (λ history. left_after (script_of (map script machines) i)
+      (part_of i (newest_first history))) (sym none);
+  words_are = zeros ∙ zeros_are 0 (plain_words h + lock_words h)
+      ∙ ap (λ history. memory_after h (newest_first history)) (sym none);
 }
 
 -- the history after the turns and the rounds
-history_is : {M : Type 0} (h : Header) (header_of : M → Header) (script : M → Script) (turns : List Turn) (a b c : Scene M)
-    → IsPlaying h script (map script a.machines) a.machines a.words a.history → a.history ≡ [] → HasPlayed h header_of script (turns_of turns) a b
-    → (rest : HaveComeToRest h header_of script b c) → newest_first c.history ≡ run_for (map script a.machines) turns rest.rounds
+history_is : {M : Type 0} (h : Header) (header_of : M → Header) (script : M → Script)
+    (turns : List Turn) (a b c : Scene M)
+    → IsPlaying h script (map script a.machines) a.machines a.words a.history → a.history ≡ []
+    → HasPlayed h header_of script (turns_of turns) a b
+    → (rest : HaveComeToRest h header_of script b c) → newest_first c.history
+    ≡ run_for (map script a.machines) turns rest.rounds
 history_is h header_of script turns a b c start none first rest =
     let scripts = map script a.machines in
     rest.played.history scripts (first.plays scripts start)
-    ∙ ap (λ n. after_turns scripts (rounds_over n rest.rounds) (newest_first b.history)) (first.count ∙ start.count)
+    ∙ ap (λ n. after_turns scripts (rounds_over n rest.rounds) (newest_first b.history))
+    (first.count ∙ start.count)
     ∙ rounds_are scripts rest.rounds (newest_first b.history)
     ∙ ap (after_rounds scripts rest.rounds) (first.history scripts start
     ∙ ap (λ history. after_turns scripts (turns_of turns) (newest_first history)) none)
 
-pub runs_to : {M : Type 0} (h : Header) (header_of : M → Header) (script : M → Script) (turns : List Turn) (a b c : Scene M)
-    → IsPlaying h script (map script a.machines) a.machines a.words a.history → a.history ≡ [] → HasPlayed h header_of script (turns_of turns) a b
-    → HaveComeToRest h header_of script b c → list_all (λ m. is_done (next_act (script m))) c.machines ≡ true
-    → RunsTo (map script a.machines) turns c.history × (c.words ≡ memory_after h (newest_first c.history))
+pub runs_to : {M : Type 0} (h : Header) (header_of : M → Header) (script : M → Script)
+    (turns : List Turn) (a b c : Scene M)
+    → IsPlaying h script (map script a.machines) a.machines a.words a.history → a.history ≡ []
+    → HasPlayed h header_of script (turns_of turns) a b
+    → HaveComeToRest h header_of script b c → list_all (λ m. is_done (next_act (script m)))
+    c.machines ≡ true
+    → RunsTo (map script a.machines) turns c.history
+    × (c.words ≡ memory_after h (newest_first c.history))
 runs_to h header_of script turns a b c start none first rest done =
     let scripts = map script a.machines in
     let end = rest.played.plays scripts (first.plays scripts start) in (
@@ -147,29 +187,38 @@ runs_to h header_of script turns a b c start none first rest done =
       end.words_are,
     )
 
-gets_stuck : {M : Type 0} (h : Header) (header_of : M → Header) (script : M → Script) (turns : List Turn) (a b c : Scene M)
-    → IsPlaying h script (map script a.machines) a.machines a.words a.history → a.history ≡ [] → HasPlayed h header_of script (turns_of turns) a b
-    → HaveComeToRest h header_of script b c → list_all (λ m. is_done (next_act (script m))) c.machines ≡ false
+gets_stuck : {M : Type 0} (h : Header) (header_of : M → Header) (script : M → Script)
+    (turns : List Turn) (a b c : Scene M)
+    → IsPlaying h script (map script a.machines) a.machines a.words a.history → a.history ≡ []
+    → HasPlayed h header_of script (turns_of turns) a b
+    → HaveComeToRest h header_of script b c → list_all (λ m. is_done (next_act (script m)))
+    c.machines ≡ false
     → GetsStuck (map script a.machines) turns
 gets_stuck h header_of script turns a b c start none first rest undone =
     let scripts = map script a.machines in
     let end = rest.played.plays scripts (first.plays scripts start) in
-    let still = ap (λ n. after_turns scripts (numbers_below n) (newest_first c.history)) (sym (first.count ∙ start.count))
+    let still = ap (λ n. after_turns scripts (numbers_below n) (newest_first c.history))
+    (sym (first.count ∙ start.count))
     ∙ rest.still scripts (first.plays scripts start) in
     record {
       rounds = rest.rounds;
-      stuck = ap (are_stuck scripts) (sym (history_is h header_of script turns a b c start none first rest))
+      stuck = ap (are_stuck scripts)
+          (sym (history_is h header_of script turns a b c start none first rest))
           ∙ both_true (not (are_done scripts (newest_first c.history)))
           (list_all (λ i. is_done (act_of scripts i (newest_first c.history))
-          || is_held_up (newest_first c.history) (act_of scripts i (newest_first c.history))) (numbers_below (length scripts)))
+          || is_held_up (newest_first c.history) (act_of scripts i (newest_first c.history)))
+          (numbers_below (length scripts)))
           (ap not (sym (done_is h script scripts c.machines c.words c.history end) ∙ undone))
           (all_held_up scripts (newest_first c.history) 0 (length scripts) still);
     }
 
 -- and the machines stand there
-pub stuck_there : {M : Type 0} (h : Header) (header_of : M → Header) (script : M → Script) (turns : List Turn) (a b c : Scene M)
-    → IsPlaying h script (map script a.machines) a.machines a.words a.history → a.history ≡ [] → HasPlayed h header_of script (turns_of turns) a b
-    → HaveComeToRest h header_of script b c → list_all (λ m. is_done (next_act (script m))) c.machines ≡ false
+pub stuck_there : {M : Type 0} (h : Header) (header_of : M → Header) (script : M → Script)
+    (turns : List Turn) (a b c : Scene M)
+    → IsPlaying h script (map script a.machines) a.machines a.words a.history → a.history ≡ []
+    → HasPlayed h header_of script (turns_of turns) a b
+    → HaveComeToRest h header_of script b c → list_all (λ m. is_done (next_act (script m)))
+    c.machines ≡ false
     → AreStuckThere script (map script a.machines) turns c.machines
 unfolding gets_stuck
 stuck_there h header_of script turns a b c start none first rest undone =
@@ -179,5 +228,6 @@ stuck_there h header_of script turns a b c start none first rest undone =
     record {
       stuck = stuck;
       left = λ i m is. end.left i m is
-          ∙ ap (λ earlier. left_after (script_of scripts i) (part_of i earlier)) (history_is h header_of script turns a b c start none first rest);
+          ∙ ap (λ earlier. left_after (script_of scripts i) (part_of i earlier))
+          (history_is h header_of script turns a b c start none first rest);
     }

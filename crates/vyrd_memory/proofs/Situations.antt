@@ -1,4 +1,5 @@
--- The situation of a caller after its part of a history, the newest event first. A sound script that is played keeps to what may be
+-- The situation of a caller after its part of a history, the newest event first. A sound script
+-- that is played keeps to what may be
 -- done.
 use Rattle.std.proofs.Common.{◌≡◌, true, List, [], ◌∷◌, Some, refl, ap, sym, subst}
 use Rattle.std.proofs.lemmas.Option.{same_Some}
@@ -7,7 +8,8 @@ use Rattle.vyrd_base.specs.declared.history.Did.{Did}
 use Rattle.vyrd_base.specs.declared.history.Did.TheVariants.{Read, Wrote, Took, Gave, Marked}
 use Rattle.vyrd_memory.specs.declared.act.Act.{Act}
 use Rattle.vyrd_memory.specs.declared.act.Act.TheVariants.{Load, Store, Take, Give, Mark, Done}
-use Rattle.vyrd_memory.specs.Scripts.{Script, stop, step, next_act, after_answer, event_of, answer_of, left_after, IsAnswer, Plays}
+use Rattle.vyrd_memory.specs.Scripts.{Script, stop, step, next_act, after_answer, event_of}
+use Rattle.vyrd_memory.specs.Scripts.{answer_of, left_after, IsAnswer, Plays}
 use Rattle.vyrd_memory.specs.Soundness.{Situation, at_rest, may_act, after_act, IsSound}
 use Rattle.vyrd_memory.specs.Turns.{is_done}
 
@@ -27,14 +29,16 @@ situation_after (did ∷ earlier) = after_act (situation_after earlier) (act_of_
 -- each event may come in the situation that those before it leave
 abbrev pub KeepsTo : Header → List Did → Type 0
 KeepsTo h [] = Unit {0}
-KeepsTo h (did ∷ earlier) = (may_act h (situation_after earlier) (act_of_event did) ≡ true) × KeepsTo h earlier
+KeepsTo h (did ∷ earlier) = (may_act h (situation_after earlier) (act_of_event did) ≡ true)
+    × KeepsTo h earlier
 
 -- each event gave an answer that its act may have
 abbrev pub AreAnswers : List Did → Type 0
 AreAnswers [] = Unit {0}
 AreAnswers (did ∷ earlier) = IsAnswer (act_of_event did) (answer_of did) × AreAnswers earlier
 
-pub event_act : (act : Act) (did : Did) → event_of act (answer_of did) ≡ Some did → act ≡ act_of_event did
+pub event_act : (act : Act) (did : Did) → event_of act (answer_of did) ≡ Some did
+    → act ≡ act_of_event did
 event_act (Load cell) did e = ap act_of_event (same_Some (Read cell (answer_of did)) did e)
 event_act (Store cell value) did e = ap act_of_event (same_Some (Wrote cell value) did e)
 event_act (Take lock) did e = ap act_of_event (same_Some (Took lock) did e)
@@ -43,13 +47,17 @@ event_act (Mark kind) did e = ap act_of_event (same_Some (Marked kind) did e)
 event_act Done did e = cc
 
 -- an event of a sound script may come, and what is left is sound after it
-sound_may : (h : Header) (s : Situation) (script : Script) (did : Did) → IsSound h s script → event_of (next_act script) (answer_of did) ≡ Some did
+sound_may : (h : Header) (s : Situation) (script : Script) (did : Did) → IsSound h s script
+    → event_of (next_act script) (answer_of did) ≡ Some did
     → may_act h s (act_of_event did) ≡ true
 sound_may h s stop did sound e = cc
-sound_may h s (step act rest) did sound e = subst (λ act. may_act h s act ≡ true) (event_act act did e) sound.0
+sound_may h s (step act rest) did sound e = subst (λ act. may_act h s act ≡ true)
+    (event_act act did e) sound.0
 
-sound_step : (h : Header) (s : Situation) (script : Script) (did : Did) → IsSound h s script → event_of (next_act script) (answer_of did) ≡ Some did
-    → IsAnswer (act_of_event did) (answer_of did) → IsSound h (after_act s (act_of_event did)) (after_answer script (answer_of did))
+sound_step : (h : Header) (s : Situation) (script : Script) (did : Did) → IsSound h s script
+    → event_of (next_act script) (answer_of did) ≡ Some did
+    → IsAnswer (act_of_event did) (answer_of did) → IsSound h (after_act s (act_of_event did))
+    (after_answer script (answer_of did))
 sound_step h s stop did sound e answer = cc
 sound_step h s (step act rest) did sound e answer =
     let same : act ≡ act_of_event did = event_act act did e in
@@ -57,25 +65,32 @@ sound_step h s (step act rest) did sound e answer =
     (sound.1 (answer_of did) (subst (λ act. IsAnswer act (answer_of did)) (sym same) answer))
 
 -- what is left of a sound script that was played so far
-pub sound_left : (h : Header) (script : Script) (dids : List Did) → IsSound h at_rest script → Plays script dids → AreAnswers dids
+pub sound_left : (h : Header) (script : Script) (dids : List Did) → IsSound h at_rest script
+    → Plays script dids → AreAnswers dids
     → IsSound h (situation_after dids) (left_after script dids)
 sound_left h script [] sound plays answers = sound
 sound_left h script (did ∷ earlier) sound plays answers =
-    sound_step h (situation_after earlier) (left_after script earlier) did (sound_left h script earlier sound plays.1 answers.1) plays.0 answers.0
+    sound_step h (situation_after earlier) (left_after script earlier) did
+    (sound_left h script earlier sound plays.1 answers.1) plays.0 answers.0
 
-pub sound_keeps : (h : Header) (script : Script) (dids : List Did) → IsSound h at_rest script → Plays script dids → AreAnswers dids → KeepsTo h dids
+pub sound_keeps : (h : Header) (script : Script) (dids : List Did) → IsSound h at_rest script
+    → Plays script dids → AreAnswers dids → KeepsTo h dids
 sound_keeps h script [] sound plays answers = tt
 sound_keeps h script (did ∷ earlier) sound plays answers = (
-  sound_may h (situation_after earlier) (left_after script earlier) did (sound_left h script earlier sound plays.1 answers.1) plays.0,
+  sound_may h (situation_after earlier) (left_after script earlier) did
+      (sound_left h script earlier sound plays.1 answers.1) plays.0,
   sound_keeps h script earlier sound plays.1 answers.1,
 )
 
--- a sound script that is at its end leaves the caller at rest, and a sound script that does nothing more is at its end
-pub rests_at_stop : (h : Header) (s : Situation) (script : Script) → IsSound h s script → script ≡ stop → s ≡ at_rest
+-- a sound script that is at its end leaves the caller at rest, and a sound script that does nothing
+-- more is at its end
+pub rests_at_stop : (h : Header) (s : Situation) (script : Script) → IsSound h s script
+    → script ≡ stop → s ≡ at_rest
 rests_at_stop h s stop sound e = sound
 rests_at_stop h s (step act rest) sound e = cc
 
-pub done_is_stop : (h : Header) (s : Situation) (script : Script) → IsSound h s script → is_done (next_act script) ≡ true → script ≡ stop
+pub done_is_stop : (h : Header) (s : Situation) (script : Script) → IsSound h s script
+    → is_done (next_act script) ≡ true → script ≡ stop
 done_is_stop h s stop sound e = refl
 done_is_stop h s (step act rest) sound e = absurd (undone act sound.0 e)
   where
@@ -90,4 +105,5 @@ done_is_stop h s (step act rest) sound e = absurd (undone act sound.0 e)
 -- nothing is left of nothing
 pub left_of_stop : (dids : List Did) → left_after stop dids ≡ stop
 left_of_stop [] = refl
-left_of_stop (did ∷ earlier) = ap (λ script. after_answer script (answer_of did)) (left_of_stop earlier)
+left_of_stop (did ∷ earlier) = ap (λ script. after_answer script (answer_of did))
+    (left_of_stop earlier)

@@ -9,17 +9,28 @@ use Rattle.vyrd_memory.specs.Bounds.{is_return, EndsByReturn}
 -- there may be more time
 pub in_more : (n m : ℕ) (script : Script) → n ≤ m → EndsByReturn n script → EndsByReturn m script
 in_more n m stop le ends = ends
-in_more n m (step act rest) le ends =
-    (omega (arith, ends.0), ends.1, λ on answer is. in_more (n - 1) (m - 1) (rest answer) (omega (arith, le)) (ends.2 on answer is))
+in_more n m (step act rest) le ends = (
+  omega (arith, ends.0),
+  ends.1,
+  λ on answer is. in_more (n - 1) (m - 1) (rest answer)
+      (omega (arith, le)) (ends.2 on answer is),
+)
 
 not_both : (b : Bool) → b ≡ false → b ≡ true → ⊥
 not_both b e f = cc
 
 -- one more act
-pub loads_in : (n cell : ℕ) (rest : ℕ → Script) → ((answer : ℕ) → EndsByReturn n (rest answer)) → EndsByReturn (n + 1) (step (Load cell) rest)
-loads_in n cell rest ends = (omega arith, λ e. cc, λ on answer is. in_more n (n + 1 - 1) (rest answer) (omega arith) (ends answer))
+pub loads_in : (n cell : ℕ) (rest : ℕ → Script) → ((answer : ℕ) → EndsByReturn n (rest answer))
+    → EndsByReturn (n + 1) (step (Load cell) rest)
+loads_in n cell rest ends = (
+  omega arith,
+  λ e. cc,
+  λ on answer is. in_more n (n + 1 - 1) (rest answer) (omega arith)
+      (ends answer),
+)
 
-pub acts_in : (n : ℕ) (act : Act) (later : Script) → is_return act ≡ false → EndsByReturn n later → EndsByReturn (n + 1) (perform act later)
+pub acts_in : (n : ℕ) (act : Act) (later : Script) → is_return act ≡ false → EndsByReturn n later
+    → EndsByReturn (n + 1) (perform act later)
 acts_in n act later on ends = (
   omega arith,
   λ e. absurd (not_both (is_return act) on e),
@@ -27,7 +38,8 @@ acts_in n act later on ends = (
 )
 
 -- one way or the other
-pub either_in : (n : ℕ) (b : Bool) (x y : Script) → EndsByReturn n x → EndsByReturn n y → EndsByReturn n (cond b x y)
+pub either_in : (n : ℕ) (b : Bool) (x y : Script) → EndsByReturn n x → EndsByReturn n y
+    → EndsByReturn n (cond b x y)
 either_in n true x y e f = e
 either_in n false x y e f = f
 

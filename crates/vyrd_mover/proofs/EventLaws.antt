@@ -1,5 +1,6 @@
 -- A later line of a history has one reading.
-use Rattle.std.proofs.Common.{◌≡◌, ℕ, ◌<◌, ◌^◌, Bool, true, false, cond, not, ◌&&◌, List, [], ◌∷◌, ◌++◌, get_or, Option, Some, None, refl, ap, sym, ◌∙◌, arith}
+use Rattle.std.proofs.Common.{◌≡◌, ℕ, ◌<◌, ◌^◌, Bool, true, false, cond, not, ◌&&◌, List, [], ◌∷◌}
+use Rattle.std.proofs.Common.{◌++◌, get_or, Option, Some, None, refl, ap, sym, ◌∙◌, arith}
 use Rattle.std.specs.Prelude.{nat_lt, codes, decimal}
 use Rattle.std.specs.List.{list_all}
 use Rattle.std.specs.Str.{bytes_eq}
@@ -7,7 +8,8 @@ use Rattle.std.proofs.lemmas.Slice.Eq.{bytes_eq-Decides}
 use Rattle.std.proofs.lemmas.Bool.{not-true}
 use Rattle.vyrd_base.specs.declared.subject.Subject.{Subject}
 use Rattle.vyrd_base.specs.declared.log.Kind.{Kind}
-use Rattle.vyrd_base.specs.declared.log.Kind.TheVariants.{Call, Return, Write, Commit, BlockOpen, BlockClose, BlockCommit}
+use Rattle.vyrd_base.specs.declared.log.Kind.TheVariants.{Call, Return, Write, Commit, BlockOpen}
+use Rattle.vyrd_base.specs.declared.log.Kind.TheVariants.{BlockClose, BlockCommit}
 use Rattle.vyrd_base.specs.declared.log.Entry.{Entry}
 use Rattle.vyrd_base.specs.declared.history.Did.{Did}
 use Rattle.vyrd_base.specs.declared.history.Did.TheVariants.{Read, Wrote, Took, Gave, Marked}
@@ -23,7 +25,8 @@ use Rattle.vyrd_base.proofs.TestLaws.{both_true, first_true, second_true, below_
 use Rattle.vyrd_text.specs.Spelled.{kind_text}
 use Rattle.vyrd_text.proofs.PartLaws.{one_before_space, entry_line_is}
 use Rattle.vyrd_mover.specs.HistoryText.{did_line, event_line}
-use Rattle.vyrd_mover.specs.HistoryLines.{is_did_of, is_event_of, event_if, act_from, mark_or, event_in}
+use Rattle.vyrd_mover.specs.HistoryLines.{is_did_of, is_event_of, event_if, act_from, mark_or}
+use Rattle.vyrd_mover.specs.HistoryLines.{event_in}
 use Rattle.vyrd_mover.specs.HistorySpelled.{is_act, act_text, IsPairRead, IsActRead, IsStampedRead}
 
 -- an event of this number and caller
@@ -31,7 +34,8 @@ abbrev stamped : ℕ → ℕ → Did → Stamped
 stamped number caller did = record { number = number; caller = caller; did = did }
 
 -- the line of an act is its caller, a space and what it does
-pub act_line_is : (caller : ℕ) (did : Did) → is_act did ≡ true → did_line caller did ≡ decimal caller ++ 32 ∷ act_text did
+pub act_line_is : (caller : ℕ) (did : Did) → is_act did ≡ true → did_line caller did
+    ≡ decimal caller ++ 32 ∷ act_text did
 act_line_is caller (Read cell value) e = refl
 act_line_is caller (Wrote cell value) e = refl
 act_line_is caller (Took lock) e = refl
@@ -39,7 +43,8 @@ act_line_is caller (Gave lock) e = refl
 act_line_is caller (Marked kind) e = cc
 
 -- an act is an event of any subject
-act_is_event : (subject : Subject) (number caller : ℕ) (did : Did) → nat_lt caller (2 ^ 32) ≡ true → is_act did ≡ true
+act_is_event : (subject : Subject) (number caller : ℕ) (did : Did) → nat_lt caller (2 ^ 32) ≡ true
+    → is_act did ≡ true
     → is_event_of subject (stamped number caller did) ≡ true
 act_is_event subject number caller (Read cell value) low e = both_true _ _ low e
 act_is_event subject number caller (Wrote cell value) low e = both_true _ _ low e
@@ -55,7 +60,8 @@ record IsAct (number : ℕ) (line : List ℕ) (e : Stamped) : Type 0 where
   line_is : line ≡ event_line e
 
 -- the tests of a guess at an act
-checked : (subject : Subject) (line : List ℕ) (number caller : ℕ) (did : Did) (e : Stamped) → is_did_of subject did ≡ is_act did → (b : Bool)
+checked : (subject : Subject) (line : List ℕ) (number caller : ℕ) (did : Did) (e : Stamped)
+    → is_did_of subject did ≡ is_act did → (b : Bool)
     → (is_event_of subject (stamped number caller did) && bytes_eq (did_line caller did) line) ≡ b
     → cond b (Some (stamped number caller did)) None ≡ Some e → IsAct number line e
 checked subject line number caller did e acts false t f = cc
@@ -65,78 +71,114 @@ checked subject line number caller did e acts true t f =
     record {
       numbered = ap (λ x. x.number) (sym same);
       caller = ap (λ x. nat_lt x.caller (2 ^ 32)) (sym same) ∙ first_true _ _ event;
-      act = ap (λ x. is_act x.did) (sym same) ∙ sym acts ∙ second_true (nat_lt caller (2 ^ 32)) _ event;
-      line_is = sym ((bytes_eq-Decides (did_line caller did) line).0 (second_true (is_event_of subject (stamped number caller did)) _ t)) ∙ ap event_line same;
+      act = ap (λ x. is_act x.did) (sym same) ∙ sym acts
+          ∙ second_true (nat_lt caller (2 ^ 32)) _ event;
+      line_is = sym
+          ((bytes_eq-Decides (did_line caller did) line).0
+          (second_true (is_event_of subject (stamped number caller did)) _ t)) ∙ ap event_line same;
     }
 
-act_from_sound : (subject : Subject) (line : List ℕ) (number : ℕ) (parts : List (List ℕ)) (e : Stamped) → act_from subject line number parts ≡ Some e
+act_from_sound : (subject : Subject) (line : List ℕ) (number : ℕ) (parts : List (List ℕ))
+    (e : Stamped) → act_from subject line number parts ≡ Some e
     → IsAct number line e
 act_from_sound subject line number [] e f = cc
 act_from_sound subject line number (a ∷ []) e f = cc
 act_from_sound subject line number (a ∷ b ∷ []) e f = cc
 act_from_sound subject line number (a ∷ b ∷ c ∷ []) e f = by_word (bytes_eq b (codes "took")) f
   where
-    by_word : (t : Bool) → event_if subject line number (number_of a) (cond t (Took (number_of c)) (Gave (number_of c))) ≡ Some e → IsAct number line e
+    by_word : (t : Bool) → event_if subject line number (number_of a)
+        (cond t (Took (number_of c)) (Gave (number_of c))) ≡ Some e → IsAct number line e
     by_word true f = checked subject line number (number_of a) (Took (number_of c)) e refl
-        (is_event_of subject (stamped number (number_of a) (Took (number_of c))) && bytes_eq (did_line (number_of a) (Took (number_of c))) line) refl f
+        (is_event_of subject (stamped number (number_of a) (Took (number_of c)))
+        && bytes_eq (did_line (number_of a) (Took (number_of c))) line) refl f
     by_word false f = checked subject line number (number_of a) (Gave (number_of c)) e refl
-        (is_event_of subject (stamped number (number_of a) (Gave (number_of c))) && bytes_eq (did_line (number_of a) (Gave (number_of c))) line) refl f
+        (is_event_of subject (stamped number (number_of a) (Gave (number_of c)))
+        && bytes_eq (did_line (number_of a) (Gave (number_of c))) line) refl f
 act_from_sound subject line number (a ∷ b ∷ c ∷ d ∷ []) e f = by_word (bytes_eq b (codes "read")) f
   where
-    by_word : (t : Bool) → event_if subject line number (number_of a) (cond t (Read (number_of c) (number_of d)) (Wrote (number_of c) (number_of d))) ≡ Some e
+    by_word : (t : Bool) → event_if subject line number (number_of a)
+        (cond t (Read (number_of c) (number_of d)) (Wrote (number_of c) (number_of d))) ≡ Some e
         → IsAct number line e
-    by_word true f = checked subject line number (number_of a) (Read (number_of c) (number_of d)) e refl
-        (is_event_of subject (stamped number (number_of a) (Read (number_of c) (number_of d))) && bytes_eq (did_line (number_of a) (Read (number_of c) (number_of d))) line) refl f
-    by_word false f = checked subject line number (number_of a) (Wrote (number_of c) (number_of d)) e refl
-        (is_event_of subject (stamped number (number_of a) (Wrote (number_of c) (number_of d))) && bytes_eq (did_line (number_of a) (Wrote (number_of c) (number_of d))) line) refl f
+    by_word true f = checked subject line number (number_of a) (Read (number_of c) (number_of d)) e
+        refl
+        (is_event_of subject (stamped number (number_of a) (Read (number_of c) (number_of d)))
+        && bytes_eq (did_line (number_of a) (Read (number_of c) (number_of d))) line) refl f
+    by_word false f = checked subject line number (number_of a) (Wrote (number_of c) (number_of d))
+        e refl
+        (is_event_of subject (stamped number (number_of a) (Wrote (number_of c) (number_of d)))
+        && bytes_eq (did_line (number_of a) (Wrote (number_of c) (number_of d))) line) refl f
 act_from_sound subject line number (a ∷ b ∷ c ∷ d ∷ x ∷ more) e f = cc
 
 -- the fields of an access, and of a take or a give
-module _ (caller : ℕ) (word : List ℕ) (cell value : ℕ) (w : is_plain_field word ≡ true) (lc : caller < 2 ^ 64) (lx : cell < 2 ^ 64) (lv : value < 2 ^ 64) where
-  plain_pair : list_all is_plain_field (decimal caller ∷ word ∷ decimal cell ∷ decimal value ∷ []) ≡ true
-  plain_pair = both_true _ _ (plain_number caller lc) (both_true _ _ w (both_true _ _ (plain_number cell lx) (both_true _ _ (plain_number value lv) refl)))
+module _ (caller : ℕ) (word : List ℕ) (cell value : ℕ) (w : is_plain_field word ≡ true)
+    (lc : caller < 2 ^ 64) (lx : cell < 2 ^ 64) (lv : value < 2 ^ 64) where
+  plain_pair : list_all is_plain_field (decimal caller ∷ word ∷ decimal cell ∷ decimal value ∷ [])
+      ≡ true
+  plain_pair = both_true _ _ (plain_number caller lc)
+      (both_true _ _ w
+      (both_true _ _ (plain_number cell lx) (both_true _ _ (plain_number value lv) refl)))
 
   plain_one : list_all is_plain_field (decimal caller ∷ word ∷ decimal cell ∷ []) ≡ true
-  plain_one = both_true _ _ (plain_number caller lc) (both_true _ _ w (both_true _ _ (plain_number cell lx) refl))
+  plain_one = both_true _ _ (plain_number caller lc)
+      (both_true _ _ w (both_true _ _ (plain_number cell lx) refl))
 
 -- an act is read back from the fields of its line
-guess_back : (subject : Subject) (line : List ℕ) (number caller : ℕ) (did : Did) → caller < 2 ^ 64 → is_act did ≡ true
-    → act_from subject line number (fields_of (did_line caller did)) ≡ event_if subject line number caller did
+guess_back : (subject : Subject) (line : List ℕ) (number caller : ℕ) (did : Did) → caller < 2 ^ 64
+    → is_act did ≡ true
+    → act_from subject line number (fields_of (did_line caller did))
+    ≡ event_if subject line number caller did
 guess_back subject line number caller (Read cell value) low e =
     let lx = below_32 cell (first_true _ _ e) in
     let lv = below_of value (2 ^ 64) (second_true (nat_lt cell (2 ^ 32)) _ e) in
-    ap (act_from subject line number) (split-join 32 (decimal caller) (codes "read" ∷ decimal cell ∷ decimal value ∷ [])
-    (plain_spaces (decimal caller ∷ codes "read" ∷ decimal cell ∷ decimal value ∷ []) (plain_pair caller (codes "read") cell value refl low lx lv)))
-    ∙ λ i. event_if subject line number (number_of_decimal caller low i) (Read (number_of_decimal cell lx i) (number_of_decimal value lv i))
+    ap (act_from subject line number)
+    (split-join 32 (decimal caller) (codes "read" ∷ decimal cell ∷ decimal value ∷ [])
+    (plain_spaces (decimal caller ∷ codes "read" ∷ decimal cell ∷ decimal value ∷ [])
+    (plain_pair caller (codes "read") cell value refl low lx lv)))
+    ∙ λ i. event_if subject line number (number_of_decimal caller low i)
+    (Read (number_of_decimal cell lx i) (number_of_decimal value lv i))
 guess_back subject line number caller (Wrote cell value) low e =
     let lx = below_32 cell (first_true _ _ e) in
     let lv = below_of value (2 ^ 64) (second_true (nat_lt cell (2 ^ 32)) _ e) in
-    ap (act_from subject line number) (split-join 32 (decimal caller) (codes "wrote" ∷ decimal cell ∷ decimal value ∷ [])
-    (plain_spaces (decimal caller ∷ codes "wrote" ∷ decimal cell ∷ decimal value ∷ []) (plain_pair caller (codes "wrote") cell value refl low lx lv)))
-    ∙ λ i. event_if subject line number (number_of_decimal caller low i) (Wrote (number_of_decimal cell lx i) (number_of_decimal value lv i))
+    ap (act_from subject line number)
+    (split-join 32 (decimal caller) (codes "wrote" ∷ decimal cell ∷ decimal value ∷ [])
+    (plain_spaces (decimal caller ∷ codes "wrote" ∷ decimal cell ∷ decimal value ∷ [])
+    (plain_pair caller (codes "wrote") cell value refl low lx lv)))
+    ∙ λ i. event_if subject line number (number_of_decimal caller low i)
+    (Wrote (number_of_decimal cell lx i) (number_of_decimal value lv i))
 guess_back subject line number caller (Took lock) low e =
     let lx = below_32 lock e in
-    ap (act_from subject line number) (split-join 32 (decimal caller) (codes "took" ∷ decimal lock ∷ [])
-    (plain_spaces (decimal caller ∷ codes "took" ∷ decimal lock ∷ []) (plain_one caller (codes "took") lock 0 refl low lx (omega arith))))
-    ∙ λ i. event_if subject line number (number_of_decimal caller low i) (Took (number_of_decimal lock lx i))
+    ap (act_from subject line number)
+    (split-join 32 (decimal caller) (codes "took" ∷ decimal lock ∷ [])
+    (plain_spaces (decimal caller ∷ codes "took" ∷ decimal lock ∷ [])
+    (plain_one caller (codes "took") lock 0 refl low lx (omega arith))))
+    ∙ λ i. event_if subject line number (number_of_decimal caller low i)
+    (Took (number_of_decimal lock lx i))
 guess_back subject line number caller (Gave lock) low e =
     let lx = below_32 lock e in
-    ap (act_from subject line number) (split-join 32 (decimal caller) (codes "gave" ∷ decimal lock ∷ [])
-    (plain_spaces (decimal caller ∷ codes "gave" ∷ decimal lock ∷ []) (plain_one caller (codes "gave") lock 0 refl low lx (omega arith))))
-    ∙ λ i. event_if subject line number (number_of_decimal caller low i) (Gave (number_of_decimal lock lx i))
+    ap (act_from subject line number)
+    (split-join 32 (decimal caller) (codes "gave" ∷ decimal lock ∷ [])
+    (plain_spaces (decimal caller ∷ codes "gave" ∷ decimal lock ∷ [])
+    (plain_one caller (codes "gave") lock 0 refl low lx (omega arith))))
+    ∙ λ i. event_if subject line number (number_of_decimal caller low i)
+    (Gave (number_of_decimal lock lx i))
 guess_back subject line number caller (Marked kind) low e = cc
 
-act_back : (subject : Subject) (number caller : ℕ) (did : Did) → nat_lt caller (2 ^ 32) ≡ true → is_act did ≡ true
-    → act_from subject (did_line caller did) number (fields_of (did_line caller did)) ≡ Some (stamped number caller did)
+act_back : (subject : Subject) (number caller : ℕ) (did : Did) → nat_lt caller (2 ^ 32) ≡ true
+    → is_act did ≡ true
+    → act_from subject (did_line caller did) number (fields_of (did_line caller did))
+    ≡ Some (stamped number caller did)
 act_back subject number caller did low e =
     guess_back subject (did_line caller did) number caller did (below_32 caller low) e
     ∙ ap (λ b. cond b (Some (stamped number caller did)) None)
-    (both_true _ _ (act_is_event subject number caller did low e) (bytes_same (did_line caller did)))
+    (both_true _ _ (act_is_event subject number caller did low e)
+    (bytes_same (did_line caller did)))
 
 -- what was found is the act that the line spells
-pub stamped_is : (subject : Subject) (number : ℕ) (line : List ℕ) (o : Option Stamped) → IsStampedRead number line o
+pub stamped_is : (subject : Subject) (number : ℕ) (line : List ℕ) (o : Option Stamped)
+    → IsStampedRead number line o
     → o ≡ act_from subject line number (fields_of line)
-stamped_is subject number line None none = by_answer (act_from subject line number (fields_of line)) refl
+stamped_is subject number line None none = by_answer (act_from subject line number (fields_of line))
+    refl
   where
     by_answer : (o : Option Stamped) → act_from subject line number (fields_of line) ≡ o → None ≡ o
     by_answer None e = refl
@@ -144,17 +186,21 @@ stamped_is subject number line None none = by_answer (act_from subject line numb
         let is = act_from_sound subject line number (fields_of line) x e in
         absurd (none x (below_of x.caller (2 ^ 32) is.caller) is.act is.line_is)
 stamped_is subject number line (Some e) is =
-    sym (ap (λ l. act_from subject l number (fields_of l)) is.3 ∙ act_back subject number e.caller e.did (is_below e.caller (2 ^ 32) is.1) is.2
+    sym (ap (λ l. act_from subject l number (fields_of l)) is.3
+    ∙ act_back subject number e.caller e.did (is_below e.caller (2 ^ 32) is.1) is.2
     ∙ ap (λ n. Some (stamped n e.caller e.did)) (sym is.0))
 
 -- a caller that no act follows
-pub no_did : (number : ℕ) (line : List ℕ) (n : ℕ) (r : List ℕ) → n < 2 ^ 64 → line ≡ decimal n ++ 32 ∷ r → IsActRead r None → IsStampedRead number line None
+pub no_did : (number : ℕ) (line : List ℕ) (n : ℕ) (r : List ℕ) → n < 2 ^ 64 → line ≡ decimal n
+    ++ 32 ∷ r → IsActRead r None → IsStampedRead number line None
 no_did number line n r low e none x small act f =
-    let is = one_before_space n x.caller r (act_text x.did) low (omega arith) (sym e ∙ f ∙ act_line_is x.caller x.did act) in
+    let is = one_before_space n x.caller r (act_text x.did) low (omega arith)
+    (sym e ∙ f ∙ act_line_is x.caller x.did act) in
     none x.did act is.1
 
 -- a cell that no value follows
-pub no_value : (text : List ℕ) (m : ℕ) (r : List ℕ) → m < 2 ^ 64 → text ≡ decimal m ++ 32 ∷ r → ((n : ℕ) → n < 2 ^ 64 → r ≡ decimal n → ⊥) → IsPairRead text None
+pub no_value : (text : List ℕ) (m : ℕ) (r : List ℕ) → m < 2 ^ 64 → text ≡ decimal m ++ 32 ∷ r
+    → ((n : ℕ) → n < 2 ^ 64 → r ≡ decimal n → ⊥) → IsPairRead text None
 no_value text m r low e none cell value s v f =
     let is = one_before_space m cell r (decimal value) low (omega arith) (sym e ∙ f) in
     none value v is.1
@@ -162,43 +208,73 @@ no_value text m r low e none cell value s v f =
 -- no act is spelled as an entry
 no_entry_text : (did : Did) (kind : Kind) → is_act did ≡ true → act_text did ≡ kind_text kind → ⊥
 no_entry_text (Marked x) kind act e = cc
-no_entry_text (Read cell value) (Call m a) act e = let h : 114 ≡ 99 = ap (λ t. get_or t 0 0) e in omega (arith, h)
-no_entry_text (Read cell value) (Return x) act e = let h : 97 ≡ 116 = ap (λ t. get_or t 2 0) e in omega (arith, h)
-no_entry_text (Read cell value) (Write w v) act e = let h : 114 ≡ 119 = ap (λ t. get_or t 0 0) e in omega (arith, h)
-no_entry_text (Read cell value) Commit act e = let h : 114 ≡ 99 = ap (λ t. get_or t 0 0) e in omega (arith, h)
-no_entry_text (Read cell value) BlockOpen act e = let h : 114 ≡ 111 = ap (λ t. get_or t 0 0) e in omega (arith, h)
-no_entry_text (Read cell value) BlockClose act e = let h : 114 ≡ 99 = ap (λ t. get_or t 0 0) e in omega (arith, h)
-no_entry_text (Read cell value) BlockCommit act e = let h : 114 ≡ 99 = ap (λ t. get_or t 0 0) e in omega (arith, h)
-no_entry_text (Wrote cell value) (Call m a) act e = let h : 119 ≡ 99 = ap (λ t. get_or t 0 0) e in omega (arith, h)
-no_entry_text (Wrote cell value) (Return x) act e = let h : 119 ≡ 114 = ap (λ t. get_or t 0 0) e in omega (arith, h)
-no_entry_text (Wrote cell value) (Write w v) act e = let h : 111 ≡ 105 = ap (λ t. get_or t 2 0) e in omega (arith, h)
-no_entry_text (Wrote cell value) Commit act e = let h : 119 ≡ 99 = ap (λ t. get_or t 0 0) e in omega (arith, h)
-no_entry_text (Wrote cell value) BlockOpen act e = let h : 119 ≡ 111 = ap (λ t. get_or t 0 0) e in omega (arith, h)
-no_entry_text (Wrote cell value) BlockClose act e = let h : 119 ≡ 99 = ap (λ t. get_or t 0 0) e in omega (arith, h)
-no_entry_text (Wrote cell value) BlockCommit act e = let h : 119 ≡ 99 = ap (λ t. get_or t 0 0) e in omega (arith, h)
-no_entry_text (Took lock) (Call m a) act e = let h : 116 ≡ 99 = ap (λ t. get_or t 0 0) e in omega (arith, h)
-no_entry_text (Took lock) (Return x) act e = let h : 116 ≡ 114 = ap (λ t. get_or t 0 0) e in omega (arith, h)
-no_entry_text (Took lock) (Write w v) act e = let h : 116 ≡ 119 = ap (λ t. get_or t 0 0) e in omega (arith, h)
-no_entry_text (Took lock) Commit act e = let h : 116 ≡ 99 = ap (λ t. get_or t 0 0) e in omega (arith, h)
-no_entry_text (Took lock) BlockOpen act e = let h : 116 ≡ 111 = ap (λ t. get_or t 0 0) e in omega (arith, h)
-no_entry_text (Took lock) BlockClose act e = let h : 116 ≡ 99 = ap (λ t. get_or t 0 0) e in omega (arith, h)
-no_entry_text (Took lock) BlockCommit act e = let h : 116 ≡ 99 = ap (λ t. get_or t 0 0) e in omega (arith, h)
-no_entry_text (Gave lock) (Call m a) act e = let h : 103 ≡ 99 = ap (λ t. get_or t 0 0) e in omega (arith, h)
-no_entry_text (Gave lock) (Return x) act e = let h : 103 ≡ 114 = ap (λ t. get_or t 0 0) e in omega (arith, h)
-no_entry_text (Gave lock) (Write w v) act e = let h : 103 ≡ 119 = ap (λ t. get_or t 0 0) e in omega (arith, h)
-no_entry_text (Gave lock) Commit act e = let h : 103 ≡ 99 = ap (λ t. get_or t 0 0) e in omega (arith, h)
-no_entry_text (Gave lock) BlockOpen act e = let h : 103 ≡ 111 = ap (λ t. get_or t 0 0) e in omega (arith, h)
-no_entry_text (Gave lock) BlockClose act e = let h : 103 ≡ 99 = ap (λ t. get_or t 0 0) e in omega (arith, h)
-no_entry_text (Gave lock) BlockCommit act e = let h : 103 ≡ 99 = ap (λ t. get_or t 0 0) e in omega (arith, h)
+no_entry_text (Read cell value) (Call m a) act e = let h : 114 ≡ 99 = ap (λ t. get_or t 0 0) e in
+    omega (arith, h)
+no_entry_text (Read cell value) (Return x) act e = let h : 97 ≡ 116 = ap (λ t. get_or t 2 0) e in
+    omega (arith, h)
+no_entry_text (Read cell value) (Write w v) act e = let h : 114 ≡ 119 = ap (λ t. get_or t 0 0) e in
+    omega (arith, h)
+no_entry_text (Read cell value) Commit act e = let h : 114 ≡ 99 = ap (λ t. get_or t 0 0) e in
+    omega (arith, h)
+no_entry_text (Read cell value) BlockOpen act e = let h : 114 ≡ 111 = ap (λ t. get_or t 0 0) e in
+    omega (arith, h)
+no_entry_text (Read cell value) BlockClose act e = let h : 114 ≡ 99 = ap (λ t. get_or t 0 0) e in
+    omega (arith, h)
+no_entry_text (Read cell value) BlockCommit act e = let h : 114 ≡ 99 = ap (λ t. get_or t 0 0) e in
+    omega (arith, h)
+no_entry_text (Wrote cell value) (Call m a) act e = let h : 119 ≡ 99 = ap (λ t. get_or t 0 0) e in
+    omega (arith, h)
+no_entry_text (Wrote cell value) (Return x) act e = let h : 119 ≡ 114 = ap (λ t. get_or t 0 0) e in
+    omega (arith, h)
+no_entry_text (Wrote cell value) (Write w v) act e = let h : 111 ≡ 105 = ap (λ t. get_or t 2 0) e in
+    omega (arith, h)
+no_entry_text (Wrote cell value) Commit act e = let h : 119 ≡ 99 = ap (λ t. get_or t 0 0) e in
+    omega (arith, h)
+no_entry_text (Wrote cell value) BlockOpen act e = let h : 119 ≡ 111 = ap (λ t. get_or t 0 0) e in
+    omega (arith, h)
+no_entry_text (Wrote cell value) BlockClose act e = let h : 119 ≡ 99 = ap (λ t. get_or t 0 0) e in
+    omega (arith, h)
+no_entry_text (Wrote cell value) BlockCommit act e = let h : 119 ≡ 99 = ap (λ t. get_or t 0 0) e in
+    omega (arith, h)
+no_entry_text (Took lock) (Call m a) act e = let h : 116 ≡ 99 = ap (λ t. get_or t 0 0) e in
+    omega (arith, h)
+no_entry_text (Took lock) (Return x) act e = let h : 116 ≡ 114 = ap (λ t. get_or t 0 0) e in
+    omega (arith, h)
+no_entry_text (Took lock) (Write w v) act e = let h : 116 ≡ 119 = ap (λ t. get_or t 0 0) e in
+    omega (arith, h)
+no_entry_text (Took lock) Commit act e = let h : 116 ≡ 99 = ap (λ t. get_or t 0 0) e in
+    omega (arith, h)
+no_entry_text (Took lock) BlockOpen act e = let h : 116 ≡ 111 = ap (λ t. get_or t 0 0) e in
+    omega (arith, h)
+no_entry_text (Took lock) BlockClose act e = let h : 116 ≡ 99 = ap (λ t. get_or t 0 0) e in
+    omega (arith, h)
+no_entry_text (Took lock) BlockCommit act e = let h : 116 ≡ 99 = ap (λ t. get_or t 0 0) e in
+    omega (arith, h)
+no_entry_text (Gave lock) (Call m a) act e = let h : 103 ≡ 99 = ap (λ t. get_or t 0 0) e in
+    omega (arith, h)
+no_entry_text (Gave lock) (Return x) act e = let h : 103 ≡ 114 = ap (λ t. get_or t 0 0) e in
+    omega (arith, h)
+no_entry_text (Gave lock) (Write w v) act e = let h : 103 ≡ 119 = ap (λ t. get_or t 0 0) e in
+    omega (arith, h)
+no_entry_text (Gave lock) Commit act e = let h : 103 ≡ 99 = ap (λ t. get_or t 0 0) e in
+    omega (arith, h)
+no_entry_text (Gave lock) BlockOpen act e = let h : 103 ≡ 111 = ap (λ t. get_or t 0 0) e in
+    omega (arith, h)
+no_entry_text (Gave lock) BlockClose act e = let h : 103 ≡ 99 = ap (λ t. get_or t 0 0) e in
+    omega (arith, h)
+no_entry_text (Gave lock) BlockCommit act e = let h : 103 ≡ 99 = ap (λ t. get_or t 0 0) e in
+    omega (arith, h)
 
-no_entry : (subject : Subject) (caller : ℕ) (did : Did) → nat_lt caller (2 ^ 32) ≡ true → is_act did ≡ true → entry_in subject (did_line caller did) ≡ None
+no_entry : (subject : Subject) (caller : ℕ) (did : Did) → nat_lt caller (2 ^ 32) ≡ true → is_act did
+    ≡ true → entry_in subject (did_line caller did) ≡ None
 no_entry subject caller did low act = by_answer (entry_in subject (did_line caller did)) refl
   where
     by_answer : (o : Option Entry) → entry_in subject (did_line caller did) ≡ o → o ≡ None
     by_answer None e = refl
     by_answer (Some y) e =
         let is = entry_in_sound subject (did_line caller did) y e in
-        let same = one_before_space caller y.caller (act_text did) (kind_text y.kind) (below_32 caller low) (below_32 y.caller (first_true _ _ is.1))
+        let same = one_before_space caller y.caller (act_text did) (kind_text y.kind)
+        (below_32 caller low) (below_32 y.caller (first_true _ _ is.1))
         (sym (act_line_is caller did act) ∙ is.0 ∙ entry_line_is y.caller y.kind) in
         absurd (no_entry_text did y.kind act same.1)
 
@@ -208,12 +284,21 @@ pub record IsSpelled (subject : Subject) (number : ℕ) (line : List ℕ) (e : S
   pub line_is : line ≡ event_line e
   pub is : is_event_of subject e ≡ true
 
-act_spelled : (subject : Subject) (number : ℕ) (line : List ℕ) (e : Stamped) → IsAct number line e → IsSpelled subject number line e
+act_spelled : (subject : Subject) (number : ℕ) (line : List ℕ) (e : Stamped) → IsAct number line e
+    → IsSpelled subject number line e
 act_spelled subject number line e is =
-    record { numbered = is.numbered; line_is = is.line_is; is = act_is_event subject e.number e.caller e.did is.caller is.act }
+    record {
+      numbered = is.numbered;
+      line_is = is.line_is;
+      is = act_is_event subject e.number
+          e.caller e.did is.caller is.act;
+    }
 
-mark_spelled : (subject : Subject) (number : ℕ) (line : List ℕ) (y : Entry) (e : Stamped) → line ≡ entry_line y → is_entry_of subject y ≡ true
-    → (b : Bool) → is_write y.kind ≡ b → cond b None (Some (stamped number y.caller (Marked y.kind))) ≡ Some e → IsSpelled subject number line e
+mark_spelled : (subject : Subject) (number : ℕ) (line : List ℕ) (y : Entry) (e : Stamped)
+    → line ≡ entry_line y → is_entry_of subject y ≡ true
+    → (b : Bool) → is_write y.kind ≡ b
+    → cond b None (Some (stamped number y.caller (Marked y.kind))) ≡ Some e
+    → IsSpelled subject number line e
 mark_spelled subject number line y e spelled is true w f = cc
 mark_spelled subject number line y e spelled is false w f =
     let same : stamped number y.caller (Marked y.kind) ≡ e = cc in
@@ -221,44 +306,61 @@ mark_spelled subject number line y e spelled is false w f =
       numbered = ap (λ x. x.number) (sym same);
       line_is = spelled ∙ ap event_line same;
       is = ap (is_event_of subject) (sym same)
-          ∙ both_true _ _ (first_true _ _ is) (both_true _ _ (second_true (nat_lt y.caller (2 ^ 32)) _ is) (ap not w));
+          ∙ both_true _ _ (first_true _ _ is)
+          (both_true _ _ (second_true (nat_lt y.caller (2 ^ 32)) _ is) (ap not w));
     }
 
-pub event_in_sound : (subject : Subject) (number : ℕ) (line : List ℕ) (e : Stamped) → event_in subject number line ≡ Some e → IsSpelled subject number line e
+pub event_in_sound : (subject : Subject) (number : ℕ) (line : List ℕ) (e : Stamped)
+    → event_in subject number line ≡ Some e → IsSpelled subject number line e
 unfolding event_in
 event_in_sound subject number line e f = by_entry (entry_in subject line) refl f
   where
-    by_entry : (o : Option Entry) → entry_in subject line ≡ o → mark_or number o (act_from subject line number (fields_of line)) ≡ Some e
+    by_entry : (o : Option Entry) → entry_in subject line ≡ o
+        → mark_or number o (act_from subject line number (fields_of line)) ≡ Some e
         → IsSpelled subject number line e
-    by_entry None found f = act_spelled subject number line e (act_from_sound subject line number (fields_of line) e f)
+    by_entry None found f = act_spelled subject number line e
+        (act_from_sound subject line number (fields_of line) e f)
     by_entry (Some y) found f =
         let is = entry_in_sound subject line y found in
         mark_spelled subject number line y e is.0 is.1 (is_write y.kind) refl f
 
 -- an event is read back from its line
-act_read : (subject : Subject) (number caller : ℕ) (did : Did) → nat_lt caller (2 ^ 32) ≡ true → is_act did ≡ true
+act_read : (subject : Subject) (number caller : ℕ) (did : Did) → nat_lt caller (2 ^ 32) ≡ true
+    → is_act did ≡ true
     → event_in subject number (did_line caller did) ≡ Some (stamped number caller did)
 unfolding event_in
 act_read subject number caller did low act =
-    ap (λ o. mark_or number o (act_from subject (did_line caller did) number (fields_of (did_line caller did)))) (no_entry subject caller did low act)
+    ap (λ o. mark_or number o
+    (act_from subject (did_line caller did) number (fields_of (did_line caller did))))
+    (no_entry subject caller did low act)
     ∙ act_back subject number caller did low act
 
-did_back : (subject : Subject) (number caller : ℕ) (did : Did) → is_event_of subject (stamped number caller did) ≡ true
+did_back : (subject : Subject) (number caller : ℕ) (did : Did)
+    → is_event_of subject (stamped number caller did) ≡ true
     → event_in subject number (did_line caller did) ≡ Some (stamped number caller did)
 unfolding event_in
-did_back subject number caller (Read cell value) is = act_read subject number caller (Read cell value) (first_true _ _ is) (second_true (nat_lt caller (2 ^ 32)) _ is)
-did_back subject number caller (Wrote cell value) is = act_read subject number caller (Wrote cell value) (first_true _ _ is) (second_true (nat_lt caller (2 ^ 32)) _ is)
-did_back subject number caller (Took lock) is = act_read subject number caller (Took lock) (first_true _ _ is) (second_true (nat_lt caller (2 ^ 32)) _ is)
-did_back subject number caller (Gave lock) is = act_read subject number caller (Gave lock) (first_true _ _ is) (second_true (nat_lt caller (2 ^ 32)) _ is)
+did_back subject number caller (Read cell value) is = act_read subject number caller
+    (Read cell value) (first_true _ _ is) (second_true (nat_lt caller (2 ^ 32)) _ is)
+did_back subject number caller (Wrote cell value) is = act_read subject number caller
+    (Wrote cell value) (first_true _ _ is) (second_true (nat_lt caller (2 ^ 32)) _ is)
+did_back subject number caller (Took lock) is = act_read subject number caller (Took lock)
+    (first_true _ _ is) (second_true (nat_lt caller (2 ^ 32)) _ is)
+did_back subject number caller (Gave lock) is = act_read subject number caller (Gave lock)
+    (first_true _ _ is) (second_true (nat_lt caller (2 ^ 32)) _ is)
 did_back subject number caller (Marked kind) is =
-    let kind_is : (is_kind_of subject kind && not (is_write kind)) ≡ true = second_true (nat_lt caller (2 ^ 32)) _ is in
-    let low : nat_lt caller (2 ^ 32) ≡ true = first_true (nat_lt caller (2 ^ 32)) (is_did_of subject (Marked kind)) is in
+    let kind_is : (is_kind_of subject kind && not (is_write kind)) ≡ true = second_true
+    (nat_lt caller (2 ^ 32)) _ is in
+    let low : nat_lt caller (2 ^ 32) ≡ true = first_true (nat_lt caller (2 ^ 32))
+    (is_did_of subject (Marked kind)) is in
     let entry : is_entry_of subject (record { caller = caller; kind = kind }) ≡ true =
-    both_true (nat_lt caller (2 ^ 32)) (is_kind_of subject kind) low (first_true (is_kind_of subject kind) (not (is_write kind)) kind_is) in
+    both_true (nat_lt caller (2 ^ 32)) (is_kind_of subject kind) low
+    (first_true (is_kind_of subject kind) (not (is_write kind)) kind_is) in
     let line = did_line caller (Marked kind) in
     ap (λ o. mark_or number o (act_from subject line number (fields_of line)))
     (entry_in-entry_line subject (record { caller = caller; kind = kind }) entry)
-    ∙ ap (λ b. cond b None (Some (stamped number caller (Marked kind)))) (not-true (is_write kind) (second_true (is_kind_of subject kind) _ kind_is))
+    ∙ ap (λ b. cond b None (Some (stamped number caller (Marked kind))))
+    (not-true (is_write kind) (second_true (is_kind_of subject kind) _ kind_is))
 
-pub event_in-event_line : (subject : Subject) (e : Stamped) → is_event_of subject e ≡ true → event_in subject e.number (event_line e) ≡ Some e
+pub event_in-event_line : (subject : Subject) (e : Stamped) → is_event_of subject e ≡ true
+    → event_in subject e.number (event_line e) ≡ Some e
 event_in-event_line subject e is = did_back subject e.number e.caller e.did is

@@ -1,5 +1,6 @@
 -- What is kept of the events goes with the history that the lines so far say.
-use Rattle.std.proofs.Common.{◌≡◌, ℕ, ◌+◌, ◌<◌, List, length, Option, None, Result, Ok, Err, refl, ap, sym, ◌∙◌, subst}
+use Rattle.std.proofs.Common.{◌≡◌, ℕ, ◌+◌, ◌<◌, List, length, Option, None, Result, Ok, Err, refl}
+use Rattle.std.proofs.Common.{ap, sym, ◌∙◌, subst}
 use Rattle.vyrd_base.specs.declared.subject.Subject.{Subject}
 use Rattle.vyrd_base.specs.declared.history.Stamped.{Stamped}
 use Rattle.vyrd_base.specs.Layout.{plain_words, lock_words}
@@ -20,7 +21,8 @@ pub record ReadOn (s : Remembered) (t : Taken) (read : Result Recorded HistoryRu
   pub is : read ≡ Ok now
   pub have : HaveRead s t now
 
-pub read_on : (s : Remembered) (t : Taken) (read : Result Recorded HistoryRule) → HaveReadOn s t read → ReadOn s t read
+pub read_on : (s : Remembered) (t : Taken) (read : Result Recorded HistoryRule)
+    → HaveReadOn s t read → ReadOn s t read
 read_on s t (Ok r) have = record { now = r; is = refl; have = have }
 read_on s t (Err rule) have = absurd have
 
@@ -37,7 +39,8 @@ line_says s t r subject place line have same count said is =
 -- the first rule that it breaks
 pub broken : (s : Remembered) (t : Taken) (r : Recorded) (e : Stamped) → HaveRead s t r
     → broken_by r e ≡ broken_by (record { header = s.header; history = r.history }) e
-broken s t r e have = ap (λ h. broken_by (record { header = h; history = r.history }) e) (sym have.header)
+broken s t r e have = ap (λ h. broken_by (record { header = h; history = r.history }) e)
+    (sym have.header)
 
 -- the number of the next event
 pub counted : (s : Remembered) (t : Taken) (r : Recorded) (e : Stamped) → HaveRead s t r
@@ -45,14 +48,20 @@ pub counted : (s : Remembered) (t : Taken) (r : Recorded) (e : Stamped) → Have
 counted s t r e have count = count ∙ taken_count t r.history have.taken
 
 -- an event that breaks no rule may be taken in
-pub may_follow : (s : Remembered) (t : Taken) (r : Recorded) (e : Stamped) → HaveRead s t r → broken_by r e ≡ None → IsNext t.header r.history e
-may_follow s t r e have none = subst (λ h. IsNext h r.history e) (sym have.same) ((no_rule r e none).0)
+pub may_follow : (s : Remembered) (t : Taken) (r : Recorded) (e : Stamped) → HaveRead s t r
+    → broken_by r e ≡ None → IsNext t.header r.history e
+may_follow s t r e have none = subst (λ h. IsNext h r.history e) (sym have.same)
+    ((no_rule r e none).0)
 
 -- and its caller and its cell are in range
-pub below_callers : (s : Remembered) (t : Taken) (r : Recorded) (e : Stamped) → HaveRead s t r → IsNext t.header r.history e → e.caller < s.header.callers
-below_callers s t r e have next = subst (λ h. e.caller < h.callers) (have.same ∙ sym have.header) ((fits t r.history e have.taken next).below)
+pub below_callers : (s : Remembered) (t : Taken) (r : Recorded) (e : Stamped) → HaveRead s t r
+    → IsNext t.header r.history e → e.caller < s.header.callers
+below_callers s t r e have next = subst (λ h. e.caller < h.callers) (have.same ∙ sym have.header)
+    ((fits t r.history e have.taken next).below)
 
-pub in_ledger : (s : Remembered) (t : Taken) (r : Recorded) (e : Stamped) → HaveRead s t r → IsNext t.header r.history e
+pub in_ledger : (s : Remembered) (t : Taken) (r : Recorded) (e : Stamped) → HaveRead s t r
+    → IsNext t.header r.history e
     → IsInRange (plain_words s.header) (plain_words s.header + lock_words s.header) e.did
 in_ledger s t r e have next =
-    subst (λ h. IsInRange (plain_words h) (plain_words h + lock_words h) e.did) (have.same ∙ sym have.header) ((fits t r.history e have.taken next).in_cells)
+    subst (λ h. IsInRange (plain_words h) (plain_words h + lock_words h) e.did)
+    (have.same ∙ sym have.header) ((fits t r.history e have.taken next).in_cells)

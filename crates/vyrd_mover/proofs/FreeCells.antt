@@ -1,14 +1,17 @@
 -- Race-free cells as facts about runs over a memory.
-use Rattle.std.proofs.Common.{◌≡◌, ℕ, ◌+◌, ◌<◌, true, false, not, ◌||◌, ◌⊎◌, inl, inr, List, [], ◌∷◌, refl, ap, sym, subst, arith}
+use Rattle.std.proofs.Common.{◌≡◌, ℕ, ◌+◌, ◌<◌, true, false, not, ◌||◌, ◌⊎◌, inl, inr, List, []}
+use Rattle.std.proofs.Common.{◌∷◌, refl, ap, sym, subst, arith}
 use Rattle.std.specs.Prelude.{◌==◌, nat_le}
 use Rattle.std.specs.List.{list_all, list_any}
 use Rattle.std.proofs.lemmas.Bool.{or_left, or_right, not-true}
 use Rattle.vyrd_base.specs.declared.history.Stamped.{Stamped}
 use Rattle.vyrd_base.specs.Places.{places_after, numbers_from, numbers_below}
 use Rattle.vyrd_base.specs.Histories.{Cells, is_lock, value_in}
-use Rattle.vyrd_base.proofs.TestLaws.{both_true, first_true, second_true, same_of, is_same, at_most_of, below_of}
+use Rattle.vyrd_base.proofs.TestLaws.{both_true, first_true, second_true, same_of, is_same}
+use Rattle.vyrd_base.proofs.TestLaws.{at_most_of, below_of}
 use Rattle.vyrd_base.proofs.CellLaws.{is_lock_of}
-use Rattle.vyrd_mover.specs.RaceFree.{is_access_of, is_write_to, is_used_by_alone, is_unwritten, is_guarded_at, is_guarded_by, is_race_free}
+use Rattle.vyrd_mover.specs.RaceFree.{is_access_of, is_write_to, is_used_by_alone, is_unwritten}
+use Rattle.vyrd_mover.specs.RaceFree.{is_guarded_at, is_guarded_by, is_race_free}
 use Rattle.vyrd_mover.specs.Exchanges.{numbered_from}
 use Rattle.vyrd_mover.proofs.TruthLaws.{either_true, implied, implies, any_tells, tells_any}
 use Rattle.vyrd_mover.proofs.Running.{step, value_step}
@@ -26,7 +29,8 @@ Unwritten cell (e ∷ later) = (is_write_to cell e.did ≡ false) × Unwritten c
 -- who reads or writes the cell holds the lock
 abbrev pub Guards : ℕ → ℕ → (ℕ → ℕ) → List Stamped → Type 0
 Guards cell lock m [] = Unit {0}
-Guards cell lock m (e ∷ later) = (is_access_of cell e.did ≡ true → m lock ≡ e.caller + 1) × Guards cell lock (step m e) later
+Guards cell lock m (e ∷ later) = (is_access_of cell e.did ≡ true → m lock ≡ e.caller + 1)
+    × Guards cell lock (step m e) later
 
 -- why the cell is race-free in the events that follow on a memory
 pub data Free (cells : Cells) (m : ℕ → ℕ) (es : List Stamped) (cell : ℕ) : Type 0 where
@@ -37,7 +41,8 @@ pub data Free (cells : Cells) (m : ℕ → ℕ) (es : List Stamped) (cell : ℕ)
 only_of : (cell c : ℕ) (es : List Stamped) → is_used_by_alone es cell c ≡ true → Only cell c es
 only_of cell c [] h = tt
 only_of cell c (e ∷ later) h = (
-  λ access. same_of e.caller c (implied (is_access_of cell e.did) (e.caller == c) (first_true _ _ h) access),
+  λ access. same_of e.caller c
+      (implied (is_access_of cell e.did) (e.caller == c) (first_true _ _ h) access),
   only_of cell c later (second_true (not (is_access_of cell e.did) || e.caller == c) _ h),
 )
 
@@ -45,7 +50,8 @@ is_only : (cell c : ℕ) (es : List Stamped) → Only cell c es → is_used_by_a
 is_only cell c [] h = refl
 is_only cell c (e ∷ later) h =
     both_true (not (is_access_of cell e.did) || e.caller == c) _
-    (implies (is_access_of cell e.did) _ (λ access. is_same e.caller c (h.0 access))) (is_only cell c later h.1)
+    (implies (is_access_of cell e.did) _ (λ access. is_same e.caller c (h.0 access)))
+    (is_only cell c later h.1)
 
 unwritten_of : (cell : ℕ) (es : List Stamped) → is_unwritten es cell ≡ true → Unwritten cell es
 unwritten_of cell [] h = tt
@@ -56,16 +62,21 @@ unwritten_of cell (e ∷ later) h = (
 
 is_never_written : (cell : ℕ) (es : List Stamped) → Unwritten cell es → is_unwritten es cell ≡ true
 is_never_written cell [] h = refl
-is_never_written cell (e ∷ later) h = both_true (not (is_write_to cell e.did)) _ (ap not h.0) (is_never_written cell later h.1)
+is_never_written cell (e ∷ later) h = both_true (not (is_write_to cell e.did)) _ (ap not h.0)
+    (is_never_written cell later h.1)
 
-guards_of : (cell lock : ℕ) (earlier es : List Stamped) → list_all (is_guarded_at cell lock) (places_after earlier es) ≡ true
+guards_of : (cell lock : ℕ) (earlier es : List Stamped) → list_all (is_guarded_at cell lock)
+    (places_after earlier es) ≡ true
     → Guards cell lock (value_in earlier) es
 guards_of cell lock earlier [] h = tt
 guards_of cell lock earlier (e ∷ later) h = (
   λ access. same_of (value_in earlier lock) (e.caller + 1) (implied (is_access_of cell e.did) _
-      (first_true (is_guarded_at cell lock (record { earlier = earlier; here = e; later = later })) _ h) access),
-  subst (λ m. Guards cell lock m later) (value_step e earlier) (guards_of cell lock (e ∷ earlier) later
-      (second_true (is_guarded_at cell lock (record { earlier = earlier; here = e; later = later })) _ h)),
+      (first_true (is_guarded_at cell lock
+      (record { earlier = earlier; here = e; later = later })) _ h) access),
+  subst (λ m. Guards cell lock m later) (value_step e earlier)
+      (guards_of cell lock (e ∷ earlier) later
+      (second_true
+      (is_guarded_at cell lock (record { earlier = earlier; here = e; later = later })) _ h)),
 )
 
 is_guarded : (cell lock : ℕ) (earlier es : List Stamped) → Guards cell lock (value_in earlier) es
@@ -73,63 +84,88 @@ is_guarded : (cell lock : ℕ) (earlier es : List Stamped) → Guards cell lock 
 is_guarded cell lock earlier [] h = refl
 is_guarded cell lock earlier (e ∷ later) h =
     both_true (is_guarded_at cell lock (record { earlier = earlier; here = e; later = later })) _
-    (implies (is_access_of cell e.did) _ (λ access. is_same (value_in earlier lock) (e.caller + 1) (h.0 access)))
-    (is_guarded cell lock (e ∷ earlier) later (subst (λ m. Guards cell lock m later) (sym (value_step e earlier)) h.1))
+    (implies (is_access_of cell e.did) _
+    (λ access. is_same (value_in earlier lock) (e.caller + 1) (h.0 access)))
+    (is_guarded cell lock (e ∷ earlier) later
+    (subst (λ m. Guards cell lock m later) (sym (value_step e earlier)) h.1))
 
 -- what a test of a race-free cell tells
-pub free_of : (cells : Cells) (history : List Stamped) (cell : ℕ) → is_race_free cells history cell ≡ true → Free cells (value_in []) history cell
+pub free_of : (cells : Cells) (history : List Stamped) (cell : ℕ) → is_race_free cells history cell
+    ≡ true → Free cells (value_in []) history cell
 unfolding is_race_free
-free_of cells history cell e = first (either_true (list_any (is_used_by_alone history cell) (numbers_below cells.callers) || is_unwritten history cell) _ e)
+free_of cells history cell e =
+    first (either_true (list_any (is_used_by_alone history cell) (numbers_below cells.callers)
+    || is_unwritten history cell) _ e)
   where
-    by_caller : list_any (is_used_by_alone history cell) (numbers_below cells.callers) ≡ true → Free cells (value_in []) history cell
+    by_caller : list_any (is_used_by_alone history cell) (numbers_below cells.callers) ≡ true
+        → Free cells (value_in []) history cell
     by_caller e =
         let found = any_tells (is_used_by_alone history cell) 0 cells.callers e in
         alone found.0 (omega (arith, found.2)) (only_of cell found.0 history found.3)
 
-    by_lock : list_any (is_guarded_by history cell) (numbers_from cells.plain cells.locks) ≡ true → Free cells (value_in []) history cell
+    by_lock : list_any (is_guarded_by history cell) (numbers_from cells.plain cells.locks) ≡ true
+        → Free cells (value_in []) history cell
     by_lock e =
         let found = any_tells (is_guarded_by history cell) cells.plain cells.locks e in
-        guarded found.0 (is_lock_of cells found.0 found.1 found.2) (guards_of cell found.0 [] history found.3)
+        guarded found.0 (is_lock_of cells found.0 found.1 found.2)
+        (guards_of cell found.0 [] history found.3)
 
-    second : (list_any (is_used_by_alone history cell) (numbers_below cells.callers) ≡ true) ⊎ (is_unwritten history cell ≡ true)
+    second : (list_any (is_used_by_alone history cell) (numbers_below cells.callers) ≡ true)
+        ⊎ (is_unwritten history cell ≡ true)
         → Free cells (value_in []) history cell
     second (inl e) = by_caller e
     second (inr e) = unwritten (unwritten_of cell history e)
 
-    first : ((list_any (is_used_by_alone history cell) (numbers_below cells.callers) || is_unwritten history cell) ≡ true)
-        ⊎ (list_any (is_guarded_by history cell) (numbers_from cells.plain cells.locks) ≡ true) → Free cells (value_in []) history cell
+    first : ((list_any (is_used_by_alone history cell) (numbers_below cells.callers)
+        || is_unwritten history cell) ≡ true)
+        ⊎ (list_any (is_guarded_by history cell) (numbers_from cells.plain cells.locks) ≡ true)
+        → Free cells (value_in []) history cell
     first (inl e) = second (either_true _ _ e)
     first (inr e) = by_lock e
 
 -- and when it says so
-pub is_free : (cells : Cells) (history : List Stamped) (cell : ℕ) → Free cells (value_in []) history cell → is_race_free cells history cell ≡ true
+pub is_free : (cells : Cells) (history : List Stamped) (cell : ℕ)
+    → Free cells (value_in []) history cell → is_race_free cells history cell ≡ true
 unfolding is_race_free
 is_free cells history cell (alone c low h) =
-    or_left (list_any (is_used_by_alone history cell) (numbers_below cells.callers) || is_unwritten history cell) _
+    or_left (list_any (is_used_by_alone history cell) (numbers_below cells.callers)
+    || is_unwritten history cell) _
     (or_left (list_any (is_used_by_alone history cell) (numbers_below cells.callers)) _
-    (tells_any (is_used_by_alone history cell) 0 cells.callers c (omega arith) (omega arith) (is_only cell c history h)))
+    (tells_any (is_used_by_alone history cell) 0 cells.callers c (omega arith) (omega arith)
+    (is_only cell c history h)))
 is_free cells history cell (unwritten h) =
-    or_left (list_any (is_used_by_alone history cell) (numbers_below cells.callers) || is_unwritten history cell) _
-    (or_right (list_any (is_used_by_alone history cell) (numbers_below cells.callers)) _ (is_never_written cell history h))
+    or_left (list_any (is_used_by_alone history cell) (numbers_below cells.callers)
+    || is_unwritten history cell) _
+    (or_right (list_any (is_used_by_alone history cell) (numbers_below cells.callers)) _
+    (is_never_written cell history h))
 is_free cells history cell (guarded lock kind h) =
-    or_right (list_any (is_used_by_alone history cell) (numbers_below cells.callers) || is_unwritten history cell) _
-    (tells_any (is_guarded_by history cell) cells.plain cells.locks lock (at_most_of cells.plain lock (first_true _ _ kind))
-    (below_of lock (cells.plain + cells.locks) (second_true (nat_le cells.plain lock) _ kind)) (is_guarded cell lock [] history h))
+    or_right (list_any (is_used_by_alone history cell) (numbers_below cells.callers)
+    || is_unwritten history cell) _
+    (tells_any (is_guarded_by history cell) cells.plain cells.locks lock
+    (at_most_of cells.plain lock (first_true _ _ kind))
+    (below_of lock (cells.plain + cells.locks) (second_true (nat_le cells.plain lock) _ kind))
+    (is_guarded cell lock [] history h))
 
 -- numbers don't matter
-only_numbered : (cell c k : ℕ) (es : List Stamped) → Only cell c es → Only cell c (numbered_from k es)
+only_numbered : (cell c k : ℕ) (es : List Stamped) → Only cell c es
+    → Only cell c (numbered_from k es)
 only_numbered cell c k [] h = tt
 only_numbered cell c k (e ∷ later) h = (h.0, only_numbered cell c (k + 1) later h.1)
 
-unwritten_numbered : (cell k : ℕ) (es : List Stamped) → Unwritten cell es → Unwritten cell (numbered_from k es)
+unwritten_numbered : (cell k : ℕ) (es : List Stamped) → Unwritten cell es
+    → Unwritten cell (numbered_from k es)
 unwritten_numbered cell k [] h = tt
 unwritten_numbered cell k (e ∷ later) h = (h.0, unwritten_numbered cell (k + 1) later h.1)
 
-guards_numbered : (cell lock k : ℕ) (m : ℕ → ℕ) (es : List Stamped) → Guards cell lock m es → Guards cell lock m (numbered_from k es)
+guards_numbered : (cell lock k : ℕ) (m : ℕ → ℕ) (es : List Stamped) → Guards cell lock m es
+    → Guards cell lock m (numbered_from k es)
 guards_numbered cell lock k m [] h = tt
-guards_numbered cell lock k m (e ∷ later) h = (h.0, guards_numbered cell lock (k + 1) (step m e) later h.1)
+guards_numbered cell lock k m (e ∷ later) h =
+    (h.0, guards_numbered cell lock (k + 1) (step m e) later h.1)
 
-pub free_numbered : (cells : Cells) (m : ℕ → ℕ) (es : List Stamped) (cell k : ℕ) → Free cells m es cell → Free cells m (numbered_from k es) cell
+pub free_numbered : (cells : Cells) (m : ℕ → ℕ) (es : List Stamped) (cell k : ℕ)
+    → Free cells m es cell → Free cells m (numbered_from k es) cell
 free_numbered cells m es cell k (alone c low h) = alone c low (only_numbered cell c k es h)
 free_numbered cells m es cell k (unwritten h) = unwritten (unwritten_numbered cell k es h)
-free_numbered cells m es cell k (guarded lock kind h) = guarded lock kind (guards_numbered cell lock k m es h)
+free_numbered cells m es cell k (guarded lock kind h) = guarded lock kind
+    (guards_numbered cell lock k m es h)

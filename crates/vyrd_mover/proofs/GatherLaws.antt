@@ -1,5 +1,7 @@
 -- The block law over the definitions.
-use Rattle.std.proofs.Common.{◌≡◌, ℕ, suc, ◌+◌, Bool, true, false, cond, not, ◌&&◌, List, [], ◌∷◌, ◌++◌, length, Some, None, refl, ap, ◌∙◌, sym, subst, arith, append_assoc, append-nil}
+use Rattle.std.proofs.Common.{◌≡◌, ℕ, suc, ◌+◌, Bool, true, false, cond, not, ◌&&◌, List, [], ◌∷◌}
+use Rattle.std.proofs.Common.{◌++◌, length, Some, None, refl, ap, ◌∙◌, sym, subst, arith}
+use Rattle.std.proofs.Common.{append_assoc, append-nil}
 use Rattle.std.proofs.Math.Bool.{and-false}
 use Rattle.std.specs.Prelude.{◌==◌}
 use Rattle.std.specs.List.{list_all, cons_option}
@@ -20,7 +22,8 @@ use Rattle.vyrd_mover.proofs.FreeCells.{free_of}
 use Rattle.vyrd_mover.proofs.CutLaws.{cuts, has_cut-cuts}
 use Rattle.vyrd_mover.proofs.Gathers.{Good, Foreign, own, behind, ComesApart, gather}
 
-onto_onto : (xs ys earlier : List Stamped) → newest_first_onto ys (newest_first_onto earlier xs) ≡ newest_first_onto (xs ++ ys) earlier
+onto_onto : (xs ys earlier : List Stamped) → newest_first_onto ys (newest_first_onto earlier xs)
+    ≡ newest_first_onto (xs ++ ys) earlier
 onto_onto [] ys earlier = refl
 onto_onto (x ∷ xs) ys earlier = onto_onto xs ys (x ∷ earlier)
 
@@ -28,7 +31,8 @@ onto_onto (x ∷ xs) ys earlier = onto_onto xs ys (x ∷ earlier)
 behind_before : (before es : List Stamped) → behind (newest_first before) es ≡ before ++ es
 behind_before before es = onto_onto before es []
 
-numbered-append : (k : ℕ) (xs ys : List Stamped) → numbered_from k (xs ++ ys) ≡ numbered_from k xs ++ numbered_from (k + length xs) ys
+numbered-append : (k : ℕ) (xs ys : List Stamped) → numbered_from k (xs ++ ys) ≡ numbered_from k xs
+    ++ numbered_from (k + length xs) ys
 numbered-append k [] ys = let e : k + 0 ≡ k = omega arith in ap (λ n. numbered_from n ys) (sym e)
 numbered-append k (x ∷ xs) ys =
     let e : k + 1 + length xs ≡ k + suc (length xs) = omega arith in
@@ -37,13 +41,16 @@ numbered-append k (x ∷ xs) ys =
 
 done-numbered : (c k : ℕ) (xs : List Stamped) → done_by c (numbered_from k xs) ≡ done_by c xs
 done-numbered c k [] = refl
-done-numbered c k (x ∷ xs) = ap (cons_option (cond (x.caller == c) (Some x.did) None)) (done-numbered c (k + 1) xs)
+done-numbered c k (x ∷ xs) = ap (cons_option (cond (x.caller == c) (Some x.did) None))
+    (done-numbered c (k + 1) xs)
 
-own_alone : (c k : ℕ) (xs : List Stamped) → list_all (λ e. e.caller == c) (numbered_from k (own c xs)) ≡ true
+own_alone : (c k : ℕ) (xs : List Stamped) → list_all (λ e. e.caller == c)
+    (numbered_from k (own c xs)) ≡ true
 own_alone c k [] = refl
 own_alone c k (x ∷ xs) = go (x.caller == c) refl (λ k. own_alone c k xs)
   where
-    go : (b : Bool) → (x.caller == c) ≡ b → ((k : ℕ) → list_all (λ e. e.caller == c) (numbered_from k (own c xs)) ≡ true)
+    go : (b : Bool) → (x.caller == c) ≡ b
+        → ((k : ℕ) → list_all (λ e. e.caller == c) (numbered_from k (own c xs)) ≡ true)
         → list_all (λ e. e.caller == c) (numbered_from k (cond b (x ∷ own c xs) (own c xs))) ≡ true
     go true its rest = both_true (x.caller == c) _ its (rest (k + 1))
     go false its rest = rest k
@@ -53,13 +60,16 @@ done-own c [] = refl
 done-own c (x ∷ xs) = go (x.caller == c) refl (done-own c xs)
   where
     go : (b : Bool) → (x.caller == c) ≡ b → done_by c (own c xs) ≡ done_by c xs
-        → done_by c (cond b (x ∷ own c xs) (own c xs)) ≡ cons_option (cond b (Some x.did) None) (done_by c xs)
-    go true its rest = ap (λ b. cons_option (cond b (Some x.did) None) (done_by c (own c xs))) its ∙ ap (λ ds. x.did ∷ ds) rest
+        → done_by c (cond b (x ∷ own c xs) (own c xs)) ≡ cons_option (cond b (Some x.did) None)
+        (done_by c xs)
+    go true its rest = ap (λ b. cons_option (cond b (Some x.did) None) (done_by c (own c xs))) its
+        ∙ ap (λ ds. x.did ∷ ds) rest
     go false its rest = rest
 
 done-foreign : (c : ℕ) (xs : List Stamped) → Foreign c xs → done_by c xs ≡ []
 done-foreign c [] foreign = refl
-done-foreign c (x ∷ xs) foreign = ap (λ b. cons_option (cond b (Some x.did) None) (done_by c xs)) foreign.0 ∙ done-foreign c xs foreign.1
+done-foreign c (x ∷ xs) foreign = ap (λ b. cons_option (cond b (Some x.did) None) (done_by c xs))
+    foreign.0 ∙ done-foreign c xs foreign.1
 
 open_is_mark : (did : Did) → is_block_open did ≡ true → is_mark did ≡ true
 open_is_mark (Marked kind) e = refl
@@ -68,39 +78,51 @@ open_is_mark (Wrote cell value) e = cc
 open_is_mark (Took lock) e = cc
 open_is_mark (Gave lock) e = cc
 
-open_is_no_event : (c : ℕ) (opening : Stamped) (rest : List Stamped) → is_block_open opening.did ≡ true → events_of c (opening ∷ rest) ≡ events_of c rest
+open_is_no_event : (c : ℕ) (opening : Stamped) (rest : List Stamped) → is_block_open opening.did
+    ≡ true → events_of c (opening ∷ rest) ≡ events_of c rest
 open_is_no_event c opening rest e =
-    ap (λ b. cond ((opening.caller == c) && not b) (opening ∷ events_of c rest) (events_of c rest)) (open_is_mark opening.did e)
-    ∙ ap (λ b. cond b (opening ∷ events_of c rest) (events_of c rest)) (and-false (opening.caller == c))
+    ap (λ b. cond ((opening.caller == c) && not b) (opening ∷ events_of c rest) (events_of c rest))
+    (open_is_mark opening.did e)
+    ∙ ap (λ b. cond b (opening ∷ events_of c rest) (events_of c rest))
+    (and-false (opening.caller == c))
 
 -- the events with those of others that came before the block's, the block's own, and the rest,
 -- renumbered
 split : (k : ℕ) (xs ys zs : List Stamped)
-    → numbered_from k (xs ++ (ys ++ zs)) ≡ numbered_from k xs ++ (numbered_from (k + length xs) ys ++ numbered_from (k + length xs + length ys) zs)
-split k xs ys zs = numbered-append k xs (ys ++ zs) ∙ ap (λ rest. numbered_from k xs ++ rest) (numbered-append (k + length xs) ys zs)
+    → numbered_from k (xs ++ (ys ++ zs)) ≡ numbered_from k xs
+    ++ (numbered_from (k + length xs) ys ++ numbered_from (k + length xs + length ys) zs)
+split k xs ys zs = numbered-append k xs (ys ++ zs) ∙ ap (λ rest. numbered_from k xs ++ rest)
+    (numbered-append (k + length xs) ys zs)
 
-numbered_apart : (cells : Cells) (free : ℕ → Bool) (c : ℕ) (before block after front back : List Stamped) → Foreign c front
-    → Good cells free (before ++ (block ++ after)) ((before ++ front) ++ (own c block ++ (back ++ after)))
-    → IsGathered cells c before block after (numbered_from 0 (before ++ front)) (numbered_from (0 + length (before ++ front)) (own c block))
+numbered_apart : (cells : Cells) (free : ℕ → Bool) (c : ℕ)
+    (before block after front back : List Stamped) → Foreign c front
+    → Good cells free (before ++ (block ++ after))
+    ((before ++ front) ++ (own c block ++ (back ++ after)))
+    → IsGathered cells c before block after (numbered_from 0 (before ++ front))
+    (numbered_from (0 + length (before ++ front)) (own c block))
     (numbered_from (0 + length (before ++ front) + length (own c block)) (back ++ after))
 numbered_apart cells free c before block after front back foreign good =
     let all = (before ++ front) ++ (own c block ++ (back ++ after)) in
     let parts = split 0 (before ++ front) (own c block) (back ++ after) in
     record {
       legal = subst (λ h. is_legal cells h ≡ true) parts (runs_legal cells all good.runs);
-      same = λ caller. ap (done_by caller) (sym parts) ∙ done-numbered caller 0 all ∙ good.same caller;
+      same = λ caller. ap (done_by caller) (sym parts) ∙ done-numbered caller 0 all
+          ∙ good.same caller;
       side_by_side = own_alone c (0 + length (before ++ front)) block;
       whole = done-numbered c (0 + length (before ++ front)) (own c block) ∙ done-own c block;
       in_place = done-numbered c 0 (before ++ front) ∙ filter_map-append _ before front
-          ∙ ap (λ ds. done_by c before ++ ds) (done-foreign c front foreign) ∙ append-nil (done_by c before);
+          ∙ ap (λ ds. done_by c before ++ ds) (done-foreign c front foreign)
+          ∙ append-nil (done_by c before);
     }
 
 gathered : (cells : Cells) (free : ℕ → Bool) (c : ℕ) (before block after : List Stamped)
-    → ComesApart cells free (before ++ (block ++ after)) c (newest_first before) (own c block) after → CanBeGathered cells c before block after
+    → ComesApart cells free (before ++ (block ++ after)) c (newest_first before) (own c block) after
+    → CanBeGathered cells c before block after
 gathered cells free c before block after found =
     let front = found.0 in
     let back = found.1 in
-    let order = behind_before before (front ++ (own c block ++ (back ++ after))) ∙ sym (append_assoc before front (own c block ++ (back ++ after))) in (
+    let order = behind_before before (front ++ (own c block ++ (back ++ after)))
+    ∙ sym (append_assoc before front (own c block ++ (back ++ after))) in (
       numbered_from 0 (before ++ front),
       numbered_from (0 + length (before ++ front)) (own c block),
       numbered_from (0 + length (before ++ front) + length (own c block)) (back ++ after),
@@ -108,22 +130,36 @@ gathered cells free c before block after found =
           (subst (Good cells free (before ++ (block ++ after))) order found.2.good),
     )
 
-block_gathered : (cells : Cells) (before rest after : List Stamped) (opening : Stamped) → is_legal cells (before ++ opening ∷ (rest ++ after)) ≡ true
-    → is_block_open opening.did ≡ true → has_cut (is_race_free cells (before ++ opening ∷ (rest ++ after))) (events_of opening.caller rest) ≡ true
+block_gathered : (cells : Cells) (before rest after : List Stamped) (opening : Stamped)
+    → is_legal cells (before ++ opening ∷ (rest ++ after)) ≡ true
+    → is_block_open opening.did ≡ true
+    → has_cut (is_race_free cells (before ++ opening ∷ (rest ++ after)))
+    (events_of opening.caller rest) ≡ true
     → CanBeGathered cells opening.caller before (opening ∷ rest) after
 block_gathered cells before rest after opening legal opens cut =
     let free = is_race_free cells (before ++ opening ∷ (rest ++ after)) in
     let c = opening.caller in
     gathered cells free c before (opening ∷ rest) after
-    (gather cells free (before ++ opening ∷ (rest ++ after)) c (newest_first before) (opening ∷ rest) after
-    (ap (cuts free) (open_is_no_event c opening rest opens) ∙ sym (has_cut-cuts free (events_of c rest)) ∙ cut)
-    (subst (Good cells free (before ++ opening ∷ (rest ++ after))) (sym (behind_before before (opening ∷ rest ++ after)))
-    (record { runs = legal_runs cells _ legal; frees = λ cell e. free_of cells _ cell e; same = λ caller. refl })))
+    (gather cells free (before ++ opening ∷ (rest ++ after)) c (newest_first before)
+    (opening ∷ rest) after
+    (ap (cuts free) (open_is_no_event c opening rest opens)
+    ∙ sym (has_cut-cuts free (events_of c rest)) ∙ cut)
+    (subst (Good cells free (before ++ opening ∷ (rest ++ after)))
+    (sym (behind_before before (opening ∷ rest ++ after)))
+    (record {
+      runs = legal_runs cells _ legal;
+      frees = λ cell e. free_of cells _ cell e;
+      same = λ caller. refl;
+    })))
 
 -- each reducible block of a legal history can be gathered
-pub reducible_is_gathered : (cells : Cells) (history before rest after : List Stamped) (opening : Stamped) → is_legal cells history ≡ true
-    → IsBlock history before opening rest after → has_cut (is_race_free cells history) (events_of opening.caller rest) ≡ true
+pub reducible_is_gathered : (cells : Cells) (history before rest after : List Stamped)
+    (opening : Stamped) → is_legal cells history ≡ true
+    → IsBlock history before opening rest after → has_cut (is_race_free cells history)
+    (events_of opening.caller rest) ≡ true
     → CanBeGathered cells opening.caller before (opening ∷ rest) after
 reducible_is_gathered cells history before rest after opening legal block cut =
-    block_gathered cells before rest after opening (subst (λ h. is_legal cells h ≡ true) block.stands legal) block.opens
-    (subst (λ h. has_cut (is_race_free cells h) (events_of opening.caller rest) ≡ true) block.stands cut)
+    block_gathered cells before rest after opening
+    (subst (λ h. is_legal cells h ≡ true) block.stands legal) block.opens
+    (subst (λ h. has_cut (is_race_free cells h) (events_of opening.caller rest) ≡ true) block.stands
+    cut)

@@ -1,5 +1,6 @@
 -- The first line of a history has one reading.
-use Rattle.std.proofs.Common.{◌≡◌, ℕ, ◌<◌, ◌^◌, Bool, true, false, cond, List, [], ◌∷◌, ◌++◌, Option, Some, None, refl, ap, sym, ◌∙◌, arith}
+use Rattle.std.proofs.Common.{◌≡◌, ℕ, ◌<◌, ◌^◌, Bool, true, false, cond, List, [], ◌∷◌, ◌++◌}
+use Rattle.std.proofs.Common.{Option, Some, None, refl, ap, sym, ◌∙◌, arith}
 use Rattle.std.specs.Prelude.{codes, decimal}
 use Rattle.std.specs.List.{list_all}
 use Rattle.std.specs.Str.{bytes_eq}
@@ -31,37 +32,52 @@ no_callers text m r low e none size callers s c f =
     none callers c is.1
 
 -- a line that no bounds end
-pub no_bounds : (line r : List ℕ) (found : Subject) (t : List ℕ) → line ≡ codes "history " ++ r → r ≡ subject_name found ++ 32 ∷ t
+pub no_bounds : (line r : List ℕ) (found : Subject) (t : List ℕ) → line ≡ codes "history " ++ r
+    → r ≡ subject_name found ++ 32 ∷ t
     → AreBoundsRead t None → IsFirstRead line None
 no_bounds line r found t e g none subject size callers built s c f =
-    let after = append_cancel_left (codes "history ") r (subject_name subject ++ 32 ∷ (decimal size ++ 32 ∷ decimal callers)) (sym e ∙ f) in
-    none size callers s c (one_name found subject t (decimal size ++ 32 ∷ decimal callers) (sym g ∙ after))
+    let after = append_cancel_left (codes "history ") r
+    (subject_name subject ++ 32 ∷ (decimal size ++ 32 ∷ decimal callers)) (sym e ∙ f) in
+    none size callers s c (one_name found subject t (decimal size ++ 32 ∷ decimal callers)
+    (sym g ∙ after))
 
 -- a first line and what it names
 module _ (subject : Subject) (size callers : ℕ) (s : size < 2 ^ 64) (c : callers < 2 ^ 64) where
-  plain : list_all is_plain_field (codes "history" ∷ subject_name subject ∷ decimal size ∷ decimal callers ∷ []) ≡ true
-  plain = both_true _ _ refl (both_true _ _ (plain_subject subject) (both_true _ _ (plain_number size s) (both_true _ _ (plain_number callers c) refl)))
+  plain : list_all is_plain_field (codes "history" ∷ subject_name subject ∷ decimal size
+      ∷ decimal callers ∷ []) ≡ true
+  plain = both_true _ _ refl
+      (both_true _ _ (plain_subject subject)
+      (both_true _ _ (plain_number size s) (both_true _ _ (plain_number callers c) refl)))
 
-  fields : fields_of (history_header_line subject size callers) ≡ codes "history" ∷ subject_name subject ∷ decimal size ∷ decimal callers ∷ []
-  fields = split-join 32 (codes "history") (subject_name subject ∷ decimal size ∷ decimal callers ∷ [])
-      (plain_spaces (codes "history" ∷ subject_name subject ∷ decimal size ∷ decimal callers ∷ []) plain)
+  fields : fields_of (history_header_line subject size callers) ≡ codes "history"
+      ∷ subject_name subject ∷ decimal size ∷ decimal callers ∷ []
+  fields = split-join 32 (codes "history") (subject_name subject ∷ decimal size ∷ decimal callers
+      ∷ [])
+      (plain_spaces (codes "history" ∷ subject_name subject ∷ decimal size ∷ decimal callers ∷ [])
+      plain)
 
   -- it is one line
   pub first_line_whole : lacks 10 (history_header_line subject size callers) ≡ true
-  first_line_whole = lacks-join 10 32 (codes "history") (subject_name subject ∷ decimal size ∷ decimal callers ∷ []) refl
-      (plain_line_feeds (codes "history" ∷ subject_name subject ∷ decimal size ∷ decimal callers ∷ []) plain)
+  first_line_whole = lacks-join 10 32 (codes "history")
+      (subject_name subject ∷ decimal size ∷ decimal callers ∷ []) refl
+      (plain_line_feeds (codes "history" ∷ subject_name subject ∷ decimal size ∷ decimal callers
+      ∷ []) plain)
 
   -- it is read as the header with its numbers, if there is one
-  pub header_known : is_built_in subject ≡ true → history_header_in (history_header_line subject size callers) ≡ header_of 1 subject size callers
+  pub header_known : is_built_in subject ≡ true
+      → history_header_in (history_header_line subject size callers)
+      ≡ header_of 1 subject size callers
   unfolding history_header_in
   header_known built =
       let line = history_header_line subject size callers in
       ap (history_header_from line) fields
-      ∙ (λ i. history_header_if line (subject_read subject built i) (number_of_decimal size s i) (number_of_decimal callers c i))
+      ∙ (λ i. history_header_if line (subject_read subject built i) (number_of_decimal size s i)
+      (number_of_decimal callers c i))
       ∙ ap (λ b. cond b (header_of 1 subject size callers) None) (bytes_same line)
 
 -- a header is read back from its first line
-pub header_in-first_line : (h : Header) → h.version ≡ 1 → history_header_in (history_header_line h.subject h.size h.callers) ≡ Some h
+pub header_in-first_line : (h : Header) → h.version ≡ 1
+    → history_header_in (history_header_line h.subject h.size h.callers) ≡ Some h
 header_in-first_line h one =
     let s : h.size < 2 ^ 64 = let l = size_in_32_bits h in omega (arith, l) in
     let c : h.callers < 2 ^ 64 = let l = callers_in_32_bits h in omega (arith, l) in
@@ -72,29 +88,44 @@ header_in-first_line h one =
 abbrev pub IsFirst : List ℕ → Header → Type 0
 IsFirst line h = (h.version ≡ 1) × (line ≡ history_header_line h.subject h.size h.callers)
 
-pub header_in_sound : (line : List ℕ) (h : Header) → history_header_in line ≡ Some h → IsFirst line h
+pub header_in_sound : (line : List ℕ) (h : Header) → history_header_in line ≡ Some h
+    → IsFirst line h
 unfolding history_header_in
 header_in_sound line h found = from (fields_of line) found
   where
-    of_header : (subject : Subject) (size callers : ℕ) (b : Bool) (e : limits_of subject 1 size callers ≡ b)
-        → line ≡ history_header_line subject size callers → header_if 1 subject size callers b e ≡ Some h
+    of_header : (subject : Subject) (size callers : ℕ) (b : Bool)
+        (e : limits_of subject 1 size callers ≡ b)
+        → line ≡ history_header_line subject size callers → header_if 1 subject size callers b e
+        ≡ Some h
         → IsFirst line h
     of_header subject size callers false e same f = cc
     of_header subject size callers true e same f =
-        let is : record { version = 1; subject = subject; size = size; callers = callers; within = e } ≡ h = cc in
-        (ap (λ (x : Header). x.version) (sym is), same ∙ ap (λ x. history_header_line x.subject x.size x.callers) is)
+        let is : record {
+          version = 1;
+          subject = subject;
+          size = size;
+          callers = callers;
+          within = e;
+        } ≡ h = cc in (
+          ap (λ (x : Header). x.version) (sym is),
+          same
+              ∙ ap (λ x. history_header_line x.subject x.size x.callers) is,
+        )
 
-    spelled : (subject : Subject) (size callers : ℕ) (b : Bool) → bytes_eq (history_header_line subject size callers) line ≡ b
+    spelled : (subject : Subject) (size callers : ℕ) (b : Bool)
+        → bytes_eq (history_header_line subject size callers) line ≡ b
         → cond b (header_of 1 subject size callers) None ≡ Some h → IsFirst line h
     spelled subject size callers false t f = cc
     spelled subject size callers true t f =
         of_header subject size callers (limits_of subject 1 size callers) refl
         (sym ((bytes_eq-Decides (history_header_line subject size callers) line).0 t)) f
 
-    if_spelled : (subject : Option Subject) (size callers : ℕ) → history_header_if line subject size callers ≡ Some h
+    if_spelled : (subject : Option Subject) (size callers : ℕ)
+        → history_header_if line subject size callers ≡ Some h
         → IsFirst line h
     if_spelled None size callers f = cc
-    if_spelled (Some subject) size callers f = spelled subject size callers (bytes_eq (history_header_line subject size callers) line) refl f
+    if_spelled (Some subject) size callers f = spelled subject size callers
+        (bytes_eq (history_header_line subject size callers) line) refl f
 
     from : (parts : List (List ℕ)) → history_header_from line parts ≡ Some h → IsFirst line h
     from [] f = cc
@@ -111,17 +142,21 @@ no_first line none = by_answer (history_header_in line) refl
     by_answer None e = refl
     by_answer (Some h) e =
         let is = header_in_sound line h e in
-        absurd (none h.subject h.size h.callers (first_version_built_in h is.0) (size_in_32_bits h) (callers_in_32_bits h) is.1)
+        absurd (none h.subject h.size h.callers (first_version_built_in h is.0) (size_in_32_bits h)
+        (callers_in_32_bits h) is.1)
 
-module _ (line : List ℕ) (subject : Subject) (size callers : ℕ) (s : size < 2 ^ 32) (c : callers < 2 ^ 32)
+module _ (line : List ℕ) (subject : Subject) (size callers : ℕ) (s : size < 2 ^ 32)
+    (c : callers < 2 ^ 32)
     (is : (is_built_in subject ≡ true) × (line ≡ history_header_line subject size callers)) where
   on_line : history_header_in line ≡ header_of 1 subject size callers
-  on_line = ap history_header_in is.1 ∙ header_known subject size callers (omega (arith, s)) (omega (arith, c)) is.0
+  on_line = ap history_header_in is.1 ∙ header_known subject size callers (omega (arith, s))
+      (omega (arith, c)) is.0
 
   -- its numbers aren't within the limits
   pub out_of_bounds : ¬ (limits_of subject 1 size callers ≡ true) → None ≡ history_header_in line
   out_of_bounds no_header = sym (on_line ∙ not_made 1 subject size callers no_header)
 
   -- or they are
-  pub first_found : (h : Header) → h.version ≡ 1 → h.subject ≡ subject → h.size ≡ size → h.callers ≡ callers → Some h ≡ history_header_in line
+  pub first_found : (h : Header) → h.version ≡ 1 → h.subject ≡ subject → h.size ≡ size → h.callers
+      ≡ callers → Some h ≡ history_header_in line
   first_found h v u n k = sym (on_line ∙ made 1 subject size callers h v u n k)

@@ -1,22 +1,28 @@
 -- The lines so far are followed by one more, or by bytes that break a rule.
-use Rattle.std.proofs.Common.{◌≡◌, ℕ, ◌+◌, ◌<◌, ◌≤◌, Bool, true, false, cond, List, [], ◌∷◌, ◌++◌, length, Option, Some, None, refl, ap, sym, ◌∙◌, subst, arith, append_assoc}
+use Rattle.std.proofs.Common.{◌≡◌, ℕ, ◌+◌, ◌<◌, ◌≤◌, Bool, true, false, cond, List, [], ◌∷◌, ◌++◌}
+use Rattle.std.proofs.Common.{length, Option, Some, None, refl, ap, sym, ◌∙◌, subst, arith}
+use Rattle.std.proofs.Common.{append_assoc}
 use Rattle.std.specs.Prelude.{is_some}
 use Rattle.vyrd_base.specs.Spelling.{end_line}
 use Rattle.vyrd_base.proofs.SplitLaws.{cut, lacks}
 use Rattle.vyrd_base.proofs.TestLaws.{is_below, isnt_below}
 use Rattle.vyrd_mover.specs.declared.events.Events.{Events}
 use Rattle.vyrd_mover.specs.declared.fault.HistoryRule.{HistoryRule}
-use Rattle.vyrd_mover.specs.declared.fault.HistoryRule.TheVariants.{TooManyLines, AfterEnd, BadHeader, BadLine}
+use Rattle.vyrd_mover.specs.declared.fault.HistoryRule.TheVariants.{TooManyLines, AfterEnd}
+use Rattle.vyrd_mover.specs.declared.fault.HistoryRule.TheVariants.{BadHeader, BadLine}
 use Rattle.vyrd_mover.specs.declared.fault.HistoryFault.{HistoryFault}
 use Rattle.vyrd_mover.specs.declared.lines.Lines.{Lines}
 use Rattle.vyrd_mover.specs.HistoryText.{Recorded}
-use Rattle.vyrd_mover.specs.HistoryReading.{refused, line_read, first_read, unless_too_many, unfinished_rule, history_reading}
+use Rattle.vyrd_mover.specs.HistoryReading.{refused, line_read, first_read, unless_too_many}
+use Rattle.vyrd_mover.specs.HistoryReading.{unfinished_rule, history_reading}
 use Rattle.vyrd_mover.specs.EventsRead.{HaveRead, HaveReadOn}
 use Rattle.vyrd_mover.specs.HistoryReaders.{rest_read, Follows, IsAtBy, IsAt, GoesOn}
 use Rattle.vyrd_mover.specs.Refusals.{IsRefusal, IsRefusedAt}
 use Rattle.vyrd_mover.proofs.EventsReadLaws.{read_on}
 use Rattle.vyrd_mover.proofs.SettledLaws.{long_line, long_text}
-use Rattle.vyrd_mover.proofs.WalkLaws.{then_lines, after_first, too_many, end_found, line_found, lines_last, first_step, first_last, refusal_first, more_after}
+use Rattle.vyrd_mover.proofs.WalkLaws.{then_lines, after_first, too_many, end_found, line_found}
+use Rattle.vyrd_mover.proofs.WalkLaws.{lines_last, first_step, first_last, refusal_first}
+use Rattle.vyrd_mover.proofs.WalkLaws.{more_after}
 
 not_empty : (line rest : List ℕ) → ¬ (line ++ 10 ∷ rest ≡ [])
 not_empty [] rest e = cc
@@ -30,65 +36,85 @@ pub within_limit : (n : ℕ) (rule : HistoryRule) → n ≤ 4000000 → unless_t
 within_limit n rule low = ap (λ b. cond b TooManyLines rule) (isnt_below 4000000 n low)
 
 -- a line too many
-pub rest_too_many : (r : Recorded) (n : ℕ) (is_ended : Bool) (line rest : List ℕ) → lacks 10 line ≡ true → 4000000 < n
+pub rest_too_many : (r : Recorded) (n : ℕ) (is_ended : Bool) (line rest : List ℕ) → lacks 10 line
+    ≡ true → 4000000 < n
     → rest_read r n is_ended (cut (line ++ 10 ∷ rest)) ≡ refused n TooManyLines
-rest_too_many r n true line rest lack high = more_after r n (line ++ 10 ∷ rest) (not_empty line rest) ∙ ap (refused n) (above_limit n AfterEnd high)
+rest_too_many r n true line rest lack high = more_after r n (line ++ 10 ∷ rest)
+    (not_empty line rest) ∙ ap (refused n) (above_limit n AfterEnd high)
 rest_too_many r n false line rest lack high = too_many r n line rest lack high
 
 -- a line after `end`
-pub rest_after_end : (r : Recorded) (n : ℕ) (is_ended : Bool) (line rest : List ℕ) → is_ended ≡ true → n ≤ 4000000
+pub rest_after_end : (r : Recorded) (n : ℕ) (is_ended : Bool) (line rest : List ℕ) → is_ended ≡ true
+    → n ≤ 4000000
     → rest_read r n is_ended (cut (line ++ 10 ∷ rest)) ≡ refused n AfterEnd
 rest_after_end r n is_ended line rest e low =
-    ap (λ d. rest_read r n d (cut (line ++ 10 ∷ rest))) e ∙ more_after r n (line ++ 10 ∷ rest) (not_empty line rest)
+    ap (λ d. rest_read r n d (cut (line ++ 10 ∷ rest))) e ∙ more_after r n (line ++ 10 ∷ rest)
+    (not_empty line rest)
     ∙ ap (refused n) (within_limit n AfterEnd low)
 
 -- the line `end`
-pub rest_ends : (e : Events) (r : Recorded) (n : ℕ) (is_ended : Bool) (line : List ℕ) → HaveRead e.ledger e.checker r → is_ended ≡ false
+pub rest_ends : (e : Events) (r : Recorded) (n : ℕ) (is_ended : Bool) (line : List ℕ)
+    → HaveRead e.ledger e.checker r → is_ended ≡ false
     → lacks 10 line ≡ true → n ≤ 4000000 → line ≡ end_line → GoesOn e r n is_ended line true
 rest_ends e r n is_ended line have d lack low is =
     record {
       recorded = r;
       have = have;
-      read = λ rest. ap (λ d. rest_read r n d (cut (line ++ 10 ∷ rest))) d ∙ end_found r n line rest lack low is;
+      read = λ rest. ap (λ d. rest_read r n d (cut (line ++ 10 ∷ rest))) d
+          ∙ end_found r n line rest lack low is;
     }
 
 -- another line
-pub rest_line : (r : Recorded) (n : ℕ) (is_ended : Bool) (line rest : List ℕ) → is_ended ≡ false → lacks 10 line ≡ true → n ≤ 4000000
-    → ¬ (line ≡ end_line) → rest_read r n is_ended (cut (line ++ 10 ∷ rest)) ≡ then_lines n (cut rest) (line_read r line)
+pub rest_line : (r : Recorded) (n : ℕ) (is_ended : Bool) (line rest : List ℕ) → is_ended ≡ false
+    → lacks 10 line ≡ true → n ≤ 4000000
+    → ¬ (line ≡ end_line) → rest_read r n is_ended (cut (line ++ 10 ∷ rest))
+    ≡ then_lines n (cut rest) (line_read r line)
 rest_line r n is_ended line rest d lack low other =
     ap (λ d. rest_read r n d (cut (line ++ 10 ∷ rest))) d ∙ line_found r n line rest lack low other
 
-pub rest_goes_on : (e : Events) (r : Recorded) (n : ℕ) (is_ended : Bool) (line : List ℕ) → is_ended ≡ false → lacks 10 line ≡ true → n ≤ 4000000
-    → ¬ (line ≡ end_line) → HaveReadOn e.ledger e.checker (line_read r line) → GoesOn e r n is_ended line false
+pub rest_goes_on : (e : Events) (r : Recorded) (n : ℕ) (is_ended : Bool) (line : List ℕ) → is_ended
+    ≡ false → lacks 10 line ≡ true → n ≤ 4000000
+    → ¬ (line ≡ end_line) → HaveReadOn e.ledger e.checker (line_read r line)
+    → GoesOn e r n is_ended line false
 rest_goes_on e r n is_ended line d lack low other have =
     let more = read_on e.ledger e.checker (line_read r line) have in
     record {
       recorded = more.now;
       have = more.have;
-      read = λ rest. rest_line r n is_ended line rest d lack low other ∙ ap (then_lines n (cut rest)) more.is;
+      read = λ rest. rest_line r n is_ended line rest d lack low other
+          ∙ ap (then_lines n (cut rest)) more.is;
     }
 
 -- bytes that are refused stay refused
-pub still_at_fault : (l : Lines) (bytes more : List ℕ) → is_some l.fault ≡ true → IsAt l bytes → IsAt l (bytes ++ more)
+pub still_at_fault : (l : Lines) (bytes more : List ℕ) → is_some l.fault ≡ true → IsAt l bytes
+    → IsAt l (bytes ++ more)
 still_at_fault l bytes more = go l.fault
   where
-    go : (f : Option HistoryFault) → is_some f ≡ true → IsAtBy l.line l.events l.ended f bytes → IsAtBy l.line l.events l.ended f (bytes ++ more)
+    go : (f : Option HistoryFault) → is_some f ≡ true → IsAtBy l.line l.events l.ended f bytes
+        → IsAtBy l.line l.events l.ended f (bytes ++ more)
     go None e at = cc
-    go (Some fault) e at = λ rest. subst (λ text. IsRefusal fault (history_reading text)) (sym (append_assoc bytes more rest)) (at (more ++ rest))
+    go (Some fault) e at = λ rest. subst (λ text. IsRefusal fault (history_reading text))
+        (sym (append_assoc bytes more rest)) (at (more ++ rest))
 
 -- before line 1
-pub at_first : (l : Lines) (bytes : List ℕ) → l.fault ≡ None → l.events ≡ None → IsAt l bytes → (bytes ≡ []) × (l.line ≡ 1) × (l.ended ≡ false)
+pub at_first : (l : Lines) (bytes : List ℕ) → l.fault ≡ None → l.events ≡ None → IsAt l bytes
+    → (bytes ≡ []) × (l.line ≡ 1) × (l.ended ≡ false)
 at_first l bytes fine first at =
-    subst (λ e. IsAtBy l.line e l.ended None bytes) first (subst (λ f. IsAtBy l.line l.events l.ended f bytes) fine at)
+    subst (λ e. IsAtBy l.line e l.ended None bytes) first
+    (subst (λ f. IsAtBy l.line l.events l.ended f bytes) fine at)
 
 -- after it
-pub at_later : (l : Lines) (e : Events) (bytes : List ℕ) → l.fault ≡ None → l.events ≡ Some e → IsAt l bytes → Follows l.line e l.ended bytes
+pub at_later : (l : Lines) (e : Events) (bytes : List ℕ) → l.fault ≡ None → l.events ≡ Some e
+    → IsAt l bytes → Follows l.line e l.ended bytes
 at_later l e bytes fine later at =
-    subst (λ o. IsAtBy l.line o l.ended None bytes) later (subst (λ f. IsAtBy l.line l.events l.ended f bytes) fine at)
+    subst (λ o. IsAtBy l.line o l.ended None bytes) later
+    (subst (λ f. IsAtBy l.line l.events l.ended f bytes) fine at)
 
-pub first_taken : (l : Lines) (events : Events) (line bytes : List ℕ) → l.fault ≡ None → l.events ≡ None → IsAt l bytes → lacks 10 line ≡ true
+pub first_taken : (l : Lines) (events : Events) (line bytes : List ℕ) → l.fault ≡ None → l.events
+    ≡ None → IsAt l bytes → lacks 10 line ≡ true
     → HaveReadOn events.ledger events.checker (first_read line)
-    → IsAt (record { line = 2; events = Some events; ended = l.ended; fault = l.fault }) (bytes ++ (line ++ 10 ∷ []))
+    → IsAt (record { line = 2; events = Some events; ended = l.ended; fault = l.fault })
+    (bytes ++ (line ++ 10 ∷ []))
 first_taken l events line bytes fine first at lack have =
     subst (λ f. IsAtBy 2 (Some events) l.ended f (bytes ++ (line ++ 10 ∷ []))) (sym fine)
     (subst (λ d. Follows 2 events d (bytes ++ (line ++ 10 ∷ []))) (sym begun.2)
@@ -103,38 +129,51 @@ first_taken l events line bytes fine first at lack have =
         record {
           recorded = p.now;
           have = p.have;
-          read = λ rest. ap history_reading (append_assoc line (10 ∷ []) rest) ∙ first_step line rest lack ∙ ap (after_first (cut rest)) p.is;
+          read = λ rest. ap history_reading (append_assoc line (10 ∷ []) rest)
+              ∙ first_step line rest lack ∙ ap (after_first (cut rest)) p.is;
         }
 
-pub first_refused : (l : Lines) (fault : HistoryFault) (line bytes rest : List ℕ) → l.fault ≡ None → l.events ≡ None → IsAt l bytes → lacks 10 line ≡ true
-    → IsRefusedAt 1 fault (first_read line) → IsRefusal fault (history_reading ((bytes ++ (line ++ 10 ∷ [])) ++ rest))
+pub first_refused : (l : Lines) (fault : HistoryFault) (line bytes rest : List ℕ) → l.fault ≡ None
+    → l.events ≡ None → IsAt l bytes → lacks 10 line ≡ true
+    → IsRefusedAt 1 fault (first_read line)
+    → IsRefusal fault (history_reading ((bytes ++ (line ++ 10 ∷ [])) ++ rest))
 first_refused l fault line bytes rest fine first at lack is =
     let begun = at_first l bytes fine first at in
-    subst (λ xs. IsRefusal fault (history_reading ((xs ++ (line ++ 10 ∷ [])) ++ rest))) (sym begun.0)
-    (subst (λ text. IsRefusal fault (history_reading text)) (sym (append_assoc line (10 ∷ []) rest)) (refusal_first fault line rest lack is))
+    subst (λ xs. IsRefusal fault (history_reading ((xs ++ (line ++ 10 ∷ [])) ++ rest)))
+    (sym begun.0)
+    (subst (λ text. IsRefusal fault (history_reading text)) (sym (append_assoc line (10 ∷ []) rest))
+    (refusal_first fault line rest lack is))
 
 -- where the rest stands after one more line
-pub line_and_rest : (bytes line rest : List ℕ) → (bytes ++ (line ++ 10 ∷ [])) ++ rest ≡ bytes ++ (line ++ 10 ∷ rest)
+pub line_and_rest : (bytes line rest : List ℕ) → (bytes ++ (line ++ 10 ∷ [])) ++ rest ≡ bytes
+    ++ (line ++ 10 ∷ rest)
 line_and_rest bytes line rest =
-    append_assoc bytes (line ++ 10 ∷ []) rest ∙ ap (λ more. bytes ++ more) (append_assoc line (10 ∷ []) rest)
+    append_assoc bytes (line ++ 10 ∷ []) rest ∙ ap (λ more. bytes ++ more)
+    (append_assoc line (10 ∷ []) rest)
 
-pub later_taken : (n : ℕ) (e new : Events) (was_ended is_ended : Bool) (line bytes : List ℕ) → (f : Follows n e was_ended bytes)
-    → GoesOn new f.recorded n was_ended line is_ended → Follows (n + 1) new is_ended (bytes ++ (line ++ 10 ∷ []))
+pub later_taken : (n : ℕ) (e new : Events) (was_ended is_ended : Bool) (line bytes : List ℕ)
+    → (f : Follows n e was_ended bytes)
+    → GoesOn new f.recorded n was_ended line is_ended → Follows (n + 1) new is_ended
+    (bytes ++ (line ++ 10 ∷ []))
 later_taken n e new was_ended is_ended line bytes f on =
     record {
       recorded = on.recorded;
       have = on.have;
-      read = λ rest. ap history_reading (line_and_rest bytes line rest) ∙ f.read (line ++ 10 ∷ rest) ∙ on.read rest;
+      read = λ rest. ap history_reading (line_and_rest bytes line rest) ∙ f.read (line ++ 10 ∷ rest)
+          ∙ on.read rest;
     }
 
-pub later_refused : (n : ℕ) (e : Events) (was_ended : Bool) (fault : HistoryFault) (line bytes rest : List ℕ) → (f : Follows n e was_ended bytes)
+pub later_refused : (n : ℕ) (e : Events) (was_ended : Bool) (fault : HistoryFault)
+    (line bytes rest : List ℕ) → (f : Follows n e was_ended bytes)
     → IsRefusal fault (rest_read f.recorded n was_ended (cut (line ++ 10 ∷ rest)))
     → IsRefusal fault (history_reading ((bytes ++ (line ++ 10 ∷ [])) ++ rest))
 later_refused n e was_ended fault line bytes rest f is =
-    subst (IsRefusal fault) (sym (ap history_reading (line_and_rest bytes line rest) ∙ f.read (line ++ 10 ∷ rest))) is
+    subst (IsRefusal fault)
+    (sym (ap history_reading (line_and_rest bytes line rest) ∙ f.read (line ++ 10 ∷ rest))) is
 
 -- a line of more than 64 bytes
-pub long_first : (l : Lines) (bytes more rest : List ℕ) → l.fault ≡ None → l.events ≡ None → IsAt l bytes → lacks 10 more ≡ true → 64 < length more
+pub long_first : (l : Lines) (bytes more rest : List ℕ) → l.fault ≡ None → l.events ≡ None
+    → IsAt l bytes → lacks 10 more ≡ true → 64 < length more
     → history_reading ((bytes ++ more) ++ rest) ≡ refused l.line (unless_too_many l.line BadHeader)
 long_first l bytes more rest fine first at lack long =
     let begun = at_first l bytes fine first at in
@@ -145,30 +184,39 @@ some_byte : (more rest : List ℕ) → 64 < length more → ¬ (more ++ rest ≡
 some_byte [] rest long e = absurd (omega (arith, long))
 some_byte (b ∷ more) rest long e = cc
 
-long_rest : (r : Recorded) (n : ℕ) (is_ended : Bool) (more rest : List ℕ) → lacks 10 more ≡ true → 64 < length more
-    → rest_read r n is_ended (cut (more ++ rest)) ≡ refused n (unless_too_many n (cond is_ended AfterEnd BadLine))
+long_rest : (r : Recorded) (n : ℕ) (is_ended : Bool) (more rest : List ℕ) → lacks 10 more ≡ true
+    → 64 < length more
+    → rest_read r n is_ended (cut (more ++ rest))
+    ≡ refused n (unless_too_many n (cond is_ended AfterEnd BadLine))
 long_rest r n true more rest lack long = more_after r n (more ++ rest) (some_byte more rest long)
 long_rest r n false more rest lack long = long_line r n more rest lack long
 
-pub long_later : (l : Lines) (e : Events) (bytes more rest : List ℕ) → l.fault ≡ None → l.events ≡ Some e → IsAt l bytes → lacks 10 more ≡ true
-    → 64 < length more → history_reading ((bytes ++ more) ++ rest) ≡ refused l.line (unless_too_many l.line (cond l.ended AfterEnd BadLine))
+pub long_later : (l : Lines) (e : Events) (bytes more rest : List ℕ) → l.fault ≡ None → l.events
+    ≡ Some e → IsAt l bytes → lacks 10 more ≡ true
+    → 64 < length more → history_reading ((bytes ++ more) ++ rest) ≡ refused l.line
+    (unless_too_many l.line (cond l.ended AfterEnd BadLine))
 long_later l e bytes more rest fine later at lack long =
     let f = at_later l e bytes fine later at in
-    ap history_reading (append_assoc bytes more rest) ∙ f.read (more ++ rest) ∙ long_rest f.recorded l.line l.ended more rest lack long
+    ap history_reading (append_assoc bytes more rest) ∙ f.read (more ++ rest)
+    ∙ long_rest f.recorded l.line l.ended more rest lack long
 
 -- the text ends before line 1 does
-pub ends_first : (l : Lines) (bytes unfinished : List ℕ) → l.fault ≡ None → l.events ≡ None → IsAt l bytes → lacks 10 unfinished ≡ true
+pub ends_first : (l : Lines) (bytes unfinished : List ℕ) → l.fault ≡ None → l.events ≡ None
+    → IsAt l bytes → lacks 10 unfinished ≡ true
     → history_reading (bytes ++ unfinished) ≡ refused 1 (unfinished_rule 1 BadHeader unfinished)
 ends_first l bytes unfinished fine first at lack =
     let begun = at_first l bytes fine first at in
     ap (λ xs. history_reading (xs ++ unfinished)) begun.0 ∙ first_last unfinished lack
 
 -- or before the line `end`
-pub ends_later : (l : Lines) (e : Events) (bytes unfinished : List ℕ) → l.fault ≡ None → l.events ≡ Some e → l.ended ≡ false → IsAt l bytes
-    → lacks 10 unfinished ≡ true → history_reading (bytes ++ unfinished) ≡ refused l.line (unfinished_rule l.line BadLine unfinished)
+pub ends_later : (l : Lines) (e : Events) (bytes unfinished : List ℕ) → l.fault ≡ None → l.events
+    ≡ Some e → l.ended ≡ false → IsAt l bytes
+    → lacks 10 unfinished ≡ true → history_reading (bytes ++ unfinished) ≡ refused l.line
+    (unfinished_rule l.line BadLine unfinished)
 ends_later l e bytes unfinished fine later d at lack =
     let f = at_later l e bytes fine later at in
-    f.read unfinished ∙ ap (λ d. rest_read f.recorded l.line d (cut unfinished)) d ∙ lines_last f.recorded l.line unfinished lack
+    f.read unfinished ∙ ap (λ d. rest_read f.recorded l.line d (cut unfinished)) d
+    ∙ lines_last f.recorded l.line unfinished lack
 
 -- the value of an option that has one
 pub record TheValue {A : Type 0} (o : Option A) : Type 0 where

@@ -1,5 +1,7 @@
--- Two neighbouring events that may be exchanged don't meet: where one changes a cell, the other doesn't touch it.
-use Rattle.std.proofs.Common.{◌≡◌, ◌≢◌, ℕ, ◌+◌, Bool, true, false, cond, ◌||◌, ◌⊎◌, inl, inr, List, ◌∷◌, Some, None, refl, ap, ◌∙◌, sym, arith}
+-- Two neighbouring events that may be exchanged don't meet: where one changes a cell, the other
+-- doesn't touch it.
+use Rattle.std.proofs.Common.{◌≡◌, ◌≢◌, ℕ, ◌+◌, Bool, true, false, cond, ◌||◌, ◌⊎◌, inl, inr, List}
+use Rattle.std.proofs.Common.{◌∷◌, Some, None, refl, ap, ◌∙◌, sym, arith}
 use Rattle.std.specs.Prelude.{◌==◌, unwrap_or}
 use Rattle.std.proofs.lemmas.Bool.{or_left, or_right}
 use Rattle.vyrd_base.specs.declared.history.Did.{Did}
@@ -15,10 +17,12 @@ use Rattle.vyrd_mover.proofs.Running.{step, may, touches, changes, step_same}
 use Rattle.vyrd_mover.proofs.FreeCells.{Free, alone, unwritten, guarded}
 
 -- an event at a plain cell leaves each lock as it is
-pub access_keeps : (cells : Cells) (m : ℕ → ℕ) (caller cell lock : ℕ) (did : Did) → is_access_of cell did ≡ true → may cells m caller did ≡ true
+pub access_keeps : (cells : Cells) (m : ℕ → ℕ) (caller cell lock : ℕ) (did : Did)
+    → is_access_of cell did ≡ true → may cells m caller did ≡ true
     → is_lock cells lock ≡ true → changes lock did ≡ false
 access_keeps cells m caller cell lock (Read other value) access allowed kind = refl
-access_keeps cells m caller cell lock (Wrote other value) access allowed kind = plain_isnt cells other lock (first_true _ _ allowed) kind
+access_keeps cells m caller cell lock (Wrote other value) access allowed kind =
+    plain_isnt cells other lock (first_true _ _ allowed) kind
 access_keeps cells m caller cell lock (Took other) access allowed kind = refl_of access
   where
     refl_of : false ≡ true → changes lock (Took other) ≡ false
@@ -30,14 +34,19 @@ access_keeps cells m caller cell lock (Gave other) access allowed kind = refl_of
 access_keeps cells m caller cell lock (Marked kind_of) access allowed kind = refl
 
 -- two callers don't both use a race-free cell one after the other, where one of them writes it
-pub no_clash : (cells : Cells) (m : ℕ → ℕ) (a b : Stamped) (es : List Stamped) (cell : ℕ) → Free cells m (a ∷ b ∷ es) cell → a.caller ≢ b.caller
-    → may cells m a.caller a.did ≡ true → is_access_of cell a.did ≡ true → is_access_of cell b.did ≡ true
+pub no_clash : (cells : Cells) (m : ℕ → ℕ) (a b : Stamped) (es : List Stamped) (cell : ℕ)
+    → Free cells m (a ∷ b ∷ es) cell → a.caller ≢ b.caller
+    → may cells m a.caller a.did ≡ true → is_access_of cell a.did ≡ true → is_access_of cell b.did
+    ≡ true
     → (is_write_to cell a.did || is_write_to cell b.did) ≡ true → ⊥
-no_clash cells m a b es cell (alone c low h) other allowed first second write = other (h.0 first ∙ sym (h.1.0 second))
+no_clash cells m a b es cell (alone c low h) other allowed first second write =
+    other (h.0 first ∙ sym (h.1.0 second))
 no_clash cells m a b es cell (unwritten h) other allowed first second write =
-    let e : (is_write_to cell a.did || is_write_to cell b.did) ≡ false = ap (λ x. x || is_write_to cell b.did) h.0 ∙ h.1.0 in cc
+    let e : (is_write_to cell a.did || is_write_to cell b.did)
+    ≡ false = ap (λ x. x || is_write_to cell b.did) h.0 ∙ h.1.0 in cc
 no_clash cells m a b es cell (guarded lock kind h) other allowed first second write =
-    let kept : step m a lock ≡ m lock = step_same m a lock (access_keeps cells m a.caller cell lock a.did first allowed kind) in
+    let kept : step m a lock ≡ m lock = step_same m a lock
+    (access_keeps cells m a.caller cell lock a.did first allowed kind) in
     let one : m lock ≡ a.caller + 1 = h.0 first in
     let two : step m a lock ≡ b.caller + 1 = h.1.0 second in
     other (omega arith)
@@ -48,17 +57,20 @@ event_by k c did = record { number = k; caller = c; did = did }
 
 -- two callers don't both use a race-free cell, where one of them writes it
 abbrev NoClash : (ℕ → Bool) → Did → Did → Type 0
-NoClash free da db = (cell : ℕ) → free cell ≡ true → is_access_of cell da ≡ true → is_access_of cell db ≡ true
+NoClash free da db = (cell : ℕ) → free cell ≡ true → is_access_of cell da ≡ true
+    → is_access_of cell db ≡ true
     → (is_write_to cell da || is_write_to cell db) ≡ true → ⊥
 
-free_cell : (free : ℕ → Bool) (x y cell : ℕ) → (x == cell) ≡ true → (y == cell) ≡ true → (free x || free y) ≡ true → free cell ≡ true
+free_cell : (free : ℕ → Bool) (x y cell : ℕ) → (x == cell) ≡ true → (y == cell) ≡ true
+    → (free x || free y) ≡ true → free cell ≡ true
 free_cell free x y cell ex ey e = go (either_true (free x) (free y) e)
   where
     go : (free x ≡ true) ⊎ (free y ≡ true) → free cell ≡ true
     go (inl f) = ap free (sym (same_of x cell ex)) ∙ f
     go (inr f) = ap free (sym (same_of y cell ey)) ∙ f
 
-plain_or_lock : (cells : Cells) (x l cell : ℕ) → is_plain cells x ≡ true → is_lock cells l ≡ true → (x == cell) ≡ true → (l == cell) ≡ true → ⊥
+plain_or_lock : (cells : Cells) (x l cell : ℕ) → is_plain cells x ≡ true → is_lock cells l ≡ true
+    → (x == cell) ≡ true → (l == cell) ≡ true → ⊥
 plain_or_lock cells x l cell plain kind ex el =
     let no_lock : (x == l) ≡ false = plain_isnt cells x l plain kind in
     let same : (x == l) ≡ true = is_same x l (same_of x cell ex ∙ sym (same_of l cell el)) in
@@ -68,31 +80,41 @@ both_at : (x y cell : ℕ) → (x == cell) ≡ true → (y == cell) ≡ true →
 both_at x y cell ex ey = is_same x y (same_of x cell ex ∙ sym (same_of y cell ey))
 
 -- the value of a lock after it was taken or given
-pub taken_value : (m : ℕ → ℕ) (c x y : ℕ) → (x == y) ≡ true → unwrap_or (cond (x == y) (Some (c + 1)) None) (m y) ≡ c + 1
+pub taken_value : (m : ℕ → ℕ) (c x y : ℕ) → (x == y) ≡ true
+    → unwrap_or (cond (x == y) (Some (c + 1)) None) (m y) ≡ c + 1
 taken_value m c x y e = ap (λ b. unwrap_or (cond b (Some (c + 1)) None) (m y)) e
 
-pub given_value : (m : ℕ → ℕ) (x y : ℕ) → (x == y) ≡ true → unwrap_or (cond (x == y) (Some 0) None) (m y) ≡ 0
+pub given_value : (m : ℕ → ℕ) (x y : ℕ) → (x == y) ≡ true → unwrap_or (cond (x == y) (Some 0) None)
+    (m y) ≡ 0
 given_value m x y e = ap (λ b. unwrap_or (cond b (Some 0) None) (m y)) e
 
-took_took : (cells : Cells) (m : ℕ → ℕ) (k c d x y cell : ℕ) → (x == cell) ≡ true → (y == cell) ≡ true
+took_took : (cells : Cells) (m : ℕ → ℕ) (k c d x y cell : ℕ) → (x == cell) ≡ true → (y == cell)
+    ≡ true
     → may cells (step m (event_by k c (Took x))) d (Took y) ≡ true → ⊥
 took_took cells m k c d x y cell ex ey allowed =
-    let one : step m (event_by k c (Took x)) y ≡ c + 1 = taken_value m c x y (both_at x y cell ex ey) in
-    let zero_then : step m (event_by k c (Took x)) y ≡ 0 = same_of _ _ (second_true (is_lock cells y) _ allowed) in
+    let one : step m (event_by k c (Took x)) y ≡ c + 1 = taken_value m c x y
+    (both_at x y cell ex ey) in
+    let zero_then : step m (event_by k c (Took x)) y ≡ 0 = same_of _ _
+    (second_true (is_lock cells y) _ allowed) in
     omega arith
 
-took_gave : (cells : Cells) (m : ℕ → ℕ) (k c d x y cell : ℕ) → c ≢ d → (x == cell) ≡ true → (y == cell) ≡ true
+took_gave : (cells : Cells) (m : ℕ → ℕ) (k c d x y cell : ℕ) → c ≢ d → (x == cell) ≡ true
+    → (y == cell) ≡ true
     → may cells (step m (event_by k c (Took x))) d (Gave y) ≡ true → ⊥
 took_gave cells m k c d x y cell other ex ey allowed =
-    let one : step m (event_by k c (Took x)) y ≡ c + 1 = taken_value m c x y (both_at x y cell ex ey) in
-    let two : step m (event_by k c (Took x)) y ≡ d + 1 = same_of _ _ (second_true (is_lock cells y) _ allowed) in
+    let one : step m (event_by k c (Took x)) y ≡ c + 1 = taken_value m c x y
+    (both_at x y cell ex ey) in
+    let two : step m (event_by k c (Took x)) y ≡ d + 1 = same_of _ _
+    (second_true (is_lock cells y) _ allowed) in
     other (omega arith)
 
-gave_gave : (cells : Cells) (m : ℕ → ℕ) (k c d x y cell : ℕ) → (x == cell) ≡ true → (y == cell) ≡ true
+gave_gave : (cells : Cells) (m : ℕ → ℕ) (k c d x y cell : ℕ) → (x == cell) ≡ true → (y == cell)
+    ≡ true
     → may cells (step m (event_by k c (Gave x))) d (Gave y) ≡ true → ⊥
 gave_gave cells m k c d x y cell ex ey allowed =
     let one : step m (event_by k c (Gave x)) y ≡ 0 = given_value m x y (both_at x y cell ex ey) in
-    let two : step m (event_by k c (Gave x)) y ≡ d + 1 = same_of _ _ (second_true (is_lock cells y) _ allowed) in
+    let two : step m (event_by k c (Gave x)) y ≡ d + 1 = same_of _ _
+    (second_true (is_lock cells y) _ allowed) in
     omega arith
 
 pub never : false ≡ true → ⊥
@@ -102,29 +124,47 @@ never e = cc
 abbrev movable : (ℕ → Bool) → Did → Did → Bool
 movable free da db = is_movable free (event_by 0 0 da) (event_by 0 0 db)
 
-meet : (cells : Cells) (m : ℕ → ℕ) (free : ℕ → Bool) (k c d cell : ℕ) (da db : Did) → c ≢ d → may cells m c da ≡ true
-    → may cells (step m (event_by k c da)) d db ≡ true → movable free da db ≡ true → NoClash free da db
-    → touches cell da ≡ true → touches cell db ≡ true → (changes cell da || changes cell db) ≡ true → ⊥
+meet : (cells : Cells) (m : ℕ → ℕ) (free : ℕ → Bool) (k c d cell : ℕ) (da db : Did) → c ≢ d
+    → may cells m c da ≡ true
+    → may cells (step m (event_by k c da)) d db ≡ true → movable free da db ≡ true
+    → NoClash free da db
+    → touches cell da ≡ true → touches cell db ≡ true → (changes cell da || changes cell db) ≡ true
+    → ⊥
 meet cells m free k c d cell (Marked x) db other first second move clash ta tb ch = never ta
 meet cells m free k c d cell (Read x v) (Marked y) other first second move clash ta tb ch = never tb
-meet cells m free k c d cell (Wrote x v) (Marked y) other first second move clash ta tb ch = never tb
+meet cells m free k c d cell (Wrote x v) (Marked y) other first second move clash ta tb ch =
+    never tb
 meet cells m free k c d cell (Took x) (Marked y) other first second move clash ta tb ch = never tb
 meet cells m free k c d cell (Gave x) (Marked y) other first second move clash ta tb ch = never tb
 meet cells m free k c d cell (Read x v) (Read y w) other first second move clash ta tb ch = never ch
-meet cells m free k c d cell (Read x v) (Wrote y w) other first second move clash ta tb ch = clash cell (free_cell free x y cell ta tb move) ta tb ch
-meet cells m free k c d cell (Wrote x v) (Read y w) other first second move clash ta tb ch = clash cell (free_cell free x y cell ta tb move) ta tb ch
-meet cells m free k c d cell (Wrote x v) (Wrote y w) other first second move clash ta tb ch = clash cell (free_cell free x y cell ta tb move) ta tb ch
-meet cells m free k c d cell (Read x v) (Took y) other first second move clash ta tb ch = plain_or_lock cells x y cell (first_true _ _ first) (first_true _ _ second) ta tb
-meet cells m free k c d cell (Read x v) (Gave y) other first second move clash ta tb ch = plain_or_lock cells x y cell (first_true _ _ first) (first_true _ _ second) ta tb
-meet cells m free k c d cell (Wrote x v) (Took y) other first second move clash ta tb ch = plain_or_lock cells x y cell (first_true _ _ first) (first_true _ _ second) ta tb
-meet cells m free k c d cell (Wrote x v) (Gave y) other first second move clash ta tb ch = plain_or_lock cells x y cell (first_true _ _ first) (first_true _ _ second) ta tb
-meet cells m free k c d cell (Took x) (Read y w) other first second move clash ta tb ch = plain_or_lock cells y x cell (first_true _ _ second) (first_true _ _ first) tb ta
-meet cells m free k c d cell (Took x) (Wrote y w) other first second move clash ta tb ch = plain_or_lock cells y x cell (first_true _ _ second) (first_true _ _ first) tb ta
-meet cells m free k c d cell (Gave x) (Read y w) other first second move clash ta tb ch = plain_or_lock cells y x cell (first_true _ _ second) (first_true _ _ first) tb ta
-meet cells m free k c d cell (Gave x) (Wrote y w) other first second move clash ta tb ch = plain_or_lock cells y x cell (first_true _ _ second) (first_true _ _ first) tb ta
-meet cells m free k c d cell (Took x) (Took y) other first second move clash ta tb ch = took_took cells m k c d x y cell ta tb second
-meet cells m free k c d cell (Took x) (Gave y) other first second move clash ta tb ch = took_gave cells m k c d x y cell other ta tb second
-meet cells m free k c d cell (Gave x) (Gave y) other first second move clash ta tb ch = gave_gave cells m k c d x y cell ta tb second
+meet cells m free k c d cell (Read x v) (Wrote y w) other first second move clash ta tb ch =
+    clash cell (free_cell free x y cell ta tb move) ta tb ch
+meet cells m free k c d cell (Wrote x v) (Read y w) other first second move clash ta tb ch =
+    clash cell (free_cell free x y cell ta tb move) ta tb ch
+meet cells m free k c d cell (Wrote x v) (Wrote y w) other first second move clash ta tb ch =
+    clash cell (free_cell free x y cell ta tb move) ta tb ch
+meet cells m free k c d cell (Read x v) (Took y) other first second move clash ta tb ch =
+    plain_or_lock cells x y cell (first_true _ _ first) (first_true _ _ second) ta tb
+meet cells m free k c d cell (Read x v) (Gave y) other first second move clash ta tb ch =
+    plain_or_lock cells x y cell (first_true _ _ first) (first_true _ _ second) ta tb
+meet cells m free k c d cell (Wrote x v) (Took y) other first second move clash ta tb ch =
+    plain_or_lock cells x y cell (first_true _ _ first) (first_true _ _ second) ta tb
+meet cells m free k c d cell (Wrote x v) (Gave y) other first second move clash ta tb ch =
+    plain_or_lock cells x y cell (first_true _ _ first) (first_true _ _ second) ta tb
+meet cells m free k c d cell (Took x) (Read y w) other first second move clash ta tb ch =
+    plain_or_lock cells y x cell (first_true _ _ second) (first_true _ _ first) tb ta
+meet cells m free k c d cell (Took x) (Wrote y w) other first second move clash ta tb ch =
+    plain_or_lock cells y x cell (first_true _ _ second) (first_true _ _ first) tb ta
+meet cells m free k c d cell (Gave x) (Read y w) other first second move clash ta tb ch =
+    plain_or_lock cells y x cell (first_true _ _ second) (first_true _ _ first) tb ta
+meet cells m free k c d cell (Gave x) (Wrote y w) other first second move clash ta tb ch =
+    plain_or_lock cells y x cell (first_true _ _ second) (first_true _ _ first) tb ta
+meet cells m free k c d cell (Took x) (Took y) other first second move clash ta tb ch =
+    took_took cells m k c d x y cell ta tb second
+meet cells m free k c d cell (Took x) (Gave y) other first second move clash ta tb ch =
+    took_gave cells m k c d x y cell other ta tb second
+meet cells m free k c d cell (Gave x) (Gave y) other first second move clash ta tb ch =
+    gave_gave cells m k c d x y cell ta tb second
 meet cells m free k c d cell (Gave x) (Took y) other first second move clash ta tb ch = never move
 
 -- if one of the two changes a cell, the other doesn't touch it
@@ -139,14 +179,19 @@ changed_is_touched cell (Took x) e = e
 changed_is_touched cell (Gave x) e = e
 changed_is_touched cell (Marked x) e = e
 
-pub apart : (cells : Cells) (m : ℕ → ℕ) (free : ℕ → Bool) (a b : Stamped) (es : List Stamped) → a.caller ≢ b.caller
-    → may cells m a.caller a.did ≡ true → may cells (step m a) b.caller b.did ≡ true → is_movable free a b ≡ true
+pub apart : (cells : Cells) (m : ℕ → ℕ) (free : ℕ → Bool) (a b : Stamped) (es : List Stamped)
+    → a.caller ≢ b.caller
+    → may cells m a.caller a.did ≡ true → may cells (step m a) b.caller b.did ≡ true
+    → is_movable free a b ≡ true
     → ((cell : ℕ) → free cell ≡ true → Free cells m (a ∷ b ∷ es) cell) → Apart a.did b.did
 apart cells m free a b es other first second move frees =
-    let clash : NoClash free a.did b.did = λ cell e ta tb w. no_clash cells m a b es cell (frees cell e) other first ta tb w in
+    let clash : NoClash free a.did b.did = λ cell e ta tb w. no_clash cells m a b es cell
+    (frees cell e) other first ta tb w in
     record {
-      changed_first = λ cell ca tb. meet cells m free a.number a.caller b.caller cell a.did b.did other first second move clash
+      changed_first = λ cell ca tb. meet cells m free a.number a.caller b.caller cell a.did b.did
+          other first second move clash
           (changed_is_touched cell a.did ca) tb (or_left (changes cell a.did) _ ca);
-      changed_second = λ cell ta cb. meet cells m free a.number a.caller b.caller cell a.did b.did other first second move clash
+      changed_second = λ cell ta cb. meet cells m free a.number a.caller b.caller cell a.did b.did
+          other first second move clash
           ta (changed_is_touched cell b.did cb) (or_right (changes cell a.did) _ cb);
     }

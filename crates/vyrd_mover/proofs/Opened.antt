@@ -1,4 +1,5 @@
--- One name whose unfolding opens the definitions, so that what is said of a written-out history computes.
+-- One name whose unfolding opens the definitions, so that what is said of a written-out history
+-- computes.
 use Rattle.std.specs.Prelude.{ℕ}
 use Rattle.std.specs.Fmt.{digits}
 use Rattle.vyrd_base.specs.Lines.{entry_in}

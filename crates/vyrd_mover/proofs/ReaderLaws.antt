@@ -1,5 +1,6 @@
 -- A reader of a history's text takes in a line, bytes without a line feed, and a piece.
-use Rattle.std.proofs.Common.{◌≡◌, ℕ, ◌≤◌, true, List, [], ◌∷◌, ◌++◌, length, Ok, refl, ap, sym, ◌∙◌, subst, arith, append_assoc, append-nil}
+use Rattle.std.proofs.Common.{◌≡◌, ℕ, ◌≤◌, true, List, [], ◌∷◌, ◌++◌, length, Ok, refl, ap, sym}
+use Rattle.std.proofs.Common.{◌∙◌, subst, arith, append_assoc, append-nil}
 use Rattle.vyrd_base.specs.Histories.{cells_of}
 use Rattle.vyrd_base.proofs.SplitLaws.{lacks, lacks-append}
 use Rattle.vyrd_mover.specs.declared.blocks.Blocks.TheVariants.{Reducible}
@@ -13,54 +14,68 @@ use Rattle.vyrd_mover.proofs.CheckLaws.{each_is_gathered}
 use Rattle.vyrd_mover.proofs.TextLaws.{reading_sound}
 
 -- all bytes were taken in, and none is unfinished
-pub nothing_unfinished : (l : Lines) (s : ReaderState) (before more : List ℕ) → (read : HasRead s before) → IsAt l (read.whole ++ (s.unfinished ++ more))
+pub nothing_unfinished : (l : Lines) (s : ReaderState) (before more : List ℕ)
+    → (read : HasRead s before) → IsAt l (read.whole ++ (s.unfinished ++ more))
     → HasRead (record { lines = l; unfinished = [] }) (before ++ more)
 nothing_unfinished l s before more read at =
     record {
       whole = before ++ more;
       parted = sym (append-nil (before ++ more));
-      at = subst (IsAt l) (sym (append_assoc read.whole s.unfinished more) ∙ ap (λ xs. xs ++ more) (sym read.parted)) at;
+      at = subst (IsAt l) (sym (append_assoc read.whole s.unfinished more)
+          ∙ ap (λ xs. xs ++ more) (sym read.parted)) at;
       one_line = refl;
       short = omega arith;
     }
 
 -- the same after a whole line that is taken in where nothing was unfinished
-pub whole_line : (l : Lines) (s : ReaderState) (before line : List ℕ) → (read : HasRead s before) → s.unfinished ≡ [] → IsAt l (read.whole ++ line)
+pub whole_line : (l : Lines) (s : ReaderState) (before line : List ℕ) → (read : HasRead s before)
+    → s.unfinished ≡ [] → IsAt l (read.whole ++ line)
     → HasRead (record { lines = l; unfinished = [] }) (before ++ line)
 whole_line l s before line read none at =
-    nothing_unfinished l s before line read (subst (λ xs. IsAt l (read.whole ++ (xs ++ line))) (sym none) at)
+    nothing_unfinished l s before line read
+    (subst (λ xs. IsAt l (read.whole ++ (xs ++ line))) (sym none) at)
 
 -- more of the unfinished line
-pub more_unfinished : (s : ReaderState) (unfinished before more : List ℕ) → HasRead s before → unfinished ≡ s.unfinished ++ more → lacks 10 more ≡ true
-    → length unfinished ≤ 64 → HasRead (record { lines = s.lines; unfinished = unfinished }) (before ++ more)
+pub more_unfinished : (s : ReaderState) (unfinished before more : List ℕ) → HasRead s before
+    → unfinished ≡ s.unfinished ++ more → lacks 10 more ≡ true
+    → length unfinished ≤ 64 → HasRead (record { lines = s.lines; unfinished = unfinished })
+    (before ++ more)
 more_unfinished s unfinished before more read is lack short =
     record {
       whole = read.whole;
-      parted = ap (λ xs. xs ++ more) read.parted ∙ append_assoc read.whole s.unfinished more ∙ ap (λ xs. read.whole ++ xs) (sym is);
+      parted = ap (λ xs. xs ++ more) read.parted ∙ append_assoc read.whole s.unfinished more
+          ∙ ap (λ xs. read.whole ++ xs) (sym is);
       at = read.at;
       one_line = ap (lacks 10) is ∙ lacks-append 10 s.unfinished more read.one_line lack;
       short = short;
     }
 
 -- how far a piece was taken in
-pub fed_nothing : (s : ReaderState) (bytes piece : List ℕ) → HasRead s bytes → IsFedTo s bytes piece piece
-fed_nothing s bytes piece read = record { front = []; parted = refl; read = subst (HasRead s) (sym (append-nil bytes)) read }
+pub fed_nothing : (s : ReaderState) (bytes piece : List ℕ) → HasRead s bytes
+    → IsFedTo s bytes piece piece
+fed_nothing s bytes piece read =
+    record { front = []; parted = refl; read = subst (HasRead s) (sym (append-nil bytes)) read }
 
-pub fed_line : (s new : ReaderState) (bytes piece rest line next : List ℕ) → (fed : IsFedTo s bytes piece rest) → rest ≡ line ++ 10 ∷ next
+pub fed_line : (s new : ReaderState) (bytes piece rest line next : List ℕ)
+    → (fed : IsFedTo s bytes piece rest) → rest ≡ line ++ 10 ∷ next
     → HasRead new ((bytes ++ fed.front) ++ (line ++ 10 ∷ [])) → IsFedTo new bytes piece next
 fed_line s new bytes piece rest line next fed is read = record {
   front = fed.front ++ (line ++ 10 ∷ []);
-  parted = fed.parted ∙ ap (λ xs. fed.front ++ xs) (is ∙ sym (append_assoc line (10 ∷ []) next)) ∙ sym (append_assoc fed.front (line ++ 10 ∷ []) next);
+  parted = fed.parted ∙ ap (λ xs. fed.front ++ xs) (is ∙ sym (append_assoc line (10 ∷ []) next))
+      ∙ sym (append_assoc fed.front (line ++ 10 ∷ []) next);
   read = subst (HasRead new) (append_assoc bytes fed.front (line ++ 10 ∷ [])) read;
 }
 
-pub fed_all : (s new : ReaderState) (bytes piece rest : List ℕ) → (fed : IsFedTo s bytes piece rest) → HasRead new ((bytes ++ fed.front) ++ rest)
+pub fed_all : (s new : ReaderState) (bytes piece rest : List ℕ) → (fed : IsFedTo s bytes piece rest)
+    → HasRead new ((bytes ++ fed.front) ++ rest)
     → HasRead new (bytes ++ piece)
 fed_all s new bytes piece rest fed read =
-    subst (HasRead new) (append_assoc bytes fed.front rest ∙ ap (λ xs. bytes ++ xs) (sym fed.parted)) read
+    subst (HasRead new) (append_assoc bytes fed.front rest
+    ∙ ap (λ xs. bytes ++ xs) (sym fed.parted)) read
 
 -- if all blocks of the history are reducible, each can be gathered
-pub gathered_of : (bytes : List ℕ) (r : Recorded) (n : ℕ) → history_reading bytes ≡ Ok r → AreBlocksOf (history_reading bytes) (Reducible n)
+pub gathered_of : (bytes : List ℕ) (r : Recorded) (n : ℕ) → history_reading bytes ≡ Ok r
+    → AreBlocksOf (history_reading bytes) (Reducible n)
     → EachIsGathered (cells_of r.header) r.history
 gathered_of bytes r n read are =
     each_is_gathered (cells_of r.header) r.history n ((reading_sound bytes r read).limits.legal)

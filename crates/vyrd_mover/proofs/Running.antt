@@ -1,5 +1,6 @@
 -- Legal histories as runs over a memory, which is a function from cells to values.
-use Rattle.std.proofs.Common.{◌≡◌, ℕ, suc, ◌+◌, ◌^◌, Bool, true, false, cond, not, ◌&&◌, List, [], ◌∷◌, length, Option, Some, None, refl, ap, ◌∙◌, sym, subst, add-one}
+use Rattle.std.proofs.Common.{◌≡◌, ℕ, suc, ◌+◌, ◌^◌, Bool, true, false, cond, not, ◌&&◌, List, []}
+use Rattle.std.proofs.Common.{◌∷◌, length, Option, Some, None, refl, ap, ◌∙◌, sym, subst, add-one}
 use Rattle.std.specs.Prelude.{◌==◌, nat_lt, unwrap_or}
 use Rattle.std.specs.Option.{option_or}
 use Rattle.std.specs.List.{list_all}
@@ -7,7 +8,8 @@ use Rattle.vyrd_base.specs.declared.history.Did.{Did}
 use Rattle.vyrd_base.specs.declared.history.Did.TheVariants.{Read, Wrote, Took, Gave, Marked}
 use Rattle.vyrd_base.specs.declared.history.Stamped.{Stamped}
 use Rattle.vyrd_base.specs.Places.{places_after, first_answer}
-use Rattle.vyrd_base.specs.Histories.{Cells, is_plain, is_lock, made_of, value_in, is_write, may_do, is_legal_at, is_legal}
+use Rattle.vyrd_base.specs.Histories.{Cells, is_plain, is_lock, made_of, value_in, is_write, may_do}
+use Rattle.vyrd_base.specs.Histories.{is_legal_at, is_legal}
 use Rattle.vyrd_base.proofs.TestLaws.{both_true, first_true, second_true, same_number, is_same}
 use Rattle.vyrd_mover.specs.Exchanges.{numbered_from}
 
@@ -26,9 +28,11 @@ may cells m caller (Marked kind) = not (is_write kind)
 -- each event may happen in its turn, numbers aside
 abbrev pub Runs : Cells → (ℕ → ℕ) → List Stamped → Type 0
 Runs cells m [] = Unit {0}
-Runs cells m (e ∷ later) = (nat_lt e.caller cells.callers ≡ true) × (may cells m e.caller e.did ≡ true) × Runs cells (step m e) later
+Runs cells m (e ∷ later) = (nat_lt e.caller cells.callers ≡ true)
+    × (may cells m e.caller e.did ≡ true) × Runs cells (step m e) later
 
-pub may_is : (cells : Cells) (earlier : List Stamped) (caller : ℕ) (did : Did) → may_do cells earlier caller did ≡ may cells (value_in earlier) caller did
+pub may_is : (cells : Cells) (earlier : List Stamped) (caller : ℕ) (did : Did)
+    → may_do cells earlier caller did ≡ may cells (value_in earlier) caller did
 may_is cells earlier caller (Read cell value) = refl
 may_is cells earlier caller (Wrote cell value) = refl
 may_is cells earlier caller (Took cell) = refl
@@ -36,43 +40,56 @@ may_is cells earlier caller (Gave cell) = refl
 may_is cells earlier caller (Marked kind) = refl
 
 -- the memory that events leave is one step further with one more
-pub value_step : (e : Stamped) (earlier : List Stamped) → value_in (e ∷ earlier) ≡ step (value_in earlier) e
+pub value_step : (e : Stamped) (earlier : List Stamped) → value_in (e ∷ earlier)
+    ≡ step (value_in earlier) e
 value_step e earlier = λ i cell. at cell (made_of cell e.caller e.did) i
   where
-    at : (cell : ℕ) (o : Option ℕ) → unwrap_or (option_or o (first_answer (λ e. made_of cell e.caller e.did) earlier)) 0
+    at : (cell : ℕ) (o : Option ℕ)
+        → unwrap_or (option_or o (first_answer (λ e. made_of cell e.caller e.did) earlier)) 0
         ≡ unwrap_or o (value_in earlier cell)
     at cell None = refl
     at cell (Some v) = refl
 
-legal_runs_after : (cells : Cells) (earlier xs : List Stamped) → list_all (is_legal_at cells) (places_after earlier xs) ≡ true
+legal_runs_after : (cells : Cells) (earlier xs : List Stamped) → list_all (is_legal_at cells)
+    (places_after earlier xs) ≡ true
     → Runs cells (value_in earlier) xs
 legal_runs_after cells earlier [] e = tt
 legal_runs_after cells earlier (x ∷ xs) e =
-    let here : is_legal_at cells (record { earlier = earlier; here = x; later = xs }) ≡ true = first_true _ _ e in (
-      second_true (x.number == length earlier) _ (first_true (x.number == length earlier && nat_lt x.caller cells.callers) _ here),
-      sym (may_is cells earlier x.caller x.did) ∙ second_true (x.number == length earlier && nat_lt x.caller cells.callers) _ here,
+    let here : is_legal_at cells (record { earlier = earlier; here = x; later = xs })
+    ≡ true = first_true _ _ e in (
+      second_true (x.number == length earlier) _
+          (first_true (x.number == length earlier && nat_lt x.caller cells.callers) _ here),
+      sym (may_is cells earlier x.caller x.did)
+          ∙ second_true (x.number == length earlier && nat_lt x.caller cells.callers) _ here,
       subst (λ m. Runs cells m xs) (value_step x earlier)
-          (legal_runs_after cells (x ∷ earlier) xs (second_true (is_legal_at cells (record { earlier = earlier; here = x; later = xs })) _ e)),
+          (legal_runs_after cells (x ∷ earlier) xs
+          (second_true (is_legal_at cells (record { earlier = earlier; here = x; later = xs })) _
+          e)),
     )
 
 -- a legal history runs from the memory of zeros
-pub legal_runs : (cells : Cells) (history : List Stamped) → is_legal cells history ≡ true → Runs cells (value_in []) history
+pub legal_runs : (cells : Cells) (history : List Stamped) → is_legal cells history ≡ true
+    → Runs cells (value_in []) history
 unfolding is_legal
 legal_runs cells history e = legal_runs_after cells [] history e
 
-pub runs_legal_after : (cells : Cells) (k : ℕ) (earlier xs : List Stamped) → k ≡ length earlier → Runs cells (value_in earlier) xs
+pub runs_legal_after : (cells : Cells) (k : ℕ) (earlier xs : List Stamped) → k ≡ length earlier
+    → Runs cells (value_in earlier) xs
     → list_all (is_legal_at cells) (places_after earlier (numbered_from k xs)) ≡ true
 runs_legal_after cells k earlier [] e r = refl
 runs_legal_after cells k earlier (x ∷ xs) e r =
     let x' : Stamped = record { number = k; caller = x.caller; did = x.did } in
-    both_true (is_legal_at cells (record { earlier = earlier; here = x'; later = numbered_from (k + 1) xs })) _
+    both_true (is_legal_at cells
+    (record { earlier = earlier; here = x'; later = numbered_from (k + 1) xs })) _
     (both_true (k == length earlier && nat_lt x.caller cells.callers) _
-    (both_true (k == length earlier) _ (is_same k (length earlier) e) r.0) (may_is cells earlier x.caller x.did ∙ r.1))
+    (both_true (k == length earlier) _ (is_same k (length earlier) e) r.0)
+    (may_is cells earlier x.caller x.did ∙ r.1))
     (runs_legal_after cells (k + 1) (x' ∷ earlier) xs (add-one k ∙ ap suc e)
     (subst (λ m. Runs cells m xs) (sym (value_step x' earlier)) r.2))
 
 -- what runs from the memory of zeros is legal, renumbered
-pub runs_legal : (cells : Cells) (xs : List Stamped) → Runs cells (value_in []) xs → is_legal cells (numbered_from 0 xs) ≡ true
+pub runs_legal : (cells : Cells) (xs : List Stamped) → Runs cells (value_in []) xs
+    → is_legal cells (numbered_from 0 xs) ≡ true
 unfolding is_legal
 runs_legal cells xs r = runs_legal_after cells 0 [] xs refl r
 
@@ -92,21 +109,27 @@ changes cell (Took other) = other == cell
 changes cell (Gave other) = other == cell
 changes cell (Marked kind) = false
 
-pub may_same : (cells : Cells) (m n : ℕ → ℕ) (caller : ℕ) (did : Did) → ((cell : ℕ) → touches cell did ≡ true → m cell ≡ n cell)
+pub may_same : (cells : Cells) (m n : ℕ → ℕ) (caller : ℕ) (did : Did)
+    → ((cell : ℕ) → touches cell did ≡ true → m cell ≡ n cell)
     → may cells m caller did ≡ may cells n caller did
-may_same cells m n caller (Read cell value) same = ap (λ v. is_plain cells cell && value == v) (same cell (same_number cell))
+may_same cells m n caller (Read cell value) same = ap (λ v. is_plain cells cell && value == v)
+    (same cell (same_number cell))
 may_same cells m n caller (Wrote cell value) same = refl
-may_same cells m n caller (Took cell) same = ap (λ v. is_lock cells cell && v == 0) (same cell (same_number cell))
-may_same cells m n caller (Gave cell) same = ap (λ v. is_lock cells cell && v == caller + 1) (same cell (same_number cell))
+may_same cells m n caller (Took cell) same = ap (λ v. is_lock cells cell && v == 0)
+    (same cell (same_number cell))
+may_same cells m n caller (Gave cell) same = ap (λ v. is_lock cells cell && v == caller + 1)
+    (same cell (same_number cell))
 may_same cells m n caller (Marked kind) same = refl
 
 -- an event makes nothing of a cell that it doesn't change
-pub made_none : (cell caller : ℕ) (did : Did) → changes cell did ≡ false → made_of cell caller did ≡ None
+pub made_none : (cell caller : ℕ) (did : Did) → changes cell did ≡ false → made_of cell caller did
+    ≡ None
 made_none cell caller (Read other value) e = refl
 made_none cell caller (Wrote other value) e = ap (λ b. cond b (Some value) None) e
 made_none cell caller (Took other) e = ap (λ b. cond b (Some (caller + 1)) None) e
 made_none cell caller (Gave other) e = ap (λ b. cond b (Some 0) None) e
 made_none cell caller (Marked kind) e = refl
 
-pub step_same : (m : ℕ → ℕ) (e : Stamped) (cell : ℕ) → changes cell e.did ≡ false → step m e cell ≡ m cell
+pub step_same : (m : ℕ → ℕ) (e : Stamped) (cell : ℕ) → changes cell e.did ≡ false → step m e cell
+    ≡ m cell
 step_same m e cell h = ap (λ o. unwrap_or o (m cell)) (made_none cell e.caller e.did h)

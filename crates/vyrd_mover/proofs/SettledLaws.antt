@@ -1,7 +1,9 @@
 -- The bytes of the longest input settle what they say as a history: the lines that are taken in are
 -- short and few, so reading ends in them.
-use Rattle.std.proofs.Common.{◌≡◌, ℕ, ◌+◌, ◌*◌, ◌<◌, ◌≤◌, Bool, true, false, cond, not, List, [], ◌∷◌, ◌++◌, length, length-append}
-use Rattle.std.proofs.Common.{Option, Some, None, refl, ap, subst, sym, ◌∙◌, arith, append_assoc, inl, inr}
+use Rattle.std.proofs.Common.{◌≡◌, ℕ, ◌+◌, ◌*◌, ◌<◌, ◌≤◌, Bool, true, false, cond, not, List, []}
+use Rattle.std.proofs.Common.{◌∷◌, ◌++◌, length, length-append}
+use Rattle.std.proofs.Common.{Option, Some, None, refl, ap, subst, sym, ◌∙◌, arith, append_assoc}
+use Rattle.std.proofs.Common.{inl, inr}
 use Rattle.std.specs.Prelude.{◌⊎◌, ◌==◌, nat_lt}
 use Rattle.std.specs.Str.{bytes_eq}
 use Rattle.std.proofs.lemmas.List.{append-nil}
@@ -14,19 +16,24 @@ use Rattle.vyrd_base.proofs.SplitLaws.{cut, lacks, lacks-append}
 use Rattle.vyrd_base.proofs.TestLaws.{both_true, below_of, is_below, not_below_of, same_of}
 use Rattle.vyrd_base.proofs.LongLines.{longer}
 use Rattle.vyrd_mover.specs.declared.fault.HistoryRule.{HistoryRule}
-use Rattle.vyrd_mover.specs.declared.fault.HistoryRule.TheVariants.{TooManyLines, BadHeader, BadLine, NoLineFeed}
+use Rattle.vyrd_mover.specs.declared.fault.HistoryRule.TheVariants.{TooManyLines, BadHeader}
+use Rattle.vyrd_mover.specs.declared.fault.HistoryRule.TheVariants.{BadLine, NoLineFeed}
 use Rattle.vyrd_mover.specs.HistoryText.{Recorded}
 use Rattle.vyrd_mover.specs.HistoryLines.{history_header_in, event_in}
-use Rattle.vyrd_mover.specs.HistoryReading.{refused, broken_by, with_event, unless_broken, event_read, begun_or_bad, unless_too_many, unfinished_rule, lines_read, history_reading}
+use Rattle.vyrd_mover.specs.HistoryReading.{refused, broken_by, with_event, unless_broken}
+use Rattle.vyrd_mover.specs.HistoryReading.{event_read, begun_or_bad, unless_too_many}
+use Rattle.vyrd_mover.specs.HistoryReading.{unfinished_rule, lines_read, history_reading}
 use Rattle.vyrd_mover.specs.LongHistories.{longest_history}
 use Rattle.vyrd_mover.proofs.HeadLaws.{header_in_sound}
 use Rattle.vyrd_mover.proofs.EventLaws.{event_in_sound}
 use Rattle.vyrd_mover.proofs.ShortLines.{short_event, short_first}
-use Rattle.vyrd_mover.proofs.WalkLaws.{then_lines, too_many, end_found, line_found, lines_last, after_first, first_step, first_last, more_after}
+use Rattle.vyrd_mover.proofs.WalkLaws.{then_lines, too_many, end_found, line_found, lines_last}
+use Rattle.vyrd_mover.proofs.WalkLaws.{after_first, first_step, first_last, more_after}
 
 -- the first line of a text, which may be all of it
 abbrev FirstLine : List ℕ → Type 0
-FirstLine text = (lacks 10 text ≡ true) ⊎ ((line : List ℕ) × (more : List ℕ) × (lacks 10 line ≡ true) × (text ≡ line ++ 10 ∷ more))
+FirstLine text = (lacks 10 text ≡ true)
+    ⊎ ((line : List ℕ) × (more : List ℕ) × (lacks 10 line ≡ true) × (text ≡ line ++ 10 ∷ more))
 
 first_line : (text : List ℕ) → FirstLine text
 first_line [] = inl refl
@@ -34,14 +41,16 @@ first_line (x ∷ text) = by_byte (x == 10) refl (first_line text)
   where
     one_more : (x == 10) ≡ false → FirstLine text → FirstLine (x ∷ text)
     one_more e (inl whole) = inl (both_true (not (x == 10)) _ (ap not e) whole)
-    one_more e (inr p) = inr (x ∷ p.0, p.1, both_true (not (x == 10)) _ (ap not e) p.2, ap (λ ys. x ∷ ys) p.3)
+    one_more e (inr p) =
+        inr (x ∷ p.0, p.1, both_true (not (x == 10)) _ (ap not e) p.2, ap (λ ys. x ∷ ys) p.3)
 
     by_byte : (b : Bool) → (x == 10) ≡ b → FirstLine text → FirstLine (x ∷ text)
     by_byte true e rest = inr ([], text, refl, ap (λ y. y ∷ text) (same_of x 10 e))
     by_byte false e rest = one_more e rest
 
 -- a line of more than 64 bytes spells nothing
-long_event : (subject : Subject) (number : ℕ) (line : List ℕ) → 64 < length line → event_in subject number line ≡ None
+long_event : (subject : Subject) (number : ℕ) (line : List ℕ) → 64 < length line
+    → event_in subject number line ≡ None
 long_event subject number line long = by_answer (event_in subject number line) refl
   where
     by_answer : (o : Option Stamped) → event_in subject number line ≡ o → o ≡ None
@@ -65,25 +74,32 @@ long_header line long = by_answer (history_header_in line) refl
 long_isnt_end : (line : List ℕ) → 64 < length line → ¬ (line ≡ end_line)
 long_isnt_end line long e = let same = ap length e in omega (arith, long, same)
 
-long_unfinished : (n : ℕ) (bad : HistoryRule) (rest : List ℕ) → 64 < length rest → unfinished_rule n bad rest ≡ unless_too_many n bad
+long_unfinished : (n : ℕ) (bad : HistoryRule) (rest : List ℕ) → 64 < length rest
+    → unfinished_rule n bad rest ≡ unless_too_many n bad
 long_unfinished n bad [] long = absurd (omega (arith, long))
-long_unfinished n bad (b ∷ rest) long = ap (λ t. unless_too_many n (cond t bad NoLineFeed)) (is_below 64 (length (b ∷ rest)) long)
+long_unfinished n bad (b ∷ rest) long = ap (λ t. unless_too_many n (cond t bad NoLineFeed))
+    (is_below 64 (length (b ∷ rest)) long)
 
 -- more than 64 bytes without a line feed are a bad line, whatever follows them
-pub long_line : (r : Recorded) (n : ℕ) (line more : List ℕ) → lacks 10 line ≡ true → 64 < length line
+pub long_line : (r : Recorded) (n : ℕ) (line more : List ℕ) → lacks 10 line ≡ true
+    → 64 < length line
     → lines_read r n (cut (line ++ more)) ≡ refused n (unless_too_many n BadLine)
 long_line r n line more lack long = by_line (first_line more)
   where
     Bad : List ℕ → Type 0
     Bad text = lines_read r n (cut text) ≡ refused n (unless_too_many n BadLine)
 
-    by_limit : (next rest : List ℕ) → lacks 10 (line ++ next) ≡ true → (b : Bool) → nat_lt 4000000 n ≡ b
-        → lines_read r n (cut ((line ++ next) ++ 10 ∷ rest)) ≡ refused n (cond b TooManyLines BadLine)
+    by_limit : (next rest : List ℕ) → lacks 10 (line ++ next) ≡ true → (b : Bool) → nat_lt 4000000 n
+        ≡ b
+        → lines_read r n (cut ((line ++ next) ++ 10 ∷ rest))
+        ≡ refused n (cond b TooManyLines BadLine)
     by_limit next rest whole true e = too_many r n (line ++ next) rest whole (below_of 4000000 n e)
     by_limit next rest whole false e =
         let more_long = longer line next long in
-        line_found r n (line ++ next) rest whole (not_below_of 4000000 n e) (long_isnt_end (line ++ next) more_long)
-        ∙ ap (λ o. then_lines n (cut rest) (event_read r o)) (long_event r.header.subject (length r.history) (line ++ next) more_long)
+        line_found r n (line ++ next) rest whole (not_below_of 4000000 n e)
+        (long_isnt_end (line ++ next) more_long)
+        ∙ ap (λ o. then_lines n (cut rest) (event_read r o))
+        (long_event r.header.subject (length r.history) (line ++ next) more_long)
 
     by_line : FirstLine more → Bad (line ++ more)
     by_line (inl whole) =
@@ -93,7 +109,8 @@ long_line r n line more lack long = by_line (first_line more)
         subst Bad (append_assoc line p.0 (10 ∷ p.1) ∙ ap (λ text. line ++ text) (sym p.3))
         (by_limit p.0 p.1 (lacks-append 10 line p.0 lack p.2) (nat_lt 4000000 n) refl)
 
-pub long_text : (line more : List ℕ) → lacks 10 line ≡ true → 64 < length line → history_reading (line ++ more) ≡ refused 1 BadHeader
+pub long_text : (line more : List ℕ) → lacks 10 line ≡ true → 64 < length line
+    → history_reading (line ++ more) ≡ refused 1 BadHeader
 long_text line more lack long = by_line (first_line more)
   where
     Bad : List ℕ → Type 0
@@ -106,7 +123,8 @@ long_text line more lack long = by_line (first_line more)
     by_line (inr p) =
         subst Bad (append_assoc line p.0 (10 ∷ p.1) ∙ ap (λ text. line ++ text) (sym p.3))
         (first_step (line ++ p.0) p.1 (lacks-append 10 line p.0 lack p.2)
-        ∙ ap (λ o. after_first (cut p.1) (begun_or_bad o)) (long_header (line ++ p.0) (longer line p.0 long)))
+        ∙ ap (λ o. after_first (cut p.1) (begun_or_bad o))
+        (long_header (line ++ p.0) (longer line p.0 long)))
 
 -- how many bytes there are from line n on, with 65 for each line before
 abbrev Enough : ℕ → List ℕ → Type 0
@@ -120,50 +138,65 @@ something : (text : List ℕ) → 0 < length text → ¬ (text ≡ [])
 something text some e = let same = ap length e in omega (arith, some, same)
 
 -- the bytes `line`, which have no line feed, begin line n
-lines_settled : (r : Recorded) (n : ℕ) (line todo more : List ℕ) → lacks 10 line ≡ true → n ≤ 4000001 → Enough n (line ++ todo)
+lines_settled : (r : Recorded) (n : ℕ) (line todo more : List ℕ) → lacks 10 line ≡ true
+    → n ≤ 4000001 → Enough n (line ++ todo)
     → Settled r n (line ++ todo) more
 lines_settled r n line [] more lack low enough =
     let long : 64 < length line = omega (arith, enough, low, length-append line []) in
-    ap (λ text. lines_read r n (cut (text ++ more))) (append-nil line) ∙ long_line r n line more lack long ∙ sym (long_line r n line [] lack long)
+    ap (λ text. lines_read r n (cut (text ++ more))) (append-nil line)
+    ∙ long_line r n line more lack long ∙ sym (long_line r n line [] lack long)
 lines_settled r n line (x ∷ todo) more lack low enough =
-    by_byte (λ u m begun lack low enough. lines_settled u m begun todo more lack low enough) (x == 10) refl
+    by_byte (λ u m begun lack low enough. lines_settled u m begun todo more lack low enough)
+    (x == 10) refl
   where
     Rest : Type 0
-    Rest = (u : Recorded) (m : ℕ) (begun : List ℕ) → lacks 10 begun ≡ true → m ≤ 4000001 → Enough m (begun ++ todo) → Settled u m (begun ++ todo) more
+    Rest = (u : Recorded) (m : ℕ) (begun : List ℕ) → lacks 10 begun ≡ true → m ≤ 4000001
+        → Enough m (begun ++ todo) → Settled u m (begun ++ todo) more
 
     size : length (line ++ x ∷ todo) ≡ length line + 1 + length todo
     size = omega (arith, length-append line (x ∷ todo))
 
-    by_rule : Rest → n ≤ 4000000 → (e : Stamped) → event_in r.header.subject (length r.history) line ≡ Some e → (o : Option HistoryRule)
-        → then_lines n (cut (todo ++ more)) (unless_broken r e o) ≡ then_lines n (cut todo) (unless_broken r e o)
+    by_rule : Rest → n ≤ 4000000 → (e : Stamped) → event_in r.header.subject (length r.history) line
+        ≡ Some e → (o : Option HistoryRule)
+        → then_lines n (cut (todo ++ more)) (unless_broken r e o) ≡ then_lines n (cut todo)
+        (unless_broken r e o)
     by_rule rest few e is (Some rule) = refl
     by_rule rest few e is None =
         let spelled = event_in_sound r.header.subject (length r.history) line e is in
         let short = short_event r.header.subject e spelled.is in
         let same = ap length spelled.line_is in
-        rest (with_event r e) (n + 1) [] refl (omega (arith, few)) (omega (arith, enough, size, short, same))
+        rest (with_event r e) (n + 1) [] refl (omega (arith, few))
+        (omega (arith, enough, size, short, same))
 
-    by_event : Rest → n ≤ 4000000 → (o : Option Stamped) → event_in r.header.subject (length r.history) line ≡ o
-        → then_lines n (cut (todo ++ more)) (event_read r o) ≡ then_lines n (cut todo) (event_read r o)
+    by_event : Rest → n ≤ 4000000 → (o : Option Stamped) → event_in r.header.subject
+        (length r.history) line ≡ o
+        → then_lines n (cut (todo ++ more)) (event_read r o) ≡ then_lines n (cut todo)
+        (event_read r o)
     by_event rest few None is = refl
     by_event rest few (Some e) is = by_rule rest few e is (broken_by r e)
 
     by_end : Rest → n ≤ 4000000 → (b : Bool) → bytes_eq line end_line ≡ b
-        → lines_read r n (cut (line ++ 10 ∷ (todo ++ more))) ≡ lines_read r n (cut (line ++ 10 ∷ todo))
+        → lines_read r n (cut (line ++ 10 ∷ (todo ++ more))) ≡ lines_read r n
+        (cut (line ++ 10 ∷ todo))
     by_end rest few true is =
         let end = (bytes_eq-Decides line end_line).0 is in
         let same = ap length end in
         let some : 0 < length todo = omega (arith, enough, size, same, few) in
         let more_some : 0 < length (todo ++ more) = omega (arith, some, length-append todo more) in
-        end_found r n line (todo ++ more) lack few end ∙ more_after r (n + 1) (todo ++ more) (something (todo ++ more) more_some)
-        ∙ sym (end_found r n line todo lack few end ∙ more_after r (n + 1) todo (something todo some))
+        end_found r n line (todo ++ more) lack few end ∙ more_after r (n + 1) (todo ++ more)
+        (something (todo ++ more) more_some)
+        ∙ sym (end_found r n line todo lack few end ∙ more_after r (n + 1) todo
+        (something todo some))
     by_end rest few false is =
-        let other : ¬ (line ≡ end_line) = λ e. (let yes = sym is ∙ (bytes_eq-Decides line end_line).1 e in cc) in
+        let other : ¬ (line ≡ end_line) =
+        λ e. (let yes = sym is ∙ (bytes_eq-Decides line end_line).1 e in cc) in
         line_found r n line (todo ++ more) lack few other
         ∙ by_event rest few (event_in r.header.subject (length r.history) line) refl
         ∙ sym (line_found r n line todo lack few other)
 
-    by_limit : Rest → (b : Bool) → nat_lt 4000000 n ≡ b → lines_read r n (cut (line ++ 10 ∷ (todo ++ more))) ≡ lines_read r n (cut (line ++ 10 ∷ todo))
+    by_limit : Rest → (b : Bool) → nat_lt 4000000 n ≡ b
+        → lines_read r n (cut (line ++ 10 ∷ (todo ++ more))) ≡ lines_read r n
+        (cut (line ++ 10 ∷ todo))
     by_limit rest true e =
         let high = below_of 4000000 n e in
         too_many r n line (todo ++ more) lack high ∙ sym (too_many r n line todo lack high)
@@ -172,28 +205,35 @@ lines_settled r n line (x ∷ todo) more lack low enough =
     by_byte : Rest → (b : Bool) → (x == 10) ≡ b → Settled r n (line ++ x ∷ todo) more
     by_byte rest true e =
         let feed = same_of x 10 e in
-        ap (λ text. lines_read r n (cut text)) (append_assoc line (x ∷ todo) more ∙ ap (λ y. line ++ y ∷ (todo ++ more)) feed)
+        ap (λ text. lines_read r n (cut text)) (append_assoc line (x ∷ todo) more
+        ∙ ap (λ y. line ++ y ∷ (todo ++ more)) feed)
         ∙ by_limit rest (nat_lt 4000000 n) refl
         ∙ ap (λ y. lines_read r n (cut (line ++ y ∷ todo))) (sym feed)
     by_byte rest false e =
         let whole = append_assoc line (x ∷ []) todo in
-        let lack_more : lacks 10 (line ++ x ∷ []) ≡ true = lacks-append 10 line (x ∷ []) lack (both_true (not (x == 10)) _ (ap not e) refl) in
-        subst (λ text. Settled r n text more) whole (rest r n (line ++ x ∷ []) lack_more low (subst (Enough n) (sym whole) enough))
+        let lack_more : lacks 10 (line ++ x ∷ []) ≡ true = lacks-append 10 line (x ∷ []) lack
+        (both_true (not (x == 10)) _ (ap not e) refl) in
+        subst (λ text. Settled r n text more) whole
+        (rest r n (line ++ x ∷ []) lack_more low (subst (Enough n) (sym whole) enough))
 
 -- the bytes `line`, which have no line feed, begin the text
-text_settled : (line todo more : List ℕ) → lacks 10 line ≡ true → longest_history ≤ length (line ++ todo)
+text_settled : (line todo more : List ℕ) → lacks 10 line ≡ true → longest_history
+    ≤ length (line ++ todo)
     → history_reading ((line ++ todo) ++ more) ≡ history_reading (line ++ todo)
 text_settled line [] more lack enough =
     let long : 64 < length line = omega (arith, enough, length-append line []) in
-    ap (λ text. history_reading (text ++ more)) (append-nil line) ∙ long_text line more lack long ∙ sym (long_text line [] lack long)
-text_settled line (x ∷ todo) more lack enough = by_byte (λ begun lack enough. text_settled begun todo more lack enough) (x == 10) refl
+    ap (λ text. history_reading (text ++ more)) (append-nil line) ∙ long_text line more lack long
+    ∙ sym (long_text line [] lack long)
+text_settled line (x ∷ todo) more lack enough = by_byte
+    (λ begun lack enough. text_settled begun todo more lack enough) (x == 10) refl
   where
     Rest : Type 0
     Rest = (begun : List ℕ) → lacks 10 begun ≡ true → longest_history ≤ length (begun ++ todo)
         → history_reading ((begun ++ todo) ++ more) ≡ history_reading (begun ++ todo)
 
     by_header : (o : Option Header) → history_header_in line ≡ o
-        → after_first (cut (todo ++ more)) (begun_or_bad o) ≡ after_first (cut todo) (begun_or_bad o)
+        → after_first (cut (todo ++ more)) (begun_or_bad o) ≡ after_first (cut todo)
+        (begun_or_bad o)
     by_header None is = refl
     by_header (Some h) is =
         let short = short_first h in
@@ -201,20 +241,25 @@ text_settled line (x ∷ todo) more lack enough = by_byte (λ begun lack enough.
         lines_settled (record { header = h; history = [] }) 2 [] todo more refl (omega arith)
         (omega (arith, enough, length-append line (x ∷ todo), short, same))
 
-    by_byte : Rest → (b : Bool) → (x == 10) ≡ b → history_reading ((line ++ x ∷ todo) ++ more) ≡ history_reading (line ++ x ∷ todo)
+    by_byte : Rest → (b : Bool) → (x == 10) ≡ b → history_reading ((line ++ x ∷ todo) ++ more)
+        ≡ history_reading (line ++ x ∷ todo)
     by_byte rest true e =
         let feed = same_of x 10 e in
-        ap history_reading (append_assoc line (x ∷ todo) more ∙ ap (λ y. line ++ y ∷ (todo ++ more)) feed)
+        ap history_reading (append_assoc line (x ∷ todo) more
+        ∙ ap (λ y. line ++ y ∷ (todo ++ more)) feed)
         ∙ first_step line (todo ++ more) lack
         ∙ by_header (history_header_in line) refl
         ∙ sym (first_step line todo lack)
         ∙ ap (λ y. history_reading (line ++ y ∷ todo)) (sym feed)
     by_byte rest false e =
         let whole = append_assoc line (x ∷ []) todo in
-        let lack_more : lacks 10 (line ++ x ∷ []) ≡ true = lacks-append 10 line (x ∷ []) lack (both_true (not (x == 10)) _ (ap not e) refl) in
+        let lack_more : lacks 10 (line ++ x ∷ []) ≡ true = lacks-append 10 line (x ∷ []) lack
+        (both_true (not (x == 10)) _ (ap not e) refl) in
         subst (λ text. history_reading (text ++ more) ≡ history_reading text) whole
-        (rest (line ++ x ∷ []) lack_more (subst (λ text. longest_history ≤ length text) (sym whole) enough))
+        (rest (line ++ x ∷ []) lack_more
+        (subst (λ text. longest_history ≤ length text) (sym whole) enough))
 
 -- what that many bytes say doesn't change with more bytes
-pub reading_settled : (bytes more : List ℕ) → longest_history ≤ length bytes → history_reading (bytes ++ more) ≡ history_reading bytes
+pub reading_settled : (bytes more : List ℕ) → longest_history ≤ length bytes
+    → history_reading (bytes ++ more) ≡ history_reading bytes
 reading_settled bytes more enough = text_settled [] bytes more refl enough

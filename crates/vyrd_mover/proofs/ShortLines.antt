@@ -1,5 +1,6 @@
 -- No line of a history has more than 64 bytes.
-use Rattle.std.proofs.Common.{◌≡◌, ℕ, ◌<◌, ◌≤◌, ◌^◌, true, not, List, [], ◌∷◌, ◌++◌, map, length, arith, length-append}
+use Rattle.std.proofs.Common.{◌≡◌, ℕ, ◌<◌, ◌≤◌, ◌^◌, true, not, List, [], ◌∷◌, ◌++◌, map, length}
+use Rattle.std.proofs.Common.{arith, length-append}
 use Rattle.std.specs.Prelude.{codes, decimal, nat_lt}
 use Rattle.std.specs.List.{AllByRecursion}
 use Rattle.vyrd_base.specs.declared.header.Header.{Header}
@@ -13,11 +14,13 @@ use Rattle.vyrd_base.proofs.HeaderLaws.{size_in_32_bits, callers_in_32_bits}
 use Rattle.vyrd_base.proofs.LongLines.{short_entry, short_number, short_value}
 use Rattle.vyrd_base.proofs.TestLaws.{both_true, first_true, second_true, below_of}
 use Rattle.vyrd_base.proofs.StructureLaws.{short_subject}
-use Rattle.vyrd_mover.specs.HistoryText.{Recorded, history_header_line, did_line, event_line, history_lines}
+use Rattle.vyrd_mover.specs.HistoryText.{Recorded, history_header_line, did_line, event_line}
+use Rattle.vyrd_mover.specs.HistoryText.{history_lines}
 use Rattle.vyrd_mover.specs.HistoryLines.{is_did_of, is_event_of}
 use Rattle.vyrd_mover.specs.HistoryLimits.{KeepsLimits}
 
-short_pair : (caller cell value : ℕ) (word : List ℕ) → caller < 2 ^ 32 → cell < 2 ^ 32 → value < 2 ^ 64 → length word ≤ 5
+short_pair : (caller cell value : ℕ) (word : List ℕ) → caller < 2 ^ 32 → cell < 2 ^ 32
+    → value < 2 ^ 64 → length word ≤ 5
     → length (decimal caller ++ 32 ∷ (word ++ 32 ∷ (decimal cell ++ 32 ∷ decimal value))) ≤ 64
 short_pair caller cell value word lc lx lv lw =
     omega (
@@ -41,15 +44,22 @@ short_one caller lock word lc lx lw =
       length-append word (32 ∷ decimal lock),
     )
 
-short_did : (subject : Subject) (caller : ℕ) (did : Did) → nat_lt caller (2 ^ 32) ≡ true → is_did_of subject did ≡ true → length (did_line caller did) ≤ 64
-short_did subject caller (Read cell value) low is = short_pair caller cell value (codes "read") (below_of _ _ low) (below_of cell (2 ^ 32) (first_true _ _ is))
+short_did : (subject : Subject) (caller : ℕ) (did : Did) → nat_lt caller (2 ^ 32) ≡ true
+    → is_did_of subject did ≡ true → length (did_line caller did) ≤ 64
+short_did subject caller (Read cell value) low is = short_pair caller cell value (codes "read")
+    (below_of _ _ low) (below_of cell (2 ^ 32) (first_true _ _ is))
     (below_of value (2 ^ 64) (second_true (nat_lt cell (2 ^ 32)) _ is)) (omega arith)
-short_did subject caller (Wrote cell value) low is = short_pair caller cell value (codes "wrote") (below_of _ _ low) (below_of cell (2 ^ 32) (first_true _ _ is))
+short_did subject caller (Wrote cell value) low is = short_pair caller cell value (codes "wrote")
+    (below_of _ _ low) (below_of cell (2 ^ 32) (first_true _ _ is))
     (below_of value (2 ^ 64) (second_true (nat_lt cell (2 ^ 32)) _ is)) (omega arith)
-short_did subject caller (Took lock) low is = short_one caller lock (codes "took") (below_of _ _ low) (below_of _ _ is) (omega arith)
-short_did subject caller (Gave lock) low is = short_one caller lock (codes "gave") (below_of _ _ low) (below_of _ _ is) (omega arith)
-short_did subject caller (Marked kind) low is = short_entry subject (record { caller = caller; kind = kind })
-    (both_true (nat_lt caller (2 ^ 32)) (is_kind_of subject kind) low (first_true (is_kind_of subject kind) (not (is_write kind)) is))
+short_did subject caller (Took lock) low is = short_one caller lock (codes "took")
+    (below_of _ _ low) (below_of _ _ is) (omega arith)
+short_did subject caller (Gave lock) low is = short_one caller lock (codes "gave")
+    (below_of _ _ low) (below_of _ _ is) (omega arith)
+short_did subject caller (Marked kind) low is = short_entry subject
+    (record { caller = caller; kind = kind })
+    (both_true (nat_lt caller (2 ^ 32)) (is_kind_of subject kind) low
+    (first_true (is_kind_of subject kind) (not (is_write kind)) is))
 
 pub short_first : (h : Header) → length (history_header_line h.subject h.size h.callers) ≤ 64
 short_first h =
@@ -62,14 +72,18 @@ short_first h =
       length-append (decimal h.size) (32 ∷ decimal h.callers),
     )
 
-pub short_event : (subject : Subject) (e : Stamped) → is_event_of subject e ≡ true → length (event_line e) ≤ 64
-short_event subject e is = short_did subject e.caller e.did (first_true _ _ is) (second_true (nat_lt e.caller (2 ^ 32)) _ is)
+pub short_event : (subject : Subject) (e : Stamped) → is_event_of subject e ≡ true
+    → length (event_line e) ≤ 64
+short_event subject e is = short_did subject e.caller e.did (first_true _ _ is)
+    (second_true (nat_lt e.caller (2 ^ 32)) _ is)
 
-short_later : (subject : Subject) (es : List Stamped) → AllByRecursion (λ e. is_event_of subject e ≡ true) es
+short_later : (subject : Subject) (es : List Stamped)
+    → AllByRecursion (λ e. is_event_of subject e ≡ true) es
     → AllByRecursion (λ line. length line ≤ 64) (map event_line es ++ end_line ∷ [])
 short_later subject [] all = (omega arith, tt)
 short_later subject (e ∷ es) all =
     (short_event subject e all.0, short_later subject es all.1)
 
-pub short_lines : (r : Recorded) → KeepsLimits r → AllByRecursion (λ line. length line ≤ 64) (history_lines r)
+pub short_lines : (r : Recorded) → KeepsLimits r → AllByRecursion (λ line. length line ≤ 64)
+    (history_lines r)
 short_lines r keeps = (short_first r.header, short_later r.header.subject r.history keeps.spelled)

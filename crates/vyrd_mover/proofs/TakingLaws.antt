@@ -1,5 +1,7 @@
 -- A history is taken in event by event.
-use Rattle.std.proofs.Common.{◌≡◌, ℕ, ◌+◌, ◌^◌, ◌<◌, true, ◌&&◌, List, [], ◌∷◌, ◌++◌, map, length, replicate, take, drop, drop-cons, get_or, suc, refl, ap, sym, ◌∙◌, subst, arith}
+use Rattle.std.proofs.Common.{◌≡◌, ℕ, ◌+◌, ◌^◌, ◌<◌, true, ◌&&◌, List, [], ◌∷◌, ◌++◌, map, length}
+use Rattle.std.proofs.Common.{replicate, take, drop, drop-cons, get_or, suc, refl, ap, sym, ◌∙◌}
+use Rattle.std.proofs.Common.{subst, arith}
 use Rattle.std.specs.Prelude.{◌==◌, nat_lt}
 use Rattle.std.proofs.lemmas.List.{take-append-drop, take_more, length-map}
 use Rattle.vyrd_base.specs.declared.header.Header.{Header}
@@ -12,30 +14,38 @@ use Rattle.vyrd_base.proofs.PlaceLaws.{length-newest_first}
 use Rattle.vyrd_base.proofs.TestLaws.{first_true, second_true, same_of, below_of}
 use Rattle.vyrd_mover.specs.Steps.{step_of, step_coded, code_of, IsShort, role_of}
 use Rattle.vyrd_mover.specs.LockSets.{words_for}
-use Rattle.vyrd_mover.specs.Usage.{Kept, HaveSeen, IsInRange, IsBehind, HasPlaceIn, held_by, kept_after, unused}
+use Rattle.vyrd_mover.specs.Usage.{Kept, HaveSeen, IsInRange, IsBehind, HasPlaceIn, held_by}
+use Rattle.vyrd_mover.specs.Usage.{kept_after, unused}
 use Rattle.vyrd_mover.specs.Taking.{Taken, HasTaken, IsNext}
 use Rattle.vyrd_mover.proofs.SeenLaws.{have_seen_nothing, have_seen_more}
 use Rattle.vyrd_mover.proofs.LegalPlaces.{MayCome, in_range, behind, wider, has_place_in}
 use Rattle.vyrd_mover.proofs.TextLaws.{all_more, all_here, legal_test}
 use Rattle.vyrd_mover.proofs.StepLaws.{steps_more, short_role}
 
-pub taken_nothing : (h : Header) (uses : Kept) → uses.held ≡ replicate h.callers (replicate (words_for (lock_words h)) 0) → uses.cells ≡ replicate (plain_words h) unused
+pub taken_nothing : (h : Header) (uses : Kept) → uses.held ≡ replicate h.callers
+    (replicate (words_for (lock_words h)) 0) → uses.cells ≡ replicate (plain_words h) unused
     → HasTaken (record { header = h; uses = uses; steps = [] }) []
 unfolding is_legal
 taken_nothing h uses held cells = record {
   legal = refl;
-  seen = subst (HaveSeen (cells_of h) []) (λ i. record { held = sym held i; cells = sym cells i }) (have_seen_nothing (cells_of h));
+  seen = subst (HaveSeen (cells_of h) []) (λ i. record { held = sym held i; cells = sym cells i })
+      (have_seen_nothing (cells_of h));
   steps_are = refl;
 }
 
 -- what a legal event keeps to
-pub may_come : (h : Header) (history : List Stamped) (e : Stamped) → IsNext h history e → MayCome (cells_of h) (newest_first history) (length history) e
+pub may_come : (h : Header) (history : List Stamped) (e : Stamped) → IsNext h history e
+    → MayCome (cells_of h) (newest_first history) (length history) e
 may_come h history e legal =
-    let both = first_true (e.number == length (newest_first history) && nat_lt e.caller h.callers) _ legal in
+    let both = first_true (e.number == length (newest_first history) && nat_lt e.caller h.callers) _
+    legal in
     record {
-      numbered = same_of e.number (length (newest_first history)) (first_true _ _ both) ∙ length-newest_first history;
-      caller = below_of e.caller h.callers (second_true (e.number == length (newest_first history)) _ both);
-      may = second_true (e.number == length (newest_first history) && nat_lt e.caller h.callers) _ legal;
+      numbered = same_of e.number (length (newest_first history)) (first_true _ _ both)
+          ∙ length-newest_first history;
+      caller = below_of e.caller h.callers
+          (second_true (e.number == length (newest_first history)) _ both);
+      may = second_true (e.number == length (newest_first history) && nat_lt e.caller h.callers) _
+          legal;
     }
 
 -- what is asked of a header's next event where it is taken in
@@ -50,7 +60,8 @@ pub record Fits (t : Taken) (e : Stamped) : Type 0 where
   pub in_cells : IsInRange (plain_words t.header) (plain_words t.header + lock_words t.header) e.did
   pub short : IsShort (role_of e.did)
 
-pub fits : (t : Taken) (history : List Stamped) (e : Stamped) → HasTaken t history → IsNext t.header history e → Fits t e
+pub fits : (t : Taken) (history : List Stamped) (e : Stamped) → HasTaken t history
+    → IsNext t.header history e → Fits t e
 fits t history e taken next =
     let come = may_come t.header history e next in
     let range = in_range (cells_of t.header) (newest_first history) e.caller e.did come.may in
@@ -65,20 +76,30 @@ fits t history e taken next =
       below = come.caller;
       known = omega (arith, come.caller, known);
       in_range = subst (λ n. IsInRange n (2 ^ 31) e.did) (sym plain)
-          (wider (plain_words t.header) (plain_words t.header + lock_words t.header) (2 ^ 31) e.did (omega (arith, cells)) range);
+          (wider (plain_words t.header) (plain_words t.header + lock_words t.header) (2 ^ 31) e.did
+          (omega (arith, cells)) range);
       few = omega (arith, plain, cells);
-      behind = subst (λ n. IsBehind n e.did) (sym plain) (behind (cells_of t.header) (newest_first history) e.caller e.did come.may);
+      behind = subst (λ n. IsBehind n e.did) (sym plain)
+          (behind (cells_of t.header) (newest_first history) e.caller e.did come.may);
       room = subst (λ n. HasPlaceIn n (length (held_by t.uses e.caller)) e.did) (sym plain)
           (subst (λ n. HasPlaceIn (plain_words t.header) n e.did) (sym room)
-          (has_place_in (plain_words t.header) (lock_words t.header) e.did range (behind (cells_of t.header) (newest_first history) e.caller e.did come.may)));
+          (has_place_in (plain_words t.header) (lock_words t.header) e.did range
+          (behind (cells_of t.header) (newest_first history) e.caller e.did come.may)));
       in_cells = range;
-      short = short_role (plain_words t.header) (plain_words t.header + lock_words t.header) e.did range low;
+      short = short_role (plain_words t.header) (plain_words t.header + lock_words t.header) e.did
+          range low;
     }
 
 -- one more event
 pub taken_more : (h : Header) (uses : Kept) (codes : List ℕ) (history : List Stamped) (e : Stamped)
-    → HasTaken (record { header = h; uses = uses; steps = map step_coded codes }) history → IsNext h history e
-    → HasTaken (record { header = h; uses = kept_after uses e.caller e.did; steps = map step_coded (codes ++ code_of (step_of e) ∷ []) }) (history ++ e ∷ [])
+    → HasTaken (record { header = h; uses = uses; steps = map step_coded codes }) history
+    → IsNext h history e
+    → HasTaken (record {
+      header = h;
+      uses = kept_after uses e.caller e.did;
+      steps = map step_coded
+          (codes ++ code_of (step_of e) ∷ []);
+    }) (history ++ e ∷ [])
 unfolding is_legal
 taken_more h uses codes history e taken next =
     let come = may_come h history e next in
@@ -90,18 +111,24 @@ taken_more h uses codes history e taken next =
     }
 
 -- there are as many steps as events
-pub taken_count : (t : Taken) (history : List Stamped) → HasTaken t history → length t.steps ≡ length history
+pub taken_count : (t : Taken) (history : List Stamped) → HasTaken t history → length t.steps
+    ≡ length history
 taken_count t history taken = ap length taken.steps_are ∙ length-map history step_of
 
 -- each event of a legal history is legal after those before it
-pub next_in : (h : Header) (history : List Stamped) (i : ℕ) (d : Stamped) → is_legal (cells_of h) history ≡ true → i < length history
+pub next_in : (h : Header) (history : List Stamped) (i : ℕ) (d : Stamped)
+    → is_legal (cells_of h) history ≡ true → i < length history
     → IsNext h (take i history) (get_or history i d)
 unfolding is_legal
 next_in h history i d legal low =
-    all_here (legal_test h) (λ more place. refl) (take i history) (get_or history i d) (drop (suc i) history)
-    (ap (λ es. is_legal (cells_of h) es) (ap (λ later. take i history ++ later) (sym (drop-cons history i d low)) ∙ take-append-drop i history) ∙ legal)
+    all_here (legal_test h) (λ more place. refl) (take i history) (get_or history i d)
+    (drop (suc i) history)
+    (ap (λ es. is_legal (cells_of h) es)
+    (ap (λ later. take i history ++ later) (sym (drop-cons history i d low))
+    ∙ take-append-drop i history) ∙ legal)
 
 -- and is taken in after them
-pub taken_up_to : (t : Taken) (history : List Stamped) (i : ℕ) (d : Stamped) → i < length history → HasTaken t (take i history ++ get_or history i d ∷ [])
+pub taken_up_to : (t : Taken) (history : List Stamped) (i : ℕ) (d : Stamped) → i < length history
+    → HasTaken t (take i history ++ get_or history i d ∷ [])
     → HasTaken t (take (i + 1) history)
 taken_up_to t history i d low taken = subst (HasTaken t) (sym (take_more history i d low)) taken

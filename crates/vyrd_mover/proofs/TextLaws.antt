@@ -1,6 +1,8 @@
 -- The text of a history is read as that history, and what is read is the text of a history.
-use Rattle.std.proofs.Common.{◌≡◌, ℕ, ◌+◌, ◌≤◌, ◌^◌, Bool, true, false, cond, not, ◌&&◌, List, [], ◌∷◌, ◌++◌, map, length}
-use Rattle.std.proofs.Common.{Option, Some, None, Ok, refl, ap, subst, sym, ◌∙◌, arith, append_assoc}
+use Rattle.std.proofs.Common.{◌≡◌, ℕ, ◌+◌, ◌≤◌, ◌^◌, Bool, true, false, cond, not, ◌&&◌, List, []}
+use Rattle.std.proofs.Common.{◌∷◌, ◌++◌, map, length}
+use Rattle.std.proofs.Common.{Option, Some, None, Ok, refl, ap, subst, sym, ◌∙◌, arith}
+use Rattle.std.proofs.Common.{append_assoc}
 use Rattle.std.specs.Prelude.{◌==◌, nat_lt, codes, decimal}
 use Rattle.std.specs.List.{list_all, join_with_byte, AllByRecursion}
 use Rattle.std.specs.Str.{bytes_eq}
@@ -21,46 +23,64 @@ use Rattle.vyrd_base.specs.Histories.{cells_of, is_legal_at, is_legal, is_write}
 use Rattle.vyrd_base.proofs.HeaderLaws.{size_in_32_bits, callers_in_32_bits}
 use Rattle.vyrd_base.proofs.PlaceLaws.{with_later, places_after-append, length-newest_first}
 use Rattle.vyrd_base.proofs.SplitLaws.{cut, join_lines, cut_lines, lacks, all_lack, lacks-join}
-use Rattle.vyrd_base.proofs.LineLaws.{spaced_isnt_end, plain_number, plain_line_feeds, below_32, entry_line_whole, entry_line_isnt_end}
-use Rattle.vyrd_base.proofs.TestLaws.{both_true, first_true, second_true, same_of, below_of, not_below_of, isnt_below}
+use Rattle.vyrd_base.proofs.LineLaws.{spaced_isnt_end, plain_number, plain_line_feeds, below_32}
+use Rattle.vyrd_base.proofs.LineLaws.{entry_line_whole, entry_line_isnt_end}
+use Rattle.vyrd_base.proofs.TestLaws.{both_true, first_true, second_true, same_of, below_of}
+use Rattle.vyrd_base.proofs.TestLaws.{not_below_of, isnt_below}
 use Rattle.vyrd_base.proofs.ListLaws.{all_push}
 use Rattle.vyrd_mover.specs.declared.fault.HistoryRule.{HistoryRule}
-use Rattle.vyrd_mover.specs.declared.fault.HistoryRule.TheVariants.{TooManyLines, NotLegal, BlockMark}
-use Rattle.vyrd_mover.specs.HistoryText.{Recorded, history_header_line, did_line, event_line, history_lines, history_text}
+use Rattle.vyrd_mover.specs.declared.fault.HistoryRule.TheVariants.{TooManyLines, NotLegal}
+use Rattle.vyrd_mover.specs.declared.fault.HistoryRule.TheVariants.{BlockMark}
+use Rattle.vyrd_mover.specs.HistoryText.{Recorded, history_header_line, did_line, event_line}
+use Rattle.vyrd_mover.specs.HistoryText.{history_lines, history_text}
 use Rattle.vyrd_mover.specs.HistoryLines.{is_event_of, is_did_of, history_header_in, event_in}
-use Rattle.vyrd_mover.specs.HistoryReading.{refused, is_misplaced, next_place, broken_by, with_event, unless_broken, event_read, line_read, begun_or_bad, ended, lines_read, text_read, history_reading}
+use Rattle.vyrd_mover.specs.HistoryReading.{refused, is_misplaced, next_place, broken_by}
+use Rattle.vyrd_mover.specs.HistoryReading.{with_event, unless_broken, event_read, line_read}
+use Rattle.vyrd_mover.specs.HistoryReading.{begun_or_bad, ended, lines_read, text_read}
+use Rattle.vyrd_mover.specs.HistoryReading.{history_reading}
 use Rattle.vyrd_mover.specs.HistoryLimits.{KeepsLimits}
-use Rattle.vyrd_mover.proofs.HeadLaws.{IsFirst, header_in_sound, header_in-first_line, first_line_whole}
+use Rattle.vyrd_mover.proofs.HeadLaws.{IsFirst, header_in_sound, header_in-first_line}
+use Rattle.vyrd_mover.proofs.HeadLaws.{first_line_whole}
 use Rattle.vyrd_mover.proofs.EventLaws.{event_in_sound, event_in-event_line}
 use Rattle.vyrd_mover.proofs.WalkLaws.{then_lines, after_first}
 
 -- a test of places that doesn't look ahead
 abbrev pub LooksBack : (Place Stamped → Bool) → Type 0
-LooksBack test = (more : List Stamped) (place : Place Stamped) → test (with_later more place) ≡ test place
+LooksBack test = (more : List Stamped) (place : Place Stamped) → test (with_later more place)
+    ≡ test place
 
 all_split : (test : Place Stamped → Bool) → LooksBack test → (xs ys : List Stamped)
-    → list_all test (places (xs ++ ys)) ≡ (list_all test (places xs) && list_all test (places_after (newest_first xs) ys))
+    → list_all test (places (xs ++ ys))
+    ≡ (list_all test (places xs) && list_all test (places_after (newest_first xs) ys))
 all_split test back xs ys =
     ap (list_all test) (places_after-append [] xs ys)
-    ∙ list_all-append test (map (with_later ys) (places_after [] xs)) (places_after (newest_first xs) ys)
-    ∙ ap (λ b. b && list_all test (places_after (newest_first xs) ys)) (list_all-map test (with_later ys) (places_after [] xs) ∙ same (places_after [] xs))
+    ∙ list_all-append test (map (with_later ys) (places_after [] xs))
+    (places_after (newest_first xs) ys)
+    ∙ ap (λ b. b && list_all test (places_after (newest_first xs) ys))
+    (list_all-map test (with_later ys) (places_after [] xs) ∙ same (places_after [] xs))
   where
-    same : (ps : List (Place Stamped)) → list_all (λ p. test (with_later ys p)) ps ≡ list_all test ps
+    same : (ps : List (Place Stamped)) → list_all (λ p. test (with_later ys p)) ps
+        ≡ list_all test ps
     same [] = refl
-    same (p ∷ ps) = ap (λ b. b && list_all (λ p. test (with_later ys p)) ps) (back ys p) ∙ ap (λ b. test p && b) (same ps)
+    same (p ∷ ps) = ap (λ b. b && list_all (λ p. test (with_later ys p)) ps) (back ys p)
+        ∙ ap (λ b. test p && b) (same ps)
 
 -- the test holds of one event more, if it did before
-pub all_more : (test : Place Stamped → Bool) → LooksBack test → (xs : List Stamped) (e : Stamped) → list_all test (places xs) ≡ true
+pub all_more : (test : Place Stamped → Bool) → LooksBack test → (xs : List Stamped) (e : Stamped)
+    → list_all test (places xs) ≡ true
     → test (next_place xs e) ≡ true → list_all test (places (xs ++ e ∷ [])) ≡ true
 all_more test back xs e before here =
     all_split test back xs (e ∷ []) ∙ both_true _ _ before (both_true _ _ here refl)
 
 -- and of each event where it holds of all
-pub all_here : (test : Place Stamped → Bool) → LooksBack test → (xs : List Stamped) (e : Stamped) (ys : List Stamped)
+pub all_here : (test : Place Stamped → Bool) → LooksBack test → (xs : List Stamped) (e : Stamped)
+    (ys : List Stamped)
     → list_all test (places (xs ++ e ∷ ys)) ≡ true → test (next_place xs e) ≡ true
 all_here test back xs e ys all =
-    let rest = second_true (list_all test (places xs)) _ (sym (all_split test back xs (e ∷ ys)) ∙ all) in
-    sym (back ys (next_place xs e)) ∙ first_true (test (record { earlier = newest_first xs; here = e; later = ys })) _ rest
+    let rest = second_true (list_all test (places xs)) _ (sym (all_split test back xs (e ∷ ys))
+    ∙ all) in
+    sym (back ys (next_place xs e))
+    ∙ first_true (test (record { earlier = newest_first xs; here = e; later = ys })) _ rest
 
 abbrev pub legal_test : Header → Place Stamped → Bool
 legal_test h place = is_legal_at (cells_of h) place
@@ -70,20 +90,26 @@ turn_test place = not (is_misplaced place)
 
 -- an event that breaks no rule is legal and in turn, and the other way round
 pub no_rule : (r : Recorded) (e : Stamped) → broken_by r e ≡ None
-    → (legal_test r.header (next_place r.history e) ≡ true) × (turn_test (next_place r.history e) ≡ true)
-no_rule r e none = go (legal_test r.header (next_place r.history e)) (is_misplaced (next_place r.history e)) refl refl none
+    → (legal_test r.header (next_place r.history e) ≡ true)
+    × (turn_test (next_place r.history e) ≡ true)
+no_rule r e none = go (legal_test r.header (next_place r.history e))
+    (is_misplaced (next_place r.history e)) refl refl none
   where
-    go : (a b : Bool) → legal_test r.header (next_place r.history e) ≡ a → is_misplaced (next_place r.history e) ≡ b
+    go : (a b : Bool) → legal_test r.header (next_place r.history e) ≡ a
+        → is_misplaced (next_place r.history e) ≡ b
         → cond (not a) (Some NotLegal) (cond b (Some BlockMark) None) ≡ None
-        → (legal_test r.header (next_place r.history e) ≡ true) × (turn_test (next_place r.history e) ≡ true)
+        → (legal_test r.header (next_place r.history e) ≡ true)
+        × (turn_test (next_place r.history e) ≡ true)
     go true false ea eb none = (ea, ap not eb)
     go true true ea eb none = cc
     go false b ea eb none = cc
 
-breaks_none : (r : Recorded) (e : Stamped) → legal_test r.header (next_place r.history e) ≡ true → turn_test (next_place r.history e) ≡ true
+breaks_none : (r : Recorded) (e : Stamped) → legal_test r.header (next_place r.history e) ≡ true
+    → turn_test (next_place r.history e) ≡ true
     → broken_by r e ≡ None
 breaks_none r e legal turn =
-    ap (λ a. cond (not a) (Some NotLegal) (cond (is_misplaced (next_place r.history e)) (Some BlockMark) None)) legal
+    ap (λ a. cond (not a) (Some NotLegal)
+    (cond (is_misplaced (next_place r.history e)) (Some BlockMark) None)) legal
     ∙ ap (λ b. cond b (Some BlockMark) None) (not-true (is_misplaced (next_place r.history e)) turn)
 
 -- what is kept of a history while it is read
@@ -92,7 +118,8 @@ record Keeps (r : Recorded) : Type 0 where
   in_turn : list_all turn_test (places r.history) ≡ true
   spelled : AllByRecursion (λ e. is_event_of r.header.subject e ≡ true) r.history
 
-keeps_more : (r : Recorded) (e : Stamped) → Keeps r → is_event_of r.header.subject e ≡ true → broken_by r e ≡ None → Keeps (with_event r e)
+keeps_more : (r : Recorded) (e : Stamped) → Keeps r → is_event_of r.header.subject e ≡ true
+    → broken_by r e ≡ None → Keeps (with_event r e)
 keeps_more r e keeps is none =
     let rule = no_rule r e none in
     record {
@@ -111,22 +138,28 @@ record Sound (r : Recorded) (n : ℕ) (lines : List (List ℕ)) (v : Recorded) :
   few : n + length more ≤ 4000000
 
 -- nothing follows `end`
-nothing_after : (r : Recorded) (n : ℕ) (lines : List (List ℕ)) (v : Recorded) → ended r n lines ≡ Ok v → (lines ≡ [] ∷ []) × (r ≡ v)
+nothing_after : (r : Recorded) (n : ℕ) (lines : List (List ℕ)) (v : Recorded) → ended r n lines
+    ≡ Ok v → (lines ≡ [] ∷ []) × (r ≡ v)
 nothing_after r n [] v e = cc
 nothing_after r n ([] ∷ []) v e = (refl, let same : r ≡ v = cc in same)
 nothing_after r n ([] ∷ line ∷ lines) v e = cc
 nothing_after r n ((b ∷ bs) ∷ lines) v e = cc
 
-lines_sound : (r : Recorded) (n : ℕ) (lines : List (List ℕ)) (v : Recorded) → Keeps r → lines_read r n lines ≡ Ok v → Sound r n lines v
+lines_sound : (r : Recorded) (n : ℕ) (lines : List (List ℕ)) (v : Recorded) → Keeps r
+    → lines_read r n lines ≡ Ok v → Sound r n lines v
 lines_sound r n [] v keeps e = cc
 lines_sound r n (rest ∷ []) v keeps e = cc
-lines_sound r n (line ∷ next ∷ lines) v keeps e = by_limit (λ u k f. lines_sound u (n + 1) (next ∷ lines) v k f) (nat_lt 4000000 n) refl e
+lines_sound r n (line ∷ next ∷ lines) v keeps e = by_limit
+    (λ u k f. lines_sound u (n + 1) (next ∷ lines) v k f) (nat_lt 4000000 n) refl e
   where
     Rest : Type 0
-    Rest = (u : Recorded) → Keeps u → lines_read u (n + 1) (next ∷ lines) ≡ Ok v → Sound u (n + 1) (next ∷ lines) v
+    Rest = (u : Recorded) → Keeps u → lines_read u (n + 1) (next ∷ lines) ≡ Ok v
+        → Sound u (n + 1) (next ∷ lines) v
 
-    by_rule : Rest → (x : Stamped) → event_in r.header.subject (length r.history) line ≡ Some x → (o : Option HistoryRule) → broken_by r x ≡ o
-        → then_lines n (next ∷ lines) (unless_broken r x o) ≡ Ok v → Sound r n (line ∷ next ∷ lines) v
+    by_rule : Rest → (x : Stamped) → event_in r.header.subject (length r.history) line ≡ Some x
+        → (o : Option HistoryRule) → broken_by r x ≡ o
+        → then_lines n (next ∷ lines) (unless_broken r x o) ≡ Ok v
+        → Sound r n (line ∷ next ∷ lines) v
     by_rule rest x is (Some rule) none f = cc
     by_rule rest x is None none f =
         let spelled = event_in_sound r.header.subject (length r.history) line x is in
@@ -140,13 +173,15 @@ lines_sound r n (line ∷ next ∷ lines) v keeps e = by_limit (λ u k f. lines_
           few = let l = s.few in omega (arith, l);
         }
 
-    by_event : Rest → (o : Option Stamped) → event_in r.header.subject (length r.history) line ≡ o → then_lines n (next ∷ lines) (event_read r o) ≡ Ok v
+    by_event : Rest → (o : Option Stamped) → event_in r.header.subject (length r.history) line ≡ o
+        → then_lines n (next ∷ lines) (event_read r o) ≡ Ok v
         → Sound r n (line ∷ next ∷ lines) v
     by_event rest None is f = cc
     by_event rest (Some x) is f = by_rule rest x is (broken_by r x) refl f
 
     by_end : Rest → n ≤ 4000000 → (b : Bool) → bytes_eq line end_line ≡ b
-        → cond b (ended r (n + 1) (next ∷ lines)) (then_lines n (next ∷ lines) (line_read r line)) ≡ Ok v
+        → cond b (ended r (n + 1) (next ∷ lines)) (then_lines n (next ∷ lines) (line_read r line))
+        ≡ Ok v
         → Sound r n (line ∷ next ∷ lines) v
     by_end rest low true is f =
         let last = nothing_after r (n + 1) (next ∷ lines) v f in
@@ -159,20 +194,26 @@ lines_sound r n (line ∷ next ∷ lines) v keeps e = by_limit (λ u k f. lines_
           keeps = subst Keeps last.1 keeps;
           few = omega (arith, low);
         }
-    by_end rest low false is f = by_event rest (event_in r.header.subject (length r.history) line) refl f
+    by_end rest low false is f = by_event rest (event_in r.header.subject (length r.history) line)
+        refl f
 
     by_limit : Rest → (b : Bool) → nat_lt 4000000 n ≡ b
-        → cond b (refused n TooManyLines) (cond (bytes_eq line end_line) (ended r (n + 1) (next ∷ lines)) (then_lines n (next ∷ lines) (line_read r line))) ≡ Ok v
+        → cond b (refused n TooManyLines)
+        (cond (bytes_eq line end_line) (ended r (n + 1) (next ∷ lines))
+        (then_lines n (next ∷ lines) (line_read r line))) ≡ Ok v
         → Sound r n (line ∷ next ∷ lines) v
     by_limit rest true is f = cc
-    by_limit rest false is f = by_end rest (not_below_of 4000000 n is) (bytes_eq line end_line) refl f
+    by_limit rest false is f = by_end rest (not_below_of 4000000 n is) (bytes_eq line end_line) refl
+        f
 
 -- all lines, and what stands after the last line feed
 abbrev all_lines : Recorded → List (List ℕ)
-all_lines r = history_header_line r.header.subject r.header.size r.header.callers ∷ map event_line r.history ++ end_line ∷ [] ∷ []
+all_lines r = history_header_line r.header.subject r.header.size r.header.callers
+    ∷ map event_line r.history ++ end_line ∷ [] ∷ []
 
 all_lines_are : (r : Recorded) → history_lines r ++ [] ∷ [] ≡ all_lines r
-all_lines_are r = ap (λ rest. history_header_line r.header.subject r.header.size r.header.callers ∷ rest)
+all_lines_are r = ap (λ rest. history_header_line r.header.subject r.header.size r.header.callers
+    ∷ rest)
     (append_assoc (map event_line r.history) (end_line ∷ []) ([] ∷ []))
 
 -- what is read: a history's text, which keeps the limits
@@ -180,23 +221,28 @@ pub record IsHistoryText (bytes : List ℕ) (r : Recorded) : Type 0 where
   pub text : bytes ≡ history_text r
   pub limits : KeepsLimits r
 
-text_sound : (parts : List (List ℕ)) (v : Recorded) → text_read parts ≡ Ok v → IsHistoryText (join_with_byte 10 parts) v
+text_sound : (parts : List (List ℕ)) (v : Recorded) → text_read parts ≡ Ok v
+    → IsHistoryText (join_with_byte 10 parts) v
 unfolding history_text is_legal
 text_sound [] v e = cc
 text_sound (rest ∷ []) v e = cc
 text_sound (line ∷ next ∷ lines) v e = by_header (history_header_in line) refl e
   where
-    found : (h : Header) → IsFirst line h → lines_read (record { header = h; history = [] }) 2 (next ∷ lines) ≡ Ok v
+    found : (h : Header) → IsFirst line h → lines_read (record { header = h; history = [] }) 2
+        (next ∷ lines) ≡ Ok v
         → IsHistoryText (join_with_byte 10 (line ∷ next ∷ lines)) v
     found h is f =
-        let s = lines_sound (record { header = h; history = [] }) 2 (next ∷ lines) v (record { legal = refl; in_turn = refl; spelled = tt }) f in
+        let s = lines_sound (record { header = h; history = [] }) 2 (next ∷ lines) v
+        (record { legal = refl; in_turn = refl; spelled = tt }) f in
         let events : v.history ≡ s.more = s.history in
         let first : line ≡ history_header_line v.header.subject v.header.size v.header.callers =
         is.1 ∙ ap (λ x. history_header_line x.subject x.size x.callers) (sym s.header) in
         let all : ◌≡◌ {A = List (List ℕ)} (line ∷ next ∷ lines) (all_lines v) =
-        λ i. first i ∷ (s.text ∙ ap (λ xs. map event_line xs ++ end_line ∷ [] ∷ []) (sym events)) i in
+        λ i. first i ∷ (s.text ∙ ap (λ xs. map event_line xs ++ end_line ∷ [] ∷ []) (sym events))
+        i in
         record {
-          text = ap (join_with_byte 10) (all ∙ sym (all_lines_are v)) ∙ join_lines (history_lines v);
+          text = ap (join_with_byte 10) (all ∙ sym (all_lines_are v))
+              ∙ join_lines (history_lines v);
           limits = record {
             version = ap (λ (x : Header). x.version) s.header ∙ is.0;
             legal = s.keeps.legal;
@@ -206,49 +252,66 @@ text_sound (line ∷ next ∷ lines) v e = by_header (history_header_in line) re
           };
         }
 
-    by_header : (o : Option Header) → history_header_in line ≡ o → after_first (next ∷ lines) (begun_or_bad o) ≡ Ok v
+    by_header : (o : Option Header) → history_header_in line ≡ o → after_first (next ∷ lines)
+        (begun_or_bad o) ≡ Ok v
         → IsHistoryText (join_with_byte 10 (line ∷ next ∷ lines)) v
     by_header None is f = cc
     by_header (Some h) is f = found h (header_in_sound line h is) f
 
-pub reading_sound : (bytes : List ℕ) (r : Recorded) → history_reading bytes ≡ Ok r → IsHistoryText bytes r
+pub reading_sound : (bytes : List ℕ) (r : Recorded) → history_reading bytes ≡ Ok r
+    → IsHistoryText bytes r
 unfolding history_reading
-reading_sound bytes r e = subst (λ xs. IsHistoryText xs r) (join_with_byte-slice_split 10 bytes) (text_sound (cut bytes) r e)
+reading_sound bytes r e = subst (λ xs. IsHistoryText xs r) (join_with_byte-slice_split 10 bytes)
+    (text_sound (cut bytes) r e)
 
 -- an event's line is one line
-did_whole : (subject : Subject) (caller : ℕ) (did : Did) → nat_lt caller (2 ^ 32) ≡ true → is_did_of subject did ≡ true → lacks 10 (did_line caller did) ≡ true
+did_whole : (subject : Subject) (caller : ℕ) (did : Did) → nat_lt caller (2 ^ 32) ≡ true
+    → is_did_of subject did ≡ true → lacks 10 (did_line caller did) ≡ true
 did_whole subject caller (Read cell value) low is =
     lacks-join 10 32 (decimal caller) (codes "read" ∷ decimal cell ∷ decimal value ∷ []) refl
     (plain_line_feeds (decimal caller ∷ codes "read" ∷ decimal cell ∷ decimal value ∷ [])
-    (both_true _ _ (plain_number caller (below_32 caller low)) (both_true _ _ refl (both_true _ _ (plain_number cell (below_32 cell (first_true _ _ is)))
-    (both_true _ _ (plain_number value (below_of value (2 ^ 64) (second_true (nat_lt cell (2 ^ 32)) _ is))) refl)))))
+    (both_true _ _ (plain_number caller (below_32 caller low))
+    (both_true _ _ refl (both_true _ _ (plain_number cell (below_32 cell (first_true _ _ is)))
+    (both_true _ _
+    (plain_number value (below_of value (2 ^ 64) (second_true (nat_lt cell (2 ^ 32)) _ is)))
+    refl)))))
 did_whole subject caller (Wrote cell value) low is =
     lacks-join 10 32 (decimal caller) (codes "wrote" ∷ decimal cell ∷ decimal value ∷ []) refl
     (plain_line_feeds (decimal caller ∷ codes "wrote" ∷ decimal cell ∷ decimal value ∷ [])
-    (both_true _ _ (plain_number caller (below_32 caller low)) (both_true _ _ refl (both_true _ _ (plain_number cell (below_32 cell (first_true _ _ is)))
-    (both_true _ _ (plain_number value (below_of value (2 ^ 64) (second_true (nat_lt cell (2 ^ 32)) _ is))) refl)))))
+    (both_true _ _ (plain_number caller (below_32 caller low))
+    (both_true _ _ refl (both_true _ _ (plain_number cell (below_32 cell (first_true _ _ is)))
+    (both_true _ _
+    (plain_number value (below_of value (2 ^ 64) (second_true (nat_lt cell (2 ^ 32)) _ is)))
+    refl)))))
 did_whole subject caller (Took lock) low is =
     lacks-join 10 32 (decimal caller) (codes "took" ∷ decimal lock ∷ []) refl
     (plain_line_feeds (decimal caller ∷ codes "took" ∷ decimal lock ∷ [])
-    (both_true _ _ (plain_number caller (below_32 caller low)) (both_true _ _ refl (both_true _ _ (plain_number lock (below_32 lock is)) refl))))
+    (both_true _ _ (plain_number caller (below_32 caller low))
+    (both_true _ _ refl (both_true _ _ (plain_number lock (below_32 lock is)) refl))))
 did_whole subject caller (Gave lock) low is =
     lacks-join 10 32 (decimal caller) (codes "gave" ∷ decimal lock ∷ []) refl
     (plain_line_feeds (decimal caller ∷ codes "gave" ∷ decimal lock ∷ [])
-    (both_true _ _ (plain_number caller (below_32 caller low)) (both_true _ _ refl (both_true _ _ (plain_number lock (below_32 lock is)) refl))))
+    (both_true _ _ (plain_number caller (below_32 caller low))
+    (both_true _ _ refl (both_true _ _ (plain_number lock (below_32 lock is)) refl))))
 did_whole subject caller (Marked kind) low is =
     entry_line_whole subject (record { caller = caller; kind = kind })
-    (both_true (nat_lt caller (2 ^ 32)) (is_kind_of subject kind) low (first_true (is_kind_of subject kind) (not (is_write kind)) is))
+    (both_true (nat_lt caller (2 ^ 32)) (is_kind_of subject kind) low
+    (first_true (is_kind_of subject kind) (not (is_write kind)) is))
 
-pub event_line_whole : (subject : Subject) (e : Stamped) → is_event_of subject e ≡ true → lacks 10 (event_line e) ≡ true
-event_line_whole subject e is = did_whole subject e.caller e.did (first_true _ _ is) (second_true (nat_lt e.caller (2 ^ 32)) _ is)
+pub event_line_whole : (subject : Subject) (e : Stamped) → is_event_of subject e ≡ true
+    → lacks 10 (event_line e) ≡ true
+event_line_whole subject e is = did_whole subject e.caller e.did (first_true _ _ is)
+    (second_true (nat_lt e.caller (2 ^ 32)) _ is)
 
 -- a line with a space isn't the line `end`
-isnt_end : (caller : ℕ) (did : Did) (rest : List ℕ) → did_line caller did ≡ decimal caller ++ 32 ∷ rest → bytes_eq (did_line caller did) end_line ≡ false
+isnt_end : (caller : ℕ) (did : Did) (rest : List ℕ) → did_line caller did ≡ decimal caller
+    ++ 32 ∷ rest → bytes_eq (did_line caller did) end_line ≡ false
 isnt_end caller did rest line = by_test (bytes_eq (did_line caller did) end_line) refl
   where
     by_test : (b : Bool) → bytes_eq (did_line caller did) end_line ≡ b → b ≡ false
     by_test true same =
-        ap (lacks 32) (sym ((bytes_eq-Decides (did_line caller did) end_line).0 same)) ∙ ap (lacks 32) line ∙ spaced_isnt_end (decimal caller) rest
+        ap (lacks 32) (sym ((bytes_eq-Decides (did_line caller did) end_line).0 same))
+        ∙ ap (lacks 32) line ∙ spaced_isnt_end (decimal caller) rest
     by_test false same = refl
 
 pub did_isnt_end : (caller : ℕ) (did : Did) → bytes_eq (did_line caller did) end_line ≡ false
@@ -262,20 +325,27 @@ abbrev of_parts : Header → List Stamped → Recorded
 of_parts h history = record { header = h; history = history }
 
 -- one event's line is read
-event_step : (h : Header) (past : List Stamped) (n : ℕ) (e : Stamped) (rest : List (List ℕ)) → has_any rest ≡ true → n ≤ 4000000
+event_step : (h : Header) (past : List Stamped) (n : ℕ) (e : Stamped) (rest : List (List ℕ))
+    → has_any rest ≡ true → n ≤ 4000000
     → is_event_of h.subject e ≡ true → e.number ≡ length past → broken_by (of_parts h past) e ≡ None
-    → lines_read (of_parts h past) n (event_line e ∷ rest) ≡ lines_read (of_parts h (past ++ e ∷ [])) (n + 1) rest
+    → lines_read (of_parts h past) n (event_line e ∷ rest)
+    ≡ lines_read (of_parts h (past ++ e ∷ [])) (n + 1) rest
 event_step h past n e [] some low is number none = cc
 event_step h past n e (next ∷ lines) some low is number none =
     let r = of_parts h past in
-    ap (λ b. cond b (refused n TooManyLines) (cond (bytes_eq (event_line e) end_line) (ended r (n + 1) (next ∷ lines)) (then_lines n (next ∷ lines) (line_read r (event_line e)))))
+    ap (λ b. cond b (refused n TooManyLines)
+    (cond (bytes_eq (event_line e) end_line) (ended r (n + 1) (next ∷ lines))
+    (then_lines n (next ∷ lines) (line_read r (event_line e)))))
     (isnt_below 4000000 n low)
-    ∙ ap (λ b. cond b (ended r (n + 1) (next ∷ lines)) (then_lines n (next ∷ lines) (line_read r (event_line e)))) (did_isnt_end e.caller e.did)
+    ∙ ap (λ b. cond b (ended r (n + 1) (next ∷ lines))
+    (then_lines n (next ∷ lines) (line_read r (event_line e)))) (did_isnt_end e.caller e.did)
     ∙ ap (λ o. then_lines n (next ∷ lines) (event_read r o))
-    (ap (λ k. event_in h.subject k (event_line e)) (sym number) ∙ event_in-event_line h.subject e is)
+    (ap (λ k. event_in h.subject k (event_line e)) (sym number)
+    ∙ event_in-event_line h.subject e is)
     ∙ ap (λ o. then_lines n (next ∷ lines) (unless_broken r e o)) none
 
-some_lines : (es : List Stamped) (next : List ℕ) (lines : List (List ℕ)) → has_any (map event_line es ++ next ∷ lines) ≡ true
+some_lines : (es : List Stamped) (next : List ℕ) (lines : List (List ℕ))
+    → has_any (map event_line es ++ next ∷ lines) ≡ true
 some_lines [] next lines = refl
 some_lines (e ∷ es) next lines = refl
 
@@ -283,50 +353,68 @@ some_lines (e ∷ es) next lines = refl
 end_step : (r : Recorded) (n : ℕ) → n ≤ 4000000 → lines_read r n (end_line ∷ [] ∷ []) ≡ Ok r
 end_step r n low = ap (λ b. cond b (refused n TooManyLines) (Ok r)) (isnt_below 4000000 n low)
 
-legal_number : (h : Header) (past : List Stamped) (e : Stamped) → legal_test h (next_place past e) ≡ true → e.number ≡ length past
+legal_number : (h : Header) (past : List Stamped) (e : Stamped) → legal_test h (next_place past e)
+    ≡ true → e.number ≡ length past
 legal_number h past e legal =
-    same_of e.number (length (newest_first past)) (first_true _ _ (first_true (e.number == length (newest_first past) && nat_lt e.caller h.callers) _ legal))
+    same_of e.number (length (newest_first past))
+    (first_true _ _
+    (first_true (e.number == length (newest_first past) && nat_lt e.caller h.callers) _ legal))
     ∙ length-newest_first past
 
 -- the lines of events, and `end`
-events_read : (h : Header) (past todo : List Stamped) (n : ℕ) → AllByRecursion (λ e. is_event_of h.subject e ≡ true) todo
-    → list_all (legal_test h) (places (past ++ todo)) ≡ true → list_all turn_test (places (past ++ todo)) ≡ true → n + length todo ≤ 4000000
-    → lines_read (of_parts h past) n (map event_line todo ++ end_line ∷ [] ∷ []) ≡ Ok (of_parts h (past ++ todo))
+events_read : (h : Header) (past todo : List Stamped) (n : ℕ)
+    → AllByRecursion (λ e. is_event_of h.subject e ≡ true) todo
+    → list_all (legal_test h) (places (past ++ todo)) ≡ true
+    → list_all turn_test (places (past ++ todo)) ≡ true → n + length todo ≤ 4000000
+    → lines_read (of_parts h past) n (map event_line todo ++ end_line ∷ [] ∷ [])
+    ≡ Ok (of_parts h (past ++ todo))
 events_read h past [] n all legal turn few =
-    end_step (of_parts h past) n (omega arith) ∙ ap (λ es. Ok (of_parts h es)) (sym (append-nil past))
+    end_step (of_parts h past) n (omega arith) ∙ ap (λ es. Ok (of_parts h es))
+    (sym (append-nil past))
 events_read h past (e ∷ todo) n all legal turn few =
     let legal_here = all_here (legal_test h) (λ more place. refl) past e todo legal in
     let turn_here = all_here turn_test (λ more place. refl) past e todo turn in
-    event_step h past n e (map event_line todo ++ end_line ∷ [] ∷ []) (some_lines todo end_line ([] ∷ [])) (omega arith) all.0
+    event_step h past n e (map event_line todo ++ end_line ∷ [] ∷ [])
+    (some_lines todo end_line ([] ∷ [])) (omega arith) all.0
     (legal_number h past e legal_here) (breaks_none (of_parts h past) e legal_here turn_here)
     ∙ events_read h (past ++ e ∷ []) todo (n + 1) all.1
     (ap (λ es. list_all (legal_test h) (places es)) (append_assoc past (e ∷ []) todo) ∙ legal)
-    (ap (λ es. list_all turn_test (places es)) (append_assoc past (e ∷ []) todo) ∙ turn) (omega arith)
+    (ap (λ es. list_all turn_test (places es)) (append_assoc past (e ∷ []) todo) ∙ turn)
+    (omega arith)
     ∙ ap (λ es. Ok (of_parts h es)) (append_assoc past (e ∷ []) todo)
 
-events_lack : (subject : Subject) (es : List Stamped) → AllByRecursion (λ e. is_event_of subject e ≡ true) es
+events_lack : (subject : Subject) (es : List Stamped)
+    → AllByRecursion (λ e. is_event_of subject e ≡ true) es
     → all_lack 10 (map event_line es ++ end_line ∷ []) ≡ true
 events_lack subject [] all = refl
-events_lack subject (e ∷ es) all = both_true _ _ (event_line_whole subject e all.0) (events_lack subject es all.1)
+events_lack subject (e ∷ es) all = both_true _ _ (event_line_whole subject e all.0)
+    (events_lack subject es all.1)
 
 all_lack_feeds : (r : Recorded) → KeepsLimits r → all_lack 10 (history_lines r) ≡ true
 all_lack_feeds r keeps =
-    both_true _ _ (first_line_whole r.header.subject r.header.size r.header.callers (let l = size_in_32_bits r.header in omega (arith, l))
+    both_true _ _ (first_line_whole r.header.subject r.header.size r.header.callers
+    (let l = size_in_32_bits r.header in omega (arith, l))
     (let l = callers_in_32_bits r.header in omega (arith, l)))
     (events_lack r.header.subject r.history keeps.spelled)
 
 -- all lines are read as the history
 all_read : (r : Recorded) → KeepsLimits r → text_read (all_lines r) ≡ Ok r
 unfolding is_legal
-all_read r keeps = by_rest (map event_line r.history ++ end_line ∷ [] ∷ []) (some_lines r.history end_line ([] ∷ []))
-    (events_read r.header [] r.history 2 keeps.spelled keeps.legal keeps.in_turn (let l = keeps.few in omega (arith, l)))
+all_read r keeps = by_rest (map event_line r.history ++ end_line ∷ [] ∷ [])
+    (some_lines r.history end_line ([] ∷ []))
+    (events_read r.header [] r.history 2 keeps.spelled keeps.legal keeps.in_turn
+    (let l = keeps.few in omega (arith, l)))
   where
-    by_rest : (rest : List (List ℕ)) → has_any rest ≡ true → lines_read (of_parts r.header []) 2 rest ≡ Ok r
-        → text_read (history_header_line r.header.subject r.header.size r.header.callers ∷ rest) ≡ Ok r
+    by_rest : (rest : List (List ℕ)) → has_any rest ≡ true
+        → lines_read (of_parts r.header []) 2 rest ≡ Ok r
+        → text_read (history_header_line r.header.subject r.header.size r.header.callers ∷ rest)
+        ≡ Ok r
     by_rest [] some on = cc
-    by_rest (next ∷ lines) some on = ap (λ o. after_first (next ∷ lines) (begun_or_bad o)) (header_in-first_line r.header keeps.version) ∙ on
+    by_rest (next ∷ lines) some on = ap (λ o. after_first (next ∷ lines) (begun_or_bad o))
+        (header_in-first_line r.header keeps.version) ∙ on
 
 -- the text of a history is read as that history
 pub reading-history_text : (r : Recorded) → KeepsLimits r → history_reading (history_text r) ≡ Ok r
 unfolding history_reading history_text
-reading-history_text r keeps = ap text_read (cut_lines (history_lines r) (all_lack_feeds r keeps) ∙ all_lines_are r) ∙ all_read r keeps
+reading-history_text r keeps = ap text_read (cut_lines (history_lines r) (all_lack_feeds r keeps)
+    ∙ all_lines_are r) ∙ all_read r keeps

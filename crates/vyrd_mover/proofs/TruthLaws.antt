@@ -1,5 +1,6 @@
 -- What tests joined by `or`, and tests of numbers in a row, tell.
-use Rattle.std.proofs.Common.{◌≡◌, ◌≢◌, ℕ, zero, suc, ◌+◌, ◌<◌, ◌≤◌, Bool, true, false, not, ◌||◌, ◌⊎◌, inl, inr, refl, ap, ◌∙◌, arith}
+use Rattle.std.proofs.Common.{◌≡◌, ◌≢◌, ℕ, zero, suc, ◌+◌, ◌<◌, ◌≤◌, Bool, true, false, not, ◌||◌}
+use Rattle.std.proofs.Common.{◌⊎◌, inl, inr, refl, ap, ◌∙◌, arith}
 use Rattle.std.specs.List.{list_any}
 use Rattle.std.specs.Prelude.{◌==◌}
 use Rattle.std.proofs.lemmas.Bool.{or_left, or_right}
@@ -29,23 +30,29 @@ Found test k n = (x : ℕ) × (k ≤ x) × (x < k + n) × (test x ≡ true)
 wider : (test : ℕ → Bool) (k n : ℕ) → Found test (k + 1) n → Found test k (suc n)
 wider test k n found = (found.0, omega arith, omega arith, found.3)
 
-first_or_later : (test : ℕ → Bool) (k n : ℕ) → (list_any test (numbers_from (k + 1) n) ≡ true → Found test (k + 1) n)
+first_or_later : (test : ℕ → Bool) (k n : ℕ)
+    → (list_any test (numbers_from (k + 1) n) ≡ true → Found test (k + 1) n)
     → (test k ≡ true) ⊎ (list_any test (numbers_from (k + 1) n) ≡ true) → Found test k (suc n)
 first_or_later test k n later (inl e) = (k, omega arith, omega arith, e)
 first_or_later test k n later (inr e) = wider test k n (later e)
 
-pub any_tells : (test : ℕ → Bool) (k n : ℕ) → list_any test (numbers_from k n) ≡ true → Found test k n
+pub any_tells : (test : ℕ → Bool) (k n : ℕ) → list_any test (numbers_from k n) ≡ true
+    → Found test k n
 any_tells test k zero e = cc
-any_tells test k (suc n) e = first_or_later test k n (any_tells test (k + 1) n) (either_true (test k) _ e)
+any_tells test k (suc n) e = first_or_later test k n (any_tells test (k + 1) n)
+    (either_true (test k) _ e)
 
 here_or_later : (test : ℕ → Bool) (k n x : ℕ) → k ≤ x → x < k + suc n → test x ≡ true
-    → (k + 1 ≤ x → x < k + 1 + n → list_any test (numbers_from (k + 1) n) ≡ true) → (b : Bool) → (k == x) ≡ b
+    → (k + 1 ≤ x → x < k + 1 + n → list_any test (numbers_from (k + 1) n) ≡ true) → (b : Bool)
+    → (k == x) ≡ b
     → list_any test (numbers_from k (suc n)) ≡ true
-here_or_later test k n x low high e later true same = or_left (test k) _ (ap test (same_of k x same) ∙ e)
+here_or_later test k n x low high e later true same = or_left (test k) _
+    (ap test (same_of k x same) ∙ e)
 here_or_later test k n x low high e later false other =
     let ne : k ≢ x = apart_of k x other in or_right (test k) _ (later (omega arith) (omega arith))
 
-pub tells_any : (test : ℕ → Bool) (k n x : ℕ) → k ≤ x → x < k + n → test x ≡ true → list_any test (numbers_from k n) ≡ true
+pub tells_any : (test : ℕ → Bool) (k n x : ℕ) → k ≤ x → x < k + n → test x ≡ true
+    → list_any test (numbers_from k n) ≡ true
 tells_any test k zero x low high e = absurd (omega arith)
 tells_any test k (suc n) x low high e =
     here_or_later test k n x low high e (λ l h. tells_any test (k + 1) n x l h e) (k == x) refl

@@ -5,10 +5,12 @@ use Rattle.vyrd_mover.specs.declared.usage.Users.TheVariants.{Nobody, One, Many}
 use Rattle.vyrd_mover.specs.Usage.{Use, is_used, is_shared}
 
 -- what was kept where nobody used the cell, and where somebody did
-pub when_unused : (users : Users) (both held : List ℕ) → users ≡ Nobody → cond (is_used users) both held ≡ held
+pub when_unused : (users : Users) (both held : List ℕ) → users ≡ Nobody
+    → cond (is_used users) both held ≡ held
 when_unused users both held e = ap (λ u. cond (is_used u) both held) e
 
-pub when_used : (users : Users) (both held : List ℕ) → (users ≡ Nobody → ⊥) → cond (is_used users) both held ≡ both
+pub when_used : (users : Users) (both held : List ℕ) → (users ≡ Nobody → ⊥)
+    → cond (is_used users) both held ≡ both
 when_used Nobody both held h = absurd (h refl)
 when_used (One user) both held h = refl
 when_used Many both held h = refl
@@ -23,9 +25,12 @@ pub or_is_second : (a b : Bool) → a ≡ false → b ≡ (a || b)
 or_is_second a b e = ap (λ x. x || b) (sym e)
 
 -- one caller at most has used the cell, or nobody has written it
-pub at_once_true : (users : Users) (many written : Bool) → many ≡ is_shared users → many ≡ false → true ≡ (not (is_shared users) || not written)
-at_once_true users many written e n = or_is_true (not (is_shared users)) (not written) (ap not (sym e ∙ n))
+pub at_once_true : (users : Users) (many written : Bool) → many ≡ is_shared users → many ≡ false
+    → true ≡ (not (is_shared users) || not written)
+at_once_true users many written e n = or_is_true (not (is_shared users)) (not written)
+    (ap not (sym e ∙ n))
 
 pub at_once_second : (users : Users) (many written : Bool) → many ≡ is_shared users → many ≡ true
     → not written ≡ (not (is_shared users) || not written)
-at_once_second users many written e n = or_is_second (not (is_shared users)) (not written) (ap not (sym e ∙ n))
+at_once_second users many written e n = or_is_second (not (is_shared users)) (not written)
+    (ap not (sym e ∙ n))

@@ -11,24 +11,36 @@ use Rattle.vyrd_multiset.specs.Room.{free_slots_for, has_room_for_both}
 use Rattle.vyrd_multiset.specs.Laws.Alone.Changes.{is_multiset}
 use Rattle.vyrd_multiset.specs.Laws.Alone.Done.{InsertDone, insert_done, PairDone, pair_done}
 
-pub insert_gives_up : (h : Header) (memory : Memory) (state : Amounts) (c x : ℕ) → h.subject ≡ Multiset → state_in h memory ≡ Some state
+pub insert_gives_up : (h : Header) (memory : Memory) (state : Amounts) (c x : ℕ) → h.subject
+    ≡ Multiset → state_in h memory ≡ Some state
     → GivesUpWhere (free_slots_for h memory x ≡ 0) (alone c (insert h Correct x) memory)
 insert_gives_up h memory state c x is e =
-    gives_up (free_slots_for h memory x ≡ 0) (InsertDone h memory state x) (alone c (insert h Correct x) memory)
+    gives_up (free_slots_for h memory x ≡ 0) (InsertDone h memory state x)
+    (alone c (insert h Correct x) memory)
     (insert_done h is c memory state x (is_multiset h memory state is e)) says
   where
-    says : (reply : ℕ) (after : Memory) → InsertDone h memory state x reply after → (reply ≡ 0 → free_slots_for h memory x ≡ 0) ×
+    says : (reply : ℕ) (after : Memory) → InsertDone h memory state x reply after
+        → (reply ≡ 0 → free_slots_for h memory x ≡ 0) ×
         (free_slots_for h memory x ≡ 0 → reply ≡ 0)
-    says reply after (inl d) = (λ none. absurd (omega (arith, none, d.0)), λ none. absurd (omega (arith, none, d.2)))
+    says reply after (inl d) =
+        (λ none. absurd (omega (arith, none, d.0)), λ none. absurd (omega (arith, none, d.2)))
     says reply after (inr d) = (λ none. d.2, λ none. d.0)
 
-pub insert_pair_gives_up : (h : Header) (memory : Memory) (state : Amounts) (c x y : ℕ) → h.subject ≡ Multiset → state_in h memory ≡ Some state
-    → GivesUpWhere (has_room_for_both h memory x y ≡ false) (alone c (insert_pair h Correct x y) memory)
+pub insert_pair_gives_up : (h : Header) (memory : Memory) (state : Amounts) (c x y : ℕ) → h.subject
+    ≡ Multiset → state_in h memory ≡ Some state
+    → GivesUpWhere (has_room_for_both h memory x y ≡ false)
+    (alone c (insert_pair h Correct x y) memory)
 insert_pair_gives_up h memory state c x y is e =
-    gives_up (has_room_for_both h memory x y ≡ false) (PairDone h memory state x y) (alone c (insert_pair h Correct x y) memory)
+    gives_up (has_room_for_both h memory x y ≡ false) (PairDone h memory state x y)
+    (alone c (insert_pair h Correct x y) memory)
     (pair_done h is c memory state x y (is_multiset h memory state is e)) says
   where
-    says : (reply : ℕ) (after : Memory) → PairDone h memory state x y reply after → (reply ≡ 0 → has_room_for_both h memory x y ≡ false) ×
+    says : (reply : ℕ) (after : Memory) → PairDone h memory state x y reply after
+        → (reply ≡ 0 → has_room_for_both h memory x y ≡ false) ×
         (has_room_for_both h memory x y ≡ false → reply ≡ 0)
-    says reply after (inl d) = (λ none. absurd (omega (arith, none, d.0)), λ full. let room = d.2 in cc)
+    says reply after (inl d) = (
+      λ none. absurd (omega (arith, none, d.0)),
+      λ full. let room = d.2 in
+          cc,
+    )
     says reply after (inr d) = (λ none. d.2, λ full. d.0)

@@ -1,5 +1,6 @@
 -- What a step needs: what holds at a place, and the next slot that is looked at.
-use Rattle.std.proofs.Common.{◌≡◌, ◌≢◌, ℕ, suc, ◌+◌, ◌-◌, cond, Option, Some, ap, ◌∙◌, sym, subst, arith}
+use Rattle.std.proofs.Common.{◌≡◌, ◌≢◌, ℕ, suc, ◌+◌, ◌-◌, cond, Option, Some, ap, ◌∙◌, sym, subst}
+use Rattle.std.proofs.Common.{arith}
 use Rattle.vyrd_base.specs.declared.header.Header.{Header}
 use Rattle.vyrd_base.proofs.TestLaws.{isnt_same}
 use Rattle.vyrd_memory.specs.declared.op.Variant.{Variant}
@@ -15,26 +16,33 @@ use Rattle.vyrd_multiset.specs.Procedures.{find_from, find_unlock, reserve, sear
 use Rattle.vyrd_multiset.specs.Rests.{finding_rest, rest_at}
 
 -- what is sound at a place is sound at the same place
-pub sound_at : (h : Header) (task : Task) (p q : Place) → p ≡ q → IsSoundSomewhere h (rest_at h task p) → IsSoundSomewhere h (rest_at h task q)
+pub sound_at : (h : Header) (task : Task) (p q : Place) → p ≡ q
+    → IsSoundSomewhere h (rest_at h task p) → IsSoundSomewhere h (rest_at h task q)
 sound_at h task p q e sound = subst (λ place. IsSoundSomewhere h (rest_at h task place)) e sound
 
 one_fewer : (a b : ℕ) → b ≢ 0 → a ≡ b - 1 → suc a ≡ b
 one_fewer a b some e = omega arith
 
 -- the search goes on at the next slot
-pub search_next : (cursor : Cursor) (a s x : ℕ) (ended : Option ℕ → Script) → cursor.after ≢ 0 → a ≡ cursor.after - 1 → s ≡ cursor.slot + 1
+pub search_next : (cursor : Cursor) (a s x : ℕ) (ended : Option ℕ → Script) → cursor.after ≢ 0
+    → a ≡ cursor.after - 1 → s ≡ cursor.slot + 1
     → search_from (suc a) s x ended ≡ search_from cursor.after (cursor.slot + 1) x ended
 search_next cursor a s x ended some fewer next =
-    ap (λ n. search_from n s x ended) (one_fewer a cursor.after some fewer) ∙ ap (λ n. search_from cursor.after n x ended) next
+    ap (λ n. search_from n s x ended) (one_fewer a cursor.after some fewer)
+    ∙ ap (λ n. search_from cursor.after n x ended) next
 
 -- where the slot isn't free, it is looked at the next one
-pub find_next : (h : Header) (variant : Variant) (value : ℕ) (found : Option ℕ → Script) (place : Finding) (cursor : Cursor) (a s answer : ℕ)
-    → place ≡ finding.Load cursor → answer ≢ 0 → cursor.after ≢ 0 → a ≡ cursor.after - 1 → s ≡ cursor.slot + 1
+pub find_next : (h : Header) (variant : Variant) (value : ℕ) (found : Option ℕ → Script)
+    (place : Finding) (cursor : Cursor) (a s answer : ℕ)
+    → place ≡ finding.Load cursor → answer ≢ 0 → cursor.after ≢ 0 → a ≡ cursor.after - 1
+    → s ≡ cursor.slot + 1
     → find_from (suc a) s value (λ slot. find_unlock h variant (bucket_of h value) (found slot))
     ≡ after_answer (finding_rest h variant value found place) answer
 find_next h variant value found place cursor a s answer at taken some fewer next =
     let on : Option ℕ → Script = λ slot. find_unlock h variant (bucket_of h value) (found slot) in
-    ap (λ n. find_from n s value on) (one_fewer a cursor.after some fewer) ∙ ap (λ n. find_from cursor.after n value on) next
-    ∙ ap (λ b. cond b (reserve cursor.slot value (on (Some cursor.slot))) (find_from cursor.after (cursor.slot + 1) value on))
+    ap (λ n. find_from n s value on) (one_fewer a cursor.after some fewer)
+    ∙ ap (λ n. find_from cursor.after n value on) next
+    ∙ ap (λ b. cond b (reserve cursor.slot value (on (Some cursor.slot)))
+    (find_from cursor.after (cursor.slot + 1) value on))
     (sym (isnt_same answer 0 taken))
     ∙ ap (λ p. after_answer (finding_rest h variant value found p) answer) (sym at)

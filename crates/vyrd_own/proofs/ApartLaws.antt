@@ -14,7 +14,8 @@ use Rattle.vyrd_own.specs.Sets.{shown_after, hidden_after}
 use Rattle.vyrd_own.specs.Apart.{registers_with, registers_after, lists_with, lists_after}
 use Rattle.vyrd_own.proofs.SetLaws.{set_more}
 
-registers_one : (s : State) (e : Effect) → registers_with s.registers e ≡ (with_effect s e).registers
+registers_one : (s : State) (e : Effect) → registers_with s.registers e
+    ≡ (with_effect s e).registers
 registers_one s (SetShown k a) = refl
 registers_one s (SetHidden k a) = refl
 registers_one s (SetRegister i a) = refl
@@ -25,7 +26,8 @@ registers_one s (TakeLast i) = refl
 registers_one s (Empty i) = refl
 registers_one s EmptyShown = refl
 
-pub registers_by : (s : State) (es : List Effect) → registers_after s.registers es ≡ (with_effects s es).registers
+pub registers_by : (s : State) (es : List Effect) → registers_after s.registers es
+    ≡ (with_effects s es).registers
 registers_by s [] = refl
 registers_by s (e ∷ es) =
     ap (λ rs. registers_after rs es) (registers_one s e) ∙ registers_by (with_effect s e) es
@@ -49,48 +51,90 @@ cond_alike : (b : Bool) → cond b [] (let none : Amounts = [] in none) ≡ []
 cond_alike true = refl
 cond_alike false = refl
 
-pub shown_by : (base : Amounts) (pairs : List (ℕ × ℕ)) (s : State) (es : List Effect) → s.shown ≡ hidden_with base pairs
-    → (with_effects s es).shown ≡ hidden_with (cond (list_any is_clearing es) [] base) (shown_after pairs es)
+pub shown_by : (base : Amounts) (pairs : List (ℕ × ℕ)) (s : State) (es : List Effect)
+    → s.shown ≡ hidden_with base pairs
+    → (with_effects s es).shown ≡ hidden_with (cond (list_any is_clearing es) [] base)
+    (shown_after pairs es)
 shown_by base pairs s [] is = is
 shown_by base pairs s (SetShown k a ∷ es) is =
     shown_by base (pairs ++ (k, a) ∷ []) (with_effect s (SetShown k a)) es
     (ap (λ m. with_amount m k a) is ∙ sym (set_more base pairs k a))
-shown_by base pairs s (SetHidden k a ∷ es) is = shown_by base pairs (with_effect s (SetHidden k a)) es is
-shown_by base pairs s (SetRegister i a ∷ es) is = shown_by base pairs (with_effect s (SetRegister i a)) es is
-shown_by base pairs s (PutLast i a ∷ es) is = shown_by base pairs (with_effect s (PutLast i a)) es is
-shown_by base pairs s (PutFirst i a ∷ es) is = shown_by base pairs (with_effect s (PutFirst i a)) es is
-shown_by base pairs s (TakeFirst i ∷ es) is = shown_by base pairs (with_effect s (TakeFirst i)) es is
+shown_by base pairs s (SetHidden k a ∷ es) is = shown_by base pairs (with_effect s (SetHidden k a))
+    es is
+shown_by base pairs s (SetRegister i a ∷ es) is = shown_by base pairs
+    (with_effect s (SetRegister i a)) es is
+shown_by base pairs s (PutLast i a ∷ es) is = shown_by base pairs (with_effect s (PutLast i a)) es
+    is
+shown_by base pairs s (PutFirst i a ∷ es) is = shown_by base pairs (with_effect s (PutFirst i a)) es
+    is
+shown_by base pairs s (TakeFirst i ∷ es) is = shown_by base pairs (with_effect s (TakeFirst i)) es
+    is
 shown_by base pairs s (TakeLast i ∷ es) is = shown_by base pairs (with_effect s (TakeLast i)) es is
 shown_by base pairs s (Empty i ∷ es) is = shown_by base pairs (with_effect s (Empty i)) es is
 shown_by base pairs s (EmptyShown ∷ es) is =
     shown_by [] [] (with_effect s EmptyShown) es refl
     ∙ ap (λ none. hidden_with none (shown_after [] es)) (cond_alike (list_any is_clearing es))
 
-pub hidden_by : (base : Amounts) (pairs : List (ℕ × ℕ)) (s : State) (es : List Effect) → s.hidden ≡ hidden_with base pairs
+pub hidden_by : (base : Amounts) (pairs : List (ℕ × ℕ)) (s : State) (es : List Effect) → s.hidden
+    ≡ hidden_with base pairs
     → (with_effects s es).hidden ≡ hidden_with base (hidden_after pairs es)
 hidden_by base pairs s [] is = is
 hidden_by base pairs s (SetHidden k a ∷ es) is =
     hidden_by base (pairs ++ (k, a) ∷ []) (with_effect s (SetHidden k a)) es
     (ap (λ m. with_amount m k a) is ∙ sym (set_more base pairs k a))
-hidden_by base pairs s (SetShown k a ∷ es) is = hidden_by base pairs (with_effect s (SetShown k a)) es is
-hidden_by base pairs s (SetRegister i a ∷ es) is = hidden_by base pairs (with_effect s (SetRegister i a)) es is
-hidden_by base pairs s (PutLast i a ∷ es) is = hidden_by base pairs (with_effect s (PutLast i a)) es is
-hidden_by base pairs s (PutFirst i a ∷ es) is = hidden_by base pairs (with_effect s (PutFirst i a)) es is
-hidden_by base pairs s (TakeFirst i ∷ es) is = hidden_by base pairs (with_effect s (TakeFirst i)) es is
-hidden_by base pairs s (TakeLast i ∷ es) is = hidden_by base pairs (with_effect s (TakeLast i)) es is
+hidden_by base pairs s (SetShown k a ∷ es) is = hidden_by base pairs (with_effect s (SetShown k a))
+    es is
+hidden_by base pairs s (SetRegister i a ∷ es) is = hidden_by base pairs
+    (with_effect s (SetRegister i a)) es is
+hidden_by base pairs s (PutLast i a ∷ es) is = hidden_by base pairs (with_effect s (PutLast i a)) es
+    is
+hidden_by base pairs s (PutFirst i a ∷ es) is = hidden_by base pairs (with_effect s (PutFirst i a))
+    es is
+hidden_by base pairs s (TakeFirst i ∷ es) is = hidden_by base pairs (with_effect s (TakeFirst i)) es
+    is
+hidden_by base pairs s (TakeLast i ∷ es) is = hidden_by base pairs (with_effect s (TakeLast i)) es
+    is
 hidden_by base pairs s (Empty i ∷ es) is = hidden_by base pairs (with_effect s (Empty i)) es is
 hidden_by base pairs s (EmptyShown ∷ es) is = hidden_by base pairs (with_effect s EmptyShown) es is
 
 -- the parts of a state together
-pub whole : (s : State) (es : List Effect) (shown hidden : Amounts) (registers : List ℕ) (lists : List (List ℕ))
+pub whole : (s : State) (es : List Effect) (shown hidden : Amounts) (registers : List ℕ)
+    (lists : List (List ℕ))
     → shown ≡ (with_effects s es).shown → hidden ≡ (with_effects s es).hidden
     → registers ≡ (with_effects s es).registers → lists ≡ (with_effects s es).lists
-    → (let t : State = record { shown = shown; hidden = hidden; registers = registers; lists = lists } in t) ≡ with_effects s es
+    → (let t : State = record {
+      shown = shown;
+      hidden = hidden;
+      registers = registers;
+      lists = lists;
+    } in t) ≡ with_effects s es
 whole s es shown hidden registers lists a b c d =
-    ap (λ x. let t : State = record { shown = x; hidden = hidden; registers = registers; lists = lists } in t) a
-    ∙ ap (λ x. let t : State = record { shown = (with_effects s es).shown; hidden = x; registers = registers; lists = lists } in t) b
-    ∙ ap (λ x. let t : State = record { shown = (with_effects s es).shown; hidden = (with_effects s es).hidden; registers = x; lists = lists } in t) c
-    ∙ ap (λ x. let t : State = record { shown = (with_effects s es).shown; hidden = (with_effects s es).hidden; registers = (with_effects s es).registers; lists = x } in t) d
+    ap (λ x. let t : State = record {
+      shown = x;
+      hidden = hidden;
+      registers = registers;
+      lists = lists;
+    } in t) a
+    ∙ ap (λ x. let t : State = record {
+      shown = (with_effects s es).shown;
+      hidden = x;
+      registers = registers;
+      lists = lists;
+    } in t) b
+    ∙ ap (λ x. let t : State =
+    record {
+      shown = (with_effects s es).shown;
+      hidden = (with_effects s es).hidden;
+      registers = x;
+      lists = lists;
+    } in t) c
+    ∙ ap (λ x. let t : State =
+    record {
+      shown = (with_effects s es).shown;
+      hidden = (with_effects s es).hidden;
+      registers = (with_effects s es).registers;
+      lists = x;
+    } in t) d
 
 -- the effects of a list, the first and then the others
 pub shown_then : (pairs : List (ℕ × ℕ)) (e : Effect) (es : List Effect)
@@ -124,8 +168,10 @@ swapped true false r = refl
 swapped false true r = refl
 swapped false false r = refl
 
-pub clears_more : (es : List Effect) (i : ℕ) (d : Effect) (clears cleared after end : Bool) → i < length es
-    → (clears || list_any is_clearing (drop i es)) ≡ end → cleared ≡ is_clearing (slice_index_or es i d) → after ≡ (cleared || clears)
+pub clears_more : (es : List Effect) (i : ℕ) (d : Effect) (clears cleared after end : Bool)
+    → i < length es
+    → (clears || list_any is_clearing (drop i es)) ≡ end
+    → cleared ≡ is_clearing (slice_index_or es i d) → after ≡ (cleared || clears)
     → (after || list_any is_clearing (drop (i + 1) es)) ≡ end
 clears_more es i d clears cleared after end low was is_cleared is_after =
     ap (λ b. b || list_any is_clearing (drop (i + 1) es)) is_after
@@ -134,7 +180,8 @@ clears_more es i d clears cleared after end low was is_cleared is_after =
     ∙ ap (λ b. clears || (b || list_any is_clearing (drop (suc i) es))) is_cleared
     ∙ ap (λ rest. clears || list_any is_clearing rest) (sym (drop-cons es i d low)) ∙ was
 
-pub shown_more : (es : List Effect) (i : ℕ) (d : Effect) (pairs after end : List (ℕ × ℕ)) → i < length es
+pub shown_more : (es : List Effect) (i : ℕ) (d : Effect) (pairs after end : List (ℕ × ℕ))
+    → i < length es
     → shown_after pairs (drop i es) ≡ end → after ≡ shown_after pairs (slice_index_or es i d ∷ [])
     → shown_after after (drop (i + 1) es) ≡ end
 shown_more es i d pairs after end low was is_after =
@@ -143,12 +190,14 @@ shown_more es i d pairs after end low was is_after =
     ∙ sym (shown_then pairs (slice_index_or es i d) (drop (suc i) es))
     ∙ ap (shown_after pairs) (sym (drop-cons es i d low)) ∙ was
 
-pub hidden_more : (es : List Effect) (i : ℕ) (d : Effect) (pairs after end : List (ℕ × ℕ)) → i < length es
+pub hidden_more : (es : List Effect) (i : ℕ) (d : Effect) (pairs after end : List (ℕ × ℕ))
+    → i < length es
     → hidden_after pairs (drop i es) ≡ end → after ≡ hidden_after pairs (slice_index_or es i d ∷ [])
     → hidden_after after (drop (i + 1) es) ≡ end
 hidden_more es i d pairs after end low was is_after =
     ap (λ ps. hidden_after ps (drop (i + 1) es)) is_after
-    ∙ ap (λ n. hidden_after (hidden_after pairs (slice_index_or es i d ∷ [])) (drop n es)) (add-one i)
+    ∙ ap (λ n. hidden_after (hidden_after pairs (slice_index_or es i d ∷ [])) (drop n es))
+    (add-one i)
     ∙ sym (hidden_then pairs (slice_index_or es i d) (drop (suc i) es))
     ∙ ap (hidden_after pairs) (sym (drop-cons es i d low)) ∙ was
 
@@ -157,14 +206,21 @@ or_of true b e = refl
 or_of false b e = cc
 
 -- each part as effects leave it
-pub each_part : (s : State) (es : List Effect) (clears : Bool) (pairs others : List (ℕ × ℕ)) (shown hidden : Amounts) (registers : List ℕ) (lists : List (List ℕ))
+pub each_part : (s : State) (es : List Effect) (clears : Bool) (pairs others : List (ℕ × ℕ))
+    (shown hidden : Amounts) (registers : List ℕ) (lists : List (List ℕ))
     → clears ≡ list_any is_clearing es → pairs ≡ shown_after [] es → others ≡ hidden_after [] es
     → shown ≡ hidden_with (cond clears [] s.shown) pairs → hidden ≡ hidden_with s.hidden others
     → registers ≡ registers_after s.registers es → lists ≡ lists_after s.lists es
-    → (let t : State = record { shown = shown; hidden = hidden; registers = registers; lists = lists } in t) ≡ with_effects s es
+    → (let t : State = record {
+      shown = shown;
+      hidden = hidden;
+      registers = registers;
+      lists = lists;
+    } in t) ≡ with_effects s es
 each_part s es clears pairs others shown hidden registers lists c p o a b r l =
     whole s es shown hidden registers lists
-    (a ∙ ap (λ b'. hidden_with (cond b' [] s.shown) pairs) c ∙ ap (hidden_with (cond (list_any is_clearing es) [] s.shown)) p
+    (a ∙ ap (λ b'. hidden_with (cond b' [] s.shown) pairs) c
+    ∙ ap (hidden_with (cond (list_any is_clearing es) [] s.shown)) p
     ∙ sym (shown_by s.shown [] s es refl))
     (b ∙ ap (hidden_with s.hidden) o ∙ sym (hidden_by s.hidden [] s es refl))
     (r ∙ registers_by s es) (l ∙ lists_by s es)

@@ -20,22 +20,32 @@ right_false false b e = e
 right_false true b e = cc
 
 module _ (key : ℕ) where
-  pub other_keys_by : (s : State) (effects : List Effect) → list_any (λ k. key == k) (shown_keys effects) ≡ false → list_any is_clearing effects ≡ false
+  pub other_keys_by : (s : State) (effects : List Effect) → list_any (λ k. key == k)
+      (shown_keys effects) ≡ false → list_any is_clearing effects ≡ false
       → amount_of (with_effects s effects).shown key ≡ amount_of s.shown key
   other_keys_by s [] e c = refl
   other_keys_by s (SetShown k a ∷ effects) e c =
-      other_keys_by (with_effect s (SetShown k a)) effects (right_false (key == k) (list_any (λ k. key == k) (shown_keys effects)) e) c
+      other_keys_by (with_effect s (SetShown k a)) effects
+      (right_false (key == k) (list_any (λ k. key == k) (shown_keys effects)) e) c
       ∙ amount_of-with_amount s.shown k a key
-      ∙ ap (λ b. cond b a (amount_of s.shown key)) (left_false (key == k) (list_any (λ k. key == k) (shown_keys effects)) e)
-  other_keys_by s (SetHidden k a ∷ effects) e c = other_keys_by (with_effect s (SetHidden k a)) effects e c
-  other_keys_by s (SetRegister i a ∷ effects) e c = other_keys_by (with_effect s (SetRegister i a)) effects e c
-  other_keys_by s (PutLast i a ∷ effects) e c = other_keys_by (with_effect s (PutLast i a)) effects e c
-  other_keys_by s (PutFirst i a ∷ effects) e c = other_keys_by (with_effect s (PutFirst i a)) effects e c
-  other_keys_by s (TakeFirst i ∷ effects) e c = other_keys_by (with_effect s (TakeFirst i)) effects e c
-  other_keys_by s (TakeLast i ∷ effects) e c = other_keys_by (with_effect s (TakeLast i)) effects e c
+      ∙ ap (λ b. cond b a (amount_of s.shown key))
+      (left_false (key == k) (list_any (λ k. key == k) (shown_keys effects)) e)
+  other_keys_by s (SetHidden k a ∷ effects) e c = other_keys_by (with_effect s (SetHidden k a))
+      effects e c
+  other_keys_by s (SetRegister i a ∷ effects) e c = other_keys_by (with_effect s (SetRegister i a))
+      effects e c
+  other_keys_by s (PutLast i a ∷ effects) e c = other_keys_by (with_effect s (PutLast i a)) effects
+      e c
+  other_keys_by s (PutFirst i a ∷ effects) e c = other_keys_by (with_effect s (PutFirst i a))
+      effects e c
+  other_keys_by s (TakeFirst i ∷ effects) e c = other_keys_by (with_effect s (TakeFirst i)) effects
+      e c
+  other_keys_by s (TakeLast i ∷ effects) e c = other_keys_by (with_effect s (TakeLast i)) effects e
+      c
   other_keys_by s (Empty i ∷ effects) e c = other_keys_by (with_effect s (Empty i)) effects e c
   other_keys_by s (EmptyShown ∷ effects) e c = cc
 
-pub other_keys : (s : State) (effects : List Effect) (key : ℕ) → list_any (λ k. key == k) (shown_keys effects) ≡ false → list_any is_clearing effects ≡ false
+pub other_keys : (s : State) (effects : List Effect) (key : ℕ) → list_any (λ k. key == k)
+    (shown_keys effects) ≡ false → list_any is_clearing effects ≡ false
     → amount_of (with_effects s effects).shown key ≡ amount_of s.shown key
 other_keys s effects key e c = other_keys_by key s effects e c

@@ -1,10 +1,12 @@
 -- Laws of keys that are marked.
-use Rattle.std.proofs.Common.{◌≡◌, ℕ, ◌<◌, ◌≤◌, Bool, true, false, cond, ◌&&◌, T, [], ◌∷◌, Some, refl, ap, ◌∙◌, sym, subst, arith, length}
+use Rattle.std.proofs.Common.{◌≡◌, ℕ, ◌<◌, ◌≤◌, Bool, true, false, cond, ◌&&◌, T, [], ◌∷◌, Some}
+use Rattle.std.proofs.Common.{refl, ap, ◌∙◌, sym, subst, arith, length}
 use Rattle.std.specs.Prelude.{◌≢◌, ◌==◌, unwrap_or, min}
 use Rattle.std.specs.Ordering.{nat_cmp, eq_by_cmp, is_lt}
 use Rattle.std.specs.FinMap.Entries.{find, is_sorted, below_all}
 use Rattle.vyrd_base.specs.Amounts.{Amounts, IsAmounts, amount_of, with_amount, keys_of}
-use Rattle.vyrd_base.proofs.AmountLaws.{AllSome, IsAmounts-with_amount, amount_of-with_amount, amounts_are, same_amount}
+use Rattle.vyrd_base.proofs.AmountLaws.{AllSome, IsAmounts-with_amount, amount_of-with_amount}
+use Rattle.vyrd_base.proofs.AmountLaws.{amounts_are, same_amount}
 use Rattle.vyrd_own.specs.Marks.{marked}
 
 marked_one : (a : ℕ) → a ≢ 0 → min a 1 ≡ 1
@@ -12,7 +14,9 @@ marked_one a some = omega (arith, some)
 
 pub amount_of-marked : (s : Amounts) (q : ℕ) → amount_of (marked s) q ≡ min (amount_of s q) 1
 amount_of-marked [] q = refl
-amount_of-marked (e ∷ s) q = elim (eq_by_cmp nat_cmp q e.0) as (λ b. unwrap_or (cond b (Some (min e.1 1)) (find nat_cmp q (marked s))) 0
+amount_of-marked (e ∷ s) q =
+    elim (eq_by_cmp nat_cmp q e.0) as (λ b. unwrap_or
+    (cond b (Some (min e.1 1)) (find nat_cmp q (marked s))) 0
     ≡ min (unwrap_or (cond b (Some e.1) (find nat_cmp q s)) 0) 1) [
       | true ↦ refl
       | false ↦ amount_of-marked s q
@@ -20,7 +24,8 @@ amount_of-marked (e ∷ s) q = elim (eq_by_cmp nat_cmp q e.0) as (λ b. unwrap_o
 
 -- a key that isn't marked isn't there
 pub unmarked : (s m : Amounts) (q : ℕ) → m ≡ marked s → amount_of m q ≡ 0 → amount_of s q ≡ 0
-unmarked s m q is none = let marks = ap (λ t. amount_of t q) is ∙ amount_of-marked s q in omega (arith, marks, none)
+unmarked s m q is none = let marks = ap (λ t. amount_of t q) is ∙ amount_of-marked s q in
+    omega (arith, marks, none)
 
 below-marked : (x : ℕ) (s : Amounts) → below_all nat_cmp x (marked s) ≡ below_all nat_cmp x s
 below-marked x [] = refl
@@ -52,19 +57,24 @@ length-marked [] = refl
 length-marked (e ∷ s) = omega (arith, length-marked s)
 
 -- a key has another amount
-pub marked_with : (s : Amounts) (k a : ℕ) → IsAmounts s → with_amount (marked s) k (min a 1) ≡ marked (with_amount s k a)
+pub marked_with : (s : Amounts) (k a : ℕ) → IsAmounts s → with_amount (marked s) k (min a 1)
+    ≡ marked (with_amount s k a)
 marked_with s k a is =
     sym (amounts_are (marked s) (marked (with_amount s k a)) k (min a 1) (IsAmounts-marked s is)
     (IsAmounts-marked (with_amount s k a) (IsAmounts-with_amount s k a is))
-    (λ r. amount_of-marked (with_amount s k a) r ∙ ap (λ x. min x 1) (amount_of-with_amount s k a r) ∙ by_key r (r == k)))
+    (λ r. amount_of-marked (with_amount s k a) r ∙ ap (λ x. min x 1) (amount_of-with_amount s k a r)
+    ∙ by_key r (r == k)))
   where
-    by_key : (r : ℕ) (b : Bool) → min (cond b a (amount_of s r)) 1 ≡ cond b (min a 1) (amount_of (marked s) r)
+    by_key : (r : ℕ) (b : Bool) → min (cond b a (amount_of s r)) 1 ≡ cond b (min a 1)
+        (amount_of (marked s) r)
     by_key r true = refl
     by_key r false = sym (amount_of-marked s r)
 
 -- a key that is there has another amount, and stays
-pub marked_stays : (s : Amounts) (k a : ℕ) → IsAmounts s → amount_of s k ≢ 0 → a ≢ 0 → marked s ≡ marked (with_amount s k a)
+pub marked_stays : (s : Amounts) (k a : ℕ) → IsAmounts s → amount_of s k ≢ 0 → a ≢ 0 → marked s
+    ≡ marked (with_amount s k a)
 marked_stays s k a is some other =
     sym (same_amount (marked s) k (IsAmounts-marked s is))
-    ∙ ap (with_amount (marked s) k) (amount_of-marked s k ∙ marked_one (amount_of s k) some ∙ sym (marked_one a other))
+    ∙ ap (with_amount (marked s) k) (amount_of-marked s k ∙ marked_one (amount_of s k) some
+    ∙ sym (marked_one a other))
     ∙ marked_with s k a is

@@ -9,12 +9,14 @@ use Rattle.vyrd_own.specs.Nodes.{earlier, expr_at, exprs_from, exprs_of, expr_of
 
 -- one node more
 from_more : (exprs : List Expr) (nodes : List Node) (node : Node)
-    → exprs_from exprs (nodes ++ node ∷ []) ≡ exprs_from exprs nodes ++ expr_at (exprs_from exprs nodes) node ∷ []
+    → exprs_from exprs (nodes ++ node ∷ []) ≡ exprs_from exprs nodes
+    ++ expr_at (exprs_from exprs nodes) node ∷ []
 from_more exprs [] node = refl
 from_more exprs (n ∷ nodes) node = from_more (exprs ++ expr_at exprs n ∷ []) nodes node
 
 -- the last of a list
-last_more : (exprs : List Expr) (e : Expr) → earlier (exprs ++ e ∷ []) (length (exprs ++ e ∷ []) - 1) ≡ e
+last_more : (exprs : List Expr) (e : Expr) → earlier (exprs ++ e ∷ [])
+    (length (exprs ++ e ∷ []) - 1) ≡ e
 last_more exprs e = ap (earlier (exprs ++ e ∷ [])) (index exprs) ∙ at_end exprs
   where
     index : (xs : List Expr) → length (xs ++ e ∷ []) - 1 ≡ length xs
@@ -25,7 +27,8 @@ last_more exprs e = ap (earlier (exprs ++ e ∷ [])) (index exprs) ∙ at_end ex
     at_end (x ∷ xs) = at_end xs
 
 -- the expression of all nodes is that of the last, after those before it
-pub expr_last : (front nodes : List Node) (node : Node) → nodes ≡ front ++ node ∷ [] → expr_of nodes ≡ expr_at (exprs_of front) node
+pub expr_last : (front nodes : List Node) (node : Node) → nodes ≡ front ++ node ∷ [] → expr_of nodes
+    ≡ expr_at (exprs_of front) node
 unfolding expr_of exprs_of
 expr_last front nodes node is =
     ap (λ ns. earlier (exprs_from [] ns) (length (exprs_from [] ns) - 1)) is
@@ -38,37 +41,50 @@ unfolding expr_of exprs_of
 expr_none nodes is = ap (λ ns. earlier (exprs_from [] ns) (length (exprs_from [] ns) - 1)) is
 
 -- the first expressions are those of the first nodes
-length_from : (exprs : List Expr) (nodes : List Node) → length (exprs_from exprs nodes) ≡ length exprs + length nodes
+length_from : (exprs : List Expr) (nodes : List Node) → length (exprs_from exprs nodes)
+    ≡ length exprs + length nodes
 length_from exprs [] = omega arith
 length_from exprs (n ∷ nodes) =
-    omega (arith, length_from (exprs ++ expr_at exprs n ∷ []) nodes, length-append exprs (expr_at exprs n ∷ []))
+    omega (
+      arith,
+      length_from (exprs ++ expr_at exprs n ∷ []) nodes,
+      length-append exprs
+          (expr_at exprs n ∷ []),
+    )
 
-kept_at : (exprs : List Expr) (nodes : List Node) (i : ℕ) → i < length exprs → earlier (exprs_from exprs nodes) i ≡ earlier exprs i
+kept_at : (exprs : List Expr) (nodes : List Node) (i : ℕ) → i < length exprs
+    → earlier (exprs_from exprs nodes) i ≡ earlier exprs i
 kept_at exprs [] i low = refl
 kept_at exprs (n ∷ nodes) i low =
-    kept_at (exprs ++ expr_at exprs n ∷ []) nodes i (omega (arith, length-append exprs (expr_at exprs n ∷ [])))
+    kept_at (exprs ++ expr_at exprs n ∷ []) nodes i
+    (omega (arith, length-append exprs (expr_at exprs n ∷ [])))
     ∙ inside exprs i low
   where
-    inside : (xs : List Expr) (j : ℕ) → j < length xs → earlier (xs ++ expr_at exprs n ∷ []) j ≡ earlier xs j
+    inside : (xs : List Expr) (j : ℕ) → j < length xs → earlier (xs ++ expr_at exprs n ∷ []) j
+        ≡ earlier xs j
     inside [] j h = absurd (omega arith)
     inside (x ∷ xs) zero h = refl
     inside (x ∷ xs) (suc j) h = inside xs j (omega arith)
 
-from_split : (exprs : List Expr) (nodes others : List Node) → exprs_from exprs (nodes ++ others) ≡ exprs_from (exprs_from exprs nodes) others
+from_split : (exprs : List Expr) (nodes others : List Node) → exprs_from exprs (nodes ++ others)
+    ≡ exprs_from (exprs_from exprs nodes) others
 from_split exprs [] others = refl
 from_split exprs (n ∷ nodes) others = from_split (exprs ++ expr_at exprs n ∷ []) nodes others
 
 -- an earlier expression is that of the nodes up to its own
-pub earlier_is : (front upto : List Node) (i : ℕ) → i < length front → upto ≡ take (i + 1) front → expr_of upto ≡ earlier (exprs_of front) i
+pub earlier_is : (front upto : List Node) (i : ℕ) → i < length front → upto ≡ take (i + 1) front
+    → expr_of upto ≡ earlier (exprs_of front) i
 unfolding expr_of exprs_of
 earlier_is front upto i low is =
     ap (λ ns. earlier (exprs_from [] ns) (length (exprs_from [] ns) - 1)) is
     ∙ ap (earlier (exprs_from [] (take (i + 1) front))) index
     ∙ sym (kept_at (exprs_from [] (take (i + 1) front)) (drop (i + 1) front) i below)
-    ∙ ap (λ es. earlier es i) (sym (from_split [] (take (i + 1) front) (drop (i + 1) front)) ∙ ap (exprs_from []) (take-append-drop (i + 1) front))
+    ∙ ap (λ es. earlier es i) (sym (from_split [] (take (i + 1) front) (drop (i + 1) front))
+    ∙ ap (exprs_from []) (take-append-drop (i + 1) front))
   where
     count : length (exprs_from [] (take (i + 1) front)) ≡ i + 1
-    count = length_from [] (take (i + 1) front) ∙ omega (arith, length-take-le (i + 1) front (omega arith))
+    count = length_from [] (take (i + 1) front)
+        ∙ omega (arith, length-take-le (i + 1) front (omega arith))
 
     index : length (exprs_from [] (take (i + 1) front)) - 1 ≡ i
     index = omega (arith, count)
@@ -95,7 +111,8 @@ earlier_at front i other node low is =
     (ap (λ k. take k front) next ∙ take_to front i other node low is)
 
 -- past the nodes there is no expression
-pub earlier_none : (front : List Node) (i : ℕ) → length front ≤ i → earlier (exprs_of front) i ≡ number 0
+pub earlier_none : (front : List Node) (i : ℕ) → length front ≤ i → earlier (exprs_of front) i
+    ≡ number 0
 unfolding exprs_of
 earlier_none front i past = beyond (exprs_from [] front) i (omega (arith, length_from [] front))
   where

@@ -1,6 +1,7 @@
 -- Pairs that set amounts, and what is added and taken back.
 use Rattle.std.proofs.Common.{◌≡◌, ℕ, Bool, true, false, cond, List, [], ◌∷◌, ◌++◌, refl, ap, ◌∙◌}
-use Rattle.std.proofs.Common.{sym, subst, arith, ◌<◌, ◌≤◌, ◌+◌, length, drop, inl, inr, zero, suc, add-one, drop-cons}
+use Rattle.std.proofs.Common.{sym, subst, arith, ◌<◌, ◌≤◌, ◌+◌, length, drop, inl, inr, zero, suc}
+use Rattle.std.proofs.Common.{add-one, drop-cons}
 use Rattle.std.proofs.Math.ListN.{drop_of_length-le}
 use Rattle.std.specs.Prelude.{◌≢◌, ◌==◌, ◌||◌, slice_index_or, ◌⊎◌}
 use Rattle.vyrd_base.specs.Amounts.{Amounts, IsAmounts, amount_of, with_amount}
@@ -22,7 +23,8 @@ amount_of-set s (p ∷ pairs) q =
     amount_of-set (with_amount s p.0 p.1) pairs q
     ∙ ap (amount_after pairs q) (amount_of-with_amount s p.0 p.1 q)
 
-pub formed_set : (s : Amounts) (pairs : List (ℕ × ℕ)) → IsAmounts s → IsAmounts (hidden_with s pairs)
+pub formed_set : (s : Amounts) (pairs : List (ℕ × ℕ)) → IsAmounts s
+    → IsAmounts (hidden_with s pairs)
 formed_set s [] is = is
 formed_set s (p ∷ pairs) is =
     formed_set (with_amount s p.0 p.1) pairs (IsAmounts-with_amount s p.0 p.1 is)
@@ -40,7 +42,8 @@ named_by [] q x true e = cc
 named_by [] q x false e = refl
 named_by (p ∷ pairs) q x b e = by_head (λ c. named_by pairs q x c) (q == p.0) b e
   where
-    by_head : ((c : Bool) → is_set pairs q ≡ c → amount_after pairs q x ≡ cond c (amount_after pairs q 0) x)
+    by_head : ((c : Bool) → is_set pairs q ≡ c → amount_after pairs q x
+        ≡ cond c (amount_after pairs q 0) x)
         → (h : Bool) → (b : Bool) → (h || is_set pairs q) ≡ b
         → amount_after pairs q (cond h p.1 x) ≡ cond b (amount_after pairs q (cond h p.1 0)) x
     by_head rest true true e = refl
@@ -56,7 +59,8 @@ pub named_same : (pairs : List (ℕ × ℕ)) (q x y : ℕ) → is_set pairs q �
 named_same pairs q x y e = named_by pairs q x true e ∙ sym (named_by pairs q y true e)
 
 -- a key that is to have an amount is set
-pub set_of_some : (pairs : List (ℕ × ℕ)) (q : ℕ) → amount_after pairs q 0 ≢ 0 → is_set pairs q ≡ true
+pub set_of_some : (pairs : List (ℕ × ℕ)) (q : ℕ) → amount_after pairs q 0 ≢ 0 → is_set pairs q
+    ≡ true
 set_of_some pairs q some = elim (decided (is_set pairs q)) [
   | inl here ↦ here
   | inr away ↦ absurd (some (named_by pairs q 0 false away))
@@ -76,21 +80,26 @@ finals_named : (all pairs : List (ℕ × ℕ)) (q x : ℕ)
 finals_named all [] q x = refl
 finals_named all (p ∷ pairs) q x = by_head (λ y. finals_named all pairs q y) (q == p.0) refl
   where
-    by_head : ((y : ℕ) → amount_after (finals all pairs) q y ≡ cond (is_set pairs q) (amount_after all q 0) y)
-        → (h : Bool) → (q == p.0) ≡ h → amount_after (finals all pairs) q (cond h (amount_after all p.0 0) x)
+    by_head : ((y : ℕ) → amount_after (finals all pairs) q y ≡ cond (is_set pairs q)
+        (amount_after all q 0) y)
+        → (h : Bool) → (q == p.0) ≡ h → amount_after (finals all pairs) q
+        (cond h (amount_after all p.0 0) x)
         ≡ cond (h || is_set pairs q) (amount_after all q 0) x
     by_head rest true he = rest (amount_after all p.0 0)
-        ∙ ap (λ k. cond (is_set pairs q) (amount_after all q 0) (amount_after all k 0)) (sym (same_of q p.0 he))
+        ∙ ap (λ k. cond (is_set pairs q) (amount_after all q 0) (amount_after all k 0))
+        (sym (same_of q p.0 he))
         ∙ cond_alike (is_set pairs q) (amount_after all q 0)
     by_head rest false he = rest x
 
 -- once all are set, the amounts are those that the pairs make of the amounts before keys were added
 pub all_set : (before after : Amounts) (added : List ℕ) (pairs : List (ℕ × ℕ)) → IsAmounts before
-    → AreAdded before after added pairs → hidden_with after (finals pairs pairs) ≡ hidden_with before pairs
+    → AreAdded before after added pairs → hidden_with after (finals pairs pairs)
+    ≡ hidden_with before pairs
 all_set before after added pairs is a =
     same_amounts (hidden_with after (finals pairs pairs)) (hidden_with before pairs)
     (formed_set after (finals pairs pairs) a.formed) (formed_set before pairs is)
-    (λ q. amount_of-set after (finals pairs pairs) q ∙ finals_named pairs pairs q (amount_of after q)
+    (λ q. amount_of-set after (finals pairs pairs) q ∙ finals_named pairs pairs q
+    (amount_of after q)
     ∙ sym (named pairs q (amount_of after q)) ∙ a.same q ∙ sym (amount_of-set before pairs q))
 
 -- keys stay there that are to have an amount
@@ -122,10 +131,13 @@ zeros_named (k ∷ keys) q x = by_head (λ y. zeros_named keys q y) (q == k)
 pub all_back : (before after : Amounts) (added : List ℕ) (pairs : List (ℕ × ℕ)) → IsAmounts before
     → AreAdded before after added pairs → hidden_with after (zeros added) ≡ before
 all_back before after added pairs is a =
-    same_amounts (hidden_with after (zeros added)) before (formed_set after (zeros added) a.formed) is
-    (λ q. amount_of-set after (zeros added) q ∙ zeros_named added q (amount_of after q) ∙ by_key q (is_among added q) refl)
+    same_amounts (hidden_with after (zeros added)) before (formed_set after (zeros added) a.formed)
+    is
+    (λ q. amount_of-set after (zeros added) q ∙ zeros_named added q (amount_of after q)
+    ∙ by_key q (is_among added q) refl)
   where
-    by_key : (q : ℕ) (h : Bool) → is_among added q ≡ h → cond h 0 (amount_of after q) ≡ amount_of before q
+    by_key : (q : ℕ) (h : Bool) → is_among added q ≡ h → cond h 0 (amount_of after q)
+        ≡ amount_of before q
     by_key q true e = sym (a.absent q e)
     by_key q false e = a.others q e
 
@@ -146,7 +158,8 @@ among_more [] k q = by_test (q == k)
     by_test false = refl
 among_more (x ∷ keys) k q = by_head (among_more keys k q) (q == x)
   where
-    by_head : is_among (keys ++ k ∷ []) q ≡ (is_among keys q || (q == k)) → (h : Bool) → (h || is_among (keys ++ k ∷ []) q) ≡ ((h || is_among keys q) || (q == k))
+    by_head : is_among (keys ++ k ∷ []) q ≡ (is_among keys q || (q == k)) → (h : Bool)
+        → (h || is_among (keys ++ k ∷ []) q) ≡ ((h || is_among keys q) || (q == k))
     by_head rest true = refl
     by_head rest false = rest
 
@@ -156,10 +169,12 @@ left_false true b e = cc
 
 -- a key that isn't there is named as one that is added
 pub named_too : (before after : Amounts) (added : List ℕ) (pairs : List (ℕ × ℕ)) (k : ℕ)
-    → AreAdded before after added pairs → amount_of after k ≡ 0 → AreAdded before after (added ++ k ∷ []) pairs
+    → AreAdded before after added pairs → amount_of after k ≡ 0
+    → AreAdded before after (added ++ k ∷ []) pairs
 named_too before after added pairs k a none = record {
   formed = a.formed;
-  others = λ q e. a.others q (left_false (is_among added q) (q == k) (sym (among_more added k q) ∙ e));
+  others = λ q e. a.others q
+      (left_false (is_among added q) (q == k) (sym (among_more added k q) ∙ e));
   absent = λ q e. elim (or_split (is_among added q) (q == k) (sym (among_more added k q) ∙ e)) [
     | inl here ↦ a.absent q here
     | inr here ↦ ap (amount_of before) (same_of q k here) ∙ missing
@@ -190,7 +205,8 @@ set_too before after added pairs k x a among set = record {
     apart q e false he = refl
 
     by_key : (q : ℕ) (h : Bool) → (q == k) ≡ h
-        → amount_after pairs q (amount_of (with_amount after k x) q) ≡ amount_after pairs q (amount_of before q)
+        → amount_after pairs q (amount_of (with_amount after k x) q) ≡ amount_after pairs q
+        (amount_of before q)
     by_key q true he = named_same pairs q (amount_of (with_amount after k x) q) (amount_of before q)
         (ap (is_set pairs) (same_of q k he) ∙ set)
     by_key q false he = ap (amount_after pairs q)
@@ -198,18 +214,21 @@ set_too before after added pairs k x a among set = record {
 
 -- a key that was named last is among those named
 pub among_last : (keys : List ℕ) (k : ℕ) → is_among (keys ++ k ∷ []) k ≡ true
-among_last keys k = among_more keys k k ∙ ap (λ b. is_among keys k || b) (is_same k k refl) ∙ or_true (is_among keys k)
+among_last keys k = among_more keys k k ∙ ap (λ b. is_among keys k || b) (is_same k k refl)
+    ∙ or_true (is_among keys k)
   where
     or_true : (a : Bool) → (a || true) ≡ true
     or_true true = refl
     or_true false = refl
 
 -- a pair's key is set
-pub set_at : (pairs : List (ℕ × ℕ)) (i : ℕ) (d : ℕ × ℕ) → i < length pairs → is_set pairs (slice_index_or pairs i d).0 ≡ true
+pub set_at : (pairs : List (ℕ × ℕ)) (i : ℕ) (d : ℕ × ℕ) → i < length pairs
+    → is_set pairs (slice_index_or pairs i d).0 ≡ true
 set_at [] i d low = absurd (omega arith)
 set_at (p ∷ pairs) zero d low = ap (λ b. b || is_set pairs p.0) (is_same p.0 p.0 refl)
 set_at (p ∷ pairs) (suc i) d low =
-    ap (λ b. ((slice_index_or pairs i d).0 == p.0) || b) (set_at pairs i d (omega arith)) ∙ or_true ((slice_index_or pairs i d).0 == p.0)
+    ap (λ b. ((slice_index_or pairs i d).0 == p.0) || b) (set_at pairs i d (omega arith))
+    ∙ or_true ((slice_index_or pairs i d).0 == p.0)
   where
     or_true : (a : Bool) → (a || true) ≡ true
     or_true true = refl
@@ -220,71 +239,90 @@ abbrev pub HaveRoomTo : Amounts → List (ℕ × ℕ) → ℕ → Type 0
 HaveRoomTo s pairs i =
     (q : ℕ) → amount_after pairs q 0 ≢ 0 → is_set (drop i pairs) q ≡ false → amount_of s q ≢ 0
 
-pub room_more : (s t : Amounts) (pairs : List (ℕ × ℕ)) (i : ℕ) (d : ℕ × ℕ) → i < length pairs → HaveRoomTo s pairs i
+pub room_more : (s t : Amounts) (pairs : List (ℕ × ℕ)) (i : ℕ) (d : ℕ × ℕ) → i < length pairs
+    → HaveRoomTo s pairs i
     → ((q : ℕ) → (q == (slice_index_or pairs i d).0) ≡ false → amount_of t q ≡ amount_of s q)
-    → (amount_after pairs (slice_index_or pairs i d).0 0 ≢ 0 → amount_of t (slice_index_or pairs i d).0 ≢ 0)
+    → (amount_after pairs (slice_index_or pairs i d).0 0 ≢ 0
+    → amount_of t (slice_index_or pairs i d).0 ≢ 0)
     → HaveRoomTo t pairs (i + 1)
-room_more s t pairs i d low room others here = λ q some away. by_key q some away (q == (slice_index_or pairs i d).0) refl
+room_more s t pairs i d low room others here = λ q some away. by_key q some away
+    (q == (slice_index_or pairs i d).0) refl
   where
-    by_key : (q : ℕ) → amount_after pairs q 0 ≢ 0 → is_set (drop (i + 1) pairs) q ≡ false → (h : Bool)
+    by_key : (q : ℕ) → amount_after pairs q 0 ≢ 0 → is_set (drop (i + 1) pairs) q ≡ false
+        → (h : Bool)
         → (q == (slice_index_or pairs i d).0) ≡ h → amount_of t q ≢ 0
     by_key q some away true he = λ none.
-        here (λ zero'. some (ap (λ x. amount_after pairs x 0) (same_of q (slice_index_or pairs i d).0 he) ∙ zero'))
+        here (λ zero'. some
+        (ap (λ x. amount_after pairs x 0) (same_of q (slice_index_or pairs i d).0 he) ∙ zero'))
         (ap (amount_of t) (sym (same_of q (slice_index_or pairs i d).0 he)) ∙ none)
     by_key q some away false he = λ none.
-        room q some (ap (λ ps. is_set ps q) (drop-cons pairs i d low) ∙ ap (λ b. b || is_set (drop (suc i) pairs) q) he
+        room q some (ap (λ ps. is_set ps q) (drop-cons pairs i d low)
+        ∙ ap (λ b. b || is_set (drop (suc i) pairs) q) he
         ∙ ap (λ n. is_set (drop n pairs) q) (sym (add-one i)) ∙ away)
         (sym (others q he) ∙ none)
 
 -- no key was gone through, and all were
 pub no_room_yet : (s : Amounts) (pairs : List (ℕ × ℕ)) → HaveRoomTo s pairs 0
-no_room_yet s pairs = λ q some away. absurd (not_both (is_set pairs q) (set_of_some pairs q some) away)
+no_room_yet s pairs = λ q some away. absurd
+    (not_both (is_set pairs q) (set_of_some pairs q some) away)
   where
     not_both : (b : Bool) → b ≡ true → b ≡ false → ⊥
     not_both b e f = cc
 
-pub room_for_all : (s : Amounts) (pairs : List (ℕ × ℕ)) (i : ℕ) → length pairs ≤ i → HaveRoomTo s pairs i → HasKeys s pairs
-room_for_all s pairs i past room = λ q some. room q some (ap (λ ps. is_set ps q) (drop_of_length-le pairs past))
+pub room_for_all : (s : Amounts) (pairs : List (ℕ × ℕ)) (i : ℕ) → length pairs ≤ i
+    → HaveRoomTo s pairs i → HasKeys s pairs
+room_for_all s pairs i past room = λ q some. room q some
+    (ap (λ ps. is_set ps q) (drop_of_length-le pairs past))
 
 -- the key of a pair
 abbrev pub key_at : List (ℕ × ℕ) → ℕ → ℕ
 key_at pairs i = (slice_index_or pairs i (0, 0)).0
 
 -- one pair more was gone through, whose key is there or needn't be
-pub step_kept : (before s t : Amounts) (added keys : List ℕ) (pairs : List (ℕ × ℕ)) (i : ℕ) → i < length pairs
+pub step_kept : (before s t : Amounts) (added keys : List ℕ) (pairs : List (ℕ × ℕ)) (i : ℕ)
+    → i < length pairs
     → (AreAdded before s added pairs × HaveRoomTo s pairs i) → t ≡ s → keys ≡ added
     → (amount_after pairs (key_at pairs i) 0 ≢ 0 → amount_of s (key_at pairs i) ≢ 0)
     → AreAdded before t keys pairs × HaveRoomTo t pairs (i + 1)
 step_kept before s t added keys pairs i low was same_s same_keys there = (
-  subst (λ x. AreAdded before x keys pairs) (sym same_s) (subst (λ ks. AreAdded before s ks pairs) (sym same_keys) was.0),
-  subst (λ x. HaveRoomTo x pairs (i + 1)) (sym same_s) (room_more s s pairs i (0, 0) low was.1 (λ q e. refl) there),
+  subst (λ x. AreAdded before x keys pairs) (sym same_s)
+      (subst (λ ks. AreAdded before s ks pairs) (sym same_keys) was.0),
+  subst (λ x. HaveRoomTo x pairs (i + 1)) (sym same_s)
+      (room_more s s pairs i (0, 0) low was.1 (λ q e. refl) there),
 )
 
 -- one pair more was gone through, whose key was added
-pub step_added : (before s t : Amounts) (added keys : List ℕ) (pairs : List (ℕ × ℕ)) (i x : ℕ) → i < length pairs
-    → (AreAdded before s added pairs × HaveRoomTo s pairs i) → amount_of s (key_at pairs i) ≡ 0 → x ≢ 0
+pub step_added : (before s t : Amounts) (added keys : List ℕ) (pairs : List (ℕ × ℕ)) (i x : ℕ)
+    → i < length pairs
+    → (AreAdded before s added pairs × HaveRoomTo s pairs i) → amount_of s (key_at pairs i) ≡ 0
+    → x ≢ 0
     → t ≡ with_amount s (key_at pairs i) x → keys ≡ added ++ key_at pairs i ∷ []
     → AreAdded before t keys pairs × HaveRoomTo t pairs (i + 1)
 step_added before s t added keys pairs i x low was none some is_t is_keys = (
   subst (λ y. AreAdded before y keys pairs) (sym is_t)
       (subst (λ ks. AreAdded before (with_amount s k x) ks pairs) (sym is_keys)
-      (set_too before s (added ++ k ∷ []) pairs k x (named_too before s added pairs k was.0 none) (among_last added k)
+      (set_too before s (added ++ k ∷ []) pairs k x (named_too before s added pairs k was.0 none)
+      (among_last added k)
       (set_at pairs i (0, 0) low))),
   subst (λ y. HaveRoomTo y pairs (i + 1)) (sym is_t)
       (room_more s (with_amount s k x) pairs i (0, 0) low was.1
       (λ q e. amount_of-with_amount s k x q ∙ ap (λ b. cond b x (amount_of s q)) e)
-      (λ _. λ zero'. some (sym (amount_of-with_amount s k x k ∙ ap (λ b. cond b x (amount_of s k)) (is_same k k refl)) ∙ zero'))),
+      (λ _. λ zero'. some
+      (sym (amount_of-with_amount s k x k ∙ ap (λ b. cond b x (amount_of s k)) (is_same k k refl))
+      ∙ zero'))),
 )
   where
     k : ℕ
     k = key_at pairs i
 
 -- a key was named, and couldn't be added
-pub named_only : (before s t : Amounts) (added keys : List ℕ) (pairs : List (ℕ × ℕ)) (k : ℕ) → AreAdded before s added pairs
+pub named_only : (before s t : Amounts) (added keys : List ℕ) (pairs : List (ℕ × ℕ)) (k : ℕ)
+    → AreAdded before s added pairs
     → amount_of s k ≡ 0 → t ≡ s → keys ≡ added ++ k ∷ [] → AreAdded before t keys pairs
 named_only before s t added keys pairs k was none is_t is_keys =
     subst (λ y. AreAdded before y keys pairs) (sym is_t)
-    (subst (λ ks. AreAdded before s ks pairs) (sym is_keys) (named_too before s added pairs k was none))
+    (subst (λ ks. AreAdded before s ks pairs) (sym is_keys)
+    (named_too before s added pairs k was none))
 
 -- one key more is set
 pub set_step : (s t : Amounts) (pairs : List (ℕ × ℕ)) (i : ℕ) (end : Amounts) → i < length pairs
@@ -293,13 +331,16 @@ pub set_step : (s t : Amounts) (pairs : List (ℕ × ℕ)) (i : ℕ) (end : Amou
     → (hidden_with t (finals pairs (drop (i + 1) pairs)) ≡ end) × HasKeys t pairs
 set_step s t pairs i end low was is_t = (
   ap (λ y. hidden_with y (finals pairs (drop (i + 1) pairs))) is_t
-      ∙ ap (λ n. hidden_with (with_amount s (key_at pairs i) (amount_after pairs (key_at pairs i) 0)) (finals pairs (drop n pairs))) (add-one i)
+      ∙ ap (λ n. hidden_with
+      (with_amount s (key_at pairs i) (amount_after pairs (key_at pairs i) 0))
+      (finals pairs (drop n pairs))) (add-one i)
       ∙ ap (λ ps. hidden_with s (finals pairs ps)) (sym (drop-cons pairs i (0, 0) low)) ∙ was.0,
   subst (λ y. HasKeys y pairs) (sym is_t) (keys_kept s pairs (key_at pairs i) was.1),
 )
 
 -- a key that wasn't there, set and taken out
-pub taken_back : (s : Amounts) (k a : ℕ) → IsAmounts s → amount_of s k ≡ 0 → with_amount (with_amount s k a) k 0 ≡ s
+pub taken_back : (s : Amounts) (k a : ℕ) → IsAmounts s → amount_of s k ≡ 0
+    → with_amount (with_amount s k a) k 0 ≡ s
 taken_back s k a is none =
     same_amounts (with_amount (with_amount s k a) k 0) s
     (IsAmounts-with_amount (with_amount s k a) k 0 (IsAmounts-with_amount s k a is)) is

@@ -1,5 +1,7 @@
 -- What whole lines bring, counted.
-use Rattle.std.proofs.Common.{◌≡◌, ℕ, ◌+◌, ◌≤◌, Bool, true, false, cond, List, [], ◌∷◌, ◌++◌, length, Option, Some, None, refl, ap, sym, ◌∙◌, subst, arith, length-append}
+use Rattle.std.proofs.Common.{◌≡◌, ℕ, ◌+◌, ◌≤◌, Bool, true, false, cond, List, [], ◌∷◌, ◌++◌}
+use Rattle.std.proofs.Common.{length, Option, Some, None, refl, ap, sym, ◌∙◌, subst, arith}
+use Rattle.std.proofs.Common.{length-append}
 use Rattle.std.specs.Prelude.{nat_lt, is_some}
 use Rattle.std.specs.Str.{bytes_eq}
 use Rattle.vyrd_base.specs.declared.header.Header as headers
@@ -21,7 +23,10 @@ use Rattle.vyrd_own_log.specs.declared.stage.Stage.TheVariants as stages
 use Rattle.vyrd_own_log.specs.declared.stage.Found.{Found}
 use Rattle.vyrd_own_log.specs.declared.stage.Found.TheVariants as found
 use Rattle.vyrd_own_log.specs.States.{LineState, has_ended}
-use Rattle.vyrd_own_log.specs.Steps.{next, broken, header_step, specification_step, spelled_step, entry_step, word_step, start_step, starts_step, stage_step, own_step, Brought, nothing_brought, brought_then, brought_by, starts_of, entries_of, numbers_of}
+use Rattle.vyrd_own_log.specs.Steps.{next, broken, header_step, specification_step, spelled_step}
+use Rattle.vyrd_own_log.specs.Steps.{entry_step, word_step, start_step, starts_step, stage_step}
+use Rattle.vyrd_own_log.specs.Steps.{own_step, Brought, nothing_brought, brought_then, brought_by}
+use Rattle.vyrd_own_log.specs.Steps.{starts_of, entries_of, numbers_of}
 use Rattle.vyrd_own_log.specs.Grown.{ends}
 use Rattle.vyrd_own_log.proofs.ReaderLaws.{and_nothing}
 
@@ -48,9 +53,11 @@ record Counts (st : Stage) (n : ℕ) (s : LineState × Found) : Type 0 where
   few : length (numbers_of n s.1) + n ≤ s.0.line
 
 -- nothing, where nothing moves
-left : (st : Stage) (n : ℕ) (t : LineState) → t.stage ≡ st → t.line ≡ n → Counts st n (t, found.Nothing)
+left : (st : Stage) (n : ℕ) (t : LineState) → t.stage ≡ st → t.line ≡ n
+    → Counts st n (t, found.Nothing)
 left st n t same here =
-    let all : ends (has_ended t.stage) ≡ ends (has_ended st) = ap (λ s. ends (has_ended s)) same in record {
+    let all : ends (has_ended t.stage) ≡ ends (has_ended st) = ap (λ s. ends (has_ended s)) same in
+    record {
       past = λ e. ap is_past same ∙ e;
       begun = λ e. cc;
       numbered = omega (arith, all);
@@ -58,14 +65,17 @@ left st n t same here =
     }
 
 -- something, and the next line
-moved : (st to : Stage) (n : ℕ) (x : Found) (t : LineState) → t.stage ≡ to → t.line ≡ n + 1 → (is_past st ≡ true → is_past to ≡ true)
+moved : (st to : Stage) (n : ℕ) (x : Found) (t : LineState) → t.stage ≡ to → t.line ≡ n + 1
+    → (is_past st ≡ true → is_past to ≡ true)
     → (has_any (entries_of x) ≡ true → is_past to ≡ true)
-    → length (numbers_of n x) + ends (has_ended st) ≡ length (starts_of x) + length (entries_of x) + ends (has_ended to)
+    → length (numbers_of n x) + ends (has_ended st) ≡ length (starts_of x) + length (entries_of x)
+    + ends (has_ended to)
     → length (numbers_of n x) ≤ 1 → Counts st n (t, x)
 moved st to n x t same here past begun numbered one = record {
   past = λ e. ap is_past same ∙ past e;
   begun = λ e. ap is_past same ∙ begun e;
-  numbered = numbered ∙ ap (λ s. length (starts_of x) + length (entries_of x) + ends (has_ended s)) (sym same);
+  numbered = numbered ∙ ap (λ s. length (starts_of x) + length (entries_of x) + ends (has_ended s))
+      (sym same);
   few = omega (arith, here, one);
 }
 
@@ -73,57 +83,75 @@ module _ (r : LineState) (line : List ℕ) where
   broken_counts : (st : Stage) (rule : Rule) → r.stage ≡ st → Counts st r.line (broken r rule)
   broken_counts st rule e = left st r.line (broken r rule).0 e refl
 
-  header_counts : (o : Option headers.Header) → r.stage ≡ stages.Header → Counts stages.Header r.line (header_step r o)
+  header_counts : (o : Option headers.Header) → r.stage ≡ stages.Header
+      → Counts stages.Header r.line (header_step r o)
   header_counts None e = broken_counts stages.Header rules.BadHeader e
-  header_counts (Some h) e = moved stages.Header (stages.Specification h) r.line found.Nothing (next r (stages.Specification h)) refl refl
+  header_counts (Some h) e = moved stages.Header (stages.Specification h) r.line found.Nothing
+      (next r (stages.Specification h)) refl refl
       (λ f. cc) (λ f. cc) refl (omega arith)
 
-  specification_counts : (h : headers.Header) (x : SpecificationLine) (t : SoFar) → r.stage ≡ stages.Specification h
+  specification_counts : (h : headers.Header) (x : SpecificationLine) (t : SoFar) → r.stage
+      ≡ stages.Specification h
       → Counts (stages.Specification h) r.line (specification_step r h (x, t))
   specification_counts h told.More t e =
-      moved (stages.Specification h) (stages.Specification h) r.line found.Specified (next (record r { said = t }) (stages.Specification h)) refl refl
+      moved (stages.Specification h) (stages.Specification h) r.line found.Specified
+      (next (record r { said = t }) (stages.Specification h)) refl refl
       (λ f. cc) (λ f. cc) refl (omega arith)
   specification_counts h told.Log t e =
-      moved (stages.Specification h) (stages.Starts h None) r.line found.Nothing (next (record r { said = t }) (stages.Starts h None)) refl refl
+      moved (stages.Specification h) (stages.Starts h None) r.line found.Nothing
+      (next (record r { said = t }) (stages.Starts h None)) refl refl
       (λ f. cc) (λ f. cc) refl (omega arith)
   specification_counts h (told.Refused rule column) t e =
-      left (stages.Specification h) r.line (broken (record r { said = t }) (rules.Specification rule)).0 e refl
+      left (stages.Specification h) r.line
+      (broken (record r { said = t }) (rules.Specification rule)).0 e refl
 
-  entry_counts : (st : Stage) (h : headers.Header) → r.stage ≡ st → has_ended st ≡ false → Counts st r.line (entry_step r h line)
-  entry_counts st h e open_yet = by_tests (is_note line) (bytes_eq line end_line) (own_entry_in r.said.specification line)
+  entry_counts : (st : Stage) (h : headers.Header) → r.stage ≡ st → has_ended st ≡ false
+      → Counts st r.line (entry_step r h line)
+  entry_counts st h e open_yet = by_tests (is_note line) (bytes_eq line end_line)
+      (own_entry_in r.said.specification line)
     where
       none : ends (has_ended st) ≡ 0
       none = ap ends open_yet
 
       by_tests : (note is_end : Bool) (o : Option Entry)
-          → Counts st r.line (cond note (next r (stages.Entries h), found.Nothing) (cond is_end (next r (stages.End h), found.End) (spelled_step r h o)))
+          → Counts st r.line
+          (cond note (next r (stages.Entries h), found.Nothing)
+          (cond is_end (next r (stages.End h), found.End) (spelled_step r h o)))
       by_tests true is_end o =
-          moved st (stages.Entries h) r.line found.Nothing (next r (stages.Entries h)) refl refl (λ f. refl) (λ f. refl) (omega (arith, none)) (omega arith)
+          moved st (stages.Entries h) r.line found.Nothing (next r (stages.Entries h)) refl refl
+          (λ f. refl) (λ f. refl) (omega (arith, none)) (omega arith)
       by_tests false true o =
-          moved st (stages.End h) r.line found.End (next r (stages.End h)) refl refl (λ f. refl) (λ f. refl) (omega (arith, none)) (omega arith)
+          moved st (stages.End h) r.line found.End (next r (stages.End h)) refl refl (λ f. refl)
+          (λ f. refl) (omega (arith, none)) (omega arith)
       by_tests false false None = broken_counts st rules.BadEntry e
       by_tests false false (Some x) =
-          moved st (stages.Entries h) r.line (found.Entry x) (next r (stages.Entries h)) refl refl (λ f. refl) (λ f. refl) (omega (arith, none)) (omega arith)
+          moved st (stages.Entries h) r.line (found.Entry x) (next r (stages.Entries h)) refl refl
+          (λ f. refl) (λ f. refl) (omega (arith, none)) (omega arith)
 
   starts_count : (h : headers.Header) (last : Option StartWord) → r.stage ≡ stages.Starts h last
       → Counts (stages.Starts h last) r.line (starts_step r h last line)
   starts_count h last e = by_tests (is_note line) (start_in line)
     where
-      by_rule : (s : StartWord) (o : Option Rule) → Counts (stages.Starts h last) r.line (word_step r h s o)
-      by_rule s None = moved (stages.Starts h last) (stages.Starts h (Some s)) r.line (found.Start s) (next r (stages.Starts h (Some s))) refl refl
+      by_rule : (s : StartWord) (o : Option Rule) → Counts (stages.Starts h last) r.line
+          (word_step r h s o)
+      by_rule s None = moved (stages.Starts h last) (stages.Starts h (Some s)) r.line
+          (found.Start s) (next r (stages.Starts h (Some s))) refl refl
           (λ f. cc) (λ f. cc) refl (omega arith)
       by_rule s (Some rule) = broken_counts (stages.Starts h last) rule e
 
       by_tests : (note : Bool) (o : Option StartWord)
-          → Counts (stages.Starts h last) r.line (cond note (next r (stages.Starts h last), found.Nothing) (start_step r h last line o))
-      by_tests true o = moved (stages.Starts h last) (stages.Starts h last) r.line found.Nothing (next r (stages.Starts h last)) refl refl
+          → Counts (stages.Starts h last) r.line
+          (cond note (next r (stages.Starts h last), found.Nothing) (start_step r h last line o))
+      by_tests true o = moved (stages.Starts h last) (stages.Starts h last) r.line found.Nothing
+          (next r (stages.Starts h last)) refl refl
           (λ f. cc) (λ f. cc) refl (omega arith)
       by_tests false None = entry_counts (stages.Starts h last) h e refl
       by_tests false (Some s) = by_rule s (start_rule h last s)
 
   stage_counts : (st : Stage) → r.stage ≡ st → Counts st r.line (stage_step r st line)
   stage_counts stages.Header e = header_counts (own_header_in line) e
-  stage_counts (stages.Specification h) e = specification_counts h (read_next r.said line).0 (read_next r.said line).1 e
+  stage_counts (stages.Specification h) e = specification_counts h (read_next r.said line).0
+      (read_next r.said line).1 e
   stage_counts (stages.Starts h last) e = starts_count h last e
   stage_counts (stages.Entries h) e = entry_counts (stages.Entries h) h e refl
   stage_counts (stages.End h) e = broken_counts (stages.End h) rules.AfterEnd e
@@ -132,7 +160,9 @@ module _ (r : LineState) (line : List ℕ) where
   step_counts = by_tests (is_some r.fault) (nat_lt r.max_lines r.line)
     where
       by_tests : (faulty past : Bool)
-          → Counts r.stage r.line (cond faulty (r, found.Nothing) (cond past (broken r rules.TooManyLines) (stage_step r r.stage line)))
+          → Counts r.stage r.line
+          (cond faulty (r, found.Nothing)
+          (cond past (broken r rules.TooManyLines) (stage_step r r.stage line)))
       by_tests true past = left r.stage r.line r refl refl
       by_tests false true = broken_counts r.stage rules.TooManyLines refl
       by_tests false false = stage_counts r.stage refl
@@ -151,16 +181,19 @@ module _ (r : LineState) (line : List ℕ) where
       }
     where
       by_entries : (es : List Entry) → (has_any es ≡ true → is_past r.stage ≡ true)
-          → has_any (es ++ entries_of (own_step r line).1) ≡ true → is_past (own_step r line).0.stage ≡ true
+          → has_any (es ++ entries_of (own_step r line).1) ≡ true
+          → is_past (own_step r line).0.stage ≡ true
       by_entries [] past e = step_counts.begun e
       by_entries (y ∷ es) past e = step_counts.past (past refl)
 
 -- bytes that bring nothing
-pub same_counted : (r n : LineState) (b : Brought) → n.stage ≡ r.stage → n.line ≡ r.line → IsCounted r b
+pub same_counted : (r n : LineState) (b : Brought) → n.stage ≡ r.stage → n.line ≡ r.line
+    → IsCounted r b
     → IsCounted n (brought_then b nothing_brought)
 same_counted r n b stage line counted =
     subst (IsCounted n) (sym (and_nothing b)) (record {
       past = λ e. ap is_past stage ∙ counted.past e;
-      numbered = counted.numbered ∙ ap (λ s. length b.starting + length b.entries + ends (has_ended s)) (sym stage);
+      numbered = counted.numbered
+          ∙ ap (λ s. length b.starting + length b.entries + ends (has_ended s)) (sym stage);
       few = omega (arith, counted.few, line);
     })

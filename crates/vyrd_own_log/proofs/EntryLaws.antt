@@ -1,5 +1,7 @@
 -- An entry's line has one reading, by a specification whose methods can be called.
-use Rattle.std.proofs.Common.{◌≡◌, ℕ, suc, zero, ◌<◌, ◌≤◌, ◌^◌, Bool, true, false, cond, ◌&&◌, ◌||◌, List, [], ◌∷◌, ◌++◌, map, take, get_or, Option, Some, None, refl, ap, sym, ◌∙◌, subst, arith, zero-add}
+use Rattle.std.proofs.Common.{◌≡◌, ℕ, suc, zero, ◌<◌, ◌≤◌, ◌^◌, Bool, true, false, cond, ◌&&◌, ◌||◌}
+use Rattle.std.proofs.Common.{List, [], ◌∷◌, ◌++◌, map, take, get_or, Option, Some, None, refl, ap}
+use Rattle.std.proofs.Common.{sym, ◌∙◌, subst, arith, zero-add}
 use Rattle.std.specs.Prelude.{◌==◌, nat_lt, codes, decimal, option_map}
 use Rattle.std.specs.Option.{option_and_then}
 use Rattle.std.specs.List.{list_all}
@@ -13,7 +15,8 @@ use Rattle.vyrd_base.specs.declared.subject.Commits.{Commits}
 use Rattle.vyrd_base.specs.declared.subject.Commits.TheVariants.{Never, AtMostOnce, Once}
 use Rattle.vyrd_base.specs.declared.subject.Args.{Args}
 use Rattle.vyrd_base.specs.declared.log.Kind.{Kind}
-use Rattle.vyrd_base.specs.declared.log.Kind.TheVariants.{Call, Return, Write, Commit, BlockOpen, BlockClose, BlockCommit}
+use Rattle.vyrd_base.specs.declared.log.Kind.TheVariants.{Call, Return, Write, Commit, BlockOpen}
+use Rattle.vyrd_base.specs.declared.log.Kind.TheVariants.{BlockClose, BlockCommit}
 use Rattle.vyrd_base.specs.declared.log.Entry.{Entry}
 use Rattle.vyrd_base.specs.Subjects.{own_numbered, own_call, own_number, are_padded}
 use Rattle.vyrd_base.specs.Spelling.{spaced}
@@ -21,13 +24,18 @@ use Rattle.vyrd_base.specs.Lines.{fields_of, number_of, args_from}
 use Rattle.vyrd_base.specs.Own.Expressions.{most}
 use Rattle.vyrd_base.specs.Own.Programs.{Written}
 use Rattle.vyrd_base.specs.Own.OwnRules.{own_arity}
-use Rattle.vyrd_base.specs.Own.Entries.{own_name, named_from, call_fields, takes_args, own_fields, own_entry_line, is_own_kind, is_own_entry, guessed_own_kind, guessed_own_entry, own_entry_in}
-use Rattle.vyrd_base.proofs.SplitLaws.{lacks, all_lack, split-join, lacks-join, decimal_lacks, no_space, no_line_feed, number_of_decimal, bytes_same}
-use Rattle.vyrd_base.proofs.TestLaws.{both_true, first_true, second_true, same_of, below_of, is_below}
+use Rattle.vyrd_base.specs.Own.Entries.{own_name, named_from, call_fields, takes_args, own_fields}
+use Rattle.vyrd_base.specs.Own.Entries.{own_entry_line, is_own_kind, is_own_entry, guessed_own_kind}
+use Rattle.vyrd_base.specs.Own.Entries.{guessed_own_entry, own_entry_in}
+use Rattle.vyrd_base.proofs.SplitLaws.{lacks, all_lack, split-join, lacks-join, decimal_lacks}
+use Rattle.vyrd_base.proofs.SplitLaws.{no_space, no_line_feed, number_of_decimal, bytes_same}
+use Rattle.vyrd_base.proofs.TestLaws.{both_true, first_true, second_true, same_of, below_of}
+use Rattle.vyrd_base.proofs.TestLaws.{is_below}
 use Rattle.vyrd_text.specs.Fields.{after_field}
 use Rattle.vyrd_text.proofs.PartLaws.{one_before_space}
 use Rattle.vyrd_own_log.specs.Callable.{is_callable}
-use Rattle.vyrd_own_log.specs.Spelled.{own_kind_text, own_args, IsCalled, IsOf, HasNoOther, IsOwnKindRead, AreOwnArgsRead}
+use Rattle.vyrd_own_log.specs.Spelled.{own_kind_text, own_args, IsCalled, IsOf, HasNoOther}
+use Rattle.vyrd_own_log.specs.Spelled.{IsOwnKindRead, AreOwnArgsRead}
 use Rattle.vyrd_own_log.proofs.NameLaws.{name_in, arity_in, named_is, one_field}
 
 -- the methods can be called
@@ -41,18 +49,23 @@ pub record IsEntryLine (w : Written) (line : List ℕ) (e : Entry) : Type 0 wher
   pub of : IsOf w e.kind
 
 -- a guess at a kind names a method that there is
-kind_of : (w : Written) (fields : List (List ℕ)) (kind : Kind) → AllCallable w → guessed_own_kind w fields ≡ Some kind → IsOf w kind
+kind_of : (w : Written) (fields : List (List ℕ)) (kind : Kind) → AllCallable w
+    → guessed_own_kind w fields ≡ Some kind → IsOf w kind
 kind_of w [] kind all e = cc
-kind_of w (word ∷ []) kind all e = by_tests (bytes_eq word (codes "commit")) (bytes_eq word (codes "open")) e
+kind_of w (word ∷ []) kind all e = by_tests (bytes_eq word (codes "commit"))
+    (bytes_eq word (codes "open")) e
   where
-    by_tests : (a b : Bool) → cond a (Some Commit) (cond b (Some BlockOpen) (Some BlockClose)) ≡ Some kind → IsOf w kind
+    by_tests : (a b : Bool) → cond a (Some Commit) (cond b (Some BlockOpen) (Some BlockClose))
+        ≡ Some kind → IsOf w kind
     by_tests true b f = let same : Commit ≡ kind = cc in subst (IsOf w) same tt
     by_tests false true f = let same : BlockOpen ≡ kind = cc in subst (IsOf w) same tt
     by_tests false false f = let same : BlockClose ≡ kind = cc in subst (IsOf w) same tt
 kind_of w (word ∷ x ∷ more) kind all e =
-    by_tests (bytes_eq word (codes "call")) (bytes_eq word (codes "return")) (bytes_eq word (codes "write")) e
+    by_tests (bytes_eq word (codes "call")) (bytes_eq word (codes "return"))
+    (bytes_eq word (codes "write")) e
   where
-    by_name : (o : Option OwnMethod) → named_from 0 w.methods x ≡ o → option_map (λ m. Call (own_call m) (args_from more)) o ≡ Some kind → IsOf w kind
+    by_name : (o : Option OwnMethod) → named_from 0 w.methods x ≡ o
+        → option_map (λ m. Call (own_call m) (args_from more)) o ≡ Some kind → IsOf w kind
     by_name None is f = cc
     by_name (Some m) is f =
         let same : Call (own_call m) (args_from more) ≡ kind = cc in
@@ -60,39 +73,49 @@ kind_of w (word ∷ x ∷ more) kind all e =
         subst (IsOf w) same (record {
           named = m;
           is = refl;
-          found = ap (λ k. named_from 0 w.methods (name_in w.methods k)) (n.number ∙ zero-add n.place)
+          found = ap (λ k. named_from 0 w.methods (name_in w.methods k))
+              (n.number ∙ zero-add n.place)
               ∙ ap (named_from 0 w.methods) n.called ∙ is;
         })
 
-    by_tests : (a b c : Bool) → cond a (option_map (λ m. Call (own_call m) (args_from more)) (named_from 0 w.methods x))
-        (cond b (Some (Return (number_of x))) (cond c (Some (Write (number_of x) (args_from more).a)) (Some BlockCommit))) ≡ Some kind → IsOf w kind
+    by_tests : (a b c : Bool)
+        → cond a (option_map (λ m. Call (own_call m) (args_from more)) (named_from 0 w.methods x))
+        (cond b (Some (Return (number_of x)))
+        (cond c (Some (Write (number_of x) (args_from more).a)) (Some BlockCommit))) ≡ Some kind
+        → IsOf w kind
     by_tests true b c f = by_name (named_from 0 w.methods x) refl f
     by_tests false true c f = let same : Return (number_of x) ≡ kind = cc in subst (IsOf w) same tt
-    by_tests false false true f = let same : Write (number_of x) (args_from more).a ≡ kind = cc in subst (IsOf w) same tt
+    by_tests false false true f = let same : Write (number_of x) (args_from more).a ≡ kind = cc in
+        subst (IsOf w) same tt
     by_tests false false false f = let same : BlockCommit ≡ kind = cc in subst (IsOf w) same tt
 
-entry_of : (w : Written) (fields : List (List ℕ)) (e : Entry) → AllCallable w → guessed_own_entry w fields ≡ Some e → IsOf w e.kind
+entry_of : (w : Written) (fields : List (List ℕ)) (e : Entry) → AllCallable w
+    → guessed_own_entry w fields ≡ Some e → IsOf w e.kind
 entry_of w [] e all f = cc
 entry_of w (caller ∷ fields) e all f = by_kind (guessed_own_kind w fields) refl f
   where
     by_kind : (o : Option Kind) → guessed_own_kind w fields ≡ o
-        → option_map (λ kind. record { caller = number_of caller; kind = kind }) o ≡ Some e → IsOf w e.kind
+        → option_map (λ kind. record { caller = number_of caller; kind = kind }) o ≡ Some e
+        → IsOf w e.kind
     by_kind None is g = cc
     by_kind (Some kind) is g =
         let same : ◌≡◌ {A = Entry} (record { caller = number_of caller; kind = kind }) e = cc in
         subst (IsOf w) (ap (λ x. x.kind) same) (kind_of w fields kind all is)
 
 -- an entry that is read is spelled by the line
-pub entry_sound : (w : Written) (line : List ℕ) (e : Entry) → AllCallable w → own_entry_in w line ≡ Some e → IsEntryLine w line e
+pub entry_sound : (w : Written) (line : List ℕ) (e : Entry) → AllCallable w → own_entry_in w line
+    ≡ Some e → IsEntryLine w line e
 unfolding own_entry_in
 entry_sound w line e all found = by_guess (guessed_own_entry w (fields_of line)) refl found
   where
-    checked : (x : Entry) → IsOf w x.kind → (b : Bool) → (is_own_entry w x && bytes_eq (own_entry_line w x) line) ≡ b
+    checked : (x : Entry) → IsOf w x.kind → (b : Bool)
+        → (is_own_entry w x && bytes_eq (own_entry_line w x) line) ≡ b
         → cond b (Some x) None ≡ Some e → IsEntryLine w line e
     checked x of false t f = cc
     checked x of true t f =
         let same : x ≡ e = cc in
-        let spelled = (bytes_eq-Decides (own_entry_line w x) line).0 (second_true (is_own_entry w x) _ t) in
+        let spelled = (bytes_eq-Decides (own_entry_line w x) line).0
+        (second_true (is_own_entry w x) _ t) in
         record {
           spelled = sym spelled ∙ ap (own_entry_line w) same;
           ranged = ap (is_own_entry w) (sym same) ∙ first_true _ _ t;
@@ -100,9 +123,11 @@ entry_sound w line e all found = by_guess (guessed_own_entry w (fields_of line))
         }
 
     by_guess : (o : Option Entry) → guessed_own_entry w (fields_of line) ≡ o
-        → option_and_then (λ x. cond (is_own_entry w x && bytes_eq (own_entry_line w x) line) (Some x) None) o ≡ Some e → IsEntryLine w line e
+        → option_and_then (λ x. cond (is_own_entry w x && bytes_eq (own_entry_line w x) line)
+        (Some x) None) o ≡ Some e → IsEntryLine w line e
     by_guess None is f = cc
-    by_guess (Some x) is f = checked x (entry_of w (fields_of line) x all is) (is_own_entry w x && bytes_eq (own_entry_line w x) line) refl f
+    by_guess (Some x) is f = checked x (entry_of w (fields_of line) x all is)
+        (is_own_entry w x && bytes_eq (own_entry_line w x) line) refl f
 
 -- the numbers of a call, in their ranges
 record AreSmall (args : Args) : Type 0 where
@@ -110,22 +135,28 @@ record AreSmall (args : Args) : Type 0 where
   b : args.b < 2 ^ 32
   c : args.c < 2 ^ 32
 
-module _ (padded : Bool) (args : Args) (e : (padded && nat_lt args.a (2 ^ 32) && nat_lt args.b (2 ^ 32) && nat_lt args.c (2 ^ 32)) ≡ true) where
+module _ (padded : Bool) (args : Args)
+    (e : (padded && nat_lt args.a (2 ^ 32) && nat_lt args.b (2 ^ 32) && nat_lt args.c (2 ^ 32))
+    ≡ true) where
   are_small : AreSmall args
   are_small = record {
     a = below_of args.a (2 ^ 32) (second_true padded _ (first_true _ _ (first_true _ _ e)));
-    b = below_of args.b (2 ^ 32) (second_true (padded && nat_lt args.a (2 ^ 32)) _ (first_true _ _ e));
-    c = below_of args.c (2 ^ 32) (second_true (padded && nat_lt args.a (2 ^ 32) && nat_lt args.b (2 ^ 32)) _ e);
+    b = below_of args.b (2 ^ 32)
+        (second_true (padded && nat_lt args.a (2 ^ 32)) _ (first_true _ _ e));
+    c = below_of args.c (2 ^ 32)
+        (second_true (padded && nat_lt args.a (2 ^ 32) && nat_lt args.b (2 ^ 32)) _ e);
   }
 
   is_padded : padded ≡ true
   is_padded = first_true _ _ (first_true _ _ (first_true _ _ e))
 
 -- the test of a call's numbers
-pub ranged_call : (padded : Bool) (args : Args) → padded ≡ true → args.a < 2 ^ 32 → args.b < 2 ^ 32 → args.c < 2 ^ 32
+pub ranged_call : (padded : Bool) (args : Args) → padded ≡ true → args.a < 2 ^ 32 → args.b < 2 ^ 32
+    → args.c < 2 ^ 32
     → (padded && nat_lt args.a (2 ^ 32) && nat_lt args.b (2 ^ 32) && nat_lt args.c (2 ^ 32)) ≡ true
 ranged_call padded args p a b c =
-    both_true _ _ (both_true _ _ (both_true _ _ p (is_below args.a (2 ^ 32) a)) (is_below args.b (2 ^ 32) b)) (is_below args.c (2 ^ 32) c)
+    both_true _ _ (both_true _ _ (both_true _ _ p (is_below args.a (2 ^ 32) a))
+    (is_below args.b (2 ^ 32) b)) (is_below args.c (2 ^ 32) c)
 
 -- the number of a method that is called
 numbered_is : (i : ℕ) (commits : Commits) → own_number (own_numbered i commits) ≡ Some i
@@ -144,16 +175,20 @@ module _ (w : Written) (all : AllCallable w) (method : Method) (of : IsCalled w 
 
   -- its fields, and the test of its numbers
   pub called_fields : (args : Args) → own_fields w (Call method args)
-      ≡ codes "call" ∷ own_name w of.named.number ∷ map decimal (take of.named.arity (args.a ∷ args.b ∷ args.c ∷ []))
+      ≡ codes "call" ∷ own_name w of.named.number ∷ map decimal
+      (take of.named.arity (args.a ∷ args.b ∷ args.c ∷ []))
   called_fields args =
       ap (call_fields w args) called_number
-      ∙ ap (λ n. codes "call" ∷ own_name w of.named.number ∷ map decimal (take n (args.a ∷ args.b ∷ args.c ∷ []))) called_arity
+      ∙ ap (λ n. codes "call" ∷ own_name w of.named.number ∷ map decimal
+      (take n (args.a ∷ args.b ∷ args.c ∷ []))) called_arity
 
   pub called_test : (args : Args) → is_own_kind w (Call method args)
-      ≡ (are_padded of.named.arity args && nat_lt args.a (2 ^ 32) && nat_lt args.b (2 ^ 32) && nat_lt args.c (2 ^ 32))
+      ≡ (are_padded of.named.arity args && nat_lt args.a (2 ^ 32) && nat_lt args.b (2 ^ 32)
+      && nat_lt args.c (2 ^ 32))
   called_test args =
       ap (takes_args w args) called_number
-      ∙ ap (λ n. are_padded n args && nat_lt args.a (2 ^ 32) && nat_lt args.b (2 ^ 32) && nat_lt args.c (2 ^ 32)) called_arity
+      ∙ ap (λ n. are_padded n args && nat_lt args.a (2 ^ 32) && nat_lt args.b (2 ^ 32)
+      && nat_lt args.c (2 ^ 32)) called_arity
 
 pub below_64 : (n : ℕ) → n < 2 ^ 32 → n < 2 ^ 64
 below_64 n low = omega arith
@@ -173,10 +208,15 @@ c_is_0 n args e few = by_test (args.c == 0) refl (second_true (args.b == 0 || na
     by_test true is f = same_of args.c 0 is
     by_test false is f = cc
 
-args_guess : (n : ℕ) (args : Args) → n ≤ 3 → (n ≡ 0 → args.a ≡ 0) → are_padded n args ≡ true → AreSmall args
+args_guess : (n : ℕ) (args : Args) → n ≤ 3 → (n ≡ 0 → args.a ≡ 0) → are_padded n args ≡ true
+    → AreSmall args
     → args_from (map decimal (take n (args.a ∷ args.b ∷ args.c ∷ []))) ≡ args
 args_guess zero args few other e small =
-    λ i. record { a = sym (other refl) i; b = sym (b_is_0 0 args e refl) i; c = sym (c_is_0 0 args e refl) i }
+    λ i. record {
+      a = sym (other refl) i;
+      b = sym (b_is_0 0 args e refl) i;
+      c = sym (c_is_0 0 args e refl) i;
+    }
 args_guess (suc zero) args few other e small = λ i. record {
   a = number_of_decimal args.a (below_64 args.a small.a) i;
   b = sym (b_is_0 1 args e refl) i;
@@ -198,21 +238,28 @@ pub below_most : (n : ℕ) → nat_lt n most ≡ true → n < 2 ^ 64
 below_most n e = let h = below_of n most e in omega (arith, h)
 
 -- a kind is guessed right
-kind_guess : (w : Written) (kind : Kind) → AllCallable w → is_own_kind w kind ≡ true → IsOf w kind → HasNoOther w kind
+kind_guess : (w : Written) (kind : Kind) → AllCallable w → is_own_kind w kind ≡ true → IsOf w kind
+    → HasNoOther w kind
     → guessed_own_kind w (own_fields w kind) ≡ Some kind
 kind_guess w (Call method args) all e of other =
     let m = of.named in
     let n = named_is 0 w.methods (own_name w m.number) m all of.found in
     let ranged = sym (called_test w all method of args) ∙ e in
-    let none : m.arity ≡ 0 → args.a ≡ 0 = λ z. other m.number (called_number w all method of) (called_arity w all method of ∙ z) in
-    let read = args_guess m.arity args n.few none (is_padded (are_padded m.arity args) args ranged) (are_small (are_padded m.arity args) args ranged) in
+    let none : m.arity ≡ 0 → args.a ≡ 0 = λ z. other m.number (called_number w all method of)
+    (called_arity w all method of ∙ z) in
+    let read = args_guess m.arity args n.few none (is_padded (are_padded m.arity args) args ranged)
+    (are_small (are_padded m.arity args) args ranged) in
     ap (guessed_own_kind w) (called_fields w all method of args)
-    ∙ ap (option_map (λ x. Call (own_call x) (args_from (map decimal (take m.arity (args.a ∷ args.b ∷ args.c ∷ [])))))) of.found
+    ∙ ap (option_map
+    (λ x. Call (own_call x)
+    (args_from (map decimal (take m.arity (args.a ∷ args.b ∷ args.c ∷ [])))))) of.found
     ∙ (λ i. Some (Call (of.is i) (read i)))
-kind_guess w (Return reply) all e of other = ap (λ r. Some (Return r)) (number_of_decimal reply (below_most reply e))
+kind_guess w (Return reply) all e of other = ap (λ r. Some (Return r))
+    (number_of_decimal reply (below_most reply e))
 kind_guess w (Write word value) all e of other =
     let x = number_of_decimal word (below_64 word (below_of word (2 ^ 32) (first_true _ _ e))) in
-    let v = number_of_decimal value (below_of value (2 ^ 64) (second_true (nat_lt word (2 ^ 32)) _ e)) in
+    let v = number_of_decimal value
+    (below_of value (2 ^ 64) (second_true (nat_lt word (2 ^ 32)) _ e)) in
     λ i. Some (Write (x i) (v i))
 kind_guess w Commit all e of other = refl
 kind_guess w BlockOpen all e of other = refl
@@ -228,7 +275,8 @@ record IsNoField (b : ℕ) (w : Written) : Type 0 where
   committed : lacks b (codes "commit") ≡ true
   opened : lacks b (codes "open") ≡ true
   closed : lacks b (codes "close") ≡ true
-  names : (name : List ℕ) (m : OwnMethod) → named_from 0 w.methods name ≡ Some m → lacks b name ≡ true
+  names : (name : List ℕ) (m : OwnMethod) → named_from 0 w.methods name ≡ Some m → lacks b name
+      ≡ true
 
 space_no_field : (w : Written) → AllCallable w → IsNoField 32 w
 space_no_field w all = record {
@@ -258,46 +306,66 @@ module _ (b : ℕ) (w : Written) (all : AllCallable w) (out : IsNoField b w) whe
   lack_number : (n : ℕ) → n < 2 ^ 64 → lacks b (decimal n) ≡ true
   lack_number n small = decimal_lacks b n out.digits small
 
-  lack_take : (n : ℕ) (numbers : List ℕ) → all_lack b (map decimal numbers) ≡ true → all_lack b (map decimal (take n numbers)) ≡ true
+  lack_take : (n : ℕ) (numbers : List ℕ) → all_lack b (map decimal numbers) ≡ true
+      → all_lack b (map decimal (take n numbers)) ≡ true
   lack_take zero numbers e = refl
   lack_take (suc n) [] e = refl
-  lack_take (suc n) (x ∷ numbers) e = both_true _ _ (first_true _ _ e) (lack_take n numbers (second_true (lacks b (decimal x)) _ e))
+  lack_take (suc n) (x ∷ numbers) e = both_true _ _ (first_true _ _ e)
+      (lack_take n numbers (second_true (lacks b (decimal x)) _ e))
 
-  lack_kind : (kind : Kind) → is_own_kind w kind ≡ true → IsOf w kind → all_lack b (own_fields w kind) ≡ true
+  lack_kind : (kind : Kind) → is_own_kind w kind ≡ true → IsOf w kind
+      → all_lack b (own_fields w kind) ≡ true
   lack_kind (Call method args) e of =
       let m = of.named in
-      let small = are_small (are_padded m.arity args) args (sym (called_test w all method of args) ∙ e) in
+      let small = are_small (are_padded m.arity args) args (sym (called_test w all method of args)
+      ∙ e) in
       ap (all_lack b) (called_fields w all method of args)
-      ∙ both_true _ _ out.called (both_true _ _ (out.names (own_name w m.number) m of.found) (lack_take m.arity (args.a ∷ args.b ∷ args.c ∷ [])
-      (both_true _ _ (lack_number args.a (below_64 args.a small.a)) (both_true _ _ (lack_number args.b (below_64 args.b small.b))
+      ∙ both_true _ _ out.called
+      (both_true _ _ (out.names (own_name w m.number) m of.found)
+      (lack_take m.arity (args.a ∷ args.b ∷ args.c ∷ [])
+      (both_true _ _ (lack_number args.a (below_64 args.a small.a))
+      (both_true _ _ (lack_number args.b (below_64 args.b small.b))
       (both_true _ _ (lack_number args.c (below_64 args.c small.c)) refl)))))
-  lack_kind (Return reply) e of = both_true _ _ out.returned (both_true _ _ (lack_number reply (below_most reply e)) refl)
+  lack_kind (Return reply) e of = both_true _ _ out.returned
+      (both_true _ _ (lack_number reply (below_most reply e)) refl)
   lack_kind (Write word value) e of =
-      both_true _ _ out.written (both_true _ _ (lack_number word (below_64 word (below_of word (2 ^ 32) (first_true _ _ e))))
-      (both_true _ _ (lack_number value (below_of value (2 ^ 64) (second_true (nat_lt word (2 ^ 32)) _ e))) refl))
+      both_true _ _ out.written
+      (both_true _ _ (lack_number word (below_64 word (below_of word (2 ^ 32) (first_true _ _ e))))
+      (both_true _ _
+      (lack_number value (below_of value (2 ^ 64) (second_true (nat_lt word (2 ^ 32)) _ e))) refl))
   lack_kind Commit e of = both_true _ _ out.committed refl
   lack_kind BlockOpen e of = both_true _ _ out.opened refl
   lack_kind BlockClose e of = both_true _ _ out.closed refl
   lack_kind BlockCommit e of = both_true _ _ out.closed (both_true _ _ out.committed refl)
 
-  lack_fields : (e : Entry) → is_own_entry w e ≡ true → IsOf w e.kind → all_lack b (decimal e.caller ∷ own_fields w e.kind) ≡ true
+  lack_fields : (e : Entry) → is_own_entry w e ≡ true → IsOf w e.kind
+      → all_lack b (decimal e.caller ∷ own_fields w e.kind) ≡ true
   lack_fields e ranged of =
       let low : e.caller < 2 ^ 32 = below_of e.caller (2 ^ 32) (first_true _ _ ranged) in
-      both_true _ _ (lack_number e.caller (below_64 e.caller low)) (lack_kind e.kind (second_true (nat_lt e.caller (2 ^ 32)) _ ranged) of)
+      both_true _ _ (lack_number e.caller (below_64 e.caller low))
+      (lack_kind e.kind (second_true (nat_lt e.caller (2 ^ 32)) _ ranged) of)
 
 -- an entry's line has no line feed
-pub entry_one_line : (w : Written) (e : Entry) → AllCallable w → is_own_entry w e ≡ true → IsOf w e.kind → lacks 10 (own_entry_line w e) ≡ true
+pub entry_one_line : (w : Written) (e : Entry) → AllCallable w → is_own_entry w e ≡ true
+    → IsOf w e.kind → lacks 10 (own_entry_line w e) ≡ true
 entry_one_line w e all ranged of =
-    lacks-join 10 32 (decimal e.caller) (own_fields w e.kind) refl (lack_fields 10 w all (line_feed_no_field w all) e ranged of)
+    lacks-join 10 32 (decimal e.caller) (own_fields w e.kind) refl
+    (lack_fields 10 w all (line_feed_no_field w all) e ranged of)
 
 -- a spelled entry is read back
-pub entry_complete : (w : Written) (e : Entry) → AllCallable w → is_own_entry w e ≡ true → IsOf w e.kind → HasNoOther w e.kind
+pub entry_complete : (w : Written) (e : Entry) → AllCallable w → is_own_entry w e ≡ true
+    → IsOf w e.kind → HasNoOther w e.kind
     → own_entry_in w (own_entry_line w e) ≡ Some e
 unfolding own_entry_in
 entry_complete w e all ranged of other =
-    ap (λ fields. option_and_then (λ x. cond (is_own_entry w x && bytes_eq (own_entry_line w x) (own_entry_line w e)) (Some x) None) (guessed_own_entry w fields))
-    (split-join 32 (decimal e.caller) (own_fields w e.kind) (lack_fields 32 w all (space_no_field w all) e ranged of))
-    ∙ ap (option_and_then (λ x. cond (is_own_entry w x && bytes_eq (own_entry_line w x) (own_entry_line w e)) (Some x) None)) guess
+    ap (λ fields. option_and_then
+    (λ x. cond (is_own_entry w x && bytes_eq (own_entry_line w x) (own_entry_line w e))
+    (Some x) None) (guessed_own_entry w fields))
+    (split-join 32 (decimal e.caller) (own_fields w e.kind)
+    (lack_fields 32 w all (space_no_field w all) e ranged of))
+    ∙ ap (option_and_then
+    (λ x. cond (is_own_entry w x && bytes_eq (own_entry_line w x) (own_entry_line w e))
+    (Some x) None)) guess
     ∙ ap (λ b. cond b (Some e) None) (both_true _ _ ranged (bytes_same (own_entry_line w e)))
   where
     low : e.caller < 2 ^ 32
@@ -307,14 +375,18 @@ entry_complete w e all ranged of other =
     kind = second_true (nat_lt e.caller (2 ^ 32)) _ ranged
 
     guess : guessed_own_entry w (decimal e.caller ∷ own_fields w e.kind) ≡ Some e
-    guess = (λ i. option_map (λ k. record { caller = number_of_decimal e.caller (below_64 e.caller low) i; kind = k }) (kind_guess w e.kind all kind of other i))
+    guess = (λ i. option_map
+        (λ k. record { caller = number_of_decimal e.caller (below_64 e.caller low) i; kind = k })
+        (kind_guess w e.kind all kind of other i))
 
 -- an entry's line is its caller, a space and what it says
 pub own_line_is : (w : Written) (caller : ℕ) (kind : Kind) → AllCallable w → IsOf w kind
-    → own_entry_line w (record { caller = caller; kind = kind }) ≡ decimal caller ++ 32 ∷ own_kind_text w kind
+    → own_entry_line w (record { caller = caller; kind = kind }) ≡ decimal caller
+    ++ 32 ∷ own_kind_text w kind
 own_line_is w caller (Call method args) all of =
     let fields = called_fields w all method of args in
-    ap (λ f. spaced (decimal caller ∷ f)) fields ∙ ap (λ f. decimal caller ++ 32 ∷ spaced f) (sym fields)
+    ap (λ f. spaced (decimal caller ∷ f)) fields ∙ ap (λ f. decimal caller ++ 32 ∷ spaced f)
+    (sym fields)
 own_line_is w caller (Return reply) all of = refl
 own_line_is w caller (Write word value) all of = refl
 own_line_is w caller Commit all of = refl
@@ -324,106 +396,151 @@ own_line_is w caller BlockCommit all of = refl
 
 module _ (w : Written) (line : List ℕ) (all : AllCallable w) where
   -- a line that isn't an entry's
-  pub no_entry : ((e : Entry) → is_own_entry w e ≡ true → IsOf w e.kind → line ≡ own_entry_line w e → ⊥) → None ≡ own_entry_in w line
+  pub no_entry : ((e : Entry) → is_own_entry w e ≡ true → IsOf w e.kind → line ≡ own_entry_line w e
+      → ⊥) → None ≡ own_entry_in w line
   no_entry none = by_answer (own_entry_in w line) refl
     where
       by_answer : (o : Option Entry) → own_entry_in w line ≡ o → None ≡ o
       by_answer None e = refl
-      by_answer (Some x) e = let is = entry_sound w line x all e in absurd (none x is.ranged is.of is.spelled)
+      by_answer (Some x) e = let is = entry_sound w line x all e in absurd
+          (none x is.ranged is.of is.spelled)
 
   -- a line without a number before a space
-  pub no_caller : ((n : ℕ) (rest : List ℕ) → n < 2 ^ 32 → line ≡ decimal n ++ 32 ∷ rest → ⊥) → None ≡ own_entry_in w line
+  pub no_caller : ((n : ℕ) (rest : List ℕ) → n < 2 ^ 32 → line ≡ decimal n ++ 32 ∷ rest → ⊥)
+      → None ≡ own_entry_in w line
   no_caller none = no_entry (λ e ok of same.
-      none e.caller (own_kind_text w e.kind) (below_of e.caller (2 ^ 32) (first_true _ _ ok)) (same ∙ own_line_is w e.caller e.kind all of))
+      none e.caller (own_kind_text w e.kind) (below_of e.caller (2 ^ 32) (first_true _ _ ok))
+      (same ∙ own_line_is w e.caller e.kind all of))
 
   -- a line that says nothing after its caller
   pub no_kind : (caller : ℕ) (rest : List ℕ) → caller < 2 ^ 64 → line ≡ decimal caller ++ 32 ∷ rest
       → IsOwnKindRead w rest None → None ≡ own_entry_in w line
   no_kind caller rest low is none = no_entry (λ e ok of same.
       let small : e.caller < 2 ^ 32 = below_of e.caller (2 ^ 32) (first_true _ _ ok) in
-      let parts = one_before_space caller e.caller rest (own_kind_text w e.kind) low (omega arith) (sym is ∙ same ∙ own_line_is w e.caller e.kind all of) in
+      let parts = one_before_space caller e.caller rest (own_kind_text w e.kind) low (omega arith)
+      (sym is ∙ same ∙ own_line_is w e.caller e.kind all of) in
       none e.kind (second_true (nat_lt e.caller (2 ^ 32)) _ ok) of parts.1)
 
   -- a line that is an entry's
-  pub entry_read : (caller : ℕ) (kind : Kind) (rest : List ℕ) → caller < 2 ^ 32 → line ≡ decimal caller ++ 32 ∷ rest
-      → IsOwnKindRead w rest (Some kind) → Some (record { caller = caller; kind = kind }) ≡ own_entry_in w line
+  pub entry_read : (caller : ℕ) (kind : Kind) (rest : List ℕ) → caller < 2 ^ 32
+      → line ≡ decimal caller ++ 32 ∷ rest
+      → IsOwnKindRead w rest (Some kind) → Some (record { caller = caller; kind = kind })
+      ≡ own_entry_in w line
   entry_read caller kind rest low is read =
       let entry : Entry = record { caller = caller; kind = kind } in
-      let same : line ≡ own_entry_line w entry = is ∙ ap (λ t. decimal caller ++ 32 ∷ t) read.3 ∙ sym (own_line_is w caller kind all read.1) in
-      sym (ap (own_entry_in w) same ∙ entry_complete w entry all (both_true _ _ (is_below caller (2 ^ 32) low) read.0) read.1 read.2)
+      let same : line ≡ own_entry_line w entry = is ∙ ap (λ t. decimal caller ++ 32 ∷ t) read.3
+      ∙ sym (own_line_is w caller kind all read.1) in
+      sym (ap (own_entry_in w) same ∙ entry_complete w entry all
+      (both_true _ _ (is_below caller (2 ^ 32) low) read.0) read.1 read.2)
 
 -- a call's text is its method's name, and behind it its arguments
-pub call_text_is : (w : Written) (all : AllCallable w) (method : Method) (args : Args) (of : IsCalled w method)
-    → own_kind_text w (Call method args) ≡ codes "call " ++ (own_name w of.named.number ++ after_field (own_args of.named.arity args))
-call_text_is w all method args of = ap spaced (called_fields w all method of args) ∙ by_arity of.named.arity
+pub call_text_is : (w : Written) (all : AllCallable w) (method : Method) (args : Args)
+    (of : IsCalled w method)
+    → own_kind_text w (Call method args) ≡ codes "call "
+    ++ (own_name w of.named.number ++ after_field (own_args of.named.arity args))
+call_text_is w all method args of = ap spaced (called_fields w all method of args)
+    ∙ by_arity of.named.arity
   where
-    by_arity : (n : ℕ) → spaced (codes "call" ∷ own_name w of.named.number ∷ map decimal (take n (args.a ∷ args.b ∷ args.c ∷ [])))
+    by_arity : (n : ℕ)
+        → spaced (codes "call" ∷ own_name w of.named.number ∷ map decimal
+        (take n (args.a ∷ args.b ∷ args.c ∷ [])))
         ≡ codes "call " ++ (own_name w of.named.number ++ after_field (own_args n args))
     by_arity zero = ap (λ t. codes "call " ++ t) (sym (append-nil (own_name w of.named.number)))
     by_arity (suc n) = refl
 
 -- a call's text begins with a c, whatever its method
-call_begins : (w : Written) (method : Method) (args : Args) → is_own_kind w (Call method args) ≡ true
+call_begins : (w : Written) (method : Method) (args : Args) → is_own_kind w (Call method args)
+    ≡ true
     → get_or (own_kind_text w (Call method args)) 0 0 ≡ 99
 call_begins w method args e = by_number (own_number method) refl
   where
-    by_number : (o : Option ℕ) → own_number method ≡ o → get_or (own_kind_text w (Call method args)) 0 0 ≡ 99
+    by_number : (o : Option ℕ) → own_number method ≡ o
+        → get_or (own_kind_text w (Call method args)) 0 0 ≡ 99
     by_number None is = let never : false ≡ true = sym (ap (takes_args w args) is) ∙ e in cc
     by_number (Some i) is = ap (λ o. get_or (spaced (call_fields w args o)) 0 0) is
 
 -- a word before a space that no value follows isn't a write
-pub no_value : (text : List ℕ) (n : ℕ) (r : List ℕ) → n < 2 ^ 64 → text ≡ decimal n ++ 32 ∷ r → ((v : ℕ) → v < 2 ^ 64 → r ≡ decimal v → ⊥)
+pub no_value : (text : List ℕ) (n : ℕ) (r : List ℕ) → n < 2 ^ 64 → text ≡ decimal n ++ 32 ∷ r
+    → ((v : ℕ) → v < 2 ^ 64 → r ≡ decimal v → ⊥)
     → (w : Written) → IsOwnKindRead w (codes "write " ++ text) None
 no_value text n r low e none w (Write word value) ok of f =
     let small : word < 2 ^ 32 = below_of word (2 ^ 32) (first_true _ _ ok) in
     let fits : value < 2 ^ 64 = below_of value (2 ^ 64) (second_true (nat_lt word (2 ^ 32)) _ ok) in
-    let is = one_before_space n word r (decimal value) low (omega arith) (sym e ∙ append_cancel_left (codes "write ") text (decimal word ++ 32 ∷ decimal value) f) in
+    let is = one_before_space n word r (decimal value) low (omega arith)
+    (sym e ∙ append_cancel_left (codes "write ") text (decimal word ++ 32 ∷ decimal value) f) in
     none value fits is.1
 no_value text n r low e none w (Call method args) ok of f =
-    absurd (let h : 119 ≡ 99 = ap (λ t. get_or t 0 0) f ∙ call_begins w method args ok in omega (arith, h))
-no_value text n r low e none w (Return reply) ok of f = absurd (let h : 119 ≡ 114 = ap (λ t. get_or t 0 0) f in omega (arith, h))
-no_value text n r low e none w Commit ok of f = absurd (let h : 119 ≡ 99 = ap (λ t. get_or t 0 0) f in omega (arith, h))
-no_value text n r low e none w BlockOpen ok of f = absurd (let h : 119 ≡ 111 = ap (λ t. get_or t 0 0) f in omega (arith, h))
-no_value text n r low e none w BlockClose ok of f = absurd (let h : 119 ≡ 99 = ap (λ t. get_or t 0 0) f in omega (arith, h))
-no_value text n r low e none w BlockCommit ok of f = absurd (let h : 119 ≡ 99 = ap (λ t. get_or t 0 0) f in omega (arith, h))
+    absurd (let h : 119 ≡ 99 = ap (λ t. get_or t 0 0) f ∙ call_begins w method args ok in
+    omega (arith, h))
+no_value text n r low e none w (Return reply) ok of f = absurd
+    (let h : 119 ≡ 114 = ap (λ t. get_or t 0 0) f in omega (arith, h))
+no_value text n r low e none w Commit ok of f = absurd
+    (let h : 119 ≡ 99 = ap (λ t. get_or t 0 0) f in omega (arith, h))
+no_value text n r low e none w BlockOpen ok of f = absurd
+    (let h : 119 ≡ 111 = ap (λ t. get_or t 0 0) f in omega (arith, h))
+no_value text n r low e none w BlockClose ok of f = absurd
+    (let h : 119 ≡ 99 = ap (λ t. get_or t 0 0) f in omega (arith, h))
+no_value text n r low e none w BlockCommit ok of f = absurd
+    (let h : 119 ≡ 99 = ap (λ t. get_or t 0 0) f in omega (arith, h))
 
 -- the greatest number isn't a reply
-pub no_reply : (text : List ℕ) (n : ℕ) → n < 2 ^ 64 → n ≡ most → text ≡ decimal n → (w : Written) → IsOwnKindRead w (codes "return " ++ text) None
+pub no_reply : (text : List ℕ) (n : ℕ) → n < 2 ^ 64 → n ≡ most → text ≡ decimal n → (w : Written)
+    → IsOwnKindRead w (codes "return " ++ text) None
 no_reply text n low is e w (Return reply) ok of f =
     let less : reply < most = below_of reply most ok in
     let same : n ≡ reply = sym (number_of_decimal n low)
-    ∙ ap number_of (sym e ∙ append_cancel_left (codes "return ") text (decimal reply) f) ∙ number_of_decimal reply (below_most reply ok) in
+    ∙ ap number_of (sym e ∙ append_cancel_left (codes "return ") text (decimal reply) f)
+    ∙ number_of_decimal reply (below_most reply ok) in
     omega (arith, same, less, is)
 no_reply text n low is e w (Call method args) ok of f =
-    absurd (let h : 114 ≡ 99 = ap (λ t. get_or t 0 0) f ∙ call_begins w method args ok in omega (arith, h))
-no_reply text n low is e w (Write word value) ok of f = absurd (let h : 114 ≡ 119 = ap (λ t. get_or t 0 0) f in omega (arith, h))
-no_reply text n low is e w Commit ok of f = absurd (let h : 114 ≡ 99 = ap (λ t. get_or t 0 0) f in omega (arith, h))
-no_reply text n low is e w BlockOpen ok of f = absurd (let h : 114 ≡ 111 = ap (λ t. get_or t 0 0) f in omega (arith, h))
-no_reply text n low is e w BlockClose ok of f = absurd (let h : 114 ≡ 99 = ap (λ t. get_or t 0 0) f in omega (arith, h))
-no_reply text n low is e w BlockCommit ok of f = absurd (let h : 114 ≡ 99 = ap (λ t. get_or t 0 0) f in omega (arith, h))
+    absurd (let h : 114 ≡ 99 = ap (λ t. get_or t 0 0) f ∙ call_begins w method args ok in
+    omega (arith, h))
+no_reply text n low is e w (Write word value) ok of f = absurd
+    (let h : 114 ≡ 119 = ap (λ t. get_or t 0 0) f in omega (arith, h))
+no_reply text n low is e w Commit ok of f = absurd
+    (let h : 114 ≡ 99 = ap (λ t. get_or t 0 0) f in omega (arith, h))
+no_reply text n low is e w BlockOpen ok of f = absurd
+    (let h : 114 ≡ 111 = ap (λ t. get_or t 0 0) f in omega (arith, h))
+no_reply text n low is e w BlockClose ok of f = absurd
+    (let h : 114 ≡ 99 = ap (λ t. get_or t 0 0) f in omega (arith, h))
+no_reply text n low is e w BlockCommit ok of f = absurd
+    (let h : 114 ≡ 99 = ap (λ t. get_or t 0 0) f in omega (arith, h))
 
 -- a call: its name and what follows it are those of the text
-module _ (w : Written) (all : AllCallable w) (text name : List ℕ) (rest : Option (List ℕ)) (parts : text ≡ name ++ after_field rest)
+module _ (w : Written) (all : AllCallable w) (text name : List ℕ) (rest : Option (List ℕ))
+    (parts : text ≡ name ++ after_field rest)
     (one_word : lacks 32 name ≡ true) where
-  called : (method : Method) (args : Args) (of : IsCalled w method) → codes "call " ++ text ≡ own_kind_text w (Call method args)
+  called : (method : Method) (args : Args) (of : IsCalled w method) → codes "call " ++ text
+      ≡ own_kind_text w (Call method args)
       → (named_from 0 w.methods name ≡ Some of.named) × (rest ≡ own_args of.named.arity args)
   called method args of f =
       let m = of.named in
       let n = named_is 0 w.methods (own_name w m.number) m all of.found in
       let same : text ≡ own_name w m.number ++ after_field (own_args m.arity args) =
-      append_cancel_left (codes "call ") text (own_name w m.number ++ after_field (own_args m.arity args)) (f ∙ call_text_is w all method args of) in
-      let one = one_field name (own_name w m.number) rest (own_args m.arity args) one_word n.one_word (sym parts ∙ same) in
+      append_cancel_left (codes "call ") text
+      (own_name w m.number ++ after_field (own_args m.arity args))
+      (f ∙ call_text_is w all method args of) in
+      let one = one_field name (own_name w m.number) rest (own_args m.arity args) one_word
+      n.one_word (sym parts ∙ same) in
       (ap (named_from 0 w.methods) one.0 ∙ of.found, one.1)
 
-  only_call : ((method : Method) (args : Args) → is_own_kind w (Call method args) ≡ true → IsCalled w method
-      → codes "call " ++ text ≡ own_kind_text w (Call method args) → ⊥) → IsOwnKindRead w (codes "call " ++ text) None
+  only_call : ((method : Method) (args : Args) → is_own_kind w (Call method args) ≡ true
+      → IsCalled w method
+      → codes "call " ++ text ≡ own_kind_text w (Call method args) → ⊥)
+      → IsOwnKindRead w (codes "call " ++ text) None
   only_call none (Call method args) ok of f = none method args ok of f
-  only_call none (Return reply) ok of f = absurd (let h : 99 ≡ 114 = ap (λ t. get_or t 0 0) f in omega (arith, h))
-  only_call none (Write word value) ok of f = absurd (let h : 99 ≡ 119 = ap (λ t. get_or t 0 0) f in omega (arith, h))
-  only_call none Commit ok of f = absurd (let h : 97 ≡ 111 = ap (λ t. get_or t 1 0) f in omega (arith, h))
-  only_call none BlockOpen ok of f = absurd (let h : 99 ≡ 111 = ap (λ t. get_or t 0 0) f in omega (arith, h))
-  only_call none BlockClose ok of f = absurd (let h : 97 ≡ 108 = ap (λ t. get_or t 1 0) f in omega (arith, h))
-  only_call none BlockCommit ok of f = absurd (let h : 97 ≡ 108 = ap (λ t. get_or t 1 0) f in omega (arith, h))
+  only_call none (Return reply) ok of f = absurd
+      (let h : 99 ≡ 114 = ap (λ t. get_or t 0 0) f in omega (arith, h))
+  only_call none (Write word value) ok of f = absurd
+      (let h : 99 ≡ 119 = ap (λ t. get_or t 0 0) f in omega (arith, h))
+  only_call none Commit ok of f = absurd
+      (let h : 97 ≡ 111 = ap (λ t. get_or t 1 0) f in omega (arith, h))
+  only_call none BlockOpen ok of f = absurd
+      (let h : 99 ≡ 111 = ap (λ t. get_or t 0 0) f in omega (arith, h))
+  only_call none BlockClose ok of f = absurd
+      (let h : 97 ≡ 108 = ap (λ t. get_or t 1 0) f in omega (arith, h))
+  only_call none BlockCommit ok of f = absurd
+      (let h : 97 ≡ 108 = ap (λ t. get_or t 1 0) f in omega (arith, h))
 
   -- a name that no method has
   pub no_method : named_from 0 w.methods name ≡ None → IsOwnKindRead w (codes "call " ++ text) None
@@ -432,7 +549,8 @@ module _ (w : Written) (all : AllCallable w) (text name : List ℕ) (rest : Opti
       cc)
 
   -- arguments that the method doesn't have
-  pub no_arguments : (m : OwnMethod) → named_from 0 w.methods name ≡ Some m → AreOwnArgsRead m.arity rest None
+  pub no_arguments : (m : OwnMethod) → named_from 0 w.methods name ≡ Some m
+      → AreOwnArgsRead m.arity rest None
       → IsOwnKindRead w (codes "call " ++ text) None
   no_arguments m found none = only_call (λ method args ok of f.
       let x = of.named in
@@ -440,22 +558,29 @@ module _ (w : Written) (all : AllCallable w) (text name : List ℕ) (rest : Opti
       let same : m ≡ x = let two : Some m ≡ Some x = sym found ∙ is.0 in cc in
       let ranged = sym (called_test w all method of args) ∙ ok in
       let small = are_small (are_padded x.arity args) args ranged in
-      none args (ap (λ y. are_padded y.arity args) same ∙ is_padded (are_padded x.arity args) args ranged) small.a small.b small.c
+      none args (ap (λ y. are_padded y.arity args) same
+      ∙ is_padded (are_padded x.arity args) args ranged) small.a small.b small.c
       (is.1 ∙ ap (λ y. own_args y.arity args) (sym same)))
 
   -- a call that was read
-  pub call_read : (m : OwnMethod) (args : Args) → named_from 0 w.methods name ≡ Some m → AreOwnArgsRead m.arity rest (Some args)
-      → args.a < 2 ^ 32 → args.b < 2 ^ 32 → args.c < 2 ^ 32 → IsOwnKindRead w (codes "call " ++ text) (Some (Call (own_call m) args))
+  pub call_read : (m : OwnMethod) (args : Args) → named_from 0 w.methods name ≡ Some m
+      → AreOwnArgsRead m.arity rest (Some args)
+      → args.a < 2 ^ 32 → args.b < 2 ^ 32 → args.c < 2 ^ 32
+      → IsOwnKindRead w (codes "call " ++ text) (Some (Call (own_call m) args))
   call_read m args found read a b c =
       let n = named_is 0 w.methods name m all found in
-      let name_is : own_name w m.number ≡ name = ap (name_in w.methods) (n.number ∙ zero-add n.place) ∙ n.called in
-      let of : IsCalled w (own_call m) = record { named = m; is = refl; found = ap (named_from 0 w.methods) name_is ∙ found } in
+      let name_is : own_name w m.number ≡ name = ap (name_in w.methods)
+      (n.number ∙ zero-add n.place) ∙ n.called in
+      let of : IsCalled w (own_call m) =
+      record { named = m; is = refl; found = ap (named_from 0 w.methods) name_is ∙ found } in
       let arity : (i : ℕ) → own_number (own_call m) ≡ Some i → own_arity w i ≡ m.arity = λ i is.
       let same : Some m.number ≡ Some i = sym (called_number w all (own_call m) of) ∙ is in
       let number : m.number ≡ i = cc in
       ap (own_arity w) (sym number) ∙ called_arity w all (own_call m) of in (
-        called_test w all (own_call m) of args ∙ ranged_call (are_padded m.arity args) args read.0 a b c,
+        called_test w all (own_call m) of args ∙ ranged_call (are_padded m.arity args) args read.0 a
+            b c,
         of,
         λ i is zero. read.1 (sym (arity i is) ∙ zero),
-        ap (λ t. codes "call " ++ t) (parts ∙ (λ i. sym name_is i ++ after_field (read.2 i))) ∙ sym (call_text_is w all (own_call m) args of),
+        ap (λ t. codes "call " ++ t) (parts ∙ (λ i. sym name_is i ++ after_field (read.2 i)))
+            ∙ sym (call_text_is w all (own_call m) args of),
       )

@@ -1,5 +1,6 @@
 -- The starting words that are read keep both rules, and the header names the user's own subject.
-use Rattle.std.proofs.Common.{◌≡◌, ℕ, ◌+◌, Bool, true, false, cond, not, ◌&&◌, ◌||◌, List, [], ◌∷◌, Option, Some, None, refl, ap, sym, ◌∙◌, subst}
+use Rattle.std.proofs.Common.{◌≡◌, ℕ, ◌+◌, Bool, true, false, cond, not, ◌&&◌, ◌||◌, List, [], ◌∷◌}
+use Rattle.std.proofs.Common.{Option, Some, None, refl, ap, sym, ◌∙◌, subst}
 use Rattle.std.specs.Prelude.{◌==◌, nat_lt}
 use Rattle.std.specs.List.{slice_split}
 use Rattle.std.specs.Str.{bytes_eq}
@@ -10,7 +11,8 @@ use Rattle.vyrd_base.specs.declared.log.Entry.{Entry}
 use Rattle.vyrd_base.specs.declared.log.StartWord.{StartWord}
 use Rattle.vyrd_base.specs.declared.own.line.SpecificationLine.{SpecificationLine}
 use Rattle.vyrd_base.specs.declared.own.line.SpecificationLine.TheVariants as said
-use Rattle.vyrd_base.specs.declared.verdict.Rule.TheVariants.{TooManyLines, BadHeader, Specification, StartRange, StartOrder}
+use Rattle.vyrd_base.specs.declared.verdict.Rule.TheVariants.{TooManyLines, BadHeader}
+use Rattle.vyrd_base.specs.declared.verdict.Rule.TheVariants.{Specification, StartRange, StartOrder}
 use Rattle.vyrd_base.specs.Limits.{is_own_sized}
 use Rattle.vyrd_base.specs.Subjects.{limits_of}
 use Rattle.vyrd_base.specs.Shape.{◌breaks◌, first_broken}
@@ -21,7 +23,9 @@ use Rattle.vyrd_base.specs.Reading.{Input, after_end_rule}
 use Rattle.vyrd_base.specs.Own.Programs.{Written}
 use Rattle.vyrd_base.specs.Own.Reader.{SoFar, nothing_read, read_next}
 use Rattle.vyrd_base.specs.Own.Entries.{own_entry_in}
-use Rattle.vyrd_base.specs.Own.Log.{OwnReading, own_stopped, own_ended, is_note, own_entry_before, entries_read, own_start_before, own_starts_read, line_before, specification_read, own_header_in, own_text_read, own_reading}
+use Rattle.vyrd_base.specs.Own.Log.{OwnReading, own_stopped, own_ended, is_note, own_entry_before}
+use Rattle.vyrd_base.specs.Own.Log.{entries_read, own_start_before, own_starts_read, line_before}
+use Rattle.vyrd_base.specs.Own.Log.{specification_read, own_header_in, own_text_read, own_reading}
 use Rattle.vyrd_base.proofs.TestLaws.{both_true}
 use Rattle.vyrd_own_log.proofs.HeaderLaws.{header_sound, header_complete}
 
@@ -33,30 +37,36 @@ pub record IsBare (read : OwnReading) : Type 0 where
 stopped_bare : (read : OwnReading) → read.lines ≡ [] → read.starting ≡ [] → IsBare read
 stopped_bare read lines starting = record { lines = lines; starting = starting }
 
-pub entries_bare : (input : Input) (w : Written) (n : ℕ) (lines : List (List ℕ)) → IsBare (entries_read input w n lines)
+pub entries_bare : (input : Input) (w : Written) (n : ℕ) (lines : List (List ℕ))
+    → IsBare (entries_read input w n lines)
 entries_bare input w n [] = record { lines = refl; starting = refl }
 entries_bare input w n (rest ∷ []) = record { lines = refl; starting = refl }
 entries_bare input w n (line ∷ next ∷ lines) =
-    by_tests (entries_bare input w (n + 1) (next ∷ lines)) (nat_lt input.max_lines n) (is_note line) (bytes_eq line end_line) (own_entry_in w line)
+    by_tests (entries_bare input w (n + 1) (next ∷ lines)) (nat_lt input.max_lines n) (is_note line)
+    (bytes_eq line end_line) (own_entry_in w line)
   where
     rest : OwnReading
     rest = entries_read input w (n + 1) (next ∷ lines)
 
     by_tests : IsBare rest → (past note is_end : Bool) (o : Option Entry)
         → IsBare (cond past (own_stopped n (Some TooManyLines)) (cond note rest
-        (cond is_end (own_ended n (after_end_rule input (n + 1) next lines)) (own_entry_before n o rest))))
+        (cond is_end (own_ended n (after_end_rule input (n + 1) next lines))
+        (own_entry_before n o rest))))
     by_tests bare true note is_end o = record { lines = refl; starting = refl }
     by_tests bare false true is_end o = bare
     by_tests bare false false true o = record { lines = refl; starting = refl }
     by_tests bare false false false None = record { lines = refl; starting = refl }
-    by_tests bare false false false (Some e) = record { lines = bare.lines; starting = bare.starting }
+    by_tests bare false false false (Some e) =
+        record { lines = bare.lines; starting = bare.starting }
 
-starts_follow : (input : Input) (h : Header) (w : Written) (last : Option StartWord) (n : ℕ) (lines : List (List ℕ))
+starts_follow : (input : Input) (h : Header) (w : Written) (last : Option StartWord) (n : ℕ)
+    (lines : List (List ℕ))
     → do_follow h last (own_starts_read input h w last n lines).starting ≡ true
 starts_follow input h w last n [] = refl
 starts_follow input h w last n (rest ∷ []) = refl
 starts_follow input h w last n (line ∷ next ∷ lines) =
-    by_tests (λ x. starts_follow input h w x (n + 1) (next ∷ lines)) (is_note line) (nat_lt input.max_lines n) (start_in line)
+    by_tests (λ x. starts_follow input h w x (n + 1) (next ∷ lines)) (is_note line)
+    (nat_lt input.max_lines n) (start_in line)
   where
     on : Option StartWord → OwnReading
     on x = own_starts_read input h w x (n + 1) (next ∷ lines)
@@ -67,20 +77,28 @@ starts_follow input h w last n (line ∷ next ∷ lines) =
     at_start : Bool → Option StartWord → OwnReading
     at_start past o = elim o as (λ _. OwnReading) [
       | None ↦ entries_read input w n (line ∷ next ∷ lines)
-      | Some s ↦ cond past (own_stopped n (Some TooManyLines)) (own_start_before n (start_rule h last s) s (on (Some s)))
+      | Some s ↦ cond past (own_stopped n (Some TooManyLines))
+          (own_start_before n (start_rule h last s) s (on (Some s)))
     ]
 
-    by_rule : Follow → (s : StartWord) (a b : Bool) → is_out_of_range h s ≡ a → is_out_of_order last s ≡ b
-        → do_follow h last (own_start_before n (first_broken ((a breaks StartRange) ∷ (b breaks StartOrder) ∷ [])) s (on (Some s))).starting ≡ true
+    by_rule : Follow → (s : StartWord) (a b : Bool) → is_out_of_range h s ≡ a
+        → is_out_of_order last s ≡ b
+        → do_follow h last
+        (own_start_before n (first_broken ((a breaks StartRange) ∷ (b breaks StartOrder) ∷ [])) s
+        (on (Some s))).starting ≡ true
     by_rule follow s true b ea eb = refl
     by_rule follow s false true ea eb = refl
     by_rule follow s false false ea eb =
-        both_true (not (is_out_of_range h s || is_out_of_order last s)) _ (λ i. not (ea i || eb i)) (follow (Some s))
+        both_true (not (is_out_of_range h s || is_out_of_order last s)) _ (λ i. not (ea i || eb i))
+        (follow (Some s))
 
-    by_start : Follow → (past : Bool) (o : Option StartWord) → do_follow h last (at_start past o).starting ≡ true
-    by_start follow past None = ap (do_follow h last) (entries_bare input w n (line ∷ next ∷ lines)).starting
+    by_start : Follow → (past : Bool) (o : Option StartWord)
+        → do_follow h last (at_start past o).starting ≡ true
+    by_start follow past None = ap (do_follow h last)
+        (entries_bare input w n (line ∷ next ∷ lines)).starting
     by_start follow true (Some s) = refl
-    by_start follow false (Some s) = by_rule follow s (is_out_of_range h s) (is_out_of_order last s) refl refl
+    by_start follow false (Some s) = by_rule follow s (is_out_of_range h s) (is_out_of_order last s)
+        refl refl
 
     by_tests : Follow → (note past : Bool) (o : Option StartWord)
         → do_follow h last (cond (note && not past) (on last) (at_start past o)).starting ≡ true
@@ -93,7 +111,8 @@ specification_follow : (input : Input) (h : Header) (s : SoFar) (n : ℕ) (lines
 specification_follow input h s n [] = refl
 specification_follow input h s n (rest ∷ []) = refl
 specification_follow input h s n (line ∷ next ∷ lines) =
-    by_tests (specification_follow input h (read_next s line).1 (n + 1) (next ∷ lines)) (nat_lt input.max_lines n) (read_next s line).0
+    by_tests (specification_follow input h (read_next s line).1 (n + 1) (next ∷ lines))
+    (nat_lt input.max_lines n) (read_next s line).0
   where
     rest : OwnReading
     rest = specification_read input h (read_next s line).1 (n + 1) (next ∷ lines)
@@ -109,14 +128,17 @@ specification_follow input h s n (line ∷ next ∷ lines) =
         → do_follow h None (cond past (own_stopped n (Some TooManyLines)) (told x)).starting ≡ true
     by_tests follow true x = refl
     by_tests follow false said.More = follow
-    by_tests follow false said.Log = starts_follow input h s.specification None (n + 1) (next ∷ lines)
+    by_tests follow false said.Log = starts_follow input h s.specification None (n + 1)
+        (next ∷ lines)
     by_tests follow false (said.Refused rule column) = refl
 
 -- the subject of a header that is read
-made_own : (words callers : ℕ) (b : Bool) (e : limits_of Own 3 words callers ≡ b) (h : Header) → header_if 3 Own words callers b e ≡ Some h
+made_own : (words callers : ℕ) (b : Bool) (e : limits_of Own 3 words callers ≡ b) (h : Header)
+    → header_if 3 Own words callers b e ≡ Some h
     → h.subject ≡ Own
 made_own words callers true e h is =
-    let same : record { version = 3; subject = Own; size = words; callers = callers; within = e } ≡ h = cc in
+    let same : record { version = 3; subject = Own; size = words; callers = callers; within = e }
+    ≡ h = cc in
     sym (ap (λ (x : Header). x.subject) same)
 made_own words callers false e h is = cc
 
@@ -124,9 +146,11 @@ line_own : (line : List ℕ) (h : Header) → own_header_in line ≡ Some h → 
 line_own line h is =
     let spelled = header_sound line h is in
     made_own spelled.words spelled.callers (limits_of Own 3 spelled.words spelled.callers) refl h
-    (sym (header_complete spelled.words spelled.callers spelled.sized) ∙ ap own_header_in (sym spelled.spelled) ∙ is)
+    (sym (header_complete spelled.words spelled.callers spelled.sized)
+    ∙ ap own_header_in (sym spelled.spelled) ∙ is)
 
-parts_follow : (input : Input) (parts : List (List ℕ)) (h : Header) → (own_text_read input parts).header ≡ Some h
+parts_follow : (input : Input) (parts : List (List ℕ)) (h : Header)
+    → (own_text_read input parts).header ≡ Some h
     → (h.subject ≡ Own) × (do_follow h None (own_text_read input parts).starting ≡ true)
 parts_follow input [] h has = cc
 parts_follow input (rest ∷ []) h has = cc
@@ -135,7 +159,9 @@ parts_follow input (line ∷ next ∷ lines) h has = by_header (own_header_in li
     text : Option Header → OwnReading
     text o = elim o as (λ _. OwnReading) [
       | None ↦ own_stopped 1 (Some BadHeader)
-      | Some g ↦ record (specification_read input g nothing_read 2 (next ∷ lines)) { header = Some g }
+      | Some g ↦ record (specification_read input g nothing_read 2 (next ∷ lines)) {
+        header = Some g;
+      }
     ]
 
     by_header : (o : Option Header) → own_header_in line ≡ o → (text o).header ≡ Some h
@@ -144,11 +170,13 @@ parts_follow input (line ∷ next ∷ lines) h has = by_header (own_header_in li
     by_header (Some g) is e =
         let same : g ≡ h = cc in (
           line_own line h (is ∙ ap Some same),
-          subst (λ k. do_follow k None (specification_read input g nothing_read 2 (next ∷ lines)).starting ≡ true) same
+          subst (λ k. do_follow k None
+              (specification_read input g nothing_read 2 (next ∷ lines)).starting ≡ true) same
               (specification_follow input g nothing_read 2 (next ∷ lines)),
         )
 
-pub reading_follows : (input : Input) (bytes : List ℕ) (h : Header) → (own_reading input bytes).header ≡ Some h
+pub reading_follows : (input : Input) (bytes : List ℕ) (h : Header)
+    → (own_reading input bytes).header ≡ Some h
     → (h.subject ≡ Own) × (do_follow h None (own_reading input bytes).starting ≡ true)
 unfolding own_reading
 reading_follows input bytes h has = parts_follow input (slice_split (λ b. b == 10) bytes) h has

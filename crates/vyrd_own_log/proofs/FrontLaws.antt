@@ -1,5 +1,7 @@
 -- What a reader makes of entries that are read where they lie: what it makes of their lines.
-use Rattle.std.proofs.Common.{◌≡◌, ℕ, ◌+◌, ◌<◌, ◌≤◌, ◌^◌, Bool, true, false, cond, not, ◌&&◌, List, [], ◌∷◌, ◌++◌, length, None, refl, ap, sym, ◌∙◌, arith, append_assoc, length-append}
+use Rattle.std.proofs.Common.{◌≡◌, ℕ, ◌+◌, ◌<◌, ◌≤◌, ◌^◌, Bool, true, false, cond, not, ◌&&◌, List}
+use Rattle.std.proofs.Common.{[], ◌∷◌, ◌++◌, length, None, refl, ap, sym, ◌∙◌, arith, append_assoc}
+use Rattle.std.proofs.Common.{length-append}
 use Rattle.std.specs.Prelude.{◌==◌, nat_lt, decimal, is_some}
 use Rattle.std.specs.Str.{bytes_eq}
 use Rattle.std.proofs.Math.Bool.{and-false}
@@ -22,18 +24,21 @@ use Rattle.vyrd_own_log.specs.States.{LineState}
 use Rattle.vyrd_own_log.specs.Steps.{next, broken, spelled_step, stage_step, own_step}
 use Rattle.vyrd_base.specs.declared.verdict.Rule.TheVariants.{TooManyLines}
 use Rattle.vyrd_own_log.specs.Readers.{Kept, IsSafe, IsSound, IsFed, IsFedFront}
-use Rattle.vyrd_own_log.proofs.EntryLaws.{AllCallable, own_line_is, entry_complete, entry_one_line, below_64}
+use Rattle.vyrd_own_log.proofs.EntryLaws.{AllCallable, own_line_is, entry_complete, entry_one_line}
+use Rattle.vyrd_own_log.proofs.EntryLaws.{below_64}
 use Rattle.vyrd_own_log.proofs.ReadLaws.{nothing_fed, fed_then, line_fed, line_kept}
 
 -- a line that begins with a caller is neither a note nor the end
 not_note : (digits rest : List ℕ) → lacks 35 digits ≡ true → is_note (digits ++ 32 ∷ rest) ≡ false
 not_note [] rest lack = refl
 not_note (d ∷ digits) rest lack =
-    ap (λ b. b && nat_lt (length (digits ++ 32 ∷ rest)) 200) (not-true (d == 35) (first_true _ _ lack))
+    ap (λ b. b && nat_lt (length (digits ++ 32 ∷ rest)) 200)
+    (not-true (d == 35) (first_true _ _ lack))
 
 has_space : (digits rest : List ℕ) → lacks 32 (digits ++ 32 ∷ rest) ≡ false
 has_space [] rest = refl
-has_space (d ∷ digits) rest = ap (λ b. not (d == 32) && b) (has_space digits rest) ∙ and-false (not (d == 32))
+has_space (d ∷ digits) rest = ap (λ b. not (d == 32) && b) (has_space digits rest)
+    ∙ and-false (not (d == 32))
 
 not_end : (digits rest : List ℕ) → bytes_eq (digits ++ 32 ∷ rest) end_line ≡ false
 not_end digits rest = by_test (bytes_eq (digits ++ 32 ∷ rest) end_line) refl
@@ -41,12 +46,15 @@ not_end digits rest = by_test (bytes_eq (digits ++ 32 ∷ rest) end_line) refl
     by_test : (b : Bool) → bytes_eq (digits ++ 32 ∷ rest) end_line ≡ b → b ≡ false
     by_test false e = refl
     by_test true e =
-        let same : digits ++ 32 ∷ rest ≡ end_line = (bytes_eq-Decides (digits ++ 32 ∷ rest) end_line).0 e in
+        let same : digits ++ 32 ∷ rest ≡ end_line =
+        (bytes_eq-Decides (digits ++ 32 ∷ rest) end_line).0 e in
         sym (ap (lacks 32) same) ∙ has_space digits rest
 
 -- the step over an entry's line
-module _ (r : LineState) (h : Header) (e : entries.Entry) (text rest : List ℕ) (all : AllCallable r.said.specification) (fine : r.fault ≡ None)
-    (stage : r.stage ≡ stages.Entries h) (within : r.line ≤ r.max_lines) (at : IsOwnEntryAtFront r.said.specification text e rest) where
+module _ (r : LineState) (h : Header) (e : entries.Entry) (text rest : List ℕ)
+    (all : AllCallable r.said.specification) (fine : r.fault ≡ None)
+    (stage : r.stage ≡ stages.Entries h) (within : r.line ≤ r.max_lines)
+    (at : IsOwnEntryAtFront r.said.specification text e rest) where
   abbrev line : List ℕ
   line = own_entry_line r.said.specification e
 
@@ -57,20 +65,26 @@ module _ (r : LineState) (h : Header) (e : entries.Entry) (text rest : List ℕ)
   caller = below_64 e.caller (below_of e.caller (2 ^ 32) (first_true _ _ at.ranged))
 
   note : is_note line ≡ false
-  note = ap is_note line_is ∙ not_note (decimal e.caller) _ (decimal_lacks 35 e.caller (λ h. omega arith) caller)
+  note = ap is_note line_is ∙ not_note (decimal e.caller) _
+      (decimal_lacks 35 e.caller (λ h. omega arith) caller)
 
   end : bytes_eq line end_line ≡ false
   end = ap (λ t. bytes_eq t end_line) line_is ∙ not_end (decimal e.caller) _
 
   pub entry_step_is : own_step r line ≡ (next r (stages.Entries h), found.Entry e)
   entry_step_is =
-      ap (λ f. cond (is_some f) (r, found.Nothing) (cond (nat_lt r.max_lines r.line) (broken r TooManyLines) (stage_step r r.stage line))) fine
-      ∙ ap (λ b. cond b (broken r TooManyLines) (stage_step r r.stage line)) (isnt_below r.max_lines r.line within)
+      ap (λ f. cond (is_some f) (r, found.Nothing)
+      (cond (nat_lt r.max_lines r.line) (broken r TooManyLines) (stage_step r r.stage line))) fine
+      ∙ ap (λ b. cond b (broken r TooManyLines) (stage_step r r.stage line))
+      (isnt_below r.max_lines r.line within)
       ∙ ap (λ st. stage_step r st line) stage
-      ∙ ap (λ b. cond b (next r (stages.Entries h), found.Nothing) (cond (bytes_eq line end_line) (next r (stages.End h), found.End)
+      ∙ ap (λ b. cond b (next r (stages.Entries h), found.Nothing)
+      (cond (bytes_eq line end_line) (next r (stages.End h), found.End)
       (spelled_step r h (own_entry_in r.said.specification line)))) note
-      ∙ ap (λ b. cond b (next r (stages.End h), found.End) (spelled_step r h (own_entry_in r.said.specification line))) end
-      ∙ ap (spelled_step r h) (entry_complete r.said.specification e all at.ranged at.of at.no_other)
+      ∙ ap (λ b. cond b (next r (stages.End h), found.End)
+      (spelled_step r h (own_entry_in r.said.specification line))) end
+      ∙ ap (spelled_step r h)
+      (entry_complete r.said.specification e all at.ranged at.of at.no_other)
 
 -- a reader whose next line has this number
 abbrev pub at_line : Kept → ℕ → Kept
@@ -80,52 +94,71 @@ pub all_callable : (k : Kept) → IsSafe k → AllCallable k.lines.said.specific
 all_callable k safe = second_true _ _ safe.steady.callable
 
 -- one more entry was read where it lies
-pub one_more_fed : (k : Kept) (h : Header) (n : ℕ) (e : entries.Entry) (piece rest after : List ℕ) (es fs gs : List entries.Entry) (ms ns os : List ℕ)
-    → IsSafe k → k.unfinished ≡ [] → k.lines.fault ≡ None → k.lines.stage ≡ stages.Entries h → n ≤ k.lines.max_lines
-    → IsOwnEntryAtFront k.lines.said.specification rest e after → gs ≡ fs ++ e ∷ [] → os ≡ ns ++ n ∷ []
-    → IsFedFront k piece rest es fs ms ns (at_line k n) → IsFedFront k piece after es gs ms os (at_line k (n + 1))
-one_more_fed k h n e piece rest after es fs gs ms ns os safe empty fine stage within at grown counted front =
+pub one_more_fed : (k : Kept) (h : Header) (n : ℕ) (e : entries.Entry) (piece rest after : List ℕ)
+    (es fs gs : List entries.Entry) (ms ns os : List ℕ)
+    → IsSafe k → k.unfinished ≡ [] → k.lines.fault ≡ None → k.lines.stage ≡ stages.Entries h
+    → n ≤ k.lines.max_lines
+    → IsOwnEntryAtFront k.lines.said.specification rest e after → gs ≡ fs ++ e ∷ [] → os ≡ ns
+    ++ n ∷ []
+    → IsFedFront k piece rest es fs ms ns (at_line k n) → IsFedFront k piece after es gs ms os
+    (at_line k (n + 1))
+one_more_fed k h n e piece rest after es fs gs ms ns os safe empty fine stage within at grown
+    counted front =
     let all = all_callable k safe in
     let r = record k.lines { line = n } in
     let line = own_entry_line k.lines.said.specification e in
     let one = entry_one_line k.lines.said.specification e all at.ranged at.of in
-    let stays : ◌≡◌ {A = LineState × Found} (record k.lines { line = n + 1 }, found.Entry e) (next r (stages.Entries h), found.Entry e) =
+    let stays : ◌≡◌ {A = LineState × Found} (record k.lines { line = n + 1 }, found.Entry e)
+    (next r (stages.Entries h), found.Entry e) =
     λ i. (record k.lines { line = n + 1; stage = stage i }, found.Entry e) in
-    let step : ◌≡◌ {A = LineState × Found} (record k.lines { line = n + 1 }, found.Entry e) (own_step r (k.unfinished ++ line)) =
-    stays ∙ sym (entry_step_is r h e rest after all fine stage within at) ∙ ap (λ u. own_step r (u ++ line)) (sym empty) in
+    let step : ◌≡◌ {A = LineState × Found} (record k.lines { line = n + 1 }, found.Entry e)
+    (own_step r (k.unfinished ++ line)) =
+    stays ∙ sym (entry_step_is r h e rest after all fine stage within at)
+    ∙ ap (λ u. own_step r (u ++ line)) (sym empty) in
     record {
       read = front.read ++ (line ++ 10 ∷ []);
-      parted = front.parted ∙ ap (λ t. front.read ++ t) (at.spelled ∙ sym (append_assoc line (10 ∷ []) after))
+      parted = front.parted ∙ ap (λ t. front.read ++ t)
+          (at.spelled ∙ sym (append_assoc line (10 ∷ []) after))
           ∙ sym (append_assoc front.read (line ++ 10 ∷ []) after);
-      fed = fed_then k (at_line k n) (at_line k (n + 1)) front.read (line ++ 10 ∷ []) es fs gs ms ns os front.fed
-          (line_fed (at_line k n) (at_line k (n + 1)) line (found.Entry e) fs gs ns os front.sound one step empty
+      fed = fed_then k (at_line k n) (at_line k (n + 1)) front.read (line ++ 10 ∷ []) es fs gs ms ns
+          os front.fed
+          (line_fed (at_line k n) (at_line k (n + 1)) line (found.Entry e) fs gs ns os front.sound
+          one step empty
           (sym (append-nil k.specified)) (sym (append-nil k.start)) grown counted);
-      sound = line_kept (at_line k n) (at_line k (n + 1)) line (found.Entry e) front.sound one step empty;
+      sound = line_kept (at_line k n) (at_line k (n + 1)) line (found.Entry e) front.sound one step
+          empty;
     }
 
 -- what stands behind an entry is shorter
-pub behind_shorter : (k : Kept) (e : entries.Entry) (rest after : List ℕ) → IsOwnEntryAtFront k.lines.said.specification rest e after
+pub behind_shorter : (k : Kept) (e : entries.Entry) (rest after : List ℕ)
+    → IsOwnEntryAtFront k.lines.said.specification rest e after
     → length after < length rest
 behind_shorter k e rest after at =
     let line = own_entry_line k.lines.said.specification e in
     omega (arith, ap length at.spelled, length-append line (10 ∷ after))
 
 -- nothing was read
-pub nothing_front : (k : Kept) (piece : List ℕ) (es : List entries.Entry) (ns : List ℕ) → IsSound k → IsFedFront k piece piece es es ns ns k
-nothing_front k piece es ns sound = record { read = []; parted = refl; fed = nothing_fed k es ns; sound = sound }
+pub nothing_front : (k : Kept) (piece : List ℕ) (es : List entries.Entry) (ns : List ℕ) → IsSound k
+    → IsFedFront k piece piece es es ns ns k
+nothing_front k piece es ns sound =
+    record { read = []; parted = refl; fed = nothing_fed k es ns; sound = sound }
 
 -- the front of a piece, and then the front of what stands behind it
-pub front_then : (k m n : Kept) (piece rest after : List ℕ) (es fs gs : List entries.Entry) (ms ns os : List ℕ)
-    → IsFedFront k piece rest es fs ms ns m → IsFedFront m rest after fs gs ns os n → IsFedFront k piece after es gs ms os n
+pub front_then : (k m n : Kept) (piece rest after : List ℕ) (es fs gs : List entries.Entry)
+    (ms ns os : List ℕ)
+    → IsFedFront k piece rest es fs ms ns m → IsFedFront m rest after fs gs ns os n
+    → IsFedFront k piece after es gs ms os n
 front_then k m n piece rest after es fs gs ms ns os first second = record {
   read = first.read ++ second.read;
-  parted = first.parted ∙ ap (λ t. first.read ++ t) second.parted ∙ sym (append_assoc first.read second.read after);
+  parted = first.parted ∙ ap (λ t. first.read ++ t) second.parted
+      ∙ sym (append_assoc first.read second.read after);
   fed = fed_then k m n first.read second.read es fs gs ms ns os first.fed second.fed;
   sound = second.sound;
 }
 
 -- a whole line at the front
-pub line_front : (k n : Kept) (line piece after : List ℕ) (es fs : List entries.Entry) (ms ns : List ℕ) → piece ≡ line ++ 10 ∷ after
+pub line_front : (k n : Kept) (line piece after : List ℕ) (es fs : List entries.Entry)
+    (ms ns : List ℕ) → piece ≡ line ++ 10 ∷ after
     → IsFed k (line ++ 10 ∷ []) es fs ms ns n → IsSound n → IsFedFront k piece after es fs ms ns n
 line_front k n line piece after es fs ms ns is fed sound = record {
   read = line ++ 10 ∷ [];

@@ -1,5 +1,7 @@
 -- What longer bytes say: what was read stays read, and a fault of text that is known stays.
-use Rattle.std.proofs.Common.{◌≡◌, ℕ, ◌+◌, ◌≤◌, Bool, true, false, not, ◌||◌, length, List, [], ◌∷◌, ◌++◌, Option, Some, None, refl, ap, sym, ◌∙◌, subst, arith, append_assoc}
+use Rattle.std.proofs.Common.{◌≡◌, ℕ, ◌+◌, ◌≤◌, Bool, true, false, not, ◌||◌, length, List, [], ◌∷◌}
+use Rattle.std.proofs.Common.{◌++◌, Option, Some, None, refl, ap, sym, ◌∙◌, subst, arith}
+use Rattle.std.proofs.Common.{append_assoc}
 use Rattle.std.specs.Prelude.{◌==◌}
 use Rattle.std.proofs.lemmas.List.{append-nil}
 use Rattle.vyrd_base.specs.declared.header.Header.{Header}
@@ -12,15 +14,18 @@ use Rattle.vyrd_base.proofs.TestLaws.{both_true, same_of}
 use Rattle.vyrd_own_log.specs.declared.stage.Stage.{Stage}
 use Rattle.vyrd_own_log.specs.declared.stage.Stage.TheVariants as stages
 use Rattle.vyrd_own_log.specs.Callable.{are_callable}
-use Rattle.vyrd_own_log.specs.States.{header_at, has_ended, input_to, lines_on, known, unless_faulty, IsFirst}
+use Rattle.vyrd_own_log.specs.States.{header_at, has_ended, input_to, lines_on, known}
+use Rattle.vyrd_own_log.specs.States.{unless_faulty, IsFirst}
 use Rattle.vyrd_text.proofs.AheadLaws.{parts_of}
-use Rattle.vyrd_own_log.specs.Steps.{broken, own_step, Brought, nothing_brought, brought_then, brought_by, with_read}
+use Rattle.vyrd_own_log.specs.Steps.{broken, own_step, Brought, nothing_brought, brought_then}
+use Rattle.vyrd_own_log.specs.Steps.{brought_by, with_read}
 use Rattle.vyrd_own_log.specs.Rests.{rest_rule}
 use Rattle.vyrd_own_log.specs.Readers.{Kept, fresh_kept, goes_on, HasReached, IsSound, IsTaken}
 use Rattle.vyrd_own_log.specs.Grown.{to_go_on, input_of, has_begun, IsGrown, ends, IsFormed}
 use Rattle.vyrd_own_log.proofs.CountLaws.{IsCounted, is_past, line_counted, same_counted}
 use Rattle.vyrd_own_log.proofs.FollowLaws.{IsBare, entries_bare, reading_follows}
-use Rattle.vyrd_own_log.proofs.ReaderLaws.{longer_taken, faulty_taken, broken_taken, line_taken, line_sound, read_now}
+use Rattle.vyrd_own_log.proofs.ReaderLaws.{longer_taken, faulty_taken, broken_taken, line_taken}
+use Rattle.vyrd_own_log.proofs.ReaderLaws.{line_sound, read_now}
 
 -- bytes were read so far
 record Reached (max : ℕ) (bytes : List ℕ) : Type 0 where
@@ -33,7 +38,8 @@ record Reached (max : ℕ) (bytes : List ℕ) : Type 0 where
 
 -- one byte more
 module _ (max : ℕ) (before : List ℕ) (at : Reached max before) where
-  taken_to : (x : ℕ) (b : Brought) (n : Kept) → IsTaken at.kept (x ∷ []) b n → IsSound n → IsCounted n.lines (brought_then at.brought b)
+  taken_to : (x : ℕ) (b : Brought) (n : Kept) → IsTaken at.kept (x ∷ []) b n → IsSound n
+      → IsCounted n.lines (brought_then at.brought b)
       → Reached max (before ++ x ∷ [])
   taken_to x b n taken sound counted = record {
     kept = n;
@@ -47,24 +53,34 @@ module _ (max : ℕ) (before : List ℕ) (at : Reached max before) where
   byte_within : (x : ℕ) → lacks 10 (x ∷ []) ≡ true → Reached max (before ++ x ∷ [])
   byte_within x one = by_fault at.kept.lines.fault refl
     where
-      by_rule : at.kept.lines.fault ≡ None → (o : Option Rule) → rest_rule at.kept.lines (at.kept.unfinished ++ x ∷ []) ≡ o
+      by_rule : at.kept.lines.fault ≡ None → (o : Option Rule)
+          → rest_rule at.kept.lines (at.kept.unfinished ++ x ∷ []) ≡ o
           → Reached max (before ++ x ∷ [])
-      by_rule fine None is = taken_to x nothing_brought (record at.kept { unfinished = at.kept.unfinished ++ x ∷ [] })
+      by_rule fine None is = taken_to x nothing_brought
+          (record at.kept { unfinished = at.kept.unfinished ++ x ∷ [] })
           (longer_taken at.kept (x ∷ [])) (record {
             steady = at.sound.steady;
             first = at.sound.first;
             one_line = lacks-append 10 at.kept.unfinished (x ∷ []) at.sound.one_line one;
             noticed = λ f. is;
           }) (same_counted at.kept.lines at.kept.lines at.brought refl refl at.counted)
-      by_rule fine (Some rule) is = taken_to x nothing_brought (record at.kept { lines = (broken at.kept.lines rule).0 })
+      by_rule fine (Some rule) is = taken_to x nothing_brought
+          (record at.kept { lines = (broken at.kept.lines rule).0 })
           (broken_taken at.kept (x ∷ []) at.sound one fine rule is) (record {
-            steady = record { low = at.sound.steady.low; high = at.sound.steady.high; counted = at.sound.steady.counted; callable = at.sound.steady.callable };
+            steady = record {
+              low = at.sound.steady.low;
+              high = at.sound.steady.high;
+              counted = at.sound.steady.counted;
+              callable = at.sound.steady.callable;
+            };
             first = first_of at.kept.lines.stage at.sound.first;
             one_line = at.sound.one_line;
             noticed = λ f. cc;
-          }) (same_counted at.kept.lines (broken at.kept.lines rule).0 at.brought refl refl at.counted)
+          }) (same_counted at.kept.lines (broken at.kept.lines rule).0 at.brought refl refl
+          at.counted)
         where
-          first_of : (st : Stage) → IsFirst st at.kept.lines → IsFirst st (broken at.kept.lines rule).0
+          first_of : (st : Stage) → IsFirst st at.kept.lines
+              → IsFirst st (broken at.kept.lines rule).0
           first_of stages.Header f = f
           first_of (stages.Specification h) f = tt
           first_of (stages.Starts h last) f = tt
@@ -72,14 +88,23 @@ module _ (max : ℕ) (before : List ℕ) (at : Reached max before) where
           first_of (stages.End h) f = tt
 
       by_fault : (f : Option TextFault) → at.kept.lines.fault ≡ f → Reached max (before ++ x ∷ [])
-      by_fault (Some f) is = taken_to x nothing_brought at.kept (faulty_taken at.kept f (x ∷ []) is) at.sound
+      by_fault (Some f) is = taken_to x nothing_brought at.kept (faulty_taken at.kept f (x ∷ []) is)
+          at.sound
           (same_counted at.kept.lines at.kept.lines at.brought refl refl at.counted)
       by_fault None is = by_rule is (rest_rule at.kept.lines (at.kept.unfinished ++ x ∷ [])) refl
 
   line_feed : Reached max (before ++ 10 ∷ [])
-  line_feed = taken_to 10 (brought_by at.kept.lines.line (at.kept.unfinished ++ []) (own_step at.kept.lines (at.kept.unfinished ++ [])).1)
-      (record { lines = (own_step at.kept.lines (at.kept.unfinished ++ [])).0; unfinished = []; specified = at.kept.specified; start = at.kept.start })
-      (line_taken at.kept [] at.sound refl at.kept.specified at.kept.start) (line_sound at.kept [] at.sound refl at.kept.specified at.kept.start)
+  line_feed = taken_to 10
+      (brought_by at.kept.lines.line (at.kept.unfinished ++ [])
+      (own_step at.kept.lines (at.kept.unfinished ++ [])).1)
+      (record {
+        lines = (own_step at.kept.lines (at.kept.unfinished ++ [])).0;
+        unfinished = [];
+        specified = at.kept.specified;
+        start = at.kept.start;
+      })
+      (line_taken at.kept [] at.sound refl at.kept.specified at.kept.start)
+      (line_sound at.kept [] at.sound refl at.kept.specified at.kept.start)
       (line_counted at.kept.lines (at.kept.unfinished ++ []) at.brought at.counted)
 
   one_more : (x : ℕ) → Reached max (before ++ x ∷ [])
@@ -92,7 +117,8 @@ module _ (max : ℕ) (before : List ℕ) (at : Reached max before) where
 all_more : (max : ℕ) (before bytes : List ℕ) → Reached max before → Reached max (before ++ bytes)
 all_more max before [] at = subst (Reached max) (sym (append-nil before)) at
 all_more max before (x ∷ bytes) at =
-    subst (Reached max) (append_assoc before (x ∷ []) bytes) (all_more max (before ++ x ∷ []) bytes (one_more max before at x))
+    subst (Reached max) (append_assoc before (x ∷ []) bytes)
+    (all_more max (before ++ x ∷ []) bytes (one_more max before at x))
 
 reached_all : (max : ℕ) (bytes : List ℕ) → 1 ≤ max → max ≤ 268435456 → Reached max bytes
 unfolding own_reading
@@ -117,17 +143,21 @@ record IsOver (read : OwnReading) : Type 0 where
   numbers : read.numbers ≡ []
 
 -- where something past the starting words was read, none of them comes any more
-pub past_of : (k : Kept) (b : Brought) → IsCounted k.lines b → (has_any b.entries || has_ended k.lines.stage) ≡ true → is_past k.lines.stage ≡ true
+pub past_of : (k : Kept) (b : Brought) → IsCounted k.lines b
+    → (has_any b.entries || has_ended k.lines.stage) ≡ true → is_past k.lines.stage ≡ true
 past_of k b counted e = by_stage k.lines.stage refl e
   where
-    by_any : (any : Bool) → has_any b.entries ≡ any → any || false ≡ true → is_past k.lines.stage ≡ true
+    by_any : (any : Bool) → has_any b.entries ≡ any → any || false ≡ true → is_past k.lines.stage
+        ≡ true
     by_any true is f = counted.past is
     by_any false is f = cc
 
-    past : has_ended k.lines.stage ≡ false → (has_any b.entries || has_ended k.lines.stage) ≡ true → is_past k.lines.stage ≡ true
+    past : has_ended k.lines.stage ≡ false → (has_any b.entries || has_ended k.lines.stage) ≡ true
+        → is_past k.lines.stage ≡ true
     past none f = by_any (has_any b.entries) refl (ap (λ t. has_any b.entries || t) (sym none) ∙ f)
 
-    by_stage : (st : Stage) → k.lines.stage ≡ st → (has_any b.entries || has_ended k.lines.stage) ≡ true → is_past k.lines.stage ≡ true
+    by_stage : (st : Stage) → k.lines.stage ≡ st → (has_any b.entries || has_ended k.lines.stage)
+        ≡ true → is_past k.lines.stage ≡ true
     by_stage stages.Header is f = past (ap has_ended is) f
     by_stage (stages.Specification h) is f = past (ap has_ended is) f
     by_stage (stages.Starts h last) is f = past (ap has_ended is) f
@@ -136,7 +166,8 @@ past_of k b counted e = by_stage k.lines.stage refl e
 
 -- what is read on keeps the header and the end
 module _ (k : Kept) (w : Bool) (more : List ℕ) where
-  header_stays : (h : Header) → header_at k.lines.stage ≡ Some h → (goes_on k.lines k.unfinished w more).header ≡ Some h
+  header_stays : (h : Header) → header_at k.lines.stage ≡ Some h
+      → (goes_on k.lines k.unfinished w more).header ≡ Some h
   header_stays h e = by_fault k.lines.fault
     where
       by_stage : (st : Stage) (lines : List (List ℕ)) → header_at st ≡ Some h
@@ -147,7 +178,9 @@ module _ (k : Kept) (w : Bool) (more : List ℕ) where
       by_stage (stages.Entries g) lines f = f
       by_stage (stages.End g) lines f = f
 
-      by_fault : (o : Option TextFault) → (unless_faulty k.lines (input_to k.lines w) (cut (k.unfinished ++ more)) o).header ≡ Some h
+      by_fault : (o : Option TextFault)
+          → (unless_faulty k.lines (input_to k.lines w) (cut (k.unfinished ++ more)) o).header
+          ≡ Some h
       by_fault (Some f) = e
       by_fault None = by_stage k.lines.stage (cut (k.unfinished ++ more)) e
 
@@ -162,55 +195,84 @@ module _ (k : Kept) (w : Bool) (more : List ℕ) where
       by_stage (stages.Entries g) line lines f = cc
       by_stage (stages.End g) line lines f = record { ended = refl; entries = refl; numbers = refl }
 
-      by_fault : (o : Option TextFault) → IsOver (unless_faulty k.lines (input_to k.lines w) (cut (k.unfinished ++ more)) o)
+      by_fault : (o : Option TextFault)
+          → IsOver (unless_faulty k.lines (input_to k.lines w) (cut (k.unfinished ++ more)) o)
       by_fault (Some f) = record { ended = e; entries = refl; numbers = refl }
       by_fault None =
           let p = parts_of (k.unfinished ++ more) in
-          subst (λ ps. IsOver (lines_on (input_to k.lines w) k.lines.said k.lines.line k.lines.stage ps)) (sym p.2)
+          subst (λ ps. IsOver
+          (lines_on (input_to k.lines w) k.lines.said k.lines.line k.lines.stage ps)) (sym p.2)
           (by_stage k.lines.stage p.0 p.1 e)
 
   -- neither lines of the specification nor starting words come any more
   past_bare : is_past k.lines.stage ≡ true → IsBare (goes_on k.lines k.unfinished w more)
   past_bare e = by_fault k.lines.fault
     where
-      by_stage : (st : Stage) (lines : List (List ℕ)) → is_past st ≡ true → IsBare (lines_on (input_to k.lines w) k.lines.said k.lines.line st lines)
+      by_stage : (st : Stage) (lines : List (List ℕ)) → is_past st ≡ true
+          → IsBare (lines_on (input_to k.lines w) k.lines.said k.lines.line st lines)
       by_stage stages.Header lines f = cc
       by_stage (stages.Specification g) lines f = cc
       by_stage (stages.Starts g last) lines f = cc
       by_stage (stages.Entries g) lines f =
-          let bare = entries_bare (input_to k.lines w) k.lines.said.specification k.lines.line lines in
+          let bare = entries_bare (input_to k.lines w) k.lines.said.specification k.lines.line
+          lines in
           record { lines = bare.lines; starting = bare.starting }
       by_stage (stages.End g) [] f = record { lines = refl; starting = refl }
       by_stage (stages.End g) (line ∷ lines) f = record { lines = refl; starting = refl }
 
-      by_fault : (o : Option TextFault) → IsBare (unless_faulty k.lines (input_to k.lines w) (cut (k.unfinished ++ more)) o)
+      by_fault : (o : Option TextFault)
+          → IsBare (unless_faulty k.lines (input_to k.lines w) (cut (k.unfinished ++ more)) o)
       by_fault (Some f) = record { lines = refl; starting = refl }
       by_fault None = by_stage k.lines.stage (cut (k.unfinished ++ more)) e
 
-  fault_stays : (f : TextFault) → k.lines.fault ≡ Some f → goes_on k.lines k.unfinished w more ≡ known k.lines k.lines.fault
+  fault_stays : (f : TextFault) → k.lines.fault ≡ Some f → goes_on k.lines k.unfinished w more
+      ≡ known k.lines k.lines.fault
   fault_stays f is =
-      ap (unless_faulty k.lines (input_to k.lines w) (cut (k.unfinished ++ more))) is ∙ ap (known k.lines) (sym is)
+      ap (unless_faulty k.lines (input_to k.lines w) (cut (k.unfinished ++ more))) is
+      ∙ ap (known k.lines) (sym is)
 
 pub reading_grown : (max : ℕ) (w : Bool) (bytes more : List ℕ) → 1 ≤ max → max ≤ 268435456
     → IsGrown (own_reading (to_go_on max) bytes) (own_reading (input_of max w) (bytes ++ more))
 reading_grown max w bytes more low high = record {
-  header = λ h e. ap (λ read. read.header) new ∙ header_stays k w more h (sym (ap (λ read. read.header) old) ∙ e);
-  lines = (on.lines, ap (λ read. read.lines) new ∙ ap (λ t. t ++ on.lines) (sym (ap (λ read. read.lines) old ∙ append-nil b.lines)));
-  starting = (on.starting, ap (λ read. read.starting) new ∙ ap (λ t. t ++ on.starting) (sym (ap (λ read. read.starting) old ∙ append-nil b.starting)));
-  entries = (on.entries, ap (λ read. read.entries) new ∙ ap (λ t. t ++ on.entries) (sym (ap (λ read. read.entries) old ∙ append-nil b.entries)));
-  numbers = (on.numbers, ap (λ read. read.numbers) new ∙ ap (λ t. t ++ on.numbers) (sym (ap (λ read. read.numbers) old ∙ append-nil b.numbers)));
+  header = λ h e. ap (λ read. read.header) new
+      ∙ header_stays k w more h (sym (ap (λ read. read.header) old) ∙ e);
+  lines = (
+    on.lines,
+    ap (λ read. read.lines) new
+        ∙ ap (λ t. t ++ on.lines) (sym (ap (λ read. read.lines) old ∙ append-nil b.lines)),
+  );
+  starting = (
+    on.starting,
+    ap (λ read. read.starting) new ∙ ap (λ t. t ++ on.starting)
+        (sym (ap (λ read. read.starting) old ∙ append-nil b.starting)),
+  );
+  entries = (
+    on.entries,
+    ap (λ read. read.entries) new ∙ ap (λ t. t ++ on.entries)
+        (sym (ap (λ read. read.entries) old ∙ append-nil b.entries)),
+  );
+  numbers = (
+    on.numbers,
+    ap (λ read. read.numbers) new ∙ ap (λ t. t ++ on.numbers)
+        (sym (ap (λ read. read.numbers) old ∙ append-nil b.numbers)),
+  );
   begun = λ e.
       let bare = past_bare k w more (past_of k b at.counted (begun_is e)) in (
-        ap (λ read. read.lines) new ∙ ap (λ t. b.lines ++ t) bare.lines ∙ sym (ap (λ read. read.lines) old),
-        ap (λ read. read.starting) new ∙ ap (λ t. b.starting ++ t) bare.starting ∙ sym (ap (λ read. read.starting) old),
+        ap (λ read. read.lines) new ∙ ap (λ t. b.lines ++ t) bare.lines
+            ∙ sym (ap (λ read. read.lines) old),
+        ap (λ read. read.starting) new ∙ ap (λ t. b.starting ++ t) bare.starting
+            ∙ sym (ap (λ read. read.starting) old),
       );
   ended = λ e.
       let done = end_stays k w more (sym (ap (λ read. read.ended) old) ∙ e) in (
         ap (λ read. read.ended) new ∙ done.ended,
-        ap (λ read. read.entries) new ∙ ap (λ t. b.entries ++ t) done.entries ∙ sym (ap (λ read. read.entries) old),
-        ap (λ read. read.numbers) new ∙ ap (λ t. b.numbers ++ t) done.numbers ∙ sym (ap (λ read. read.numbers) old),
+        ap (λ read. read.entries) new ∙ ap (λ t. b.entries ++ t) done.entries
+            ∙ sym (ap (λ read. read.entries) old),
+        ap (λ read. read.numbers) new ∙ ap (λ t. b.numbers ++ t) done.numbers
+            ∙ sym (ap (λ read. read.numbers) old),
       );
-  fault = λ f e. new ∙ ap (with_read b) (fault_stays k w more f (sym (ap (λ read. read.fault) old) ∙ e)) ∙ sym old;
+  fault = λ f e. new
+      ∙ ap (with_read b) (fault_stays k w more f (sym (ap (λ read. read.fault) old) ∙ e)) ∙ sym old;
 }
   where
     at : Reached max bytes
@@ -226,29 +288,47 @@ reading_grown max w bytes more low high = record {
     on = goes_on k.lines k.unfinished w more
 
     old : own_reading (to_go_on max) bytes ≡ with_read b (known k.lines k.lines.fault)
-    old = ap (λ m. own_reading (to_go_on m) bytes) (sym at.limit) ∙ read_now k b bytes at.sound at.reached
+    old = ap (λ m. own_reading (to_go_on m) bytes) (sym at.limit)
+        ∙ read_now k b bytes at.sound at.reached
 
-    begun_is : has_begun (own_reading (to_go_on max) bytes) ≡ true → (has_any b.entries || has_ended k.lines.stage) ≡ true
-    begun_is e = sym (ap has_begun old ∙ ap (λ es. has_any es || has_ended k.lines.stage) (append-nil b.entries)) ∙ e
+    begun_is : has_begun (own_reading (to_go_on max) bytes) ≡ true
+        → (has_any b.entries || has_ended k.lines.stage) ≡ true
+    begun_is e = sym (ap has_begun old ∙ ap (λ es. has_any es || has_ended k.lines.stage)
+        (append-nil b.entries)) ∙ e
 
     new : own_reading (input_of max w) (bytes ++ more) ≡ with_read b on
-    new = ap (λ m. own_reading (input_of m w) (bytes ++ more)) (sym at.limit) ∙ at.reached.follows w more
+    new = ap (λ m. own_reading (input_of m w) (bytes ++ more)) (sym at.limit)
+        ∙ at.reached.follows w more
 
 pub reading_callable : (max : ℕ) (bytes : List ℕ) → 1 ≤ max → max ≤ 268435456
     → are_callable (written_in (own_reading (to_go_on max) bytes).lines).methods ≡ true
 reading_callable max bytes low high =
     let at = reached_all max bytes low high in
-    let old = ap (λ m. own_reading (to_go_on m) bytes) (sym at.limit) ∙ read_now at.kept at.brought bytes at.sound at.reached in
-    ap (λ ls. are_callable (written_in ls).methods) (ap (λ (read : OwnReading). read.lines) old ∙ append-nil at.brought.lines)
-    ∙ ap (λ s. are_callable s.specification.methods) (sym at.reached.said) ∙ at.sound.steady.callable
+    let old = ap (λ m. own_reading (to_go_on m) bytes) (sym at.limit)
+    ∙ read_now at.kept at.brought bytes at.sound at.reached in
+    ap (λ ls. are_callable (written_in ls).methods) (ap (λ (read : OwnReading). read.lines) old
+    ∙ append-nil at.brought.lines)
+    ∙ ap (λ s. are_callable s.specification.methods) (sym at.reached.said)
+    ∙ at.sound.steady.callable
 
 -- what is true of all that is read
-pub reading_formed : (max : ℕ) (bytes : List ℕ) → 1 ≤ max → max ≤ 268435456 → IsFormed max (own_reading (to_go_on max) bytes)
+pub reading_formed : (max : ℕ) (bytes : List ℕ) → 1 ≤ max → max ≤ 268435456
+    → IsFormed max (own_reading (to_go_on max) bytes)
 reading_formed max bytes low high = record {
-  numbered = by_parts (ap (λ (read : OwnReading). read.numbers) old ∙ append-nil b.numbers) (ap (λ (read : OwnReading). read.starting) old ∙ append-nil b.starting)
-      (ap (λ (read : OwnReading). read.entries) old ∙ append-nil b.entries) (ap (λ (read : OwnReading). read.ended) old);
-  few = omega (arith, ap length (ap (λ (read : OwnReading). read.numbers) old ∙ append-nil b.numbers), at.counted.few, at.sound.steady.counted, at.limit);
-  headless = λ none. by_begun (has_any b.entries || has_ended k.lines.stage) refl (sym (ap (λ (read : OwnReading). read.header) old) ∙ none);
+  numbered = by_parts (ap (λ (read : OwnReading). read.numbers) old ∙ append-nil b.numbers)
+      (ap (λ (read : OwnReading). read.starting) old ∙ append-nil b.starting)
+      (ap (λ (read : OwnReading). read.entries) old ∙ append-nil b.entries)
+      (ap (λ (read : OwnReading). read.ended) old);
+  few = omega (
+    arith,
+    ap length (ap (λ (read : OwnReading). read.numbers) old
+        ∙ append-nil b.numbers),
+    at.counted.few,
+    at.sound.steady.counted,
+    at.limit,
+  );
+  headless = λ none. by_begun (has_any b.entries || has_ended k.lines.stage) refl
+      (sym (ap (λ (read : OwnReading). read.header) old) ∙ none);
   header = λ h has. reading_follows (to_go_on max) bytes h has;
 }
   where
@@ -262,18 +342,22 @@ reading_formed max bytes low high = record {
     b = at.brought
 
     old : own_reading (to_go_on max) bytes ≡ with_read b (known k.lines k.lines.fault)
-    old = ap (λ m. own_reading (to_go_on m) bytes) (sym at.limit) ∙ read_now k b bytes at.sound at.reached
+    old = ap (λ m. own_reading (to_go_on m) bytes) (sym at.limit)
+        ∙ read_now k b bytes at.sound at.reached
 
     read : OwnReading
     read = own_reading (to_go_on max) bytes
 
-    by_parts : read.numbers ≡ b.numbers → read.starting ≡ b.starting → read.entries ≡ b.entries → read.ended ≡ has_ended k.lines.stage
+    by_parts : read.numbers ≡ b.numbers → read.starting ≡ b.starting → read.entries ≡ b.entries
+        → read.ended ≡ has_ended k.lines.stage
         → length read.numbers ≡ length read.starting + length read.entries + ends read.ended
     by_parts numbers starting entries ended =
-        ap length numbers ∙ at.counted.numbered ∙ (λ i. length (sym starting i) + length (sym entries i) + ends (sym ended i))
+        ap length numbers ∙ at.counted.numbered
+        ∙ (λ i. length (sym starting i) + length (sym entries i) + ends (sym ended i))
 
     begun_is : has_begun read ≡ (has_any b.entries || has_ended k.lines.stage)
-    begun_is = ap has_begun old ∙ ap (λ es. has_any es || has_ended k.lines.stage) (append-nil b.entries)
+    begun_is = ap has_begun old ∙ ap (λ es. has_any es || has_ended k.lines.stage)
+        (append-nil b.entries)
 
     by_stage : (st : Stage) → is_past st ≡ true → header_at st ≡ None → ⊥
     by_stage stages.Header past none = cc
@@ -282,6 +366,7 @@ reading_formed max bytes low high = record {
     by_stage (stages.Entries h) past none = cc
     by_stage (stages.End h) past none = cc
 
-    by_begun : (t : Bool) → (has_any b.entries || has_ended k.lines.stage) ≡ t → header_at k.lines.stage ≡ None → has_begun read ≡ false
+    by_begun : (t : Bool) → (has_any b.entries || has_ended k.lines.stage) ≡ t
+        → header_at k.lines.stage ≡ None → has_begun read ≡ false
     by_begun false is none = begun_is ∙ is
     by_begun true is none = absurd (by_stage k.lines.stage (past_of k b at.counted is) none)

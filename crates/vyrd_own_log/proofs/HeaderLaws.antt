@@ -1,5 +1,6 @@
 -- The first line has one reading.
-use Rattle.std.proofs.Common.{◌≡◌, ℕ, ◌<◌, ◌^◌, Bool, true, false, cond, ◌&&◌, List, [], ◌∷◌, ◌++◌, Option, Some, None, refl, ap, sym, ◌∙◌, arith}
+use Rattle.std.proofs.Common.{◌≡◌, ℕ, ◌<◌, ◌^◌, Bool, true, false, cond, ◌&&◌, List, [], ◌∷◌, ◌++◌}
+use Rattle.std.proofs.Common.{Option, Some, None, refl, ap, sym, ◌∙◌, arith}
 use Rattle.std.specs.Prelude.{nat_le, codes, decimal, IsSome, IfSome, ◌↔◌, IsTrue}
 use Rattle.std.specs.Str.{bytes_eq}
 use Rattle.std.proofs.lemmas.Fmt.{decimal_digit}
@@ -12,7 +13,8 @@ use Rattle.vyrd_base.specs.Subjects.{limits_of}
 use Rattle.vyrd_base.specs.Spelling.{header_line}
 use Rattle.vyrd_base.specs.Lines.{fields_of, number_of, header_of}
 use Rattle.vyrd_base.specs.Own.Log.{own_header_spelled, own_header_from, own_header_in}
-use Rattle.vyrd_base.proofs.SplitLaws.{all_lack, split-join, decimal_lacks, no_space, number_of_decimal, bytes_same}
+use Rattle.vyrd_base.proofs.SplitLaws.{all_lack, split-join, decimal_lacks, no_space}
+use Rattle.vyrd_base.proofs.SplitLaws.{number_of_decimal, bytes_same}
 use Rattle.vyrd_base.proofs.TestLaws.{both_true, first_true, second_true, at_most_of}
 use Rattle.vyrd_text.proofs.HeaderLaws.{made}
 use Rattle.vyrd_text.proofs.PartLaws.{one_before_space}
@@ -23,7 +25,9 @@ own_text words callers = codes "vyrd 3 own " ++ (decimal words ++ 32 ∷ decimal
 
 line_is : (words callers : ℕ) → header_line 3 Own words callers ≡ own_text words callers
 line_is words callers =
-    ap (λ d. codes "vyrd" ++ 32 ∷ (d ++ 32 ∷ (codes "own" ++ 32 ∷ (decimal words ++ 32 ∷ decimal callers)))) (decimal_digit 3 (omega arith))
+    ap (λ d. codes "vyrd"
+    ++ 32 ∷ (d ++ 32 ∷ (codes "own" ++ 32 ∷ (decimal words ++ 32 ∷ decimal callers))))
+    (decimal_digit 3 (omega arith))
 
 pub few_words : (words callers : ℕ) → is_own_sized words callers ≡ true → words < 2 ^ 32
 few_words words callers sized =
@@ -42,23 +46,28 @@ pub record IsHeaderLine (line : List ℕ) (h : Header) : Type 0 where
   pub sized : is_own_sized words callers ≡ true
   pub spelled : line ≡ own_text words callers
 
-from_sound : (line : List ℕ) (fields : List (List ℕ)) (h : Header) → own_header_from line fields ≡ Some h → IsHeaderLine line h
+from_sound : (line : List ℕ) (fields : List (List ℕ)) (h : Header) → own_header_from line fields
+    ≡ Some h → IsHeaderLine line h
 from_sound line [] h e = cc
 from_sound line (a ∷ []) h e = cc
 from_sound line (a ∷ b ∷ []) h e = cc
 from_sound line (a ∷ b ∷ c ∷ []) h e = cc
 from_sound line (a ∷ b ∷ c ∷ d ∷ []) h e = cc
 from_sound line (a ∷ b ∷ c ∷ d ∷ f ∷ more) h e =
-    by_test (is_own_sized (number_of d) (number_of f) && bytes_eq (header_line 3 Own (number_of d) (number_of f)) line) refl e
+    by_test (is_own_sized (number_of d) (number_of f)
+    && bytes_eq (header_line 3 Own (number_of d) (number_of f)) line) refl e
   where
-    by_test : (t : Bool) → (is_own_sized (number_of d) (number_of f) && bytes_eq (header_line 3 Own (number_of d) (number_of f)) line) ≡ t
+    by_test : (t : Bool)
+        → (is_own_sized (number_of d) (number_of f)
+        && bytes_eq (header_line 3 Own (number_of d) (number_of f)) line) ≡ t
         → cond t (header_of 3 Own (number_of d) (number_of f)) None ≡ Some h → IsHeaderLine line h
     by_test false is g = cc
     by_test true is g = record {
       words = number_of d;
       callers = number_of f;
       sized = first_true _ _ is;
-      spelled = sym ((bytes_eq-Decides (header_line 3 Own (number_of d) (number_of f)) line).0 (second_true (is_own_sized (number_of d) (number_of f)) _ is))
+      spelled = sym ((bytes_eq-Decides (header_line 3 Own (number_of d) (number_of f)) line).0
+          (second_true (is_own_sized (number_of d) (number_of f)) _ is))
           ∙ line_is (number_of d) (number_of f);
     }
 
@@ -67,16 +76,20 @@ unfolding own_header_in
 header_sound line h e = from_sound line (fields_of line) h e
 
 -- a line that is no header's
-pub no_header : (line : List ℕ) → ((words callers : ℕ) → is_own_sized words callers ≡ true → line ≡ own_text words callers → ⊥)
+pub no_header : (line : List ℕ)
+    → ((words callers : ℕ) → is_own_sized words callers ≡ true → line ≡ own_text words callers → ⊥)
     → None ≡ own_header_in line
 no_header line none = by_answer (own_header_in line) refl
   where
     by_answer : (o : Option Header) → own_header_in line ≡ o → None ≡ o
     by_answer None e = refl
-    by_answer (Some h) e = let is = header_sound line h e in absurd (none is.words is.callers is.sized is.spelled)
+    by_answer (Some h) e = let is = header_sound line h e in absurd
+        (none is.words is.callers is.sized is.spelled)
 
-pub no_beginning : (line : List ℕ) → ((rest : List ℕ) → line ≡ codes "vyrd 3 own " ++ rest → ⊥) → None ≡ own_header_in line
-no_beginning line none = no_header line (λ words callers sized e. none (decimal words ++ 32 ∷ decimal callers) e)
+pub no_beginning : (line : List ℕ) → ((rest : List ℕ) → line ≡ codes "vyrd 3 own " ++ rest → ⊥)
+    → None ≡ own_header_in line
+no_beginning line none = no_header line
+    (λ words callers sized e. none (decimal words ++ 32 ∷ decimal callers) e)
 
 -- the text of a header is read as that header
 pub header_complete : (words callers : ℕ) → is_own_sized words callers ≡ true
@@ -84,7 +97,9 @@ pub header_complete : (words callers : ℕ) → is_own_sized words callers ≡ t
 unfolding own_header_in
 header_complete words callers sized =
     ap (λ t. own_header_from t (fields_of t)) (sym (line_is words callers))
-    ∙ ap (own_header_from text) (split-join 32 (codes "vyrd") (decimal 3 ∷ codes "own" ∷ decimal words ∷ decimal callers ∷ []) lack)
+    ∙ ap (own_header_from text)
+    (split-join 32 (codes "vyrd") (decimal 3 ∷ codes "own" ∷ decimal words ∷ decimal callers ∷ [])
+    lack)
     ∙ (λ i. own_header_spelled text (number_of_decimal words w i) (number_of_decimal callers c i))
     ∙ ap (λ b. cond b (header_of 3 Own words callers) None) (both_true _ _ sized (bytes_same text))
   where
@@ -97,38 +112,49 @@ header_complete words callers sized =
     c : callers < 2 ^ 64
     c = let h = few_callers words callers sized in omega (arith, h)
 
-    lack : all_lack 32 (codes "vyrd" ∷ decimal 3 ∷ codes "own" ∷ decimal words ∷ decimal callers ∷ []) ≡ true
-    lack = both_true _ _ refl (both_true _ _ (decimal_lacks 32 3 no_space (omega arith)) (both_true _ _ refl
-        (both_true _ _ (decimal_lacks 32 words no_space w) (both_true _ _ (decimal_lacks 32 callers no_space c) refl))))
+    lack : all_lack 32 (codes "vyrd" ∷ decimal 3 ∷ codes "own" ∷ decimal words ∷ decimal callers
+        ∷ []) ≡ true
+    lack = both_true _ _ refl
+        (both_true _ _ (decimal_lacks 32 3 no_space (omega arith)) (both_true _ _ refl
+        (both_true _ _ (decimal_lacks 32 words no_space w)
+        (both_true _ _ (decimal_lacks 32 callers no_space c) refl))))
 
 module _ (line rest : List ℕ) (begun : line ≡ codes "vyrd 3 own " ++ rest) where
-  pub no_words : ((n : ℕ) (more : List ℕ) → n < 2 ^ 32 → rest ≡ decimal n ++ 32 ∷ more → ⊥) → None ≡ own_header_in line
+  pub no_words : ((n : ℕ) (more : List ℕ) → n < 2 ^ 32 → rest ≡ decimal n ++ 32 ∷ more → ⊥)
+      → None ≡ own_header_in line
   no_words none = no_header line (λ words callers sized e.
       none words (decimal callers) (few_words words callers sized)
-      (append_cancel_left (codes "vyrd 3 own ") rest (decimal words ++ 32 ∷ decimal callers) (sym begun ∙ e)))
+      (append_cancel_left (codes "vyrd 3 own ") rest (decimal words ++ 32 ∷ decimal callers)
+      (sym begun ∙ e)))
 
   module _ (n : ℕ) (more : List ℕ) (low : n < 2 ^ 32) (parts : rest ≡ decimal n ++ 32 ∷ more) where
-    after_words : (words callers : ℕ) → is_own_sized words callers ≡ true → line ≡ own_text words callers
+    after_words : (words callers : ℕ) → is_own_sized words callers ≡ true
+        → line ≡ own_text words callers
         → (n ≡ words) × (more ≡ decimal callers)
     after_words words callers sized e =
         let few = few_words words callers sized in
         one_before_space n words more (decimal callers) (omega arith) (omega (arith, few))
-        (sym parts ∙ append_cancel_left (codes "vyrd 3 own ") rest (decimal words ++ 32 ∷ decimal callers) (sym begun ∙ e))
+        (sym parts ∙ append_cancel_left (codes "vyrd 3 own ") rest
+        (decimal words ++ 32 ∷ decimal callers) (sym begun ∙ e))
 
     pub no_callers : ((k : ℕ) → k < 2 ^ 32 → more ≡ decimal k → ⊥) → None ≡ own_header_in line
     no_callers none = no_header line (λ words callers sized e.
         none callers (few_callers words callers sized) (after_words words callers sized e).1)
 
     -- what is made of the numbers
-    pub header_read : (k : ℕ) → k < 2 ^ 32 → more ≡ decimal k → (o : Option Header) → IsSome o ↔ IsTrue (limits_of Own 3 n k)
-        → IfSome o (λ h. h.version ≡ 3) → IfSome o (λ h. h.subject ≡ Own) → IfSome o (λ h. h.size ≡ n) → IfSome o (λ h. h.callers ≡ k)
+    pub header_read : (k : ℕ) → k < 2 ^ 32 → more ≡ decimal k → (o : Option Header)
+        → IsSome o ↔ IsTrue (limits_of Own 3 n k)
+        → IfSome o (λ h. h.version ≡ 3) → IfSome o (λ h. h.subject ≡ Own)
+        → IfSome o (λ h. h.size ≡ n) → IfSome o (λ h. h.callers ≡ k)
         → o ≡ own_header_in line
     header_read k small end (Some h) within v s z c =
-        let same : line ≡ own_text n k = begun ∙ ap (λ t. codes "vyrd 3 own " ++ t) (parts ∙ ap (λ t. decimal n ++ 32 ∷ t) end) in
+        let same : line ≡ own_text n k = begun ∙ ap (λ t. codes "vyrd 3 own " ++ t)
+        (parts ∙ ap (λ t. decimal n ++ 32 ∷ t) end) in
         sym (ap own_header_in same ∙ header_complete n k (within.0 refl) ∙ made 3 Own n k h v s z c)
     header_read k small end None within v s z c = no_header line (λ words callers sized e.
         let is = after_words words callers sized e in
         let few = few_callers words callers sized in
-        let same : k ≡ callers = sym (number_of_decimal k (omega arith)) ∙ ap number_of (sym end ∙ is.1) ∙ number_of_decimal callers (omega (arith, few)) in
+        let same : k ≡ callers = sym (number_of_decimal k (omega arith))
+        ∙ ap number_of (sym end ∙ is.1) ∙ number_of_decimal callers (omega (arith, few)) in
         let none : false ≡ true = within.1 ((λ i. is_own_sized (is.0 i) (same i)) ∙ sized) in
         cc)

@@ -1,5 +1,7 @@
 -- What a reader that has been fed bytes says of them.
-use Rattle.std.proofs.Common.{◌≡◌, ℕ, ◌+◌, ◌-◌, ◌≤◌, Bool, true, false, cond, List, [], ◌∷◌, ◌++◌, length, Option, Some, None, Result, Ok, Err, refl, ap, sym, ◌∙◌, subst, arith, append_assoc}
+use Rattle.std.proofs.Common.{◌≡◌, ℕ, ◌+◌, ◌-◌, ◌≤◌, Bool, true, false, cond, List, [], ◌∷◌, ◌++◌}
+use Rattle.std.proofs.Common.{length, Option, Some, None, Result, Ok, Err, refl, ap, sym, ◌∙◌}
+use Rattle.std.proofs.Common.{subst, arith, append_assoc}
 use Rattle.std.specs.Prelude.{◌==◌, nat_lt, OnOk, is_some, option_map}
 use Rattle.std.specs.Result.{is_err}
 use Rattle.vyrd_own_log.specs.declared.fault.LineFault.{LineFault}
@@ -18,12 +20,18 @@ use Rattle.vyrd_text.specs.declared.fault.TextFault as fault
 use Rattle.vyrd_text.specs.declared.fault.TextFault.TheVariants.{Malformed, Memory}
 use Rattle.vyrd_text.specs.Answered.{IsAnswer, UnlessMemory}
 use Rattle.vyrd_own_log.specs.declared.stage.Found.{Found}
-use Rattle.vyrd_own_log.specs.States.{LineState, input_to, known, unless_faulty, reads_on, has_ended}
-use Rattle.vyrd_own_log.specs.Steps.{broken, own_step, Brought, nothing_brought, brought_then, brought_by, lines_of, starts_of, entries_of, numbers_of, with_read}
+use Rattle.vyrd_own_log.specs.States.{LineState, input_to, known, unless_faulty, reads_on}
+use Rattle.vyrd_own_log.specs.States.{has_ended}
+use Rattle.vyrd_own_log.specs.Steps.{broken, own_step, Brought, nothing_brought, brought_then}
+use Rattle.vyrd_own_log.specs.Steps.{brought_by, lines_of, starts_of, entries_of, numbers_of}
+use Rattle.vyrd_own_log.specs.Steps.{with_read}
 use Rattle.vyrd_own_log.specs.Rests.{rest_if, rest_rule, end_fault, fault_at_end}
-use Rattle.vyrd_own_log.specs.Readers.{Kept, ReaderState, fresh_kept, so_far, whole, HasReached, brought_in, HasRead, is_one_line, IsSound, IsTaken, IsFed, IsGrownBy}
+use Rattle.vyrd_own_log.specs.Readers.{Kept, ReaderState, fresh_kept, so_far, whole, HasReached}
+use Rattle.vyrd_own_log.specs.Readers.{brought_in, HasRead, is_one_line, IsSound, IsTaken, IsFed}
+use Rattle.vyrd_own_log.specs.Readers.{IsGrownBy}
 use Rattle.vyrd_own_log.proofs.RestLaws.{rest_whole}
-use Rattle.vyrd_own_log.proofs.ReaderLaws.{and_nothing, taken_then, empty_taken, faulty_taken, broken_taken, line_taken, line_sound, read_now}
+use Rattle.vyrd_own_log.proofs.ReaderLaws.{and_nothing, taken_then, empty_taken, faulty_taken}
+use Rattle.vyrd_own_log.proofs.ReaderLaws.{broken_taken, line_taken, line_sound, read_now}
 
 -- no bytes were fed
 pub nothing_fed : (k : Kept) (es : List Entry) (ns : List ℕ) → IsFed k [] es es ns ns k
@@ -37,19 +45,25 @@ nothing_fed k es ns = record {
 }
 
 -- what was fed in turn was fed together
-pub fed_then : (k m n : Kept) (xs ys : List ℕ) (es fs gs : List Entry) (ms ns os : List ℕ) → IsFed k xs es fs ms ns m → IsFed m ys fs gs ns os n
+pub fed_then : (k m n : Kept) (xs ys : List ℕ) (es fs gs : List Entry) (ms ns os : List ℕ)
+    → IsFed k xs es fs ms ns m → IsFed m ys fs gs ns os n
     → IsFed k (xs ++ ys) es gs ms os n
 fed_then k m n xs ys es fs gs ms ns os first second = record {
   brought = brought_then first.brought second.brought;
   taken = taken_then k m n xs ys first.brought second.brought first.taken second.taken;
-  specified = second.specified ∙ ap (λ t. t ++ second.brought.lines) first.specified ∙ append_assoc k.specified first.brought.lines second.brought.lines;
-  start = second.start ∙ ap (λ t. t ++ second.brought.starting) first.start ∙ append_assoc k.start first.brought.starting second.brought.starting;
-  grown = second.grown ∙ ap (λ t. t ++ second.brought.entries) first.grown ∙ append_assoc es first.brought.entries second.brought.entries;
-  counted = second.counted ∙ ap (λ t. t ++ second.brought.numbers) first.counted ∙ append_assoc ms first.brought.numbers second.brought.numbers;
+  specified = second.specified ∙ ap (λ t. t ++ second.brought.lines) first.specified
+      ∙ append_assoc k.specified first.brought.lines second.brought.lines;
+  start = second.start ∙ ap (λ t. t ++ second.brought.starting) first.start
+      ∙ append_assoc k.start first.brought.starting second.brought.starting;
+  grown = second.grown ∙ ap (λ t. t ++ second.brought.entries) first.grown
+      ∙ append_assoc es first.brought.entries second.brought.entries;
+  counted = second.counted ∙ ap (λ t. t ++ second.brought.numbers) first.counted
+      ∙ append_assoc ms first.brought.numbers second.brought.numbers;
 }
 
 -- bytes that bring nothing were fed
-pub taken_fed : (k m : Kept) (xs : List ℕ) (es : List Entry) (ns : List ℕ) → IsTaken k xs nothing_brought m → m.specified ≡ k.specified
+pub taken_fed : (k m : Kept) (xs : List ℕ) (es : List Entry) (ns : List ℕ)
+    → IsTaken k xs nothing_brought m → m.specified ≡ k.specified
     → m.start ≡ k.start → IsFed k xs es es ns ns m
 taken_fed k m xs es ns taken alike same = record {
   brought = nothing_brought;
@@ -61,15 +75,28 @@ taken_fed k m xs es ns taken alike same = record {
 }
 
 -- a whole line was fed
-pub line_fed : (k n : Kept) (xs : List ℕ) (found : Found) (es fs : List Entry) (ms ns : List ℕ) → IsSound k → is_one_line xs ≡ true
+pub line_fed : (k n : Kept) (xs : List ℕ) (found : Found) (es fs : List Entry) (ms ns : List ℕ)
+    → IsSound k → is_one_line xs ≡ true
     → (n.lines, found) ≡ own_step k.lines (k.unfinished ++ xs) → n.unfinished ≡ []
-    → n.specified ≡ k.specified ++ lines_of (k.unfinished ++ xs) found → n.start ≡ k.start ++ starts_of found
-    → fs ≡ es ++ entries_of found → ns ≡ ms ++ numbers_of k.lines.line found → IsFed k (xs ++ 10 ∷ []) es fs ms ns n
+    → n.specified ≡ k.specified ++ lines_of (k.unfinished ++ xs) found → n.start ≡ k.start
+    ++ starts_of found
+    → fs ≡ es ++ entries_of found → ns ≡ ms ++ numbers_of k.lines.line found
+    → IsFed k (xs ++ 10 ∷ []) es fs ms ns n
 line_fed k n xs found es fs ms ns sound one step empty specified start grown counted =
-    let found_is : found ≡ (own_step k.lines (k.unfinished ++ xs)).1 = ap (λ (s : LineState × Found). s.1) step in record {
-      brought = brought_by k.lines.line (k.unfinished ++ xs) (own_step k.lines (k.unfinished ++ xs)).1;
-      taken = subst (λ m. IsTaken k (xs ++ 10 ∷ []) (brought_by k.lines.line (k.unfinished ++ xs) (own_step k.lines (k.unfinished ++ xs)).1) m)
-          (λ i. record { lines = (sym step i).0; unfinished = sym empty i; specified = n.specified; start = n.start })
+    let found_is : found ≡ (own_step k.lines (k.unfinished ++ xs)).1 =
+    ap (λ (s : LineState × Found). s.1) step in record {
+      brought = brought_by k.lines.line (k.unfinished ++ xs)
+          (own_step k.lines (k.unfinished ++ xs)).1;
+      taken = subst
+          (λ m. IsTaken k (xs ++ 10 ∷ [])
+          (brought_by k.lines.line (k.unfinished ++ xs) (own_step k.lines (k.unfinished ++ xs)).1)
+          m)
+          (λ i. record {
+            lines = (sym step i).0;
+            unfinished = sym empty i;
+            specified = n.specified;
+            start = n.start;
+          })
           (line_taken k xs sound one n.specified n.start);
       specified = specified ∙ ap (λ f. k.specified ++ lines_of (k.unfinished ++ xs) f) found_is;
       start = start ∙ ap (λ f. k.start ++ starts_of f) found_is;
@@ -80,7 +107,13 @@ line_fed k n xs found es fs ms ns sound one step empty specified start grown cou
 pub line_kept : (k n : Kept) (xs : List ℕ) (found : Found) → IsSound k → is_one_line xs ≡ true
     → (n.lines, found) ≡ own_step k.lines (k.unfinished ++ xs) → n.unfinished ≡ [] → IsSound n
 line_kept k n xs found sound one step empty =
-    subst IsSound (λ i. record { lines = (sym step i).0; unfinished = sym empty i; specified = n.specified; start = n.start })
+    subst IsSound
+    (λ i. record {
+      lines = (sym step i).0;
+      unfinished = sym empty i;
+      specified = n.specified;
+      start = n.start;
+    })
     (line_sound k xs sound one n.specified n.start)
 
 -- what holds of an `Ok`
@@ -88,7 +121,8 @@ pub one_ok : {E P Q : Type 0} (r : Result (Unit {0}) E) → (P → Q) → OnOk r
 one_ok (Ok x) f p = f p
 one_ok (Err e) f p = tt
 
-pub three_ok : {E P Q R S : Type 0} (r : Result (Unit {0}) E) → (P → Q → R → S) → OnOk r P → OnOk r Q → OnOk r R → OnOk r S
+pub three_ok : {E P Q R S : Type 0} (r : Result (Unit {0}) E) → (P → Q → R → S) → OnOk r P
+    → OnOk r Q → OnOk r R → OnOk r S
 three_ok (Ok x) f p q t = f p q t
 three_ok (Err e) f p q t = tt
 
@@ -97,7 +131,8 @@ any_ok (Ok x) p = p
 any_ok (Err e) p = tt
 
 -- the rule of unfinished bytes, by a test for their length
-pub rest_is : (r : LineState) (rest bytes : List ℕ) (is_long : Bool) → has_any bytes ≡ true → is_long ≡ nat_lt 200 (length (rest ++ bytes))
+pub rest_is : (r : LineState) (rest bytes : List ℕ) (is_long : Bool) → has_any bytes ≡ true
+    → is_long ≡ nat_lt 200 (length (rest ++ bytes))
     → rest_rule r (rest ++ bytes) ≡ rest_if r true is_long
 rest_is r rest bytes is_long some long = λ i. rest_if r (any rest bytes some i) (sym long i)
   where
@@ -109,8 +144,10 @@ pub long_is : (a b n : ℕ) → a ≤ 200 → n ≡ a + b → nat_lt (200 - a) b
 long_is a b n small is = by_test (nat_lt (200 - a) b) refl
   where
     by_test : (t : Bool) → nat_lt (200 - a) b ≡ t → t ≡ nat_lt 200 n
-    by_test true e = let h = below_of (200 - a) b e in sym (is_below 200 n (omega (arith, h, is, small)))
-    by_test false e = let h = not_below_of (200 - a) b e in sym (isnt_below 200 n (omega (arith, h, is, small)))
+    by_test true e = let h = below_of (200 - a) b e in
+        sym (is_below 200 n (omega (arith, h, is, small)))
+    by_test false e = let h = not_below_of (200 - a) b e in
+        sym (isnt_below 200 n (omega (arith, h, is, small)))
 
 pub some_of : (xs : List ℕ) → false ≡ (length xs == 0) → has_any xs ≡ true
 some_of [] e = cc
@@ -121,46 +158,70 @@ ok_of (Ok x) e p = p
 ok_of (Err x) e p = cc
 
 -- a fault that is found before the line is whole
-module _ (k n : Kept) (bytes : List ℕ) (sound : IsSound k) (one_line : is_one_line bytes ≡ true) (fine : k.lines.fault ≡ None) (rule : Rule) (found : Found)
-    (bad : rest_rule k.lines (k.unfinished ++ bytes) ≡ Some rule) (is : (n.lines, found) ≡ broken k.lines rule) (rest : n.unfinished ≡ k.unfinished) where
-  same : n ≡ record { lines = (broken k.lines rule).0; unfinished = k.unfinished; specified = n.specified; start = n.start }
-  same = λ i. record { lines = (is i).0; unfinished = rest i; specified = n.specified; start = n.start }
+module _ (k n : Kept) (bytes : List ℕ) (sound : IsSound k) (one_line : is_one_line bytes ≡ true)
+    (fine : k.lines.fault ≡ None) (rule : Rule) (found : Found)
+    (bad : rest_rule k.lines (k.unfinished ++ bytes) ≡ Some rule)
+    (is : (n.lines, found) ≡ broken k.lines rule) (rest : n.unfinished ≡ k.unfinished) where
+  same : n ≡ record {
+    lines = (broken k.lines rule).0;
+    unfinished = k.unfinished;
+    specified = n.specified;
+    start = n.start;
+  }
+  same = λ i. record {
+    lines = (is i).0;
+    unfinished = rest i;
+    specified = n.specified;
+    start = n.start;
+  }
 
   pub fault_taken : IsTaken k bytes nothing_brought n
-  fault_taken = restart k bytes (record k { lines = (broken k.lines rule).0 }) n (ap (λ m. m.lines) same) rest
+  fault_taken = restart k bytes (record k { lines = (broken k.lines rule).0 }) n
+      (ap (λ m. m.lines) same) rest
       (broken_taken k bytes sound one_line fine rule bad)
     where
-      restart : (a : Kept) (xs : List ℕ) (b c : Kept) → c.lines ≡ b.lines → c.unfinished ≡ b.unfinished → IsTaken a xs nothing_brought b
+      restart : (a : Kept) (xs : List ℕ) (b c : Kept) → c.lines ≡ b.lines → c.unfinished
+          ≡ b.unfinished → IsTaken a xs nothing_brought b
           → IsTaken a xs nothing_brought c
       restart a xs b c lines rest taken = record {
         limit = ap (λ r. r.max_lines) lines ∙ taken.limit;
         reached = λ x before has.
-            subst (λ r. HasReached r c.unfinished (brought_then x nothing_brought) (before ++ xs)) (sym lines)
-            (subst (λ t. HasReached b.lines t (brought_then x nothing_brought) (before ++ xs)) (sym rest) (taken.reached x before has));
+            subst (λ r. HasReached r c.unfinished (brought_then x nothing_brought) (before ++ xs))
+            (sym lines)
+            (subst (λ t. HasReached b.lines t (brought_then x nothing_brought) (before ++ xs))
+            (sym rest) (taken.reached x before has));
       }
 
 -- the answers about the text
-pub whole_now : (k : Kept) (b : Brought) (bytes : List ℕ) → IsSound k → HasReached k.lines k.unfinished b bytes
-    → own_reading (input_to k.lines true) bytes ≡ with_read b (known k.lines (fault_at_end k.lines k.unfinished))
+pub whole_now : (k : Kept) (b : Brought) (bytes : List ℕ) → IsSound k
+    → HasReached k.lines k.unfinished b bytes
+    → own_reading (input_to k.lines true) bytes
+    ≡ with_read b (known k.lines (fault_at_end k.lines k.unfinished))
 whole_now k b bytes sound has =
     ap (own_reading (input_to k.lines true)) (sym (append-nil bytes)) ∙ has.follows true []
-    ∙ ap (λ t. with_read b (reads_on k.lines (input_to k.lines true) (cut t))) (append-nil k.unfinished)
-    ∙ ap (λ ps. with_read b (reads_on k.lines (input_to k.lines true) ps)) (split_whole 10 k.unfinished sound.one_line)
+    ∙ ap (λ t. with_read b (reads_on k.lines (input_to k.lines true) (cut t)))
+    (append-nil k.unfinished)
+    ∙ ap (λ ps. with_read b (reads_on k.lines (input_to k.lines true) ps))
+    (split_whole 10 k.unfinished sound.one_line)
     ∙ ap (with_read b) (by_fault k.lines.fault refl)
   where
     by_fault : (f : Option TextFault) → k.lines.fault ≡ f
-        → unless_faulty k.lines (input_to k.lines true) (k.unfinished ∷ []) f ≡ known k.lines (option_or f (end_fault k.lines k.unfinished))
+        → unless_faulty k.lines (input_to k.lines true) (k.unfinished ∷ []) f
+        ≡ known k.lines (option_or f (end_fault k.lines k.unfinished))
     by_fault (Some f) is = refl
     by_fault None is = rest_whole k.lines k.unfinished sound.first (sound.noticed is)
 
 -- what was brought is what the bytes say
-brought_is : (k : Kept) (b : Brought) (bytes : List ℕ) → IsSound k → HasReached k.lines k.unfinished b bytes
+brought_is : (k : Kept) (b : Brought) (bytes : List ℕ) → IsSound k
+    → HasReached k.lines k.unfinished b bytes
     → b ≡ brought_in (own_reading (input_to k.lines false) bytes)
 brought_is k b bytes sound has =
     sym (ap brought_in (read_now k b bytes sound has) ∙ and_nothing b)
 
-pub has_read : (r : ReaderState) (b : Brought) (bytes : List ℕ) → r.has_failed ≡ false → IsSound r.kept
-    → HasReached r.kept.lines r.kept.unfinished b bytes → r.kept.specified ≡ b.lines → r.kept.start ≡ b.starting → HasRead r bytes
+pub has_read : (r : ReaderState) (b : Brought) (bytes : List ℕ) → r.has_failed ≡ false
+    → IsSound r.kept
+    → HasReached r.kept.lines r.kept.unfinished b bytes → r.kept.specified ≡ b.lines → r.kept.start
+    ≡ b.starting → HasRead r bytes
 has_read r b bytes works sound has specified start =
     let now = read_now r.kept b bytes sound has in
     let is = brought_is r.kept b bytes sound has in
@@ -168,7 +229,8 @@ has_read r b bytes works sound has specified start =
       works = works;
       sound = sound;
       header = sym (ap (λ read. read.header) now);
-      specification = ap (λ s. s.specification) (has.said ∙ ap (λ x. read_lines nothing_read x.lines) is);
+      specification = ap (λ s. s.specification)
+          (has.said ∙ ap (λ x. read_lines nothing_read x.lines) is);
       lines = specified ∙ ap (λ x. x.lines) is;
       start = start ∙ ap (λ x. x.starting) is;
       ended = sym (ap (λ read. read.ended) now);
@@ -176,7 +238,8 @@ has_read r b bytes works sound has specified start =
       reached = subst (λ x. HasReached r.kept.lines r.kept.unfinished x bytes) is has;
     }
 
-pub fresh_read : (max : ℕ) (r : ReaderState) → 1 ≤ max → max ≤ 268435456 → r.has_failed ≡ false → r.kept ≡ fresh_kept max → HasRead r []
+pub fresh_read : (max : ℕ) (r : ReaderState) → 1 ≤ max → max ≤ 268435456 → r.has_failed ≡ false
+    → r.kept ≡ fresh_kept max → HasRead r []
 unfolding own_reading
 fresh_read max r low high works is =
     subst (λ k. HasRead (record { kept = k; has_failed = r.has_failed }) []) (sym is)
@@ -189,8 +252,10 @@ fresh_read max r low high works is =
     }) (record { follows = λ w more. refl; said = refl }) refl refl)
 
 -- bytes were fed to a reader that had read some
-module _ (old new : ReaderState) (bytes piece : List ℕ) (es fs : List Entry) (ms ns : List ℕ) (has : HasRead old bytes)
-    (fed : IsSound old.kept → IsFed old.kept piece es fs ms ns new.kept) (kept : IsSound old.kept → IsSound new.kept) (works : new.has_failed ≡ false) where
+module _ (old new : ReaderState) (bytes piece : List ℕ) (es fs : List Entry) (ms ns : List ℕ)
+    (has : HasRead old bytes)
+    (fed : IsSound old.kept → IsFed old.kept piece es fs ms ns new.kept)
+    (kept : IsSound old.kept → IsSound new.kept) (works : new.has_failed ≡ false) where
   abbrev one : IsFed old.kept piece es fs ms ns new.kept
   one = fed has.sound
 
@@ -202,25 +267,38 @@ module _ (old new : ReaderState) (bytes piece : List ℕ) (es fs : List Entry) (
 
   pub fed_read : HasRead new (bytes ++ piece)
   fed_read = has_read new all (bytes ++ piece) works (kept has.sound) now
-      (one.specified ∙ ap (λ t. t ++ one.brought.lines) has.lines) (one.start ∙ ap (λ t. t ++ one.brought.starting) has.start)
+      (one.specified ∙ ap (λ t. t ++ one.brought.lines) has.lines)
+      (one.start ∙ ap (λ t. t ++ one.brought.starting) has.start)
 
   same_input : so_far new ≡ so_far old
   same_input = ap (λ n. record { max_lines = n; is_whole = false }) one.taken.limit
 
   said : all ≡ brought_in (own_reading (so_far old) (bytes ++ piece))
-  said = brought_is new.kept all (bytes ++ piece) (kept has.sound) now ∙ ap (λ input. brought_in (own_reading input (bytes ++ piece))) same_input
+  said = brought_is new.kept all (bytes ++ piece) (kept has.sound) now
+      ∙ ap (λ input. brought_in (own_reading input (bytes ++ piece))) same_input
 
-  pub fed_entries : IsGrownBy es (own_reading (so_far old) bytes).entries fs (own_reading (so_far old) (bytes ++ piece)).entries
-  fed_entries = record { more = one.brought.entries; one = one.grown; other = sym (ap (λ x. x.entries) said) }
+  pub fed_entries : IsGrownBy es (own_reading (so_far old) bytes).entries fs
+      (own_reading (so_far old) (bytes ++ piece)).entries
+  fed_entries = record {
+    more = one.brought.entries;
+    one = one.grown;
+    other = sym (ap (λ x. x.entries) said);
+  }
 
-  pub fed_numbers : IsGrownBy ms (own_reading (so_far old) bytes).numbers ns (own_reading (so_far old) (bytes ++ piece)).numbers
-  fed_numbers = record { more = one.brought.numbers; one = one.counted; other = sym (ap (λ x. x.numbers) said) }
+  pub fed_numbers : IsGrownBy ms (own_reading (so_far old) bytes).numbers ns
+      (own_reading (so_far old) (bytes ++ piece)).numbers
+  fed_numbers = record {
+    more = one.brought.numbers;
+    one = one.counted;
+    other = sym (ap (λ x. x.numbers) said);
+  }
 
   pub fed_fault : new.kept.lines.fault ≡ (own_reading (so_far old) (bytes ++ piece)).fault
   fed_fault = fed_read.fault ∙ ap (λ input. (own_reading input (bytes ++ piece)).fault) same_input
 
 -- a reader with a fault is fed nothing
-pub faulty_fed : (k : Kept) (f : TextFault) (piece : List ℕ) (es : List Entry) (ns : List ℕ) → k.lines.fault ≡ Some f → IsFed k piece es es ns ns k
+pub faulty_fed : (k : Kept) (f : TextFault) (piece : List ℕ) (es : List Entry) (ns : List ℕ)
+    → k.lines.fault ≡ Some f → IsFed k piece es es ns ns k
 faulty_fed k f piece es ns is = taken_fed k k piece es ns (faulty_taken k f piece is) refl refl
 
 pub unless : {P : Type 0} (r : Result (Unit {0}) fault.TextFault) → P → UnlessMemory r P
@@ -231,24 +309,31 @@ unless (Err Memory) p = tt
 -- what the whole input says
 module _ (r : ReaderState) (bytes : List ℕ) (has : HasRead r bytes) where
   at_end : own_reading (whole r) bytes
-      ≡ with_read (brought_in (own_reading (so_far r) bytes)) (known r.kept.lines (fault_at_end r.kept.lines r.kept.unfinished))
+      ≡ with_read (brought_in (own_reading (so_far r) bytes))
+      (known r.kept.lines (fault_at_end r.kept.lines r.kept.unfinished))
   at_end = whole_now r.kept (brought_in (own_reading (so_far r) bytes)) bytes has.sound has.reached
 
-  pub end_fault_is : fault_at_end r.kept.lines r.kept.unfinished ≡ (own_reading (whole r) bytes).fault
+  pub end_fault_is : fault_at_end r.kept.lines r.kept.unfinished
+      ≡ (own_reading (whole r) bytes).fault
   end_fault_is = sym (ap (λ read. read.fault) at_end)
 
-  pub end_alike : own_reading (whole r) bytes ≡ record (own_reading (so_far r) bytes) { fault = (own_reading (whole r) bytes).fault }
+  pub end_alike : own_reading (whole r) bytes
+      ≡ record (own_reading (so_far r) bytes) { fault = (own_reading (whole r) bytes).fault }
   end_alike = λ i. record {
     header = (ap (λ read. read.header) at_end ∙ has.header) i;
     lines = (ap (λ read. read.lines) at_end ∙ append-nil (own_reading (so_far r) bytes).lines) i;
-    starting = (ap (λ read. read.starting) at_end ∙ append-nil (own_reading (so_far r) bytes).starting) i;
-    entries = (ap (λ read. read.entries) at_end ∙ append-nil (own_reading (so_far r) bytes).entries) i;
-    numbers = (ap (λ read. read.numbers) at_end ∙ append-nil (own_reading (so_far r) bytes).numbers) i;
+    starting = (ap (λ read. read.starting) at_end
+        ∙ append-nil (own_reading (so_far r) bytes).starting) i;
+    entries = (ap (λ read. read.entries) at_end ∙ append-nil (own_reading (so_far r) bytes).entries)
+        i;
+    numbers = (ap (λ read. read.numbers) at_end ∙ append-nil (own_reading (so_far r) bytes).numbers)
+        i;
     ended = (ap (λ read. read.ended) at_end ∙ has.ended) i;
     fault = (own_reading (whole r) bytes).fault;
   }
 
-  no_fault_ends : fault_at_end r.kept.lines r.kept.unfinished ≡ None → has_ended r.kept.lines.stage ≡ true
+  no_fault_ends : fault_at_end r.kept.lines r.kept.unfinished ≡ None → has_ended r.kept.lines.stage
+      ≡ true
   no_fault_ends none = by_end r.kept.lines.fault (has_ended r.kept.lines.stage) none
     where
       by_end : (f : Option TextFault) (b : Bool) → option_or f (cond b None (Some (record {
@@ -259,7 +344,8 @@ module _ (r : ReaderState) (bytes : List ℕ) (has : HasRead r bytes) where
       by_end None false e = cc
       by_end (Some f) b e = cc
 
-  pub end_ended : (x : Result (Unit {0}) fault.TextFault) → IsAnswer x (fault_at_end r.kept.lines r.kept.unfinished)
+  pub end_ended : (x : Result (Unit {0}) fault.TextFault)
+      → IsAnswer x (fault_at_end r.kept.lines r.kept.unfinished)
       → OnOk x ((own_reading (whole r) bytes).ended ≡ true)
   end_ended (Ok x) is = ap (λ read. read.ended) at_end ∙ no_fault_ends is
   end_ended (Err e) is = tt

@@ -1,9 +1,11 @@
 -- What the bytes after the last line feed are to a reader.
-use Rattle.std.proofs.Common.{◌≡◌, ℕ, ◌<◌, Bool, true, false, cond, ◌&&◌, ◌||◌, List, [], ◌∷◌, ◌++◌, length, Option, Some, None, refl, ap, sym, ◌∙◌, arith, length-append}
+use Rattle.std.proofs.Common.{◌≡◌, ℕ, ◌<◌, Bool, true, false, cond, ◌&&◌, ◌||◌, List, [], ◌∷◌, ◌++◌}
+use Rattle.std.proofs.Common.{length, Option, Some, None, refl, ap, sym, ◌∙◌, arith, length-append}
 use Rattle.std.specs.Prelude.{nat_lt, is_some}
 use Rattle.std.proofs.Math.Bool.{and-false}
 use Rattle.vyrd_base.specs.declared.verdict.Rule.{Rule}
-use Rattle.vyrd_base.specs.declared.verdict.Rule.TheVariants.{TooManyLines, AfterEnd, BadHeader, BadEntry, NoLineFeed, NoEnd}
+use Rattle.vyrd_base.specs.declared.verdict.Rule.TheVariants.{TooManyLines, AfterEnd, BadHeader}
+use Rattle.vyrd_base.specs.declared.verdict.Rule.TheVariants.{BadEntry, NoLineFeed, NoEnd}
 use Rattle.vyrd_base.specs.Shape.{◌breaks◌, first_broken}
 use Rattle.vyrd_base.specs.Lines.{start_in}
 use Rattle.vyrd_base.specs.Reading.{has_any, fault_on}
@@ -11,36 +13,44 @@ use Rattle.vyrd_base.specs.Own.Log.{own_stopped, long_rule}
 use Rattle.vyrd_base.proofs.LongLines.{long_start, long_isnt_end}
 use Rattle.vyrd_base.proofs.TestLaws.{is_below, below_of}
 use Rattle.vyrd_own_log.specs.declared.stage.Stage.{Stage}
-use Rattle.vyrd_own_log.specs.declared.stage.Stage.TheVariants.{Header, Specification, Starts, Entries, End}
+use Rattle.vyrd_own_log.specs.declared.stage.Stage.TheVariants.{Header, Specification, Starts}
+use Rattle.vyrd_own_log.specs.declared.stage.Stage.TheVariants.{Entries, End}
 use Rattle.vyrd_own_log.specs.declared.stage.Found.TheVariants.{Nothing}
 use Rattle.vyrd_own_log.specs.declared.stage.Found.TheVariants as ends
 use Rattle.vyrd_base.specs.declared.header.Header as headers
-use Rattle.vyrd_own_log.specs.States.{LineState, input_to, headed, has_ended, lines_on, known, IsFirst}
-use Rattle.vyrd_own_log.specs.Steps.{next, broken, header_step, specification_step, spelled_step, entry_step, start_step, stage_step, own_step}
+use Rattle.vyrd_own_log.specs.States.{LineState, input_to, headed, has_ended, lines_on, known}
+use Rattle.vyrd_own_log.specs.States.{IsFirst}
+use Rattle.vyrd_own_log.specs.Steps.{next, broken, header_step, specification_step, spelled_step}
+use Rattle.vyrd_own_log.specs.Steps.{entry_step, start_step, stage_step, own_step}
 use Rattle.vyrd_own_log.specs.Rests.{bad_at, rest_if, rest_rule, end_fault}
 use Rattle.vyrd_own_log.proofs.EntryLaws.{AllCallable}
 use Rattle.vyrd_own_log.proofs.LongLaws.{long_entry, long_header, long_next, long_note}
 
 -- what a line of more than 200 bytes is
-module _ (r : LineState) (line : List ℕ) (long : 200 < length line) (all : AllCallable r.said.specification) where
+module _ (r : LineState) (line : List ℕ) (long : 200 < length line)
+    (all : AllCallable r.said.specification) where
   more_than : 64 < length line
   more_than = omega (arith, long)
 
-  long_step : (st : Stage) → has_ended st ≡ false → stage_step r st line ≡ broken r (bad_at r.said st)
+  long_step : (st : Stage) → has_ended st ≡ false → stage_step r st line
+      ≡ broken r (bad_at r.said st)
   long_step Header e = ap (header_step r) (long_header line long)
   long_step (Specification h) e = ap (specification_step r h) (long_next line long r.said)
   long_step (Starts h last) e =
-      ap (λ b. cond b (next r (Starts h last), Nothing) (start_step r h last line (start_in line))) (long_note line long)
+      ap (λ b. cond b (next r (Starts h last), Nothing) (start_step r h last line (start_in line)))
+      (long_note line long)
       ∙ ap (start_step r h last line) (long_start line more_than)
       ∙ entries h
     where
       entries : (h : headers.Header) → entry_step r h line ≡ broken r BadEntry
       entries h =
           (λ i. cond (long_note line long i) (next r (Entries h), Nothing)
-          (cond (long_isnt_end line more_than i) (next r (End h), ends.End) (spelled_step r h (long_entry line long r.said.specification all i))))
+          (cond (long_isnt_end line more_than i) (next r (End h), ends.End)
+          (spelled_step r h (long_entry line long r.said.specification all i))))
   long_step (Entries h) e =
       (λ i. cond (long_note line long i) (next r (Entries h), Nothing)
-      (cond (long_isnt_end line more_than i) (next r (End h), ends.End) (spelled_step r h (long_entry line long r.said.specification all i))))
+      (cond (long_isnt_end line more_than i) (next r (End h), ends.End)
+      (spelled_step r h (long_entry line long r.said.specification all i))))
   long_step (End h) e = cc
 
 some_bytes : (rest more : List ℕ) → has_any rest ≡ true → has_any (rest ++ more) ≡ true
@@ -48,46 +58,60 @@ some_bytes [] more e = cc
 some_bytes (b ∷ rest) more e = refl
 
 -- a rule that the beginning of a line breaks is the one that the line breaks
-module _ (r : LineState) (rest more : List ℕ) (rule : Rule) (all : AllCallable r.said.specification) (fine : r.fault ≡ None) where
+module _ (r : LineState) (rest more : List ℕ) (rule : Rule) (all : AllCallable r.said.specification)
+    (fine : r.fault ≡ None) where
   pub rest_step : rest_rule r rest ≡ Some rule → own_step r (rest ++ more) ≡ broken r rule
   rest_step is =
-      ap (λ f. cond (is_some f) (r, Nothing) (cond (nat_lt r.max_lines r.line) (broken r TooManyLines) (stage_step r r.stage (rest ++ more)))) fine
+      ap (λ f. cond (is_some f) (r, Nothing)
+      (cond (nat_lt r.max_lines r.line) (broken r TooManyLines)
+      (stage_step r r.stage (rest ++ more)))) fine
       ∙ by_past (nat_lt r.max_lines r.line) is
     where
       long : nat_lt 200 (length rest) ≡ true → 200 < length (rest ++ more)
       long e = let h = below_of 200 (length rest) e in omega (arith, h, length-append rest more)
 
       by_long : (b : Bool) → nat_lt 200 (length rest) ≡ b → (st : Stage) → has_ended st ≡ false
-          → cond b (Some (bad_at r.said st)) None ≡ Some rule → stage_step r st (rest ++ more) ≡ broken r rule
+          → cond b (Some (bad_at r.said st)) None ≡ Some rule → stage_step r st (rest ++ more)
+          ≡ broken r rule
       by_long true e st going f =
           let same : bad_at r.said st ≡ rule = cc in
           long_step r (rest ++ more) (long e) all st going ∙ ap (broken r) same
       by_long false e st going f = cc
 
       by_stage : (st : Stage) → cond (has_ended st && has_any rest) (Some AfterEnd)
-          (cond (nat_lt 200 (length rest)) (Some (bad_at r.said st)) None) ≡ Some rule → stage_step r st (rest ++ more) ≡ broken r rule
+          (cond (nat_lt 200 (length rest)) (Some (bad_at r.said st)) None) ≡ Some rule
+          → stage_step r st (rest ++ more) ≡ broken r rule
       by_stage Header f = by_long (nat_lt 200 (length rest)) refl Header refl f
-      by_stage (Specification h) f = by_long (nat_lt 200 (length rest)) refl (Specification h) refl f
+      by_stage (Specification h) f = by_long (nat_lt 200 (length rest)) refl (Specification h) refl
+          f
       by_stage (Starts h last) f = by_long (nat_lt 200 (length rest)) refl (Starts h last) refl f
       by_stage (Entries h) f = by_long (nat_lt 200 (length rest)) refl (Entries h) refl f
       by_stage (End h) f = after rest f
         where
-          after : (xs : List ℕ) → cond (has_any xs) (Some AfterEnd) (cond (nat_lt 200 (length xs)) (Some AfterEnd) None) ≡ Some rule
+          after : (xs : List ℕ) → cond (has_any xs) (Some AfterEnd)
+              (cond (nat_lt 200 (length xs)) (Some AfterEnd) None) ≡ Some rule
               → broken r AfterEnd ≡ broken r rule
           after [] g = cc
           after (x ∷ xs) g = let same : AfterEnd ≡ rule = cc in ap (broken r) same
 
-      by_past : (past : Bool) → cond (has_any rest && past) (Some TooManyLines) (cond (has_ended r.stage && has_any rest) (Some AfterEnd)
+      by_past : (past : Bool) → cond (has_any rest && past) (Some TooManyLines)
+          (cond (has_ended r.stage && has_any rest) (Some AfterEnd)
           (cond (nat_lt 200 (length rest)) (Some (bad_at r.said r.stage)) None)) ≡ Some rule
           → cond past (broken r TooManyLines) (stage_step r r.stage (rest ++ more)) ≡ broken r rule
-      by_past false f = by_stage r.stage (ap (λ b. cond b (Some TooManyLines) (cond (has_ended r.stage && has_any rest) (Some AfterEnd)
-          (cond (nat_lt 200 (length rest)) (Some (bad_at r.said r.stage)) None))) (sym (and-false (has_any rest))) ∙ f)
+      by_past false f = by_stage r.stage
+          (ap (λ b. cond b (Some TooManyLines)
+          (cond (has_ended r.stage && has_any rest) (Some AfterEnd)
+          (cond (nat_lt 200 (length rest)) (Some (bad_at r.said r.stage)) None)))
+          (sym (and-false (has_any rest))) ∙ f)
       by_past true f = past_any rest f
         where
-          past_any : (xs : List ℕ) → cond (has_any xs && true) (Some TooManyLines) (cond (has_ended r.stage && has_any xs) (Some AfterEnd)
-              (cond (nat_lt 200 (length xs)) (Some (bad_at r.said r.stage)) None)) ≡ Some rule → broken r TooManyLines ≡ broken r rule
+          past_any : (xs : List ℕ) → cond (has_any xs && true) (Some TooManyLines)
+              (cond (has_ended r.stage && has_any xs) (Some AfterEnd)
+              (cond (nat_lt 200 (length xs)) (Some (bad_at r.said r.stage)) None)) ≡ Some rule
+              → broken r TooManyLines ≡ broken r rule
           past_any [] g =
-              let none : ◌≡◌ {A = Option Rule} None (Some rule) = ap (λ b. cond b (Some AfterEnd) None) (sym (and-false (has_ended r.stage))) ∙ g in
+              let none : ◌≡◌ {A = Option Rule} None (Some rule) =
+              ap (λ b. cond b (Some AfterEnd) None) (sym (and-false (has_ended r.stage))) ∙ g in
               cc
           past_any (x ∷ xs) g = let same : TooManyLines ≡ rule = cc in ap (broken r) same
 
@@ -95,23 +119,30 @@ module _ (r : LineState) (rest more : List ℕ) (rule : Rule) (all : AllCallable
 pub no_rest : (r : LineState) → rest_rule r [] ≡ None
 no_rest r = ap (λ b. cond b (Some AfterEnd) None) (and-false (has_ended r.stage))
 
--- the rules of unfinished bytes, with tests for the limit, for their length, and whether there are some
+-- the rules of unfinished bytes, with tests for the limit, for their length, and whether there are
+-- some
 abbrev rules_at : Bool → Bool → Bool → Rule → Bool → Option Rule
 rules_at past long some bad w =
-    cond (some && past) (Some TooManyLines) (cond long (Some bad) (cond (some && w) (Some NoLineFeed) (cond w (Some NoEnd) None)))
+    cond (some && past) (Some TooManyLines)
+    (cond long (Some bad) (cond (some && w) (Some NoLineFeed) (cond w (Some NoEnd) None)))
 
-so_far_rules : (past long some : Bool) (bad : Rule) → rules_at past long some bad false ≡ cond (some && past) (Some TooManyLines) (cond long (Some bad) None)
+so_far_rules : (past long some : Bool) (bad : Rule) → rules_at past long some bad false
+    ≡ cond (some && past) (Some TooManyLines) (cond long (Some bad) None)
 so_far_rules past true some bad = refl
-so_far_rules past false some bad = ap (λ b. cond (some && past) (Some TooManyLines) (cond b (Some NoLineFeed) None)) (and-false some)
+so_far_rules past false some bad =
+    ap (λ b. cond (some && past) (Some TooManyLines) (cond b (Some NoLineFeed) None))
+    (and-false some)
 
-end_rules : (past long some : Bool) (bad : Rule) → cond (some && past) (Some TooManyLines) (cond long (Some bad) None) ≡ None
+end_rules : (past long some : Bool) (bad : Rule) → cond (some && past) (Some TooManyLines)
+    (cond long (Some bad) None) ≡ None
     → rules_at past long some bad true ≡ Some (cond some NoLineFeed NoEnd)
 end_rules true long true bad e = cc
 end_rules true true false bad e = cc
 end_rules true false false bad e = refl
 end_rules false true some bad e = by_some some e
   where
-    by_some : (b : Bool) → cond (b && false) (Some TooManyLines) (Some bad) ≡ None → rules_at false true b bad true ≡ Some (cond b NoLineFeed NoEnd)
+    by_some : (b : Bool) → cond (b && false) (Some TooManyLines) (Some bad) ≡ None
+        → rules_at false true b bad true ≡ Some (cond b NoLineFeed NoEnd)
     by_some true f = cc
     by_some false f = cc
 end_rules false false true bad e = refl
@@ -119,97 +150,151 @@ end_rules false false false bad e = refl
 
 -- what is known of a reader with these parts, where bytes follow that don't end a line
 module _ (r : LineState) (rest : List ℕ) (first : IsFirst r.stage r) where
-  after_rules : (xs : List ℕ) → first_broken (((has_any xs || false) && nat_lt r.max_lines r.line breaks TooManyLines) ∷ ((has_any xs || false) breaks AfterEnd) ∷ [])
-      ≡ cond (has_any xs && nat_lt r.max_lines r.line) (Some TooManyLines) (cond (true && has_any xs) (Some AfterEnd)
+  after_rules : (xs : List ℕ)
+      → first_broken (((has_any xs || false) && nat_lt r.max_lines r.line breaks TooManyLines)
+      ∷ ((has_any xs || false) breaks AfterEnd) ∷ [])
+      ≡ cond (has_any xs && nat_lt r.max_lines r.line) (Some TooManyLines)
+      (cond (true && has_any xs) (Some AfterEnd)
       (cond (nat_lt 200 (length xs)) (Some AfterEnd) None))
   after_rules [] = refl
   after_rules (x ∷ xs) = refl
 
-  none_after : (xs : List ℕ) → cond (has_any xs && nat_lt r.max_lines r.line) (Some TooManyLines) (cond (true && has_any xs) (Some AfterEnd)
+  none_after : (xs : List ℕ) → cond (has_any xs && nat_lt r.max_lines r.line) (Some TooManyLines)
+      (cond (true && has_any xs) (Some AfterEnd)
       (cond (nat_lt 200 (length xs)) (Some AfterEnd) None)) ≡ None
-      → first_broken (((has_any xs || false) && nat_lt r.max_lines r.line breaks TooManyLines) ∷ ((has_any xs || false) breaks AfterEnd) ∷ []) ≡ None
+      → first_broken (((has_any xs || false) && nat_lt r.max_lines r.line breaks TooManyLines)
+      ∷ ((has_any xs || false) breaks AfterEnd) ∷ []) ≡ None
   none_after xs e = after_rules xs ∙ e
 
   -- as bytes that may go on
   so_far_at : (st : Stage) → IsFirst st r → lines_on (input_to r false) r.said r.line st (rest ∷ [])
-      ≡ known (record r { stage = st }) (fault_on r.line (rest_if (record r { stage = st }) (has_any rest) (nat_lt 200 (length rest))))
+      ≡ known (record r { stage = st })
+      (fault_on r.line
+      (rest_if (record r { stage = st }) (has_any rest) (nat_lt 200 (length rest))))
   so_far_at Header f =
-      ap (own_stopped 1) (ap (λ k. rules_at (nat_lt r.max_lines k) (nat_lt 200 (length rest)) (has_any rest) BadHeader false) (sym f.0)
-      ∙ so_far_rules (nat_lt r.max_lines r.line) (nat_lt 200 (length rest)) (has_any rest) BadHeader)
-      ∙ ap (λ k. known (record r { stage = Header }) (fault_on k (rest_if (record r { stage = Header }) (has_any rest) (nat_lt 200 (length rest))))) (sym f.0)
+      ap (own_stopped 1)
+      (ap (λ k. rules_at (nat_lt r.max_lines k) (nat_lt 200 (length rest)) (has_any rest) BadHeader
+      false) (sym f.0)
+      ∙ so_far_rules (nat_lt r.max_lines r.line) (nat_lt 200 (length rest))
+      (has_any rest) BadHeader)
+      ∙ ap (λ k. known (record r { stage = Header })
+      (fault_on k (rest_if (record r { stage = Header }) (has_any rest)
+      (nat_lt 200 (length rest))))) (sym f.0)
   so_far_at (Specification h) f =
-      ap (λ o. headed h (own_stopped r.line o)) (so_far_rules (nat_lt r.max_lines r.line) (nat_lt 200 (length rest)) (has_any rest) (long_rule r.said))
+      ap (λ o. headed h (own_stopped r.line o))
+      (so_far_rules (nat_lt r.max_lines r.line) (nat_lt 200 (length rest)) (has_any rest)
+      (long_rule r.said))
   so_far_at (Starts h last) f =
-      ap (λ o. headed h (own_stopped r.line o)) (so_far_rules (nat_lt r.max_lines r.line) (nat_lt 200 (length rest)) (has_any rest) BadEntry)
+      ap (λ o. headed h (own_stopped r.line o))
+      (so_far_rules (nat_lt r.max_lines r.line) (nat_lt 200 (length rest)) (has_any rest) BadEntry)
   so_far_at (Entries h) f =
-      ap (λ o. headed h (own_stopped r.line o)) (so_far_rules (nat_lt r.max_lines r.line) (nat_lt 200 (length rest)) (has_any rest) BadEntry)
+      ap (λ o. headed h (own_stopped r.line o))
+      (so_far_rules (nat_lt r.max_lines r.line) (nat_lt 200 (length rest)) (has_any rest) BadEntry)
   so_far_at (End h) f =
       ap (λ o. headed h (record (own_stopped r.line o) { ended = true })) (after_rules rest)
 
-  pub rest_so_far : lines_on (input_to r false) r.said r.line r.stage (rest ∷ []) ≡ known r (fault_on r.line (rest_rule r rest))
+  pub rest_so_far : lines_on (input_to r false) r.said r.line r.stage (rest ∷ [])
+      ≡ known r (fault_on r.line (rest_rule r rest))
   rest_so_far = so_far_at r.stage first
 
   -- as the end of the input
-  whole_at : (st : Stage) → IsFirst st r → rest_if (record r { stage = st }) (has_any rest) (nat_lt 200 (length rest)) ≡ None
-      → lines_on (input_to r true) r.said r.line st (rest ∷ []) ≡ known (record r { stage = st }) (end_fault (record r { stage = st }) rest)
+  whole_at : (st : Stage) → IsFirst st r → rest_if (record r { stage = st }) (has_any rest)
+      (nat_lt 200 (length rest)) ≡ None
+      → lines_on (input_to r true) r.said r.line st (rest ∷ []) ≡ known (record r { stage = st })
+      (end_fault (record r { stage = st }) rest)
   whole_at Header f none =
-      ap (own_stopped 1) (ap (λ k. rules_at (nat_lt r.max_lines k) (nat_lt 200 (length rest)) (has_any rest) BadHeader true) (sym f.0)
-      ∙ end_rules (nat_lt r.max_lines r.line) (nat_lt 200 (length rest)) (has_any rest) BadHeader none)
-      ∙ ap (λ k. known (record r { stage = Header }) (Some (record { line = k; rule = cond (has_any rest) NoLineFeed NoEnd }))) (sym f.0)
+      ap (own_stopped 1)
+      (ap (λ k. rules_at (nat_lt r.max_lines k) (nat_lt 200 (length rest)) (has_any rest) BadHeader
+      true) (sym f.0)
+      ∙ end_rules (nat_lt r.max_lines r.line) (nat_lt 200 (length rest)) (has_any rest) BadHeader
+      none)
+      ∙ ap (λ k. known (record r { stage = Header })
+      (Some (record { line = k; rule = cond (has_any rest) NoLineFeed NoEnd }))) (sym f.0)
   whole_at (Specification h) f none =
-      ap (λ o. headed h (own_stopped r.line o)) (end_rules (nat_lt r.max_lines r.line) (nat_lt 200 (length rest)) (has_any rest) (long_rule r.said) none)
+      ap (λ o. headed h (own_stopped r.line o))
+      (end_rules (nat_lt r.max_lines r.line) (nat_lt 200 (length rest)) (has_any rest)
+      (long_rule r.said) none)
   whole_at (Starts h last) f none =
-      ap (λ o. headed h (own_stopped r.line o)) (end_rules (nat_lt r.max_lines r.line) (nat_lt 200 (length rest)) (has_any rest) BadEntry none)
+      ap (λ o. headed h (own_stopped r.line o))
+      (end_rules (nat_lt r.max_lines r.line) (nat_lt 200 (length rest)) (has_any rest) BadEntry
+      none)
   whole_at (Entries h) f none =
-      ap (λ o. headed h (own_stopped r.line o)) (end_rules (nat_lt r.max_lines r.line) (nat_lt 200 (length rest)) (has_any rest) BadEntry none)
+      ap (λ o. headed h (own_stopped r.line o))
+      (end_rules (nat_lt r.max_lines r.line) (nat_lt 200 (length rest)) (has_any rest) BadEntry
+      none)
   whole_at (End h) f none =
       ap (λ o. headed h (record (own_stopped r.line o) { ended = true })) (none_after rest none)
 
-  pub rest_whole : rest_rule r rest ≡ None → lines_on (input_to r true) r.said r.line r.stage (rest ∷ []) ≡ known r (end_fault r rest)
+  pub rest_whole : rest_rule r rest ≡ None → lines_on (input_to r true) r.said r.line r.stage
+      (rest ∷ []) ≡ known r (end_fault r rest)
   rest_whole none = whole_at r.stage first none
 
 -- a rule that unfinished bytes break already is broken at the end too
 rules_bad : (past long some : Bool) (bad : Rule) (w : Bool) (rule : Rule)
-    → cond (some && past) (Some TooManyLines) (cond long (Some bad) None) ≡ Some rule → rules_at past long some bad w ≡ Some rule
+    → cond (some && past) (Some TooManyLines) (cond long (Some bad) None) ≡ Some rule
+    → rules_at past long some bad w ≡ Some rule
 rules_bad past long some bad w rule e = by_first (some && past) long e
   where
     by_first : (b l : Bool) → cond b (Some TooManyLines) (cond l (Some bad) None) ≡ Some rule
-        → cond b (Some TooManyLines) (cond l (Some bad) (cond (some && w) (Some NoLineFeed) (cond w (Some NoEnd) None))) ≡ Some rule
+        → cond b (Some TooManyLines)
+        (cond l (Some bad) (cond (some && w) (Some NoLineFeed) (cond w (Some NoEnd) None)))
+        ≡ Some rule
     by_first true l f = f
     by_first false true f = f
     by_first false false f = cc
 
 module _ (r : LineState) (rest : List ℕ) (first : IsFirst r.stage r) (w : Bool) (rule : Rule) where
-  bad_rest : (st : Stage) → IsFirst st r → rest_if (record r { stage = st }) (has_any rest) (nat_lt 200 (length rest)) ≡ Some rule
-      → lines_on (input_to r w) r.said r.line st (rest ∷ []) ≡ known (record r { stage = st }) (Some (record { line = r.line; rule = rule }))
+  bad_rest : (st : Stage) → IsFirst st r → rest_if (record r { stage = st }) (has_any rest)
+      (nat_lt 200 (length rest)) ≡ Some rule
+      → lines_on (input_to r w) r.said r.line st (rest ∷ []) ≡ known (record r { stage = st })
+      (Some (record { line = r.line; rule = rule }))
   bad_rest Header f e =
-      ap (own_stopped 1) (ap (λ k. rules_at (nat_lt r.max_lines k) (nat_lt 200 (length rest)) (has_any rest) BadHeader w) (sym f.0)
-      ∙ rules_bad (nat_lt r.max_lines r.line) (nat_lt 200 (length rest)) (has_any rest) BadHeader w rule e)
-      ∙ ap (λ k. known (record r { stage = Header }) (Some (record { line = k; rule = rule }))) (sym f.0)
+      ap (own_stopped 1)
+      (ap (λ k. rules_at (nat_lt r.max_lines k) (nat_lt 200 (length rest)) (has_any rest) BadHeader
+      w) (sym f.0)
+      ∙ rules_bad (nat_lt r.max_lines r.line) (nat_lt 200 (length rest)) (has_any rest) BadHeader w
+      rule e)
+      ∙ ap (λ k. known (record r { stage = Header }) (Some (record { line = k; rule = rule })))
+      (sym f.0)
   bad_rest (Specification h) f e =
-      ap (λ o. headed h (own_stopped r.line o)) (rules_bad (nat_lt r.max_lines r.line) (nat_lt 200 (length rest)) (has_any rest) (long_rule r.said) w rule e)
+      ap (λ o. headed h (own_stopped r.line o))
+      (rules_bad (nat_lt r.max_lines r.line) (nat_lt 200 (length rest)) (has_any rest)
+      (long_rule r.said) w rule e)
   bad_rest (Starts h last) f e =
-      ap (λ o. headed h (own_stopped r.line o)) (rules_bad (nat_lt r.max_lines r.line) (nat_lt 200 (length rest)) (has_any rest) BadEntry w rule e)
+      ap (λ o. headed h (own_stopped r.line o))
+      (rules_bad (nat_lt r.max_lines r.line) (nat_lt 200 (length rest)) (has_any rest) BadEntry w
+      rule e)
   bad_rest (Entries h) f e =
-      ap (λ o. headed h (own_stopped r.line o)) (rules_bad (nat_lt r.max_lines r.line) (nat_lt 200 (length rest)) (has_any rest) BadEntry w rule e)
+      ap (λ o. headed h (own_stopped r.line o))
+      (rules_bad (nat_lt r.max_lines r.line) (nat_lt 200 (length rest)) (has_any rest) BadEntry w
+      rule e)
   bad_rest (End h) f e =
-      ap (λ o. headed h (record (own_stopped r.line o) { ended = true })) (after_rules r rest first rest ∙ e)
+      ap (λ o. headed h (record (own_stopped r.line o) { ended = true }))
+      (after_rules r rest first rest ∙ e)
 
-  pub rest_bad : rest_rule r rest ≡ Some rule → lines_on (input_to r w) r.said r.line r.stage (rest ∷ []) ≡ known r (Some (record { line = r.line; rule = rule }))
+  pub rest_bad : rest_rule r rest ≡ Some rule → lines_on (input_to r w) r.said r.line r.stage
+      (rest ∷ []) ≡ known r (Some (record { line = r.line; rule = rule }))
   rest_bad e = bad_rest r.stage first e
 
 -- and so as the line goes on
-pub rest_stays : (r : LineState) (rest more : List ℕ) (rule : Rule) → rest_rule r rest ≡ Some rule → rest_rule r (rest ++ more) ≡ Some rule
-rest_stays r [] more rule e = let none : ◌≡◌ {A = Option Rule} None (Some rule) = sym (no_rest r) ∙ e in cc
-rest_stays r (b ∷ rest) more rule e = by_tests (nat_lt r.max_lines r.line) (has_ended r.stage) (nat_lt 200 (length (b ∷ rest))) refl e
+pub rest_stays : (r : LineState) (rest more : List ℕ) (rule : Rule) → rest_rule r rest ≡ Some rule
+    → rest_rule r (rest ++ more) ≡ Some rule
+rest_stays r [] more rule e = let none : ◌≡◌ {A = Option Rule} None (Some rule) = sym (no_rest r)
+    ∙ e in cc
+rest_stays r (b ∷ rest) more rule e = by_tests (nat_lt r.max_lines r.line) (has_ended r.stage)
+    (nat_lt 200 (length (b ∷ rest))) refl e
   where
     by_tests : (past done long : Bool) → nat_lt 200 (length (b ∷ rest)) ≡ long
-        → cond past (Some TooManyLines) (cond (done && true) (Some AfterEnd) (cond long (Some (bad_at r.said r.stage)) None)) ≡ Some rule
+        → cond past (Some TooManyLines)
+        (cond (done && true) (Some AfterEnd) (cond long (Some (bad_at r.said r.stage)) None))
+        ≡ Some rule
         → cond past (Some TooManyLines) (cond (done && true) (Some AfterEnd)
-        (cond (nat_lt 200 (length (b ∷ (rest ++ more)))) (Some (bad_at r.said r.stage)) None)) ≡ Some rule
+        (cond (nat_lt 200 (length (b ∷ (rest ++ more)))) (Some (bad_at r.said r.stage)) None))
+        ≡ Some rule
     by_tests true done long l f = f
     by_tests false true long l f = f
     by_tests false false true l f =
         ap (λ t. cond t (Some (bad_at r.said r.stage)) None)
-        (let h = below_of 200 (length (b ∷ rest)) l in is_below 200 (length (b ∷ (rest ++ more))) (omega (arith, h, length-append rest more))) ∙ f
+        (let h = below_of 200 (length (b ∷ rest)) l in is_below 200 (length (b ∷ (rest ++ more)))
+        (omega (arith, h, length-append rest more))) ∙ f
     by_tests false false false l f = cc

@@ -1,5 +1,6 @@
 -- What stays true of a reader over a whole line.
-use Rattle.std.proofs.Common.{◌≡◌, ℕ, ◌+◌, ◌≤◌, Bool, true, false, cond, List, [], Option, Some, None, refl, ap, sym, ◌∙◌, arith}
+use Rattle.std.proofs.Common.{◌≡◌, ℕ, ◌+◌, ◌≤◌, Bool, true, false, cond, List, [], Option, Some}
+use Rattle.std.proofs.Common.{None, refl, ap, sym, ◌∙◌, arith}
 use Rattle.std.specs.Prelude.{nat_lt, is_some}
 use Rattle.std.specs.Str.{bytes_eq}
 use Rattle.vyrd_base.specs.declared.header.Header as headers
@@ -22,11 +23,14 @@ use Rattle.vyrd_own_log.specs.declared.stage.Found.{Found}
 use Rattle.vyrd_own_log.specs.declared.stage.Found.TheVariants as found
 use Rattle.vyrd_own_log.specs.Callable.{are_callable}
 use Rattle.vyrd_own_log.specs.States.{LineState, IsFirst, IsSteady}
-use Rattle.vyrd_own_log.specs.Steps.{next, broken, header_step, specification_step, spelled_step, entry_step, word_step, start_step, starts_step, stage_step, own_step, lines_of}
+use Rattle.vyrd_own_log.specs.Steps.{next, broken, header_step, specification_step, spelled_step}
+use Rattle.vyrd_own_log.specs.Steps.{entry_step, word_step, start_step, starts_step, stage_step}
+use Rattle.vyrd_own_log.specs.Steps.{own_step, lines_of}
 use Rattle.vyrd_own_log.proofs.StepLaws.{Keeps, next_keeps}
 use Rattle.vyrd_own_log.proofs.CallableLaws.{next_callable}
 
--- a step leaves a steady reader with the same limit, and what it read of the specification is the line that it brought
+-- a step leaves a steady reader with the same limit, and what it read of the specification is the
+-- line that it brought
 pub record IsStep (r : LineState) (line : List ℕ) (s : LineState × Found) : Type 0 where
   pub limit : s.0.max_lines ≡ r.max_lines
   pub steady : IsSteady s.0
@@ -40,7 +44,12 @@ module _ (r : LineState) (line : List ℕ) (steady : IsSteady r) where
   broken_is : (rule : Rule) → IsStep r line (broken r rule)
   broken_is rule = record {
     limit = refl;
-    steady = record { low = steady.low; high = steady.high; counted = steady.counted; callable = steady.callable };
+    steady = record {
+      low = steady.low;
+      high = steady.high;
+      counted = steady.counted;
+      callable = steady.callable;
+    };
     first = first_of r.stage;
     said = refl;
   }
@@ -60,39 +69,64 @@ module _ (r : LineState) (line : List ℕ) (steady : IsSteady r) where
     header_is None = broken_is rules.BadHeader
     header_is (Some h) = record {
       limit = refl;
-      steady = record { low = steady.low; high = steady.high; counted = counted; callable = steady.callable };
+      steady = record {
+        low = steady.low;
+        high = steady.high;
+        counted = counted;
+        callable = steady.callable;
+      };
       first = λ f. tt;
       said = refl;
     }
 
-    specification_is : (h : headers.Header) → IsStep r line (specification_step r h (read_next r.said line))
+    specification_is : (h : headers.Header)
+        → IsStep r line (specification_step r h (read_next r.said line))
     specification_is h =
-        by_told (read_next r.said line).0 (read_next r.said line).1 refl (next_keeps r.said line) (next_callable r.said line steady.callable)
+        by_told (read_next r.said line).0 (read_next r.said line).1 refl (next_keeps r.said line)
+        (next_callable r.said line steady.callable)
       where
-        first_of : (t : SoFar) → t ≡ r.said → (st : Stage) → IsFirst st r → IsFirst st (record r { said = t })
+        first_of : (t : SoFar) → t ≡ r.said → (st : Stage) → IsFirst st r
+            → IsFirst st (record r { said = t })
         first_of t same stages.Header f = (f.0, same ∙ f.1)
         first_of t same (stages.Specification k) f = tt
         first_of t same (stages.Starts k last) f = tt
         first_of t same (stages.Entries k) f = tt
         first_of t same (stages.End k) f = tt
 
-        by_told : (x : SpecificationLine) (t : SoFar) → t ≡ (read_next r.said line).1 → Keeps r.said x t
-            → are_callable t.specification.methods ≡ true → IsStep r line (specification_step r h (x, t))
+        by_told : (x : SpecificationLine) (t : SoFar) → t ≡ (read_next r.said line).1
+            → Keeps r.said x t
+            → are_callable t.specification.methods ≡ true
+            → IsStep r line (specification_step r h (x, t))
         by_told told.More t is keeps all = record {
           limit = refl;
-          steady = record { low = steady.low; high = steady.high; counted = counted; callable = all };
+          steady = record {
+            low = steady.low;
+            high = steady.high;
+            counted = counted;
+            callable = all;
+          };
           first = λ f. tt;
           said = is;
         }
         by_told told.Log t is keeps all = record {
           limit = refl;
-          steady = record { low = steady.low; high = steady.high; counted = counted; callable = all };
+          steady = record {
+            low = steady.low;
+            high = steady.high;
+            counted = counted;
+            callable = all;
+          };
           first = λ f. tt;
           said = keeps;
         }
         by_told (told.Refused rule column) t is keeps all = record {
           limit = refl;
-          steady = record { low = steady.low; high = steady.high; counted = steady.counted; callable = all };
+          steady = record {
+            low = steady.low;
+            high = steady.high;
+            counted = steady.counted;
+            callable = all;
+          };
           first = λ f. first_fault r.stage (first_of t keeps r.stage f);
           said = keeps;
         }
@@ -106,25 +140,35 @@ module _ (r : LineState) (line : List ℕ) (steady : IsSteady r) where
             first_fault (stages.End k) f = tt
 
     -- to a later line, with what it brings that is no line of the specification
-    later_is : (st : Stage) (x : Found) → IsFirst st (next r st) → lines_of line x ≡ [] → IsStep r line (next r st, x)
+    later_is : (st : Stage) (x : Found) → IsFirst st (next r st) → lines_of line x ≡ []
+        → IsStep r line (next r st, x)
     later_is st x first none = record {
       limit = refl;
-      steady = record { low = steady.low; high = steady.high; counted = counted; callable = steady.callable };
+      steady = record {
+        low = steady.low;
+        high = steady.high;
+        counted = counted;
+        callable = steady.callable;
+      };
       first = λ f. first;
       said = ap (read_lines r.said) (sym none);
     }
 
     pub entry_is : (h : headers.Header) → IsStep r line (entry_step r h line)
-    entry_is h = by_tests (is_note line) (bytes_eq line end_line) (own_entry_in r.said.specification line)
+    entry_is h = by_tests (is_note line) (bytes_eq line end_line)
+        (own_entry_in r.said.specification line)
       where
         by_tests : (note is_end : Bool) (o : Option Entry)
-            → IsStep r line (cond note (next r (stages.Entries h), found.Nothing) (cond is_end (next r (stages.End h), found.End) (spelled_step r h o)))
+            → IsStep r line
+            (cond note (next r (stages.Entries h), found.Nothing)
+            (cond is_end (next r (stages.End h), found.End) (spelled_step r h o)))
         by_tests true is_end o = later_is (stages.Entries h) found.Nothing tt refl
         by_tests false true o = later_is (stages.End h) found.End tt refl
         by_tests false false None = broken_is rules.BadEntry
         by_tests false false (Some e) = later_is (stages.Entries h) (found.Entry e) tt refl
 
-    pub starts_is : (h : headers.Header) (last : Option StartWord) → IsStep r line (starts_step r h last line)
+    pub starts_is : (h : headers.Header) (last : Option StartWord)
+        → IsStep r line (starts_step r h last line)
     starts_is h last = by_tests (is_note line) (start_in line)
       where
         by_rule : (s : StartWord) (o : Option Rule) → IsStep r line (word_step r h s o)
@@ -132,7 +176,8 @@ module _ (r : LineState) (line : List ℕ) (steady : IsSteady r) where
         by_rule s (Some rule) = broken_is rule
 
         by_tests : (note : Bool) (o : Option StartWord)
-            → IsStep r line (cond note (next r (stages.Starts h last), found.Nothing) (start_step r h last line o))
+            → IsStep r line
+            (cond note (next r (stages.Starts h last), found.Nothing) (start_step r h last line o))
         by_tests true o = later_is (stages.Starts h last) found.Nothing tt refl
         by_tests false None = entry_is h
         by_tests false (Some s) = by_rule s (start_rule h last s)
@@ -148,7 +193,9 @@ module _ (r : LineState) (line : List ℕ) (steady : IsSteady r) where
   step_is = by_tests (is_some r.fault) (nat_lt r.max_lines r.line) refl
     where
       by_tests : (faulty past : Bool) → nat_lt r.max_lines r.line ≡ past
-          → IsStep r line (cond faulty (r, found.Nothing) (cond past (broken r rules.TooManyLines) (stage_step r r.stage line)))
+          → IsStep r line
+          (cond faulty (r, found.Nothing)
+          (cond past (broken r rules.TooManyLines) (stage_step r r.stage line)))
       by_tests true past e = unchanged
       by_tests false true e = broken_is rules.TooManyLines
       by_tests false false e = stage_is (not_below_of r.max_lines r.line e) r.stage

@@ -1,5 +1,6 @@
 -- A step over a whole line is what the definition makes of the line.
-use Rattle.std.proofs.Common.{◌≡◌, ℕ, ◌+◌, ◌≤◌, Bool, true, false, cond, not, ◌&&◌, ◌||◌, List, [], ◌∷◌, Option, Some, None, refl, ap, sym, subst}
+use Rattle.std.proofs.Common.{◌≡◌, ℕ, ◌+◌, ◌≤◌, Bool, true, false, cond, not, ◌&&◌, ◌||◌, List, []}
+use Rattle.std.proofs.Common.{◌∷◌, Option, Some, None, refl, ap, sym, subst}
 use Rattle.std.specs.Prelude.{nat_lt, nat_le, codes, Ok, Err}
 use Rattle.std.specs.Str.{bytes_eq}
 use Rattle.vyrd_base.specs.declared.header.Header as headers
@@ -18,17 +19,21 @@ use Rattle.vyrd_base.specs.Lines.{start_in}
 use Rattle.vyrd_base.specs.Reading.{TextFault, Input, has_any, after_end_rule}
 use Rattle.vyrd_base.specs.Own.Lines.{Line}
 use Rattle.vyrd_base.specs.Own.Reading.{Taken}
-use Rattle.vyrd_base.specs.Own.Reader.{SoFar, nothing_read, unfinished, line_read, ended_with, read_next, read_lines}
+use Rattle.vyrd_base.specs.Own.Reader.{SoFar, nothing_read, unfinished, line_read, ended_with}
+use Rattle.vyrd_base.specs.Own.Reader.{read_next, read_lines}
 use Rattle.vyrd_base.specs.Own.Reader as reader
 use Rattle.vyrd_base.specs.Own.Entries.{own_entry_in}
-use Rattle.vyrd_base.specs.Own.Log.{OwnReading, own_stopped, own_ended, is_note, own_entry_before, entries_read, own_start_before, own_starts_read, line_before, specification_read, own_header_in}
+use Rattle.vyrd_base.specs.Own.Log.{OwnReading, own_stopped, own_ended, is_note, own_entry_before}
+use Rattle.vyrd_base.specs.Own.Log.{entries_read, own_start_before, own_starts_read, line_before}
+use Rattle.vyrd_base.specs.Own.Log.{specification_read, own_header_in}
 use Rattle.vyrd_base.proofs.TestLaws.{isnt_below}
 use Rattle.vyrd_own_log.specs.declared.stage.Stage.{Stage}
 use Rattle.vyrd_own_log.specs.declared.stage.Stage.TheVariants as stages
 use Rattle.vyrd_own_log.specs.declared.stage.Found.{Found}
 use Rattle.vyrd_own_log.specs.declared.stage.Found.TheVariants as found
 use Rattle.vyrd_own_log.specs.States.{LineState, input_to, headed, reads_on, IsFirst}
-use Rattle.vyrd_own_log.specs.Steps.{next, broken, header_step, specification_step, spelled_step, word_step, own_step, brought_by, with_read}
+use Rattle.vyrd_own_log.specs.Steps.{next, broken, header_step, specification_step, spelled_step}
+use Rattle.vyrd_own_log.specs.Steps.{word_step, own_step, brought_by, with_read}
 
 -- What a line is leaves what was read, unless the line was taken in.
 abbrev pub Keeps : SoFar → SpecificationLine → SoFar → Type 0
@@ -38,10 +43,12 @@ Keeps s (told.Refused rule column) t = t ≡ s
 
 pub next_keeps : (s : SoFar) (line : List ℕ) → Keeps s (read_next s line).0 (read_next s line).1
 unfolding read_next
-next_keeps s line = by_log (bytes_eq line (codes "log")) (nat_le 1000 s.lines) (unfinished s.specification.methods) (line_read s.specification s.below line)
+next_keeps s line = by_log (bytes_eq line (codes "log")) (nat_le 1000 s.lines)
+    (unfinished s.specification.methods) (line_read s.specification s.below line)
   where
     by_log : (log many : Bool) (o : Option SpecificationRule) (t : Taken Line)
-        → let r : SpecificationLine × SoFar = cond log (ended_with s o) (cond many (told.Refused refusals.TooMany 1, s) (reader.told s line t)) in
+        → let r : SpecificationLine × SoFar = cond log (ended_with s o)
+        (cond many (told.Refused refusals.TooMany 1, s) (reader.told s line t)) in
         Keeps s r.0 r.1
     by_log true many None t = refl
     by_log true many (Some rule) t = refl
@@ -76,18 +83,26 @@ module _ (line nxt : List ℕ) (lines : List (List ℕ)) (w : Bool) where
       ]
 
       told_goes : (x : SpecificationLine) (t : SoFar) → Keeps s x t
-          → headed h (told_reading x t) ≡ with_read (brought_by n line (specification_step r_specification h (x, t)).1)
+          → headed h (told_reading x t)
+          ≡ with_read (brought_by n line (specification_step r_specification h (x, t)).1)
           (reads_on (specification_step r_specification h (x, t)).0 input (nxt ∷ lines))
       told_goes told.More t keeps = refl
-      told_goes told.Log t keeps = ap (λ x. headed h (own_starts_read input h x.specification None (n + 1) (nxt ∷ lines))) (sym keeps)
+      told_goes told.Log t keeps =
+          ap (λ x. headed h (own_starts_read input h x.specification None (n + 1) (nxt ∷ lines)))
+          (sym keeps)
       told_goes (told.Refused rule column) t keeps = refl
 
       specification_tests : (past : Bool)
-          → headed h (cond past (own_stopped n (Some rules.TooManyLines)) (told_reading (read_next s line).0 (read_next s line).1))
-          ≡ with_read (brought_by n line (cond past (broken r_specification rules.TooManyLines) (specification_step r_specification h (read_next s line))).1)
-          (reads_on (cond past (broken r_specification rules.TooManyLines) (specification_step r_specification h (read_next s line))).0 input (nxt ∷ lines))
+          → headed h (cond past (own_stopped n (Some rules.TooManyLines))
+          (told_reading (read_next s line).0 (read_next s line).1))
+          ≡ with_read (brought_by n line
+          (cond past (broken r_specification rules.TooManyLines)
+          (specification_step r_specification h (read_next s line))).1)
+          (reads_on (cond past (broken r_specification rules.TooManyLines)
+          (specification_step r_specification h (read_next s line))).0 input (nxt ∷ lines))
       specification_tests true = refl
-      specification_tests false = told_goes (read_next s line).0 (read_next s line).1 (next_keeps s line)
+      specification_tests false = told_goes (read_next s line).0 (read_next s line).1
+          (next_keeps s line)
 
       pub specification_goes : Goes r_specification (own_step r_specification line)
       specification_goes = specification_tests (nat_lt m n)
@@ -112,11 +127,13 @@ module _ (line nxt : List ℕ) (lines : List (List ℕ)) (w : Bool) where
           (cond is_end (next r (stages.End h), found.End) (spelled_step r h o))
 
       abbrev EntryGoes : LineState → OwnReading → LineState × Found → Type 0
-      EntryGoes r reading t = headed h reading ≡ with_read (brought_by n line t.1) (reads_on t.0 input (nxt ∷ lines))
+      EntryGoes r reading t = headed h reading ≡ with_read (brought_by n line t.1)
+          (reads_on t.0 input (nxt ∷ lines))
 
       entry_tests : (k : Option (Option StartWord)) (past note is_end : Bool) (o : Option Entry)
           → EntryGoes (r_entries k) (entry_reading past note is_end o)
-          (cond past (broken (r_entries k) rules.TooManyLines) (entry_tested (r_entries k) note is_end o))
+          (cond past (broken (r_entries k) rules.TooManyLines)
+          (entry_tested (r_entries k) note is_end o))
       entry_tests None true note is_end o = refl
       entry_tests (Some last) true note is_end o = refl
       entry_tests None false true is_end o = refl
@@ -129,7 +146,8 @@ module _ (line nxt : List ℕ) (lines : List (List ℕ)) (w : Bool) where
       entry_tests (Some last) false false false (Some e) = refl
 
       pub entries_goes : Goes (r_entries None) (own_step (r_entries None) line)
-      entries_goes = entry_tests None (nat_lt m n) (is_note line) (bytes_eq line end_line) (own_entry_in s.specification line)
+      entries_goes = entry_tests None (nat_lt m n) (is_note line) (bytes_eq line end_line)
+          (own_entry_in s.specification line)
 
       -- a line where starting words may stand
       module _ (last : Option StartWord) where
@@ -139,21 +157,26 @@ module _ (line nxt : List ℕ) (lines : List (List ℕ)) (w : Bool) where
         abbrev start_reading : Bool → Bool → Bool → Option Entry → Option StartWord → OwnReading
         start_reading past note is_end o None = entry_reading past note is_end o
         start_reading past note is_end o (Some x) =
-            cond past (own_stopped n (Some rules.TooManyLines)) (own_start_before n (start_rule h last x) x (onward (Some x)))
+            cond past (own_stopped n (Some rules.TooManyLines))
+            (own_start_before n (start_rule h last x) x (onward (Some x)))
 
         abbrev start_tested : Bool → Bool → Option Entry → Option StartWord → LineState × Found
         start_tested note is_end o None = entry_tested (r_entries (Some last)) note is_end o
-        start_tested note is_end o (Some x) = word_step (r_entries (Some last)) h x (start_rule h last x)
+        start_tested note is_end o (Some x) = word_step (r_entries (Some last)) h x
+            (start_rule h last x)
 
-        word_goes : (x : StartWord) (rule : Option Rule) → EntryGoes (r_entries (Some last)) (own_start_before n rule x (onward (Some x)))
+        word_goes : (x : StartWord) (rule : Option Rule) → EntryGoes (r_entries (Some last))
+            (own_start_before n rule x (onward (Some x)))
             (word_step (r_entries (Some last)) h x rule)
         word_goes x None = refl
         word_goes x (Some rule) = refl
 
         start_tests : (past note is_end : Bool) (o : Option Entry) (x : Option StartWord)
-            → EntryGoes (r_entries (Some last)) (cond (note && not past) (onward last) (start_reading past note is_end o x))
+            → EntryGoes (r_entries (Some last))
+            (cond (note && not past) (onward last) (start_reading past note is_end o x))
             (cond past (broken (r_entries (Some last)) rules.TooManyLines)
-            (cond note (next (r_entries (Some last)) (stages.Starts h last), found.Nothing) (start_tested note is_end o x)))
+            (cond note (next (r_entries (Some last)) (stages.Starts h last), found.Nothing)
+            (start_tested note is_end o x)))
         start_tests true true is_end o None = refl
         start_tests true true is_end o (Some x) = refl
         start_tests true false is_end o None = refl
@@ -164,17 +187,23 @@ module _ (line nxt : List ℕ) (lines : List (List ℕ)) (w : Bool) where
 
         pub starts_goes : Goes (r_entries (Some last)) (own_step (r_entries (Some last)) line)
         starts_goes =
-            start_tests (nat_lt m n) (is_note line) (bytes_eq line end_line) (own_entry_in s.specification line) (start_in line)
+            start_tests (nat_lt m n) (is_note line) (bytes_eq line end_line)
+            (own_entry_in s.specification line) (start_in line)
 
       -- a line after the end
       abbrev r_end : LineState
       r_end = state m n (stages.End h) s None
 
       end_tests : (past b : Bool)
-          → headed h (record (own_stopped n (first_broken (((b || true) && past breaks rules.TooManyLines) ∷ ((b || true) breaks rules.AfterEnd) ∷ [])))
+          → headed h (record
+          (own_stopped n
+          (first_broken (((b || true) && past breaks rules.TooManyLines)
+          ∷ ((b || true) breaks rules.AfterEnd) ∷ [])))
           { ended = true })
-          ≡ with_read (brought_by n line (cond past (broken r_end rules.TooManyLines) (broken r_end rules.AfterEnd)).1)
-          (reads_on (cond past (broken r_end rules.TooManyLines) (broken r_end rules.AfterEnd)).0 input (nxt ∷ lines))
+          ≡ with_read (brought_by n line
+          (cond past (broken r_end rules.TooManyLines) (broken r_end rules.AfterEnd)).1)
+          (reads_on (cond past (broken r_end rules.TooManyLines) (broken r_end rules.AfterEnd)).0
+          input (nxt ∷ lines))
       end_tests true true = refl
       end_tests true false = refl
       end_tests false true = refl
@@ -194,10 +223,13 @@ module _ (line nxt : List ℕ) (lines : List (List ℕ)) (w : Bool) where
     header_tests : (past : Bool) → past ≡ false → (o : Option headers.Header)
         → elim o as (λ _. OwnReading) [
           | None ↦ own_stopped 1 (Some rules.BadHeader)
-          | Some h ↦ record (specification_read header_input h nothing_read 2 (nxt ∷ lines)) { header = Some h }
+          | Some h ↦ record (specification_read header_input h nothing_read 2
+              (nxt ∷ lines)) { header = Some h }
         ]
-        ≡ with_read (brought_by 1 line (cond past (broken r_header rules.TooManyLines) (header_step r_header o)).1)
-        (reads_on (cond past (broken r_header rules.TooManyLines) (header_step r_header o)).0 header_input (nxt ∷ lines))
+        ≡ with_read (brought_by 1 line
+        (cond past (broken r_header rules.TooManyLines) (header_step r_header o)).1)
+        (reads_on (cond past (broken r_header rules.TooManyLines) (header_step r_header o)).0
+        header_input (nxt ∷ lines))
     header_tests true e o = cc
     header_tests false e None = refl
     header_tests false e (Some h) = refl
@@ -205,12 +237,15 @@ module _ (line nxt : List ℕ) (lines : List (List ℕ)) (w : Bool) where
     pub header_goes : 1 ≤ m → Goes r_header (own_step r_header line)
     header_goes low = header_tests (nat_lt m 1) (isnt_below m 1 low) (own_header_in line)
 
-  state_goes : (m n : ℕ) (st : Stage) (s : SoFar) (f : Option TextFault) → 1 ≤ m → IsFirst st (state m n st s f)
+  state_goes : (m n : ℕ) (st : Stage) (s : SoFar) (f : Option TextFault) → 1 ≤ m
+      → IsFirst st (state m n st s f)
       → Goes (state m n st s f) (own_step (state m n st s f) line)
   state_goes m n st s (Some f) low first = refl
   state_goes m n stages.Header s None low first =
-      subst (λ k. Goes (state m k stages.Header s None) (own_step (state m k stages.Header s None) line)) (sym first.0)
-      (subst (λ t. Goes (state m 1 stages.Header t None) (own_step (state m 1 stages.Header t None) line)) (sym first.1) (header_goes m low))
+      subst (λ k. Goes (state m k stages.Header s None)
+      (own_step (state m k stages.Header s None) line)) (sym first.0)
+      (subst (λ t. Goes (state m 1 stages.Header t None)
+      (own_step (state m 1 stages.Header t None) line)) (sym first.1) (header_goes m low))
   state_goes m n (stages.Specification h) s None low first = specification_goes m n s h
   state_goes m n (stages.Starts h last) s None low first = starts_goes m n s h last
   state_goes m n (stages.Entries h) s None low first = entries_goes m n s h

@@ -14,17 +14,20 @@ use Rattle.vyrd_base.specs.Own.Changes.{within_read}
 use Rattle.vyrd_base.specs.Own.Reader.{of_method, method_line_read}
 use Rattle.vyrd_own_text.specs.Meaning.{took_as}
 
-pub holding_last : (n : ℕ) (xs : List (List ℕ)) (x : List ℕ) → holding n (xs ++ x ∷ []) ≡ xs ++ (x ++ n ∷ []) ∷ []
+pub holding_last : (n : ℕ) (xs : List (List ℕ)) (x : List ℕ) → holding n (xs ++ x ∷ []) ≡ xs
+    ++ (x ++ n ∷ []) ∷ []
 holding_last n [] x = refl
 holding_last n (y ∷ []) x = refl
 holding_last n (y ∷ z ∷ xs) x = ap (λ ls. y ∷ ls) (holding_last n (z ∷ xs) x)
 
-pub with_change_last : (c : Change) (xs : List Case) (x : Case) → with_change c (xs ++ x ∷ []) ≡ xs ++ record x { changes = x.changes ++ c ∷ [] } ∷ []
+pub with_change_last : (c : Change) (xs : List Case) (x : Case) → with_change c (xs ++ x ∷ []) ≡ xs
+    ++ record x { changes = x.changes ++ c ∷ [] } ∷ []
 with_change_last c [] x = refl
 with_change_last c (y ∷ []) x = refl
 with_change_last c (y ∷ z ∷ xs) x = ap (λ ls. y ∷ ls) (with_change_last c (z ∷ xs) x)
 
-change_last_last : (f : Method → Method) (xs : List Method) (x : Method) → change_last f (xs ++ x ∷ []) ≡ xs ++ f x ∷ []
+change_last_last : (f : Method → Method) (xs : List Method) (x : Method)
+    → change_last f (xs ++ x ∷ []) ≡ xs ++ f x ∷ []
 change_last_last f [] x = refl
 change_last_last f (y ∷ []) x = refl
 change_last_last f (y ∷ z ∷ xs) x = ap (λ ls. y ∷ ls) (change_last_last f (z ∷ xs) x)
@@ -39,7 +42,8 @@ last_in_last xs x =
     at_seam (y ∷ xs) = at_seam xs
 
 -- a line of the last method
-pub method_line_is : (w : Written) (rest : List Method) (m : Method) (line : List ℕ) → w.methods ≡ rest ++ m ∷ []
+pub method_line_is : (w : Written) (rest : List Method) (m : Method) (line : List ℕ) → w.methods
+    ≡ rest ++ m ∷ []
     → method_line_read w line ≡ taken_with inner (within_read w m line)
 unfolding method_line_read
 method_line_is w rest m line e = ap (of_method w line) (ap last_in e ∙ last_in_last rest m)
@@ -50,13 +54,16 @@ pub within_same : (w : Written) (methods : List Method) (m : Method) (line : Lis
 unfolding within_read inner_read
 within_same w methods m line = refl
 
-pub line_joined : (w : Written) (rest : List Method) (m new : Method) (took : Took) (r : Taken Inner) → w.methods ≡ rest ++ m ∷ []
+pub line_joined : (w : Written) (rest : List Method) (m new : Method) (took : Took)
+    (r : Taken Inner) → w.methods ≡ rest ++ m ∷ []
     → took_as new took ≡ taken_with (with_inner m) r
-    → took_as (record w { methods = rest ++ new ∷ [] }) took ≡ taken_with (with_line w) (taken_with inner r)
+    → took_as (record w { methods = rest ++ new ∷ [] }) took ≡ taken_with (with_line w)
+    (taken_with inner r)
 line_joined w rest m new In (Ok i) ms e =
     let is : new ≡ with_inner m i = cc in
     ap (λ methods. Ok (record w { methods = methods }))
-    (ap (λ x. rest ++ x ∷ []) is ∙ sym (change_last_last (λ x. with_inner x i) rest m) ∙ ap (change_last (λ x. with_inner x i)) (sym ms))
+    (ap (λ x. rest ++ x ∷ []) is ∙ sym (change_last_last (λ x. with_inner x i) rest m)
+    ∙ ap (change_last (λ x. with_inner x i)) (sym ms))
 line_joined w rest m new In (Err stop) ms e = cc
 line_joined w rest m new (Refused rule at) (Ok i) ms e = cc
 line_joined w rest m new (Refused rule at) (Err stop) ms e = cc

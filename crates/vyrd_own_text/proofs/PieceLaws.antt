@@ -31,7 +31,8 @@ after_or {A} word text there otherwise r P begun no_word h = by_after (after wor
     by_after None a k = no_word k
     by_after (Some rest) a k = begun rest (after_sound word text rest a) k
 
-pub after_inv : {A : Type 0} (word text : List ℕ) (there : List ℕ → Taken A) (stop : SpecificationRule × List ℕ) (r : A)
+pub after_inv : {A : Type 0} (word text : List ℕ) (there : List ℕ → Taken A)
+    (stop : SpecificationRule × List ℕ) (r : A)
     → if_after (after word text) there (Err stop) ≡ Ok r
     → (rest : List ℕ) × (text ≡ word ++ rest) × (there rest ≡ Ok r)
 after_inv {A} word text there stop r h =
@@ -43,21 +44,25 @@ pub taken_inv : {A B : Type 0} (make : A → B) (t : Taken A) (r : B) → taken_
 taken_inv make (Ok a) r h = let is : make a ≡ r = cc in (a, refl, is)
 taken_inv make (Err stop) r h = cc
 
-pub then_inv : {A B : Type 0} (next : A → List ℕ → Taken B) (found : Found A) (r : B) → and_then next found ≡ Ok r
+pub then_inv : {A B : Type 0} (next : A → List ℕ → Taken B) (found : Found A) (r : B)
+    → and_then next found ≡ Ok r
     → (a : A) × (rest : List ℕ) × (found ≡ Ok (a, rest)) × (next a rest ≡ Ok r)
 then_inv next (Ok p) r h = (p.0, p.1, refl, h)
 then_inv next (Err stop) r h = cc
 
 -- what wasn't refused
-pub past : {A : Type 0} (b : Bool) (stop : SpecificationRule × List ℕ) (t : Taken A) (r : A) → cond b (Err stop) t ≡ Ok r → t ≡ Ok r
+pub past : {A : Type 0} (b : Bool) (stop : SpecificationRule × List ℕ) (t : Taken A) (r : A)
+    → cond b (Err stop) t ≡ Ok r → t ≡ Ok r
 past false stop t r h = h
 past true stop t r h = cc
 
-pub kept : {A : Type 0} (b : Bool) (stop : SpecificationRule × List ℕ) (t : Taken A) (r : A) → cond b t (Err stop) ≡ Ok r → t ≡ Ok r
+pub kept : {A : Type 0} (b : Bool) (stop : SpecificationRule × List ℕ) (t : Taken A) (r : A)
+    → cond b t (Err stop) ≡ Ok r → t ≡ Ok r
 kept true stop t r h = h
 kept false stop t r h = cc
 
-pub ended_is : {A : Type 0} (x : A) (text : List ℕ) (r : A) → ended x text ≡ Ok r → (text ≡ []) × (x ≡ r)
+pub ended_is : {A : Type 0} (x : A) (text : List ℕ) (r : A) → ended x text ≡ Ok r → (text ≡ [])
+    × (x ≡ r)
 ended_is x [] r h = let is : x ≡ r = cc in (refl, is)
 ended_is x (b ∷ text) r h = cc
 
@@ -69,7 +74,8 @@ number_decimal word n e = by_value (nat_lt v most) (bytes_eq (decimal v) word) r
     v : ℕ
     v = digits_value 10 word
 
-    by_value : (a b : Bool) → bytes_eq (decimal v) word ≡ b → cond (a && b) (Some v) None ≡ Some n → word ≡ decimal n
+    by_value : (a b : Bool) → bytes_eq (decimal v) word ≡ b → cond (a && b) (Some v) None ≡ Some n
+        → word ≡ decimal n
     by_value true true eb h =
         let is : v ≡ n = cc in
         sym ((bytes_eq-Decides (decimal v) word).0 eb) ∙ ap decimal is
@@ -84,34 +90,44 @@ last_number_is text n h = by_number (number_in text) refl h
     by_number None f k = cc
 
 -- a name that is new
-pub new_name_is : (taken : Bool) (text name rest : List ℕ) → new_name taken text ≡ Ok (name, rest) → text ≡ name ++ rest
+pub new_name_is : (taken : Bool) (text name rest : List ℕ) → new_name taken text ≡ Ok (name, rest)
+    → text ≡ name ++ rest
 new_name_is taken text name rest h = by_taken taken (kept (is_name (word_of text)) _ _ _ h)
   where
-    by_taken : (t : Bool) → ◌≡◌ {A = Found (List ℕ)} (cond t (Err (rules.NameTaken, text)) (Ok (word_of text, after_word text))) (Ok (name, rest)) → text ≡ name ++ rest
+    by_taken : (t : Bool) → ◌≡◌ {A = Found (List ℕ)}
+        (cond t (Err (rules.NameTaken, text)) (Ok (word_of text, after_word text)))
+        (Ok (name, rest)) → text ≡ name ++ rest
     by_taken true k = cc
     by_taken false k =
         let p : ◌≡◌ {A = List ℕ × List ℕ} (word_of text, after_word text) (name, rest) = cc in
         word_splits text ∙ ap (λ (x : List ℕ × List ℕ). x.0 ++ x.1) p
 
 -- pieces with a space between them
-joined : (a b c text rest more : List ℕ) → text ≡ a ++ rest → rest ≡ b ++ more → more ≡ c → text ≡ (a ++ b) ++ c
-joined a b c text rest more e f g = e ∙ ap (λ x. a ++ x) (f ∙ ap (λ x. b ++ x) g) ∙ simp append_assoc
+joined : (a b c text rest more : List ℕ) → text ≡ a ++ rest → rest ≡ b ++ more → more ≡ c
+    → text ≡ (a ++ b) ++ c
+joined a b c text rest more e f g = e ∙ ap (λ x. a ++ x) (f ∙ ap (λ x. b ++ x) g)
+    ∙ simp append_assoc
 
-pub named_number_is : (taken : Bool) (text : List ℕ) (r : List ℕ × ℕ) → named_number taken text ≡ Ok r
+pub named_number_is : (taken : Bool) (text : List ℕ) (r : List ℕ × ℕ) → named_number taken text
+    ≡ Ok r
     → text ≡ (r.0 ++ codes " ") ++ decimal r.1
 named_number_is taken text r h =
     let i = then_inv _ (new_name taken text) r h in
     let a = after_inv (codes " ") i.1 _ _ r i.3 in
     let n = taken_inv _ (last_number a.0) r a.2 in
-    joined i.0 (codes " ") (decimal n.0) text i.1 a.0 (new_name_is taken text i.0 i.1 i.2) a.1 (last_number_is a.0 n.0 n.1)
+    joined i.0 (codes " ") (decimal n.0) text i.1 a.0 (new_name_is taken text i.0 i.1 i.2) a.1
+    (last_number_is a.0 n.0 n.1)
     ∙ ap (λ (x : List ℕ × ℕ). (x.0 ++ codes " ") ++ decimal x.1) n.2
 
-pub two_numbers_is : (text : List ℕ) (r : ℕ × ℕ) → two_numbers text ≡ Ok r → text ≡ (decimal r.0 ++ codes " ") ++ decimal r.1
+pub two_numbers_is : (text : List ℕ) (r : ℕ × ℕ) → two_numbers text ≡ Ok r
+    → text ≡ (decimal r.0 ++ codes " ") ++ decimal r.1
 two_numbers_is text r h = by_number (number_in (word_of text)) refl h
   where
     by_number : (o : Option ℕ) → number_in (word_of text) ≡ o
         → (elim o as (λ x. Taken (ℕ × ℕ)) [
-          | Some key ↦ if_after (after (codes " ") (after_word text)) (λ rest. taken_with (λ n. (key, n)) (last_number rest)) (Err (rules.BadLine, after_word text))
+          | Some key ↦ if_after (after (codes " ") (after_word text))
+              (λ rest. taken_with (λ n. (key, n)) (last_number rest))
+              (Err (rules.BadLine, after_word text))
           | None ↦ Err (rules.BadLine, text)
         ]) ≡ Ok r → text ≡ (decimal r.0 ++ codes " ") ++ decimal r.1
     by_number None f k = cc
@@ -119,15 +135,18 @@ two_numbers_is text r h = by_number (number_in (word_of text)) refl h
         let a = after_inv (codes " ") (after_word text) _ _ r k in
         let n = taken_inv (λ n. (key, n)) (last_number a.0) r a.2 in
         joined (decimal key) (codes " ") (decimal n.0) text (after_word text) a.0
-        (word_splits text ∙ ap (λ x. x ++ after_word text) (number_decimal (word_of text) key f)) a.1 (last_number_is a.0 n.0 n.1)
+        (word_splits text ∙ ap (λ x. x ++ after_word text) (number_decimal (word_of text) key f))
+        a.1 (last_number_is a.0 n.0 n.1)
         ∙ ap (λ (x : ℕ × ℕ). (decimal x.0 ++ codes " ") ++ decimal x.1) n.2
 
 -- expressions
-pub last_read_is : (s : Scope) (text : List ℕ) (e : Expr) → last_read s text ≡ Ok e → text ≡ spelled s e
+pub last_read_is : (s : Scope) (text : List ℕ) (e : Expr) → last_read s text ≡ Ok e
+    → text ≡ spelled s e
 last_read_is s text e h =
     let i = then_inv _ (expr_read s 32 text) e h in
     let n = ended_is i.0 i.1 e i.3 in
-    expr_sound s 32 text i.0 i.1 i.2 ∙ ap (λ x. spelled s i.0 ++ x) n.0 ∙ append-nil (spelled s i.0) ∙ ap (spelled s) n.1
+    expr_sound s 32 text i.0 i.1 i.2 ∙ ap (λ x. spelled s i.0 ++ x) n.0 ∙ append-nil (spelled s i.0)
+    ∙ ap (spelled s) n.1
 
 pub two_read_is : (s : Scope) (word text : List ℕ) (r : Expr × Expr) → two_read s word text ≡ Ok r
     → text ≡ (spelled s r.0 ++ word) ++ spelled s r.1
@@ -135,25 +154,31 @@ two_read_is s word text r h =
     let i = then_inv _ (expr_read s 32 text) r h in
     let a = after_inv word i.1 _ _ r i.3 in
     let n = taken_inv _ (last_read s a.0) r a.2 in
-    joined (spelled s i.0) word (spelled s n.0) text i.1 a.0 (expr_sound s 32 text i.0 i.1 i.2) a.1 (last_read_is s a.0 n.0 n.1)
+    joined (spelled s i.0) word (spelled s n.0) text i.1 a.0 (expr_sound s 32 text i.0 i.1 i.2) a.1
+    (last_read_is s a.0 n.0 n.1)
     ∙ ap (λ (x : Expr × Expr). (spelled s x.0 ++ word) ++ spelled s x.1) n.2
 
-pub last_name_is : (names : List (List ℕ)) (text : List ℕ) (i : ℕ) → last_name names text ≡ Ok i → text ≡ name_at names i
+pub last_name_is : (names : List (List ℕ)) (text : List ℕ) (i : ℕ) → last_name names text ≡ Ok i
+    → text ≡ name_at names i
 last_name_is names text j h =
     let i = then_inv _ (name_read names text) j h in
     let n = ended_is i.0 i.1 j i.3 in
-    name_inv names text i.0 i.1 i.2 ∙ ap (λ x. name_at names i.0 ++ x) n.0 ∙ append-nil (name_at names i.0) ∙ ap (name_at names) n.1
+    name_inv names text i.0 i.1 i.2 ∙ ap (λ x. name_at names i.0 ++ x) n.0
+    ∙ append-nil (name_at names i.0) ∙ ap (name_at names) n.1
 
-pub named_value_is : (s : Scope) (names : List (List ℕ)) (text : List ℕ) (r : ℕ × Expr) → named_value s names text ≡ Ok r
+pub named_value_is : (s : Scope) (names : List (List ℕ)) (text : List ℕ) (r : ℕ × Expr)
+    → named_value s names text ≡ Ok r
     → text ≡ (name_at names r.0 ++ codes " ") ++ spelled s r.1
 named_value_is s names text r h =
     let i = then_inv _ (name_read names text) r h in
     let a = after_inv (codes " ") i.1 _ _ r i.3 in
     let n = taken_inv _ (last_read s a.0) r a.2 in
-    joined (name_at names i.0) (codes " ") (spelled s n.0) text i.1 a.0 (name_inv names text i.0 i.1 i.2) a.1 (last_read_is s a.0 n.0 n.1)
+    joined (name_at names i.0) (codes " ") (spelled s n.0) text i.1 a.0
+    (name_inv names text i.0 i.1 i.2) a.1 (last_read_is s a.0 n.0 n.1)
     ∙ ap (λ (x : ℕ × Expr). (name_at names x.0 ++ codes " ") ++ spelled s x.1) n.2
 
-pub named_expr_is : (w : Written) (m : Method) (text : List ℕ) (r : List ℕ × Expr) → named_expr w m text ≡ Ok r
+pub named_expr_is : (w : Written) (m : Method) (text : List ℕ) (r : List ℕ × Expr)
+    → named_expr w m text ≡ Ok r
     → text ≡ (r.0 ++ codes " ") ++ spelled (method_scope w m []) r.1
 named_expr_is w m text r h =
     let s = method_scope w m [] in
@@ -161,25 +186,32 @@ named_expr_is w m text r h =
     let i = then_inv _ (new_name taken text) r h in
     let a = after_inv (codes " ") i.1 _ _ r i.3 in
     let n = taken_inv _ (last_read s a.0) r a.2 in
-    joined i.0 (codes " ") (spelled s n.0) text i.1 a.0 (new_name_is taken text i.0 i.1 i.2) a.1 (last_read_is s a.0 n.0 n.1)
+    joined i.0 (codes " ") (spelled s n.0) text i.1 a.0 (new_name_is taken text i.0 i.1 i.2) a.1
+    (last_read_is s a.0 n.0 n.1)
     ∙ ap (λ (x : List ℕ × Expr). (x.0 ++ codes " ") ++ spelled s x.1) n.2
 
 -- parameters
-parameters_are : (w : Written) (left : ℕ) (names : List (List ℕ)) (text : List ℕ) (all : List (List ℕ))
-    → parameters_read w left names text ≡ Ok all → (more : List (List ℕ)) × (all ≡ names ++ more) × (text ≡ words_text more)
-parameters_are w left names [] all h = let is : names ≡ all = cc in ([], sym is ∙ sym (append-nil names), refl)
+parameters_are : (w : Written) (left : ℕ) (names : List (List ℕ)) (text : List ℕ)
+    (all : List (List ℕ))
+    → parameters_read w left names text ≡ Ok all → (more : List (List ℕ)) × (all ≡ names ++ more)
+    × (text ≡ words_text more)
+parameters_are w left names [] all h = let is : names ≡ all = cc in
+    ([], sym is ∙ sym (append-nil names), refl)
 parameters_are w zero names (b ∷ text) all h = cc
 parameters_are w (suc left) names (b ∷ text) all h =
     let a = after_inv (codes " ") (b ∷ text) _ _ all h in
     let taken = is_known w (word_of a.0) || is_among (word_of a.0) names in
-    let i = then_inv (λ name rest. parameters_read w left (names ++ name ∷ []) rest) (new_name taken a.0) all a.2 in
+    let i = then_inv (λ name rest. parameters_read w left (names ++ name ∷ []) rest)
+    (new_name taken a.0) all a.2 in
     let m = parameters_are w left (names ++ i.0 ∷ []) i.1 all i.3 in (
       i.0 ∷ m.0,
       m.1 ∙ append_assoc names (i.0 ∷ []) m.0,
-      joined (codes " ") i.0 (words_text m.0) (b ∷ text) a.0 i.1 a.1 (new_name_is taken a.0 i.0 i.1 i.2) m.2,
+      joined (codes " ") i.0 (words_text m.0) (b ∷ text) a.0 i.1 a.1
+          (new_name_is taken a.0 i.0 i.1 i.2) m.2,
     )
 
-pub named_method_is : (w : Written) (text : List ℕ) (r : List ℕ × List (List ℕ)) → named_method w text ≡ Ok r
+pub named_method_is : (w : Written) (text : List ℕ) (r : List ℕ × List (List ℕ))
+    → named_method w text ≡ Ok r
     → text ≡ r.0 ++ words_text r.1
 named_method_is w text r h =
     let taken = is_method (word_of text) w.methods in

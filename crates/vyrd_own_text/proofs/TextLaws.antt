@@ -20,26 +20,34 @@ after_is word rest text e = subst (λ t. after word t ≡ Some rest) (sym e) (fr
   where
     front : (word rest : List ℕ) → after word (word ++ rest) ≡ Some rest
     front [] rest = refl
-    front (c ∷ word) rest = ap (λ b. cond b (after word (word ++ rest)) None) (same_test c) ∙ front word rest
+    front (c ∷ word) rest = ap (λ b. cond b (after word (word ++ rest)) None) (same_test c)
+        ∙ front word rest
 
-pub after_none : (word text : List ℕ) → ((rest : List ℕ) → text ≡ word ++ rest → ⊥) → after word text ≡ None
+pub after_none : (word text : List ℕ) → ((rest : List ℕ) → text ≡ word ++ rest → ⊥)
+    → after word text ≡ None
 unfolding after
 after_none [] text isnt = absurd (isnt text refl)
 after_none (c ∷ word) [] isnt = refl
 after_none (c ∷ word) (b ∷ text) isnt = by_test (after_none word text) (c == b) refl
   where
-    by_test : (((rest : List ℕ) → text ≡ word ++ rest → ⊥) → after word text ≡ None) → (t : Bool) → (c == b) ≡ t → cond t (after word text) None ≡ None
+    by_test : (((rest : List ℕ) → text ≡ word ++ rest → ⊥) → after word text ≡ None) → (t : Bool)
+        → (c == b) ≡ t → cond t (after word text) None ≡ None
     by_test more false e = refl
     by_test more true e =
         let is : c ≡ b = grind (arith, nat_tests) in
         more (λ rest h. isnt rest (ap (λ x. x ∷ text) (sym is) ∙ ap (λ xs. c ∷ xs) h))
 
 -- one more byte of a word
-pub word_more : (b : ℕ) (text rest : List ℕ) → is_word_byte b ≡ true → text ≡ b ∷ rest → (word_of text ≡ b ∷ word_of rest) × (after_word text ≡ after_word rest)
-word_more b text rest h e =
-    (ap word_of e ∙ ap (λ t. cond t (b ∷ word_of rest) []) h, ap after_word e ∙ ap (λ t. cond t (after_word rest) (b ∷ rest)) h)
+pub word_more : (b : ℕ) (text rest : List ℕ) → is_word_byte b ≡ true → text ≡ b ∷ rest
+    → (word_of text ≡ b ∷ word_of rest) × (after_word text ≡ after_word rest)
+word_more b text rest h e = (
+  ap word_of e ∙ ap (λ t. cond t (b ∷ word_of rest) []) h,
+  ap after_word e
+      ∙ ap (λ t. cond t (after_word rest) (b ∷ rest)) h,
+)
 
-pub word_ends : (b : ℕ) (text rest : List ℕ) → is_word_byte b ≡ false → text ≡ b ∷ rest → (word_of text ≡ []) × (after_word text ≡ text)
+pub word_ends : (b : ℕ) (text rest : List ℕ) → is_word_byte b ≡ false → text ≡ b ∷ rest
+    → (word_of text ≡ []) × (after_word text ≡ text)
 word_ends b text rest h e = (
   ap word_of e ∙ ap (λ t. cond t (b ∷ word_of rest) []) h,
   ap after_word e ∙ ap (λ t. cond t (after_word rest) (b ∷ rest)) h ∙ sym e,
@@ -49,19 +57,24 @@ word_ends b text rest h e = (
 pub number_is : (word : List ℕ) (n : ℕ) → n < most → word ≡ decimal n → number_in word ≡ Some n
 unfolding number_in
 number_is word n small e =
-    let value : digits_value 10 word ≡ n = ap (digits_value 10) e ∙ number_of_decimal n (omega arith) in
+    let value : digits_value 10 word ≡ n = ap (digits_value 10) e
+    ∙ number_of_decimal n (omega arith) in
     let less : nat_lt n most ≡ true = grind (arith, nat_tests) in
     let same : bytes_eq (decimal n) word ≡ true = (bytes_eq-Decides (decimal n) word).1 (sym e) in
     rw (value, less, same) refl
 
-pub number_isnt : (word : List ℕ) → ((n : ℕ) → n < most → word ≡ decimal n → ⊥) → number_in word ≡ None
+pub number_isnt : (word : List ℕ) → ((n : ℕ) → n < most → word ≡ decimal n → ⊥) → number_in word
+    ≡ None
 unfolding number_in
-number_isnt word none = by_test (nat_lt (digits_value 10 word) most) (bytes_eq (decimal (digits_value 10 word)) word) refl refl
+number_isnt word none = by_test (nat_lt (digits_value 10 word) most)
+    (bytes_eq (decimal (digits_value 10 word)) word) refl refl
   where
     n : ℕ
     n = digits_value 10 word
 
-    by_test : (a b : Bool) → nat_lt n most ≡ a → bytes_eq (decimal n) word ≡ b → cond (a && b) (Some n) None ≡ None
+    by_test : (a b : Bool) → nat_lt n most ≡ a → bytes_eq (decimal n) word ≡ b
+        → cond (a && b) (Some n) None ≡ None
     by_test false b ea eb = refl
     by_test true false ea eb = refl
-    by_test true true ea eb = absurd (none n (grind (arith, nat_tests)) (sym ((bytes_eq-Decides (decimal n) word).0 eb)))
+    by_test true true ea eb = absurd
+        (none n (grind (arith, nat_tests)) (sym ((bytes_eq-Decides (decimal n) word).0 eb)))

@@ -1,5 +1,7 @@
 -- Laws of the events that are held by their numbers.
-use Rattle.std.proofs.Common.{◌≡◌, ◌≢◌, ℕ, zero, suc, ◌+◌, ◌-◌, ◌<◌, ◌≤◌, List, [], ◌∷◌, ◌++◌, length, set, get_or, take, drop, replicate, Bool, true, false, cond, ltb, Option, Some, None, refl, sym, ap, ◌∙◌, arith, eq-eqb, ne_eqb}
+use Rattle.std.proofs.Common.{◌≡◌, ◌≢◌, ℕ, zero, suc, ◌+◌, ◌-◌, ◌<◌, ◌≤◌, List, [], ◌∷◌, ◌++◌}
+use Rattle.std.proofs.Common.{length, set, get_or, take, drop, replicate, Bool, true, false, cond}
+use Rattle.std.proofs.Common.{ltb, Option, Some, None, refl, sym, ap, ◌∙◌, arith, eq-eqb, ne_eqb}
 use Rattle.std.specs.Prelude.{◌==◌, slice_index_or, slice_set, ◌||◌, is_some, if◌then◌else◌}
 use Rattle.std.proofs.lemmas.List.{take_all, get_or-set_same, get_or-set_other, get_or-drop}
 use Rattle.std.proofs.lemmas.Bool.Decides.{nat_tests}
@@ -12,7 +14,8 @@ use Rattle.vyrd_base.specs.declared.history.Stamped.{Stamped}
 use Rattle.vyrd_relay.specs.Numbers.{Kept, or_else, held, has, AreNumbered, AreToCome}
 
 -- an empty place at the end of a list is no other than a place past the end
-pub more_places : (near : List (Option Stamped)) (n i : ℕ) → slice_index_or (near ++ replicate n None) i None ≡ slice_index_or near i None
+pub more_places : (near : List (Option Stamped)) (n i : ℕ)
+    → slice_index_or (near ++ replicate n None) i None ≡ slice_index_or near i None
 more_places [] zero i = refl
 more_places [] (suc n) zero = refl
 more_places [] (suc n) (suc i) = more_places [] n i
@@ -20,17 +23,23 @@ more_places (x ∷ xs) n zero = refl
 more_places (x ∷ xs) n (suc i) = more_places xs n i
 
 -- and so it is if the list is made that long
-pub places_kept : (near after : List (Option Stamped)) (n more : ℕ) → length near ≤ n → after ≡ take n near ++ replicate more None
+pub places_kept : (near after : List (Option Stamped)) (n more : ℕ) → length near ≤ n
+    → after ≡ take n near ++ replicate more None
     → (i : ℕ) → slice_index_or after i None ≡ slice_index_or near i None
-places_kept near after n more short is i = ap (λ (xs : List (Option Stamped)). slice_index_or xs i None)
-    (is ∙ ap (λ (xs : List (Option Stamped)). xs ++ replicate more None) (take_all n near short)) ∙ more_places near more i
+places_kept near after n more short is i =
+    ap (λ (xs : List (Option Stamped)). slice_index_or xs i None)
+    (is ∙ ap (λ (xs : List (Option Stamped)). xs ++ replicate more None) (take_all n near short))
+    ∙ more_places near more i
 
 -- one place is filled, and the others are as they were
-pub place_set : (before near : List (Option Stamped)) (place : ℕ) (x : Option Stamped) → place < length near
+pub place_set : (before near : List (Option Stamped)) (place : ℕ) (x : Option Stamped)
+    → place < length near
     → ((i : ℕ) → slice_index_or near i None ≡ slice_index_or before i None)
-    → (i : ℕ) → slice_index_or (slice_set near place x) i None ≡ (if i == place then x else slice_index_or before i None)
+    → (i : ℕ) → slice_index_or (slice_set near place x) i None
+    ≡ (if i == place then x else slice_index_or before i None)
 place_set before near place x room same i = dite (ℕ_discrete i place)
-    (λ is. ap (λ (j : ℕ). get_or (set near place x) j None) is ∙ get_or-set_same near place x None room
+    (λ is. ap (λ (j : ℕ). get_or (set near place x) j None) is
+    ∙ get_or-set_same near place x None room
     ∙ sym (ap (λ (b : Bool). cond b x (get_or before i None)) (eq-eqb i place is)))
     (λ apart. get_or-set_other near place i x None apart ∙ same i
     ∙ sym (ap (λ (b : Bool). cond b x (get_or before i None)) (ne_eqb i place apart)))
@@ -38,28 +47,35 @@ place_set before near place x room same i = dite (ℕ_discrete i place)
 -- those before the next number were handed out, and aren't held
 pub none_before : (k : Kept) (n : ℕ) → n < k.next → held k n ≡ None
 none_before k n l = let is : ltb n k.next ≡ true = grind (arith, nat_tests) in
-    ap (λ (b : Bool). cond b None (or_else (slice_index_or k.near (n - k.next) None) (lookup (is_at (nat_cmp n)) k.far))) is
+    ap (λ (b : Bool). cond b None
+    (or_else (slice_index_or k.near (n - k.next) None) (lookup (is_at (nat_cmp n)) k.far))) is
 
 -- the event from the next number on
 pub found_from : (k : Kept) (n : ℕ) → k.next ≤ n
-    → held k n ≡ or_else (slice_index_or k.near (n - k.next) None) (lookup (is_at (nat_cmp n)) k.far)
+    → held k n ≡ or_else (slice_index_or k.near (n - k.next) None)
+    (lookup (is_at (nat_cmp n)) k.far)
 found_from k n l = let is : ltb n k.next ≡ false = grind (arith, nat_tests) in
-    ap (λ (b : Bool). cond b None (or_else (slice_index_or k.near (n - k.next) None) (lookup (is_at (nat_cmp n)) k.far))) is
+    ap (λ (b : Bool). cond b None
+    (or_else (slice_index_or k.near (n - k.next) None) (lookup (is_at (nat_cmp n)) k.far))) is
 
 -- the next number has gone by, and the events after it are as they were
 pub held_after : (k after : Kept) → after.next ≡ k.next + 1 → after.near ≡ drop 1 k.near
-    → ((n : ℕ) → k.next < n → lookup (is_at (nat_cmp n)) after.far ≡ lookup (is_at (nat_cmp n)) k.far)
+    → ((n : ℕ) → k.next < n → lookup (is_at (nat_cmp n)) after.far
+    ≡ lookup (is_at (nat_cmp n)) k.far)
     → (n : ℕ) → k.next < n → held after n ≡ held k n
 held_after k after next near far n l =
     let place : 1 + (n - after.next) ≡ n - k.next = omega arith in
     found_from after n (omega arith)
     ∙ ap (λ (o : Option Stamped). or_else o (lookup (is_at (nat_cmp n)) after.far))
-    (ap (λ (xs : List (Option Stamped)). slice_index_or xs (n - after.next) None) near ∙ get_or-drop 1 k.near (n - after.next) None
+    (ap (λ (xs : List (Option Stamped)). slice_index_or xs (n - after.next) None) near
+    ∙ get_or-drop 1 k.near (n - after.next) None
     ∙ ap (λ (j : ℕ). slice_index_or k.near j None) place)
-    ∙ ap (or_else (slice_index_or k.near (n - k.next) None)) (far n l) ∙ sym (found_from k n (omega arith))
+    ∙ ap (or_else (slice_index_or k.near (n - k.next) None)) (far n l)
+    ∙ sym (found_from k n (omega arith))
 
 -- and so each event still has its own number
-pub numbered_after : (k after : Kept) → after.next ≡ k.next + 1 → ((n : ℕ) → k.next < n → held after n ≡ held k n) → AreNumbered k → AreNumbered after
+pub numbered_after : (k after : Kept) → after.next ≡ k.next + 1
+    → ((n : ℕ) → k.next < n → held after n ≡ held k n) → AreNumbered k → AreNumbered after
 numbered_after k after next same all n item is = dite (dec_lt k.next n)
     (λ l. all n item (sym (same n l) ∙ is))
     (λ gone. absurd (none_some item (sym (none_before after n (omega arith)) ∙ is)))
@@ -69,17 +85,21 @@ numbered_after k after next same all n item is = dite (dec_lt k.next n)
 
 -- a number that isn't held and wasn't handed out isn't among the far ones
 pub far_free : (k : Kept) (n : ℕ) → has k n ≡ false → lookup (is_at (nat_cmp n)) k.far ≡ None
-far_free k n free = by_place (ltb n k.next) (slice_index_or k.near (n - k.next) None) (lookup (is_at (nat_cmp n)) k.far) free
+far_free k n free = by_place (ltb n k.next) (slice_index_or k.near (n - k.next) None)
+    (lookup (is_at (nat_cmp n)) k.far) free
   where
-    by_place : (gone : Bool) (near far : Option Stamped) → (gone || is_some (if gone then None else or_else near far)) ≡ false → far ≡ None
+    by_place : (gone : Bool) (near far : Option Stamped)
+        → (gone || is_some (if gone then None else or_else near far)) ≡ false → far ≡ None
     by_place true near far e = cc
     by_place false (Some item) far e = cc
     by_place false None (Some item) e = cc
     by_place false None None e = refl
 
 -- the next number has gone by, and isn't among the far ones
-pub come_after : (k after : Kept) → after.next ≡ k.next + 1 → lookup (is_at (nat_cmp k.next)) after.far ≡ None
-    → ((n : ℕ) → n < k.next → lookup (is_at (nat_cmp n)) after.far ≡ lookup (is_at (nat_cmp n)) k.far) → AreToCome k → AreToCome after
+pub come_after : (k after : Kept) → after.next ≡ k.next + 1
+    → lookup (is_at (nat_cmp k.next)) after.far ≡ None
+    → ((n : ℕ) → n < k.next → lookup (is_at (nat_cmp n)) after.far
+    ≡ lookup (is_at (nat_cmp n)) k.far) → AreToCome k → AreToCome after
 come_after k after next own same all n low = dite (ℕ_discrete n k.next)
     (λ is. ap (λ (m : ℕ). lookup (is_at (nat_cmp m)) after.far) is ∙ own)
     (λ apart. let before : n < k.next = omega arith in same n before ∙ all n before)

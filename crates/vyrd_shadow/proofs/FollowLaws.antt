@@ -1,5 +1,7 @@
 -- How what is kept goes on with one more entry.
-use Rattle.std.proofs.Common.{◌≡◌, ℕ, suc, zero, ◌+◌, ◌<◌, Bool, true, false, cond, List, [], ◌∷◌, ◌++◌, length, map, Option, Some, None, refl, ap, ◌∙◌, sym, subst, arith, get_or, set, get_or-set_other, get_or-set_same}
+use Rattle.std.proofs.Common.{◌≡◌, ℕ, suc, zero, ◌+◌, ◌<◌, Bool, true, false, cond, List, [], ◌∷◌}
+use Rattle.std.proofs.Common.{◌++◌, length, map, Option, Some, None, refl, ap, ◌∙◌, sym, subst}
+use Rattle.std.proofs.Common.{arith, get_or, set, get_or-set_other, get_or-set_same}
 use Rattle.std.specs.Prelude.{◌==◌, unwrap_or, is_some, replicate}
 use Rattle.std.specs.Option.{option_or}
 use Rattle.std.proofs.lemmas.List.{length-replicate}
@@ -7,7 +9,8 @@ use Rattle.vyrd_base.specs.declared.header.Header.{Header}
 use Rattle.vyrd_base.specs.declared.subject.Method.{Method}
 use Rattle.vyrd_base.specs.declared.subject.Args.{Args}
 use Rattle.vyrd_base.specs.declared.log.Kind.{Kind}
-use Rattle.vyrd_base.specs.declared.log.Kind.TheVariants.{Call, Return, Write, Commit, BlockOpen, BlockClose, BlockCommit}
+use Rattle.vyrd_base.specs.declared.log.Kind.TheVariants.{Call, Return, Write, Commit, BlockOpen}
+use Rattle.vyrd_base.specs.declared.log.Kind.TheVariants.{BlockClose, BlockCommit}
 use Rattle.vyrd_base.specs.declared.log.Entry.{Entry}
 use Rattle.vyrd_base.specs.declared.log.StartWord.{StartWord}
 use Rattle.vyrd_base.specs.Places.{first_answer, numbers_from}
@@ -15,27 +18,33 @@ use Rattle.vyrd_base.specs.Layout.{plain_words}
 use Rattle.vyrd_base.specs.Callers.{by_caller, open_or_close, has_block}
 use Rattle.vyrd_base.specs.Shape.{broken_rule}
 use Rattle.vyrd_base.specs.Starts.{words_at_start}
-use Rattle.vyrd_base.specs.Words.{with_write, block_writes, effects_at, given_to, value_at_start, value_after, words_after}
+use Rattle.vyrd_base.specs.Words.{with_write, block_writes, effects_at, given_to, value_at_start}
+use Rattle.vyrd_base.specs.Words.{value_after, words_after}
 use Rattle.vyrd_base.specs.FirstVersion.{old_effects_at, old_effects}
 use Rattle.vyrd_base.specs.Front.{WellFormed}
 use Rattle.vyrd_base.proofs.EffectLaws.{ends_block}
 use Rattle.vyrd_base.proofs.SettledWords.{settled_value, words_settled, same_here}
 use Rattle.vyrd_base.proofs.PlaceLaws.{first_answer-append, at_map}
 use Rattle.vyrd_base.proofs.WordLaws.{words_after-write, words_after-quiet}
-use Rattle.vyrd_base.proofs.BlockLaws.{entry, by_same, other_answer, no_answer, other_writes, own_block, own_writes}
+use Rattle.vyrd_base.proofs.BlockLaws.{entry, by_same, other_answer, no_answer, other_writes}
+use Rattle.vyrd_base.proofs.BlockLaws.{own_block, own_writes}
 use Rattle.vyrd_base.proofs.ListLaws.{zeros}
 use Rattle.vyrd_shadow.specs.Blocks.{with_writes, with_word, with_kept, first_written}
 use Rattle.vyrd_shadow.specs.Following.{Kept, HasFollowed, is_open, kept_writes, words_of}
-use Rattle.vyrd_shadow.proofs.KeptWrites.{value_kept, words_kept, AllOnce, once_written, length-with_writes, value_with, differs}
+use Rattle.vyrd_shadow.proofs.KeptWrites.{value_kept, words_kept, AllOnce, once_written}
+use Rattle.vyrd_shadow.proofs.KeptWrites.{length-with_writes, value_with, differs}
 
 -- what a block keeps stands for the caller's entries
 pub record Own (c : ℕ) (block : Option (List (ℕ × ℕ))) (entries : List Entry) : Type 0 where
   pub opened : is_some block ≡ has_block c entries
-  pub order : has_block c entries ≡ true → words_of (unwrap_or block []) ≡ first_written (block_writes c entries)
+  pub order : has_block c entries ≡ true → words_of (unwrap_or block [])
+      ≡ first_written (block_writes c entries)
   pub values : (w : ℕ) → has_block c entries ≡ true
-      → first_answer (given_to w) (unwrap_or block []) ≡ first_answer (given_to w) (block_writes c entries)
+      → first_answer (given_to w) (unwrap_or block []) ≡ first_answer (given_to w)
+      (block_writes c entries)
 
-own_of : (kept : Kept) (starting : List StartWord) (earlier : List Entry) → HasFollowed kept starting earlier → (c : ℕ) → c < kept.header.callers
+own_of : (kept : Kept) (starting : List StartWord) (earlier : List Entry)
+    → HasFollowed kept starting earlier → (c : ℕ) → c < kept.header.callers
     → Own c (get_or kept.blocks c None) earlier
 own_of kept starting earlier followed c low = record {
   opened = followed.blocks c low;
@@ -44,9 +53,11 @@ own_of kept starting earlier followed c low = record {
 }
 
 -- words and blocks make what is kept
-followed_from : (kept : Kept) (starting : List StartWord) (earlier : List Entry) → WellFormed kept.header earlier
+followed_from : (kept : Kept) (starting : List StartWord) (earlier : List Entry)
+    → WellFormed kept.header earlier
     → kept.words ≡ words_after kept.header starting earlier
-    → ((c : ℕ) → c < kept.header.callers → Own c (get_or kept.blocks c None) earlier) → HasFollowed kept starting earlier
+    → ((c : ℕ) → c < kept.header.callers → Own c (get_or kept.blocks c None) earlier)
+    → HasFollowed kept starting earlier
 followed_from kept starting earlier rules words own = record {
   rules = rules;
   words = words;
@@ -56,7 +67,8 @@ followed_from kept starting earlier rules words own = record {
 }
 
 -- a block whose caller's notions are the same
-own_same : (c : ℕ) (block : Option (List (ℕ × ℕ))) (earlier later : List Entry) → has_block c later ≡ has_block c earlier
+own_same : (c : ℕ) (block : Option (List (ℕ × ℕ))) (earlier later : List Entry) → has_block c later
+    ≡ has_block c earlier
     → block_writes c later ≡ block_writes c earlier
     → Own c block earlier → Own c block later
 own_same c block earlier later inside writes own = record {
@@ -66,24 +78,31 @@ own_same c block earlier later inside writes own = record {
 }
 
 -- another caller's entry
-own_other : (d c : ℕ) (kind : Kind) (block : Option (List (ℕ × ℕ))) (earlier : List Entry) → (c == d) ≡ false
+own_other : (d c : ℕ) (kind : Kind) (block : Option (List (ℕ × ℕ))) (earlier : List Entry)
+    → (c == d) ≡ false
     → Own d block earlier → Own d block (entry c kind ∷ earlier)
 own_other d c kind block earlier other own = own_same d block earlier (entry c kind ∷ earlier)
-    (ap (λ o. unwrap_or o false) (other_answer d c open_or_close kind earlier other)) (other_writes d c kind earlier other) own
+    (ap (λ o. unwrap_or o false) (other_answer d c open_or_close kind earlier other))
+    (other_writes d c kind earlier other) own
 
 -- the caller's own block is replaced
-own_next : (n : ℕ) (blocks : List (Option (List (ℕ × ℕ)))) (earlier : List Entry) (c : ℕ) (kind : Kind)
+own_next : (n : ℕ) (blocks : List (Option (List (ℕ × ℕ)))) (earlier : List Entry) (c : ℕ)
+    (kind : Kind)
     (block : Option (List (ℕ × ℕ))) → c < length blocks
-    → Own c block (entry c kind ∷ earlier) → ((d : ℕ) → d < n → Own d (get_or blocks d None) earlier)
+    → Own c block (entry c kind ∷ earlier)
+    → ((d : ℕ) → d < n → Own d (get_or blocks d None) earlier)
     → (d : ℕ) → d < n → Own d (get_or (set blocks c block) d None) (entry c kind ∷ earlier)
 own_next n blocks earlier c kind block low own all = λ d low_d. by_same c d
     (λ same. subst (λ x. Own x (get_or (set blocks c block) x None) (entry c kind ∷ earlier)) same
-    (subst (λ b. Own c b (entry c kind ∷ earlier)) (sym (get_or-set_same blocks c block None low)) own))
-    (λ other. subst (λ b. Own d b (entry c kind ∷ earlier)) (sym (get_or-set_other blocks c d block None (differs c d other)))
+    (subst (λ b. Own c b (entry c kind ∷ earlier)) (sym (get_or-set_same blocks c block None low))
+    own))
+    (λ other. subst (λ b. Own d b (entry c kind ∷ earlier))
+    (sym (get_or-set_other blocks c d block None (differs c d other)))
     (own_other d c kind (get_or blocks d None) earlier other (all d low_d)))
 
 -- a closed block
-own_closed : (c : ℕ) (block : Option (List (ℕ × ℕ))) (entries : List Entry) → is_some block ≡ false → has_block c entries ≡ false
+own_closed : (c : ℕ) (block : Option (List (ℕ × ℕ))) (entries : List Entry) → is_some block ≡ false
+    → has_block c entries ≡ false
     → Own c block entries
 own_closed c block entries none out = record {
   opened = none ∙ sym out;
@@ -92,13 +111,17 @@ own_closed c block entries none out = record {
 }
 
 -- a write leaves blocks open or closed
-block_write : (d c word value : ℕ) (earlier : List Entry) → has_block d (entry c (Write word value) ∷ earlier) ≡ has_block d earlier
-block_write d c word value earlier = ap (λ o. unwrap_or o false) (no_answer d c open_or_close (Write word value) earlier refl)
+block_write : (d c word value : ℕ) (earlier : List Entry)
+    → has_block d (entry c (Write word value) ∷ earlier) ≡ has_block d earlier
+block_write d c word value earlier = ap (λ o. unwrap_or o false)
+    (no_answer d c open_or_close (Write word value) earlier refl)
 
 -- a write outside a block
-pub followed_through : (kept : Kept) (starting : List StartWord) (earlier : List Entry) (c word value : ℕ) (changed : List ℕ) → c < kept.header.callers
+pub followed_through : (kept : Kept) (starting : List StartWord) (earlier : List Entry)
+    (c word value : ℕ) (changed : List ℕ) → c < kept.header.callers
     → word < plain_words kept.header → is_open kept c ≡ false
-    → HasFollowed kept starting earlier → broken_rule kept.header earlier (entry c (Write word value)) ≡ None → HasFollowed (record {
+    → HasFollowed kept starting earlier → broken_rule kept.header earlier
+    (entry c (Write word value)) ≡ None → HasFollowed (record {
       header = kept.header;
       words = set kept.words word value;
       blocks = kept.blocks;
@@ -107,30 +130,42 @@ pub followed_through : (kept : Kept) (starting : List StartWord) (earlier : List
 followed_through kept starting earlier c word value changed low low_w closed followed keeps =
     let out : has_block c earlier ≡ false = sym (followed.blocks c low) ∙ closed in
     followed_from _ _ _ (keeps, followed.rules)
-    (ap (λ l. set l word value) followed.words ∙ sym (words_after-write kept.header starting earlier c word value out low_w))
+    (ap (λ l. set l word value) followed.words
+    ∙ sym (words_after-write kept.header starting earlier c word value out low_w))
     (λ d low_d. by_same c d
-    (λ same. subst (λ x. Own x (get_or kept.blocks x None) (entry c (Write word value) ∷ earlier)) same
-    (own_closed c (get_or kept.blocks c None) (entry c (Write word value) ∷ earlier) closed (block_write c c word value earlier ∙ out)))
-    (λ other. own_other d c (Write word value) (get_or kept.blocks d None) earlier other (own_of kept starting earlier followed d low_d)))
+    (λ same. subst (λ x. Own x (get_or kept.blocks x None) (entry c (Write word value) ∷ earlier))
+    same
+    (own_closed c (get_or kept.blocks c None) (entry c (Write word value) ∷ earlier) closed
+    (block_write c c word value earlier ∙ out)))
+    (λ other. own_other d c (Write word value) (get_or kept.blocks d None) earlier other
+    (own_of kept starting earlier followed d low_d)))
 
 -- a write in a block doesn't count yet
-words_held : (h : Header) (starting : List StartWord) (earlier : List Entry) (c word value : ℕ) → has_block c earlier ≡ true
+words_held : (h : Header) (starting : List StartWord) (earlier : List Entry) (c word value : ℕ)
+    → has_block c earlier ≡ true
     → words_after h starting (entry c (Write word value) ∷ earlier) ≡ words_after h starting earlier
-words_held h starting earlier c word value inside = words_after-quiet h starting earlier c (Write word value) refl
+words_held h starting earlier c word value inside = words_after-quiet h starting earlier c
+    (Write word value) refl
     (ap (λ b. cond b [] ((word, value) ∷ [])) inside)
 
-own_kept : (c word value : ℕ) (block : Option (List (ℕ × ℕ))) (earlier : List Entry) → has_block c earlier ≡ true → Own c block earlier
-    → Own c (Some (with_kept (unwrap_or block []) word value)) (entry c (Write word value) ∷ earlier)
+own_kept : (c word value : ℕ) (block : Option (List (ℕ × ℕ))) (earlier : List Entry)
+    → has_block c earlier ≡ true → Own c block earlier
+    → Own c (Some (with_kept (unwrap_or block []) word value))
+    (entry c (Write word value) ∷ earlier)
 own_kept c word value block earlier inside own = record {
   opened = sym (block_write c c word value earlier ∙ inside);
-  order = λ e. words_kept word value (unwrap_or block []) ∙ ap (λ ws. with_word ws word) (own.order inside)
+  order = λ e. words_kept word value (unwrap_or block []) ∙ ap (λ ws. with_word ws word)
+      (own.order inside)
       ∙ ap first_written (sym (own_writes c (Write word value) earlier));
-  values = λ w e. value_kept w word value (unwrap_or block []) ∙ ap (option_or (given_to w (word, value))) (own.values w inside)
+  values = λ w e. value_kept w word value (unwrap_or block [])
+      ∙ ap (option_or (given_to w (word, value))) (own.values w inside)
       ∙ ap (first_answer (given_to w)) (sym (own_writes c (Write word value) earlier));
 }
 
-pub followed_kept : (kept : Kept) (starting : List StartWord) (earlier : List Entry) (c word value : ℕ) → c < kept.header.callers → c < length kept.blocks → is_open kept c ≡ true
-    → HasFollowed kept starting earlier → broken_rule kept.header earlier (entry c (Write word value)) ≡ None
+pub followed_kept : (kept : Kept) (starting : List StartWord) (earlier : List Entry)
+    (c word value : ℕ) → c < kept.header.callers → c < length kept.blocks → is_open kept c ≡ true
+    → HasFollowed kept starting earlier → broken_rule kept.header earlier
+    (entry c (Write word value)) ≡ None
     → HasFollowed (record {
       header = kept.header;
       words = kept.words;
@@ -143,7 +178,8 @@ followed_kept kept starting earlier c word value low low' opened followed keeps 
     followed_from _ _ _ (keeps, followed.rules)
     (followed.words ∙ sym (words_held kept.header starting earlier c word value inside))
     (own_next kept.header.callers kept.blocks earlier c (Write word value) _ low'
-    (own_kept c word value (get_or kept.blocks c None) earlier inside (own_of kept starting earlier followed c low)) (own_of kept starting earlier followed))
+    (own_kept c word value (get_or kept.blocks c None) earlier inside
+    (own_of kept starting earlier followed c low)) (own_of kept starting earlier followed))
 
 -- a block is opened
 own_open : (c : ℕ) (earlier : List Entry) → Own c (Some []) (entry c BlockOpen ∷ earlier)
@@ -153,7 +189,8 @@ own_open c earlier = record {
   values = λ w e. ap (first_answer (given_to w)) (sym (own_writes c BlockOpen earlier));
 }
 
-pub followed_open : (kept : Kept) (starting : List StartWord) (earlier : List Entry) (c : ℕ) → c < length kept.blocks → HasFollowed kept starting earlier
+pub followed_open : (kept : Kept) (starting : List StartWord) (earlier : List Entry) (c : ℕ)
+    → c < length kept.blocks → HasFollowed kept starting earlier
     → broken_rule kept.header earlier (entry c BlockOpen) ≡ None
     → HasFollowed (record {
       header = kept.header;
@@ -164,46 +201,59 @@ pub followed_open : (kept : Kept) (starting : List StartWord) (earlier : List En
 followed_open kept starting earlier c low followed keeps =
     followed_from _ _ _ (keeps, followed.rules)
     (followed.words ∙ sym (words_after-quiet kept.header starting earlier c BlockOpen refl refl))
-    (own_next kept.header.callers kept.blocks earlier c BlockOpen (Some []) low (own_open c earlier) (own_of kept starting earlier followed))
+    (own_next kept.header.callers kept.blocks earlier c BlockOpen (Some []) low (own_open c earlier)
+    (own_of kept starting earlier followed))
 
 -- lists of numbers by their places
-is_map : (words : List ℕ) (f : ℕ → ℕ) (k n : ℕ) → length words ≡ n → ((i : ℕ) → i < n → get_or words i 0 ≡ f (k + i))
+is_map : (words : List ℕ) (f : ℕ → ℕ) (k n : ℕ) → length words ≡ n
+    → ((i : ℕ) → i < n → get_or words i 0 ≡ f (k + i))
     → words ≡ map f (numbers_from k n)
 is_map [] f k zero size all = refl
 is_map [] f k (suc n) size all = absurd (omega arith)
 is_map (x ∷ words) f k zero size all = absurd (omega arith)
 is_map (x ∷ words) f k (suc n) size all =
     let first : x ≡ f k = all 0 (omega arith) ∙ ap f (omega arith) in
-    let rest = is_map words f (k + 1) n (omega arith) (λ i low. all (suc i) (omega arith) ∙ ap f (omega arith)) in
+    let rest = is_map words f (k + 1) n (omega arith) (λ i low. all (suc i) (omega arith)
+    ∙ ap f (omega arith)) in
     λ i. first i ∷ rest i
 
 -- a value among a block's writes and older ones
-settled_append : (starting : List StartWord) (earlier : List Entry) (e : Entry) (writes : List (ℕ × ℕ)) (w : ℕ)
+settled_append : (starting : List StartWord) (earlier : List Entry) (e : Entry)
+    (writes : List (ℕ × ℕ)) (w : ℕ)
     → old_effects_at earlier e.caller e.kind ≡ writes
-    → settled_value starting (e ∷ earlier) w ≡ unwrap_or (first_answer (given_to w) writes) (settled_value starting earlier w)
+    → settled_value starting (e ∷ earlier) w ≡ unwrap_or (first_answer (given_to w) writes)
+    (settled_value starting earlier w)
 settled_append starting earlier e writes w ends =
-    ap (λ o. unwrap_or o (value_at_start starting w)) (ap (λ ws. first_answer (given_to w) (ws ++ old_effects earlier)) ends
+    ap (λ o. unwrap_or o (value_at_start starting w))
+    (ap (λ ws. first_answer (given_to w) (ws ++ old_effects earlier)) ends
     ∙ first_answer-append (given_to w) writes (old_effects earlier))
     ∙ elim (first_answer (given_to w) writes) as (λ o.
-    unwrap_or (option_or o (first_answer (given_to w) (old_effects earlier))) (value_at_start starting w)
+    unwrap_or (option_or o (first_answer (given_to w) (old_effects earlier)))
+    (value_at_start starting w)
     ≡ unwrap_or o (settled_value starting earlier w)) [
       | None ↦ refl
       | Some v ↦ refl
     ]
 
 -- a block's writes take effect
-words_close : (h : Header) (starting : List StartWord) (earlier : List Entry) (e : Entry) (words : List ℕ) (writes : List (ℕ × ℕ))
-    → old_effects_at earlier e.caller e.kind ≡ block_writes e.caller earlier → WellFormed h (e ∷ earlier)
-    → length words ≡ plain_words h → words ≡ words_after h starting earlier → AllOnce (words_of writes)
-    → ((w : ℕ) → first_answer (given_to w) writes ≡ first_answer (given_to w) (block_writes e.caller earlier))
+words_close : (h : Header) (starting : List StartWord) (earlier : List Entry) (e : Entry)
+    (words : List ℕ) (writes : List (ℕ × ℕ))
+    → old_effects_at earlier e.caller e.kind ≡ block_writes e.caller earlier
+    → WellFormed h (e ∷ earlier)
+    → length words ≡ plain_words h → words ≡ words_after h starting earlier
+    → AllOnce (words_of writes)
+    → ((w : ℕ) → first_answer (given_to w) writes ≡ first_answer (given_to w)
+    (block_writes e.caller earlier))
     → with_writes words writes ≡ words_after h starting (e ∷ earlier)
 words_close h starting earlier e words writes ends rules size is once values =
-    is_map (with_writes words writes) (settled_value starting (e ∷ earlier)) 0 (plain_words h) (length-with_writes words writes ∙ size)
+    is_map (with_writes words writes) (settled_value starting (e ∷ earlier)) 0 (plain_words h)
+    (length-with_writes words writes ∙ size)
     (λ i low.
     let place : 0 + i ≡ i = omega arith in
     let was : get_or words i 0 ≡ settled_value starting earlier i
     = ap (λ l. get_or l i 0) (is ∙ words_settled h starting earlier rules.1)
-    ∙ at_map (settled_value starting earlier) 0 (plain_words h) i 0 low ∙ ap (settled_value starting earlier) place in
+    ∙ at_map (settled_value starting earlier) 0 (plain_words h) i 0 low
+    ∙ ap (settled_value starting earlier) place in
     value_with words writes i (omega arith) once
     ∙ (λ j. unwrap_or (values i j) (was j))
     ∙ sym (settled_append starting earlier e (block_writes e.caller earlier) i ends)
@@ -211,9 +261,11 @@ words_close h starting earlier e words writes ends rules size is once values =
     ∙ sym (words_settled h starting (e ∷ earlier) rules)
 
 -- a block ends, with a commit or without
-followed_end : (kept : Kept) (starting : List StartWord) (earlier : List Entry) (c : ℕ) (kind : Kind) (changed : List ℕ)
+followed_end : (kept : Kept) (starting : List StartWord) (earlier : List Entry) (c : ℕ)
+    (kind : Kind) (changed : List ℕ)
     → old_effects_at earlier c kind ≡ block_writes c earlier → open_or_close kind ≡ Some false
-    → c < kept.header.callers → c < length kept.blocks → length kept.words ≡ plain_words kept.header → is_open kept c ≡ true
+    → c < kept.header.callers → c < length kept.blocks → length kept.words ≡ plain_words kept.header
+    → is_open kept c ≡ true
     → HasFollowed kept starting earlier → broken_rule kept.header earlier (entry c kind) ≡ None
     → HasFollowed (record {
       header = kept.header;
@@ -223,73 +275,96 @@ followed_end : (kept : Kept) (starting : List StartWord) (earlier : List Entry) 
     }) starting (entry c kind ∷ earlier)
 followed_end kept starting earlier c kind changed ends edge low low' size opened followed keeps =
     let inside : has_block c earlier ≡ true = sym (followed.blocks c low) ∙ opened in
-    let once : AllOnce (words_of (kept_writes kept c)) = subst AllOnce (sym (followed.order c low inside)) (once_written (block_writes c earlier)) in
+    let once : AllOnce (words_of (kept_writes kept c)) = subst AllOnce
+    (sym (followed.order c low inside)) (once_written (block_writes c earlier)) in
     let out : has_block c (entry c kind ∷ earlier) ≡ false = own_block c kind earlier
-    ∙ ap (λ o. unwrap_or (option_or o (first_answer (by_caller c open_or_close) earlier)) false) edge in
+    ∙ ap (λ o. unwrap_or (option_or o (first_answer (by_caller c open_or_close) earlier)) false)
+    edge in
     followed_from _ _ _ (keeps, followed.rules)
-    (words_close kept.header starting earlier (entry c kind) kept.words (kept_writes kept c) ends (keeps, followed.rules) size followed.words once
+    (words_close kept.header starting earlier (entry c kind) kept.words (kept_writes kept c) ends
+    (keeps, followed.rules) size followed.words once
     (λ w. followed.values c w low inside))
-    (own_next kept.header.callers kept.blocks earlier c kind None low' (own_closed c None (entry c kind ∷ earlier) refl out)
+    (own_next kept.header.callers kept.blocks earlier c kind None low'
+    (own_closed c None (entry c kind ∷ earlier) refl out)
     (own_of kept starting earlier followed))
 
-pub followed_close : (kept : Kept) (starting : List StartWord) (earlier : List Entry) (c : ℕ) (changed : List ℕ)
-    → c < kept.header.callers → c < length kept.blocks → length kept.words ≡ plain_words kept.header → is_open kept c ≡ true
-    → HasFollowed kept starting earlier → broken_rule kept.header earlier (entry c BlockClose) ≡ None
+pub followed_close : (kept : Kept) (starting : List StartWord) (earlier : List Entry) (c : ℕ)
+    (changed : List ℕ)
+    → c < kept.header.callers → c < length kept.blocks → length kept.words ≡ plain_words kept.header
+    → is_open kept c ≡ true
+    → HasFollowed kept starting earlier → broken_rule kept.header earlier (entry c BlockClose)
+    ≡ None
     → HasFollowed (record {
       header = kept.header;
       words = with_writes kept.words (kept_writes kept c);
       blocks = set kept.blocks c None;
       changed = changed;
     }) starting (entry c BlockClose ∷ earlier)
-followed_close kept starting earlier c changed = followed_end kept starting earlier c BlockClose changed refl refl
+followed_close kept starting earlier c changed = followed_end kept starting earlier c BlockClose
+    changed refl refl
 
-pub followed_commit : (kept : Kept) (starting : List StartWord) (earlier : List Entry) (c : ℕ) (changed : List ℕ)
-    → c < kept.header.callers → c < length kept.blocks → length kept.words ≡ plain_words kept.header → is_open kept c ≡ true
-    → HasFollowed kept starting earlier → broken_rule kept.header earlier (entry c BlockCommit) ≡ None
+pub followed_commit : (kept : Kept) (starting : List StartWord) (earlier : List Entry) (c : ℕ)
+    (changed : List ℕ)
+    → c < kept.header.callers → c < length kept.blocks → length kept.words ≡ plain_words kept.header
+    → is_open kept c ≡ true
+    → HasFollowed kept starting earlier → broken_rule kept.header earlier (entry c BlockCommit)
+    ≡ None
     → HasFollowed (record {
       header = kept.header;
       words = with_writes kept.words (kept_writes kept c);
       blocks = set kept.blocks c None;
       changed = changed;
     }) starting (entry c BlockCommit ∷ earlier)
-followed_commit kept starting earlier c changed = followed_end kept starting earlier c BlockCommit changed refl refl
+followed_commit kept starting earlier c changed = followed_end kept starting earlier c BlockCommit
+    changed refl refl
 
 -- an entry that isn't a write and touches no block
-followed_quiet : (kept : Kept) (starting : List StartWord) (earlier : List Entry) (c : ℕ) (kind : Kind) → ends_block kind ≡ false
+followed_quiet : (kept : Kept) (starting : List StartWord) (earlier : List Entry) (c : ℕ)
+    (kind : Kind) → ends_block kind ≡ false
     → effects_at earlier c kind [] ≡ [] → open_or_close kind ≡ None
-    → ((b : Bool) (writes : List (ℕ × ℕ)) → with_write b kind writes ≡ writes) → HasFollowed kept starting earlier
-    → broken_rule kept.header earlier (entry c kind) ≡ None → HasFollowed kept starting (entry c kind ∷ earlier)
+    → ((b : Bool) (writes : List (ℕ × ℕ)) → with_write b kind writes ≡ writes)
+    → HasFollowed kept starting earlier
+    → broken_rule kept.header earlier (entry c kind) ≡ None → HasFollowed kept starting
+    (entry c kind ∷ earlier)
 followed_quiet kept starting earlier c kind goes_on none edge writes followed keeps =
     followed_from kept starting (entry c kind ∷ earlier) (keeps, followed.rules)
     (followed.words ∙ sym (words_after-quiet kept.header starting earlier c kind goes_on none))
     (λ d low. own_same d (get_or kept.blocks d None) earlier (entry c kind ∷ earlier)
-    (ap (λ o. unwrap_or o false) (no_answer d c open_or_close kind earlier edge)) (writes (c == d) (block_writes d earlier))
+    (ap (λ o. unwrap_or o false) (no_answer d c open_or_close kind earlier edge))
+    (writes (c == d) (block_writes d earlier))
     (own_of kept starting earlier followed d low))
 
-pub followed_call : (kept : Kept) (starting : List StartWord) (earlier : List Entry) (c : ℕ) (method : Method) (args : Args)
-    → HasFollowed kept starting earlier → broken_rule kept.header earlier (entry c (Call method args)) ≡ None
+pub followed_call : (kept : Kept) (starting : List StartWord) (earlier : List Entry) (c : ℕ)
+    (method : Method) (args : Args)
+    → HasFollowed kept starting earlier → broken_rule kept.header earlier
+    (entry c (Call method args)) ≡ None
     → HasFollowed kept starting (entry c (Call method args) ∷ earlier)
-followed_call kept starting earlier c method args = followed_quiet kept starting earlier c (Call method args) refl refl refl by_test
+followed_call kept starting earlier c method args = followed_quiet kept starting earlier c
+    (Call method args) refl refl refl by_test
   where
     by_test : (b : Bool) (writes : List (ℕ × ℕ)) → with_write b (Call method args) writes ≡ writes
     by_test true writes = refl
     by_test false writes = refl
 
 pub followed_return : (kept : Kept) (starting : List StartWord) (earlier : List Entry) (c reply : ℕ)
-    → HasFollowed kept starting earlier → broken_rule kept.header earlier (entry c (Return reply)) ≡ None
+    → HasFollowed kept starting earlier → broken_rule kept.header earlier (entry c (Return reply))
+    ≡ None
     → HasFollowed kept starting (entry c (Return reply) ∷ earlier)
-followed_return kept starting earlier c reply = followed_quiet kept starting earlier c (Return reply) refl refl refl by_test
+followed_return kept starting earlier c reply = followed_quiet kept starting earlier c
+    (Return reply) refl refl refl by_test
   where
     by_test : (b : Bool) (writes : List (ℕ × ℕ)) → with_write b (Return reply) writes ≡ writes
     by_test true writes = refl
     by_test false writes = refl
 
--- a lone commit, in a block too: the writes of the block that take effect there aren't known before its end
+-- a lone commit, in a block too: the writes of the block that take effect there aren't known before
+-- its end
 pub followed_lone_commit : (kept : Kept) (starting : List StartWord) (earlier : List Entry) (c : ℕ)
     → HasFollowed kept starting earlier → broken_rule kept.header earlier (entry c Commit) ≡ None
     → HasFollowed kept starting (entry c Commit ∷ earlier)
 followed_lone_commit kept starting earlier c =
-    followed_quiet kept starting earlier c Commit refl (same_here earlier c Commit refl) refl by_test
+    followed_quiet kept starting earlier c Commit refl (same_here earlier c Commit refl) refl
+    by_test
   where
     by_test : (b : Bool) (writes : List (ℕ × ℕ)) → with_write b Commit writes ≡ writes
     by_test true writes = refl
@@ -302,14 +377,23 @@ alike (suc n) (suc c) block = alike n c block
 
 -- no block of a new shadow is open
 pub none_open : (h : Header) (words changed : List ℕ) (c : ℕ)
-    → is_open (record { header = h; words = words; blocks = replicate h.callers None; changed = changed }) c ≡ false
+    → is_open (record {
+      header = h;
+      words = words;
+      blocks = replicate h.callers None;
+      changed = changed;
+    }) c ≡ false
 none_open h words changed c = ap is_some (alike h.callers c None)
 
-pub followed_start : (h : Header) (starting : List StartWord) (words changed : List ℕ) → words ≡ words_at_start h starting
-    → HasFollowed (record { header = h; words = words; blocks = replicate h.callers None; changed = changed }) starting []
+pub followed_start : (h : Header) (starting : List StartWord) (words changed : List ℕ)
+    → words ≡ words_at_start h starting
+    → HasFollowed
+    (record { header = h; words = words; blocks = replicate h.callers None; changed = changed })
+    starting []
 unfolding words_after
 followed_start h starting words changed is = followed_from _ _ _ tt is
-    (λ c low. own_closed c (get_or (replicate h.callers None) c None) [] (none_open h words changed c) refl)
+    (λ c low. own_closed c (get_or (replicate h.callers None) c None) []
+    (none_open h words changed c) refl)
 
 pub zeros_at_start : (h : Header) → replicate (plain_words h) 0 ≡ words_at_start h []
 zeros_at_start h = is_map (replicate (plain_words h) 0) (value_after [] []) 0 (plain_words h)

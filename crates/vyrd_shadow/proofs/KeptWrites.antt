@@ -1,5 +1,7 @@
 -- What a block keeps, with one more write, and what its writes do to the words.
-use Rattle.std.proofs.Common.{◌≡◌, ◌≢◌, ℕ, suc, zero, ◌^◌, ◌<◌, Bool, true, false, cond, ◌||◌, List, [], ◌∷◌, ◌++◌, length, Option, Some, None, refl, ap, ◌∙◌, sym, subst, arith, get_or, set, get_or-set_other, get_or-set_same, length-set}
+use Rattle.std.proofs.Common.{◌≡◌, ◌≢◌, ℕ, suc, zero, ◌^◌, ◌<◌, Bool, true, false, cond, ◌||◌, List}
+use Rattle.std.proofs.Common.{[], ◌∷◌, ◌++◌, length, Option, Some, None, refl, ap, ◌∙◌, sym, subst}
+use Rattle.std.proofs.Common.{arith, get_or, set, get_or-set_other, get_or-set_same, length-set}
 use Rattle.std.specs.Prelude.{◌==◌, unwrap_or}
 use Rattle.std.specs.Option.{option_or}
 use Rattle.std.specs.List.{list_any, All}
@@ -16,12 +18,14 @@ pub differs : (k d : ℕ) → (k == d) ≡ false → d ≢ k
 differs k d e = grind (arith, nat_tests)
 
 twice : (v u : ℕ) (rest : Option ℕ) (b : Bool)
-    → option_or (cond b (Some v) None) rest ≡ option_or (cond b (Some v) None) (option_or (cond b (Some u) None) rest)
+    → option_or (cond b (Some v) None) rest ≡ option_or (cond b (Some v) None)
+    (option_or (cond b (Some u) None) rest)
 twice v u rest true = refl
 twice v u rest false = refl
 
 same_place : (w k v q u : ℕ) (rest : Option ℕ) → k ≡ q
-    → option_or (given_to w (q, v)) rest ≡ option_or (given_to w (k, v)) (option_or (given_to w (q, u)) rest)
+    → option_or (given_to w (q, v)) rest ≡ option_or (given_to w (k, v))
+    (option_or (given_to w (q, u)) rest)
 same_place w k v q u rest e =
     subst (λ x. option_or (cond (x == w) (Some v) None) rest
     ≡ option_or (cond (k == w) (Some v) None) (option_or (cond (x == w) (Some u) None) rest)) e
@@ -36,8 +40,10 @@ swapped v u rest false true apart = refl
 swapped v u rest false false apart = refl
 
 other_place : (w k v q u : ℕ) (rest : Option ℕ) → (k == q) ≡ false
-    → option_or (given_to w (q, u)) (option_or (given_to w (k, v)) rest) ≡ option_or (given_to w (k, v)) (option_or (given_to w (q, u)) rest)
-other_place w k v q u rest e = swapped v u rest (q == w) (k == w) (λ f g. differs k q e (same_of q w f ∙ sym (same_of k w g)))
+    → option_or (given_to w (q, u)) (option_or (given_to w (k, v)) rest)
+    ≡ option_or (given_to w (k, v)) (option_or (given_to w (q, u)) rest)
+other_place w k v q u rest e = swapped v u rest (q == w) (k == w)
+    (λ f g. differs k q e (same_of q w f ∙ sym (same_of k w g)))
 
 -- an insertion, by whether the key is the first one
 inserted : (k v q u : ℕ) (es : List (ℕ × ℕ)) (b : Bool) → (k == q) ≡ b
@@ -46,61 +52,80 @@ inserted k v q u es b e = ap (λ b. cond b ((q, v) ∷ es) ((q, u) ∷ with_kept
 
 -- the value of a word among the writes of a block, with one more
 pub value_kept : (w k v : ℕ) (es : List (ℕ × ℕ))
-    → first_answer (given_to w) (with_kept es k v) ≡ option_or (given_to w (k, v)) (first_answer (given_to w) es)
+    → first_answer (given_to w) (with_kept es k v) ≡ option_or (given_to w (k, v))
+    (first_answer (given_to w) es)
 value_kept w k v [] = refl
 value_kept w k v ((q, u) ∷ es) = by_place (k == q) refl (value_kept w k v es)
   where
     by_place : (b : Bool) → (k == q) ≡ b
-        → first_answer (given_to w) (with_kept es k v) ≡ option_or (given_to w (k, v)) (first_answer (given_to w) es)
+        → first_answer (given_to w) (with_kept es k v) ≡ option_or (given_to w (k, v))
+        (first_answer (given_to w) es)
         → first_answer (given_to w) (with_kept ((q, u) ∷ es) k v)
-        ≡ option_or (given_to w (k, v)) (option_or (given_to w (q, u)) (first_answer (given_to w) es))
+        ≡ option_or (given_to w (k, v))
+        (option_or (given_to w (q, u)) (first_answer (given_to w) es))
     by_place true e rest = ap (first_answer (given_to w)) (inserted k v q u es true e)
         ∙ same_place w k v q u (first_answer (given_to w) es) (same_of k q e)
-    by_place false e rest = ap (first_answer (given_to w)) (inserted k v q u es false e) ∙ ap (option_or (given_to w (q, u))) rest
+    by_place false e rest = ap (first_answer (given_to w)) (inserted k v q u es false e)
+        ∙ ap (option_or (given_to w (q, u))) rest
         ∙ other_place w k v q u (first_answer (given_to w) es) e
 
 -- the words of a block, with one more write
-pub words_kept : (k v : ℕ) (es : List (ℕ × ℕ)) → keys_of (with_kept es k v) ≡ with_word (keys_of es) k
+pub words_kept : (k v : ℕ) (es : List (ℕ × ℕ)) → keys_of (with_kept es k v)
+    ≡ with_word (keys_of es) k
 words_kept k v [] = refl
 words_kept k v ((q, u) ∷ es) = by_place (k == q) refl (words_kept k v es)
   where
-    pushed : (b : Bool) → q ∷ cond b (keys_of es) (keys_of es ++ k ∷ []) ≡ cond b (q ∷ keys_of es) (q ∷ keys_of es ++ k ∷ [])
+    pushed : (b : Bool) → q ∷ cond b (keys_of es) (keys_of es ++ k ∷ []) ≡ cond b (q ∷ keys_of es)
+        (q ∷ keys_of es ++ k ∷ [])
     pushed true = refl
     pushed false = refl
 
     by_place : (b : Bool) → (k == q) ≡ b → keys_of (with_kept es k v) ≡ with_word (keys_of es) k
         → keys_of (with_kept ((q, u) ∷ es) k v) ≡ with_word (q ∷ keys_of es) k
     by_place true e rest = ap keys_of (inserted k v q u es true e)
-        ∙ ap (λ b. cond (b || list_any (λ other. k == other) (keys_of es)) (q ∷ keys_of es) ((q ∷ keys_of es) ++ k ∷ [])) (sym e)
-    by_place false e rest = ap keys_of (inserted k v q u es false e) ∙ ap (λ t. q ∷ t) rest ∙ pushed (list_any (λ other. k == other) (keys_of es))
-        ∙ ap (λ b. cond (b || list_any (λ other. k == other) (keys_of es)) (q ∷ keys_of es) ((q ∷ keys_of es) ++ k ∷ [])) (sym e)
+        ∙ ap (λ b. cond (b || list_any (λ other. k == other) (keys_of es)) (q ∷ keys_of es)
+        ((q ∷ keys_of es) ++ k ∷ [])) (sym e)
+    by_place false e rest = ap keys_of (inserted k v q u es false e) ∙ ap (λ t. q ∷ t) rest
+        ∙ pushed (list_any (λ other. k == other) (keys_of es))
+        ∙ ap (λ b. cond (b || list_any (λ other. k == other) (keys_of es)) (q ∷ keys_of es)
+        ((q ∷ keys_of es) ++ k ∷ [])) (sym e)
 
-pub in_range_kept : (n k v : ℕ) (es : List (ℕ × ℕ)) → k < n → v < 2 ^ 63 → AreInRange n es → AreInRange n (with_kept es k v)
+pub in_range_kept : (n k v : ℕ) (es : List (ℕ × ℕ)) → k < n → v < 2 ^ 63 → AreInRange n es
+    → AreInRange n (with_kept es k v)
 in_range_kept n k v [] low small all = (low, small, tt)
-in_range_kept n k v ((q, u) ∷ es) low small all = by_place (k == q) refl (in_range_kept n k v es low small all.2)
+in_range_kept n k v ((q, u) ∷ es) low small all = by_place (k == q) refl
+    (in_range_kept n k v es low small all.2)
   where
-    by_place : (b : Bool) → (k == q) ≡ b → AreInRange n (with_kept es k v) → AreInRange n (with_kept ((q, u) ∷ es) k v)
-    by_place true e rest = subst (AreInRange n) (sym (inserted k v q u es true e)) (all.0, small, all.2)
-    by_place false e rest = subst (AreInRange n) (sym (inserted k v q u es false e)) (all.0, all.1, rest)
+    by_place : (b : Bool) → (k == q) ≡ b → AreInRange n (with_kept es k v)
+        → AreInRange n (with_kept ((q, u) ∷ es) k v)
+    by_place true e rest = subst (AreInRange n) (sym (inserted k v q u es true e))
+        (all.0, small, all.2)
+    by_place false e rest = subst (AreInRange n) (sym (inserted k v q u es false e))
+        (all.0, all.1, rest)
 
 -- each word stands once
 pub AllOnce : List ℕ → Type 0
 AllOnce [] = Unit {0}
 AllOnce (w ∷ ws) = (list_any (λ other. w == other) ws ≡ false) × AllOnce ws
 
-once_push : (ws : List ℕ) (k : ℕ) → AllOnce ws → list_any (λ other. k == other) ws ≡ false → AllOnce (ws ++ k ∷ [])
+once_push : (ws : List ℕ) (k : ℕ) → AllOnce ws → list_any (λ other. k == other) ws ≡ false
+    → AllOnce (ws ++ k ∷ [])
 unfolding AllOnce
 once_push [] k once new = (refl, tt)
 once_push (w ∷ ws) k once new =
-    let parts = neither_true (k == w) (list_any (λ other. k == other) ws) new in
-    (list_any-append (λ other. w == other) ws (k ∷ []) ∙ (λ i. once.0 i || (flipped k w parts.0 i || false)), once_push ws k once.1 parts.1)
+    let parts = neither_true (k == w) (list_any (λ other. k == other) ws) new in (
+      list_any-append (λ other. w == other) ws (k ∷ [])
+          ∙ (λ i. once.0 i || (flipped k w parts.0 i || false)),
+      once_push ws k once.1 parts.1,
+    )
 
 once_with : (ws : List ℕ) (k : ℕ) → AllOnce ws → AllOnce (with_word ws k)
 once_with ws k once = by_there (list_any (λ other. k == other) ws) refl
   where
     by_there : (b : Bool) → list_any (λ other. k == other) ws ≡ b → AllOnce (with_word ws k)
     by_there true e = subst (λ b. AllOnce (cond b ws (ws ++ k ∷ []))) (sym e) once
-    by_there false e = subst (λ b. AllOnce (cond b ws (ws ++ k ∷ []))) (sym e) (once_push ws k once e)
+    by_there false e = subst (λ b. AllOnce (cond b ws (ws ++ k ∷ []))) (sym e)
+        (once_push ws k once e)
 
 pub once_written : (writes : List (ℕ × ℕ)) → AllOnce (first_written writes)
 unfolding AllOnce
@@ -108,50 +133,68 @@ once_written [] = tt
 once_written ((word, value) ∷ writes) = once_with (first_written writes) word (once_written writes)
 
 -- a word that isn't among the writes has no value there
-no_value : (w : ℕ) (es : List (ℕ × ℕ)) → list_any (λ other. w == other) (keys_of es) ≡ false → first_answer (given_to w) es ≡ None
+no_value : (w : ℕ) (es : List (ℕ × ℕ)) → list_any (λ other. w == other) (keys_of es) ≡ false
+    → first_answer (given_to w) es ≡ None
 no_value w [] e = refl
 no_value w ((q, u) ∷ es) e =
     let parts = neither_true (w == q) (list_any (λ other. w == other) (keys_of es)) e in
-    ap (λ b. option_or (cond b (Some u) None) (first_answer (given_to w) es)) (flipped w q parts.0) ∙ no_value w es parts.1
+    ap (λ b. option_or (cond b (Some u) None) (first_answer (given_to w) es)) (flipped w q parts.0)
+    ∙ no_value w es parts.1
 
-pub length-with_writes : (words : List ℕ) (es : List (ℕ × ℕ)) → length (with_writes words es) ≡ length words
+pub length-with_writes : (words : List ℕ) (es : List (ℕ × ℕ)) → length (with_writes words es)
+    ≡ length words
 length-with_writes words [] = refl
-length-with_writes words ((q, u) ∷ es) = length-with_writes (set words q u) es ∙ length-set words q u
+length-with_writes words ((q, u) ∷ es) = length-with_writes (set words q u) es
+    ∙ length-set words q u
 
 -- what a word is, once the writes have taken effect
-pub value_with : (words : List ℕ) (es : List (ℕ × ℕ)) (w : ℕ) → w < length words → AllOnce (keys_of es)
-    → get_or (with_writes words es) w 0 ≡ unwrap_or (first_answer (given_to w) es) (get_or words w 0)
+pub value_with : (words : List ℕ) (es : List (ℕ × ℕ)) (w : ℕ) → w < length words
+    → AllOnce (keys_of es)
+    → get_or (with_writes words es) w 0 ≡ unwrap_or (first_answer (given_to w) es)
+    (get_or words w 0)
 unfolding AllOnce
 value_with words [] w low once = refl
-value_with words ((q, u) ∷ es) w low once = by_place (q == w) refl (value_with (set words q u) es w (omega (arith, length-set words q u)) once.1)
+value_with words ((q, u) ∷ es) w low once = by_place (q == w) refl
+    (value_with (set words q u) es w (omega (arith, length-set words q u)) once.1)
   where
     by_place : (b : Bool) → (q == w) ≡ b
-        → get_or (with_writes (set words q u) es) w 0 ≡ unwrap_or (first_answer (given_to w) es) (get_or (set words q u) w 0)
-        → get_or (with_writes (set words q u) es) w 0 ≡ unwrap_or (option_or (given_to w (q, u)) (first_answer (given_to w) es)) (get_or words w 0)
+        → get_or (with_writes (set words q u) es) w 0 ≡ unwrap_or (first_answer (given_to w) es)
+        (get_or (set words q u) w 0)
+        → get_or (with_writes (set words q u) es) w 0
+        ≡ unwrap_or (option_or (given_to w (q, u)) (first_answer (given_to w) es))
+        (get_or words w 0)
     by_place true e rest =
         let place : q ≡ w = same_of q w e in
         let none : first_answer (given_to w) es
-        ≡ None = no_value w es (subst (λ x. list_any (λ other. x == other) (keys_of es) ≡ false) place once.0) in
+        ≡ None = no_value w es
+        (subst (λ x. list_any (λ other. x == other) (keys_of es) ≡ false) place once.0) in
         rest ∙ ap (λ o. unwrap_or o (get_or (set words q u) w 0)) none
         ∙ subst (λ x. get_or (set words x u) w 0 ≡ u) (sym place) (get_or-set_same words w u 0 low)
-        ∙ ap (λ b. unwrap_or (option_or (cond b (Some u) None) (first_answer (given_to w) es)) (get_or words w 0)) (sym e)
+        ∙ ap (λ b. unwrap_or (option_or (cond b (Some u) None) (first_answer (given_to w) es))
+        (get_or words w 0)) (sym e)
     by_place false e rest =
-        rest ∙ ap (unwrap_or (first_answer (given_to w) es)) (get_or-set_other words q w u 0 (differs q w e))
-        ∙ ap (λ b. unwrap_or (option_or (cond b (Some u) None) (first_answer (given_to w) es)) (get_or words w 0)) (sym e)
+        rest ∙ ap (unwrap_or (first_answer (given_to w) es))
+        (get_or-set_other words q w u 0 (differs q w e))
+        ∙ ap (λ b. unwrap_or (option_or (cond b (Some u) None) (first_answer (given_to w) es))
+        (get_or words w 0)) (sym e)
 
 -- values below a bound
-pub below_set : (l : List ℕ) (w x m : ℕ) → ((q : ℕ) → get_or l q 0 < m) → x < m → (q : ℕ) → get_or (set l w x) q 0 < m
+pub below_set : (l : List ℕ) (w x m : ℕ) → ((q : ℕ) → get_or l q 0 < m) → x < m → (q : ℕ)
+    → get_or (set l w x) q 0 < m
 below_set [] w x m all low q = all q
 below_set (a ∷ l) zero x m all low zero = low
 below_set (a ∷ l) zero x m all low (suc q) = all (suc q)
 below_set (a ∷ l) (suc w) x m all low zero = all zero
 below_set (a ∷ l) (suc w) x m all low (suc q) = below_set l w x m (λ p. all (suc p)) low q
 
-pub below_with : (words : List ℕ) (n : ℕ) (es : List (ℕ × ℕ)) → ((q : ℕ) → get_or words q 0 < 2 ^ 63) → AreInRange n es → (q : ℕ)
+pub below_with : (words : List ℕ) (n : ℕ) (es : List (ℕ × ℕ))
+    → ((q : ℕ) → get_or words q 0 < 2 ^ 63) → AreInRange n es → (q : ℕ)
     → get_or (with_writes words es) q 0 < 2 ^ 63
 below_with words n [] all in_range q = all q
-below_with words n ((w, v) ∷ es) all in_range q = below_with (set words w v) n es (below_set words w v (2 ^ 63) all in_range.1) in_range.2 q
+below_with words n ((w, v) ∷ es) all in_range q = below_with (set words w v) n es
+    (below_set words w v (2 ^ 63) all in_range.1) in_range.2 q
 
 pub keys_below : (n : ℕ) (es : List (ℕ × ℕ)) → AreInRange n es → All (λ w. w < n) (keys_of es)
 keys_below n [] in_range = All-nil (λ w. w < n)
-keys_below n ((w, v) ∷ es) in_range = All-cons (λ w. w < n) w (keys_of es) in_range.0 (keys_below n es in_range.2)
+keys_below n ((w, v) ∷ es) in_range = All-cons (λ w. w < n) w (keys_of es) in_range.0
+    (keys_below n es in_range.2)

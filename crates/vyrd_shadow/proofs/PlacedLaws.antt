@@ -1,5 +1,8 @@
 -- Where the writes stand that blocks keep.
-use Rattle.std.proofs.Common.{◌≡◌, ℕ, suc, zero, ◌+◌, ◌-◌, ◌<◌, ◌≤◌, Bool, true, false, cond, ◌&&◌, ◌||◌, List, [], ◌∷◌, ◌++◌, length, Option, Some, None, refl, ap, ◌∙◌, sym, subst, arith, get_or, set, get_or-set_other, get_or-set_same, length-set, length-append, take}
+use Rattle.std.proofs.Common.{◌≡◌, ℕ, suc, zero, ◌+◌, ◌-◌, ◌<◌, ◌≤◌, Bool, true, false, cond, ◌&&◌}
+use Rattle.std.proofs.Common.{◌||◌, List, [], ◌∷◌, ◌++◌, length, Option, Some, None, refl, ap, ◌∙◌}
+use Rattle.std.proofs.Common.{sym, subst, arith, get_or, set, get_or-set_other, get_or-set_same}
+use Rattle.std.proofs.Common.{length-set, length-append, take}
 use Rattle.std.specs.Prelude.{◌==◌, unwrap_or, is_some, nat_lt, replicate}
 use Rattle.std.specs.List.{list_any}
 use Rattle.std.proofs.Math.ListN.{get_or-append}
@@ -22,13 +25,16 @@ use Rattle.vyrd_shadow.proofs.KeptWrites.{differs}
 
 -- a place is one of the block's
 low_at : (i w : ℕ) (ws : List (ℕ × ℕ)) → is_at i w ws ≡ true → i < length ws
-low_at i w ws at = grind (arith, nat_tests, first_true (nat_lt i (length ws)) ((get_or ws i (0, 0)).0 == w) at)
+low_at i w ws at =
+    grind (arith, nat_tests, first_true (nat_lt i (length ws)) ((get_or ws i (0, 0)).0 == w) at)
 
 -- and its word is this one
 word_at : (i w : ℕ) (ws : List (ℕ × ℕ)) → is_at i w ws ≡ true → (get_or ws i (0, 0)).0 ≡ w
-word_at i w ws at = same_of (get_or ws i (0, 0)).0 w (second_true (nat_lt i (length ws)) ((get_or ws i (0, 0)).0 == w) at)
+word_at i w ws at = same_of (get_or ws i (0, 0)).0 w
+    (second_true (nat_lt i (length ws)) ((get_or ws i (0, 0)).0 == w) at)
 
-at_from : (i w : ℕ) (ws : List (ℕ × ℕ)) → i < length ws → (get_or ws i (0, 0)).0 ≡ w → is_at i w ws ≡ true
+at_from : (i w : ℕ) (ws : List (ℕ × ℕ)) → i < length ws → (get_or ws i (0, 0)).0 ≡ w → is_at i w ws
+    ≡ true
 at_from i w ws low is =
     let first : nat_lt i (length ws) ≡ true = grind (arith, nat_tests) in
     ap (λ b. b && ((get_or ws i (0, 0)).0 == w)) first ∙ ap (λ x. x == w) is ∙ same_number w
@@ -37,25 +43,31 @@ none_at : {P : Type 0} (i w : ℕ) → is_at i w [] ≡ true → P
 none_at i w at = absurd (omega (arith, low_at i w [] at))
 
 -- what a caller's block keeps, once one was replaced
-kept_same : (blocks : List (Option (List (ℕ × ℕ)))) (c : ℕ) (b : Option (List (ℕ × ℕ))) → c < length blocks → kept_by (set blocks c b) c ≡ unwrap_or b []
+kept_same : (blocks : List (Option (List (ℕ × ℕ)))) (c : ℕ) (b : Option (List (ℕ × ℕ)))
+    → c < length blocks → kept_by (set blocks c b) c ≡ unwrap_or b []
 kept_same blocks c b low = ap (λ o. unwrap_or o []) (get_or-set_same blocks c b None low)
 
-kept_other : (blocks : List (Option (List (ℕ × ℕ)))) (c d : ℕ) (b : Option (List (ℕ × ℕ))) → (c == d) ≡ false
+kept_other : (blocks : List (Option (List (ℕ × ℕ)))) (c d : ℕ) (b : Option (List (ℕ × ℕ)))
+    → (c == d) ≡ false
     → kept_by (set blocks c b) d ≡ kept_by blocks d
-kept_other blocks c d b other = ap (λ o. unwrap_or o []) (get_or-set_other blocks c d b None (differs c d other))
+kept_other blocks c d b other = ap (λ o. unwrap_or o [])
+    (get_or-set_other blocks c d b None (differs c d other))
 
 -- one block is replaced
-placed_set : (blocks : List (Option (List (ℕ × ℕ)))) (holders : List (ℕ × ℕ)) (c : ℕ) (b : Option (List (ℕ × ℕ))) → c < length blocks
+placed_set : (blocks : List (Option (List (ℕ × ℕ)))) (holders : List (ℕ × ℕ)) (c : ℕ)
+    (b : Option (List (ℕ × ℕ))) → c < length blocks
     → ((i w : ℕ) → is_at i w (unwrap_or b []) ≡ true → get_or holders w (0, 0) ≡ (c, i))
     → ((d i w : ℕ) → is_at i w (kept_by blocks d) ≡ true → get_or holders w (0, 0) ≡ (d, i))
     → ArePlaced (set blocks c b) holders
 placed_set blocks holders c b low own others = λ d i w at. by_same c d
-    (λ same. subst (λ x. is_at i w (kept_by (set blocks c b) x) ≡ true → get_or holders w (0, 0) ≡ (x, i)) same
+    (λ same. subst (λ x. is_at i w (kept_by (set blocks c b) x) ≡ true → get_or holders w (0, 0)
+    ≡ (x, i)) same
     (λ here. own i w (subst (λ ws. is_at i w ws ≡ true) (kept_same blocks c b low) here)) at)
     (λ other. others d i w (subst (λ ws. is_at i w ws ≡ true) (kept_other blocks c d b other) at))
 
 -- a block keeps nothing
-pub placed_none : (blocks : List (Option (List (ℕ × ℕ)))) (holders : List (ℕ × ℕ)) (c : ℕ) (b : Option (List (ℕ × ℕ))) → c < length blocks
+pub placed_none : (blocks : List (Option (List (ℕ × ℕ)))) (holders : List (ℕ × ℕ)) (c : ℕ)
+    (b : Option (List (ℕ × ℕ))) → c < length blocks
     → unwrap_or b [] ≡ [] → ArePlaced blocks holders → ArePlaced (set blocks c b) holders
 placed_none blocks holders c b low none placed = placed_set blocks holders c b low
     (λ i w at. none_at i w (subst (λ ws. is_at i w ws ≡ true) none at)) placed
@@ -70,26 +82,35 @@ placed_start n = λ c i w at. none_at i w (subst (λ ws. is_at i w ws ≡ true) 
     nothing (suc n) (suc c) = nothing n c
 
 -- a write takes another value
-words_stay : (ws : List (ℕ × ℕ)) (p w v : ℕ) → is_at p w ws ≡ true → (i x : ℕ) → is_at i x (set ws p (w, v)) ≡ true → is_at i x ws ≡ true
+words_stay : (ws : List (ℕ × ℕ)) (p w v : ℕ) → is_at p w ws ≡ true → (i x : ℕ)
+    → is_at i x (set ws p (w, v)) ≡ true → is_at i x ws ≡ true
 words_stay ws p w v there i x at =
-    let low : i < length ws = omega (arith, low_at i x (set ws p (w, v)) at, length-set ws p (w, v)) in
+    let low : i < length ws =
+    omega (arith, low_at i x (set ws p (w, v)) at, length-set ws p (w, v)) in
     let is = word_at i x (set ws p (w, v)) at in
     by_same p i
     (λ same. at_from i x ws low
     (subst (λ j. (get_or ws j (0, 0)).0 ≡ x) same
-    (word_at p w ws there ∙ sym (ap (λ (y : ℕ × ℕ). y.0) (get_or-set_same ws p (w, v) (0, 0) (low_at p w ws there)))
+    (word_at p w ws there
+    ∙ sym (ap (λ (y : ℕ × ℕ). y.0) (get_or-set_same ws p (w, v) (0, 0) (low_at p w ws there)))
     ∙ subst (λ j. (get_or (set ws p (w, v)) j (0, 0)).0 ≡ x) (sym same) is)))
-    (λ other. at_from i x ws low (sym (ap (λ (y : ℕ × ℕ). y.0) (get_or-set_other ws p i (w, v) (0, 0) (differs p i other))) ∙ is))
+    (λ other. at_from i x ws low
+    (sym (ap (λ (y : ℕ × ℕ). y.0) (get_or-set_other ws p i (w, v) (0, 0) (differs p i other)))
+    ∙ is))
 
-pub placed_replaced : (blocks : List (Option (List (ℕ × ℕ)))) (holders : List (ℕ × ℕ)) (c p w v : ℕ) → c < length blocks
+pub placed_replaced : (blocks : List (Option (List (ℕ × ℕ)))) (holders : List (ℕ × ℕ)) (c p w v : ℕ)
+    → c < length blocks
     → is_at p w (kept_by blocks c) ≡ true → ArePlaced blocks holders
     → ArePlaced (set blocks c (Some (set (kept_by blocks c) p (w, v)))) holders
-placed_replaced blocks holders c p w v low there placed = placed_set blocks holders c (Some (set (kept_by blocks c) p (w, v))) low
+placed_replaced blocks holders c p w v low there placed = placed_set blocks holders c
+    (Some (set (kept_by blocks c) p (w, v))) low
     (λ i x at. placed c i x (words_stay (kept_by blocks c) p w v there i x at)) placed
 
 -- a write to a new word
-pub placed_pushed : (blocks : List (Option (List (ℕ × ℕ)))) (holders : List (ℕ × ℕ)) (c w v n : ℕ) → c < length blocks
-    → w < length holders → ((d i : ℕ) → is_at i w (kept_by blocks d) ≡ false) → n ≡ length (kept_by blocks c) → ArePlaced blocks holders
+pub placed_pushed : (blocks : List (Option (List (ℕ × ℕ)))) (holders : List (ℕ × ℕ)) (c w v n : ℕ)
+    → c < length blocks
+    → w < length holders → ((d i : ℕ) → is_at i w (kept_by blocks d) ≡ false)
+    → n ≡ length (kept_by blocks c) → ArePlaced blocks holders
     → ArePlaced (set blocks c (Some (kept_by blocks c ++ (w, v) ∷ []))) (set holders w (c, n))
 placed_pushed blocks holders c w v n low low_w new size placed =
     placed_set blocks (set holders w (c, n)) c (Some (ws ++ (w, v) ∷ [])) low own before
@@ -97,12 +118,14 @@ placed_pushed blocks holders c w v n low low_w new size placed =
     ws : List (ℕ × ℕ)
     ws = kept_by blocks c
 
-    before : (d i x : ℕ) → is_at i x (kept_by blocks d) ≡ true → get_or (set holders w (c, n)) x (0, 0) ≡ (d, i)
+    before : (d i x : ℕ) → is_at i x (kept_by blocks d) ≡ true → get_or (set holders w (c, n)) x
+        (0, 0) ≡ (d, i)
     before d i x at = by_same w x
         (λ same. never (new d i) (subst (λ y. is_at i y (kept_by blocks d) ≡ true) (sym same) at))
         (λ other. get_or-set_other holders w x (c, n) (0, 0) (differs w x other) ∙ placed d i x at)
 
-    own : (i x : ℕ) → is_at i x (ws ++ (w, v) ∷ []) ≡ true → get_or (set holders w (c, n)) x (0, 0) ≡ (c, i)
+    own : (i x : ℕ) → is_at i x (ws ++ (w, v) ∷ []) ≡ true → get_or (set holders w (c, n)) x (0, 0)
+        ≡ (c, i)
     own i x at =
         let long : length (ws ++ (w, v) ∷ []) ≡ length ws + 1 = length-append ws ((w, v) ∷ []) in
         let within : i < length ws + 1 = omega (arith, low_at i x (ws ++ (w, v) ∷ []) at, long) in
@@ -115,54 +138,69 @@ placed_pushed blocks holders c w v n low low_w new size placed =
         (get_or-set_same holders w (c, n) (0, 0) low_w ∙ ap (λ j. (c, j)) (size ∙ same)))
         (λ other.
         let front : i < length ws = grind (arith, nat_tests, within, other) in
-        before c i x (at_from i x ws front (sym (ap (λ (y : ℕ × ℕ). y.0) (get_or-append ws ((w, v) ∷ []) (0, 0) i front)) ∙ is)))
+        before c i x
+        (at_from i x ws front
+        (sym (ap (λ (y : ℕ × ℕ). y.0) (get_or-append ws ((w, v) ∷ []) (0, 0) i front)) ∙ is)))
 
 abbrev none : ℕ × ℕ
 none = (0, 0)
 
 -- more room for holders changes none of them
-pub resized : (old new : List (ℕ × ℕ)) (n w : ℕ) → length old ≤ n → new ≡ take n old ++ replicate (n - length old) (0, 0)
+pub resized : (old new : List (ℕ × ℕ)) (n w : ℕ) → length old ≤ n → new ≡ take n old
+    ++ replicate (n - length old) (0, 0)
     → get_or new w (0, 0) ≡ get_or old w (0, 0)
-resized old new n w fits is = subst (λ (l : List (ℕ × ℕ)). get_or l w (0, 0) ≡ get_or old w (0, 0)) (sym is) (longer old n w fits)
+resized old new n w fits is = subst (λ (l : List (ℕ × ℕ)). get_or l w (0, 0) ≡ get_or old w (0, 0))
+    (sym is) (longer old n w fits)
   where
     alike : (n w : ℕ) → get_or (replicate n (0, 0)) w (0, 0) ≡ none
     alike zero w = refl
     alike (suc n) zero = refl
     alike (suc n) (suc w) = alike n w
 
-    longer : (old : List (ℕ × ℕ)) (n w : ℕ) → length old ≤ n → get_or (take n old ++ replicate (n - length old) (0, 0)) w (0, 0) ≡ get_or old w (0, 0)
+    longer : (old : List (ℕ × ℕ)) (n w : ℕ) → length old ≤ n
+        → get_or (take n old ++ replicate (n - length old) (0, 0)) w (0, 0) ≡ get_or old w (0, 0)
     longer [] zero w fits = refl
     longer [] (suc n) w fits = let whole : suc n ≡ suc n - 0 = omega arith in
         subst (λ m. get_or (replicate m (0, 0)) w (0, 0) ≡ none) whole (alike (suc n) w)
     longer (x ∷ old) zero w fits = absurd (omega (arith, fits))
     longer (x ∷ old) (suc n) zero fits = refl
-    longer (x ∷ old) (suc n) (suc w) fits = let left : n - length old ≡ suc n - suc (length old) = omega arith in
-        subst (λ m. get_or (take n old ++ replicate m (0, 0)) w (0, 0) ≡ get_or old w (0, 0)) left (longer old n w (omega (arith, fits)))
+    longer (x ∷ old) (suc n) (suc w) fits = let left : n - length old ≡ suc n - suc (length old) =
+        omega arith in
+        subst (λ m. get_or (take n old ++ replicate m (0, 0)) w (0, 0) ≡ get_or old w (0, 0)) left
+        (longer old n w (omega (arith, fits)))
 
 pub placed_still : (blocks : List (Option (List (ℕ × ℕ)))) (old new : List (ℕ × ℕ))
-    → ((w : ℕ) → get_or new w (0, 0) ≡ get_or old w (0, 0)) → ArePlaced blocks old → ArePlaced blocks new
+    → ((w : ℕ) → get_or new w (0, 0) ≡ get_or old w (0, 0)) → ArePlaced blocks old
+    → ArePlaced blocks new
 placed_still blocks old new same placed = λ c i w at. same w ∙ placed c i w at
 
 -- a word whose holder doesn't keep it there isn't kept by that caller
-pub not_kept : (blocks : List (Option (List (ℕ × ℕ)))) (holders : List (ℕ × ℕ)) (c w : ℕ) → ArePlaced blocks holders
-    → is_at (get_or holders w (0, 0)).1 w (kept_by blocks c) ≡ false → (i : ℕ) → is_at i w (kept_by blocks c) ≡ false
+pub not_kept : (blocks : List (Option (List (ℕ × ℕ)))) (holders : List (ℕ × ℕ)) (c w : ℕ)
+    → ArePlaced blocks holders
+    → is_at (get_or holders w (0, 0)).1 w (kept_by blocks c) ≡ false → (i : ℕ)
+    → is_at i w (kept_by blocks c) ≡ false
 not_kept blocks holders c w placed nowhere i = by_test (is_at i w (kept_by blocks c)) refl
   where
     by_test : (b : Bool) → is_at i w (kept_by blocks c) ≡ b → b ≡ false
     by_test false e = refl
-    by_test true e = never nowhere (subst (λ (h : ℕ × ℕ). is_at h.1 w (kept_by blocks c) ≡ true) (sym (placed c i w e)) e)
+    by_test true e = never nowhere (subst (λ (h : ℕ × ℕ). is_at h.1 w (kept_by blocks c) ≡ true)
+        (sym (placed c i w e)) e)
 
 -- and if no other caller keeps it, it is new
-pub new_word : (blocks : List (Option (List (ℕ × ℕ)))) (holders : List (ℕ × ℕ)) (c w : ℕ) → ArePlaced blocks holders → IsFree blocks c w
-    → is_at (get_or holders w (0, 0)).1 w (kept_by blocks c) ≡ false → (d i : ℕ) → is_at i w (kept_by blocks d) ≡ false
+pub new_word : (blocks : List (Option (List (ℕ × ℕ)))) (holders : List (ℕ × ℕ)) (c w : ℕ)
+    → ArePlaced blocks holders → IsFree blocks c w
+    → is_at (get_or holders w (0, 0)).1 w (kept_by blocks c) ≡ false → (d i : ℕ)
+    → is_at i w (kept_by blocks d) ≡ false
 new_word blocks holders c w placed free nowhere d i = by_test (is_at i w (kept_by blocks d)) refl
   where
     by_test : (b : Bool) → is_at i w (kept_by blocks d) ≡ b → b ≡ false
     by_test false e = refl
-    by_test true e = never (not_kept blocks holders c w placed nowhere i) (subst (λ x. is_at i w (kept_by blocks x) ≡ true) (free d i e) e)
+    by_test true e = never (not_kept blocks holders c w placed nowhere i)
+        (subst (λ x. is_at i w (kept_by blocks x) ≡ true) (free d i e) e)
 
 -- a new word comes last
-pub pushed_is : (ws : List (ℕ × ℕ)) (w v : ℕ) → ((i : ℕ) → is_at i w ws ≡ false) → ws ++ (w, v) ∷ [] ≡ with_kept ws w v
+pub pushed_is : (ws : List (ℕ × ℕ)) (w v : ℕ) → ((i : ℕ) → is_at i w ws ≡ false) → ws ++ (w, v) ∷ []
+    ≡ with_kept ws w v
 pushed_is [] w v new = refl
 pushed_is ((q, u) ∷ ws) w v new = by_same w q
     (λ same. never (new 0) (at_from 0 w ((q, u) ∷ ws) (omega arith) (sym same)))
@@ -171,107 +209,147 @@ pushed_is ((q, u) ∷ ws) w v new = by_same w q
   where
     by_test : (i : ℕ) (b : Bool) → is_at i w ws ≡ b → b ≡ false
     by_test i false e = refl
-    by_test i true e = never (new (suc i)) (at_from (suc i) w ((q, u) ∷ ws) (omega (arith, low_at i w ws e)) (word_at i w ws e))
+    by_test i true e = never (new (suc i))
+        (at_from (suc i) w ((q, u) ∷ ws) (omega (arith, low_at i w ws e)) (word_at i w ws e))
 
     later : (i : ℕ) → is_at i w ws ≡ false
     later i = by_test i (is_at i w ws) refl
 
 -- a word that stands at one place keeps it
-pub replaced_is : (ws : List (ℕ × ℕ)) (p w v : ℕ) → is_at p w ws ≡ true → ((i : ℕ) → is_at i w ws ≡ true → i ≡ p)
+pub replaced_is : (ws : List (ℕ × ℕ)) (p w v : ℕ) → is_at p w ws ≡ true
+    → ((i : ℕ) → is_at i w ws ≡ true → i ≡ p)
     → set ws p (w, v) ≡ with_kept ws w v
 replaced_is [] p w v there one = none_at p w there
 replaced_is ((q, u) ∷ ws) zero w v there one =
     let same : q ≡ w = word_at 0 w ((q, u) ∷ ws) there in
     ap (λ x. (x, v) ∷ ws) (sym same)
-    ∙ ap (λ b. cond b ((q, v) ∷ ws) ((q, u) ∷ with_kept ws w v)) (sym (ap (λ x. w == x) same ∙ same_number w))
+    ∙ ap (λ b. cond b ((q, v) ∷ ws) ((q, u) ∷ with_kept ws w v))
+    (sym (ap (λ x. w == x) same ∙ same_number w))
 replaced_is ((q, u) ∷ ws) (suc p) w v there one = by_same w q
     (λ same. absurd (omega (arith, one 0 (at_from 0 w ((q, u) ∷ ws) (omega arith) (sym same)))))
     (λ other. ap (λ t. (q, u) ∷ t) (replaced_is ws p w v
-    (at_from p w ws (omega (arith, low_at (suc p) w ((q, u) ∷ ws) there)) (word_at (suc p) w ((q, u) ∷ ws) there))
-    (λ i at. omega (arith, one (suc i) (at_from (suc i) w ((q, u) ∷ ws) (omega (arith, low_at i w ws at)) (word_at i w ws at)))))
+    (at_from p w ws (omega (arith, low_at (suc p) w ((q, u) ∷ ws) there))
+    (word_at (suc p) w ((q, u) ∷ ws) there))
+    (λ i at. omega (
+      arith,
+      one (suc i) (at_from (suc i) w ((q, u) ∷ ws) (omega (arith, low_at i w ws at))
+          (word_at i w ws at)),
+    )))
     ∙ ap (λ b. cond b ((q, v) ∷ ws) ((q, u) ∷ with_kept ws w v)) (sym other))
 
 -- the place of a word's holder is the only one in its block
-pub one_place : (blocks : List (Option (List (ℕ × ℕ)))) (holders : List (ℕ × ℕ)) (c w i : ℕ) → ArePlaced blocks holders
+pub one_place : (blocks : List (Option (List (ℕ × ℕ)))) (holders : List (ℕ × ℕ)) (c w i : ℕ)
+    → ArePlaced blocks holders
     → is_at i w (kept_by blocks c) ≡ true → i ≡ (get_or holders w (0, 0)).1
 one_place blocks holders c w i placed at = sym (ap (λ (h : ℕ × ℕ). h.1) (placed c i w at))
 
 -- the place of a word's holder, as it was read
-pub place_is : (holders lent : List (ℕ × ℕ)) (w : ℕ) (holder : ℕ × ℕ) → holder ≡ get_or lent w (0, 0) → lent ≡ holders
+pub place_is : (holders lent : List (ℕ × ℕ)) (w : ℕ) (holder : ℕ × ℕ)
+    → holder ≡ get_or lent w (0, 0) → lent ≡ holders
     → holder.1 ≡ (get_or holders w (0, 0)).1
-place_is holders lent w holder is same = ap (λ (h : ℕ × ℕ). h.1) is ∙ ap (λ (l : List (ℕ × ℕ)). (get_or l w (0, 0)).1) same
+place_is holders lent w holder is same = ap (λ (h : ℕ × ℕ). h.1) is
+    ∙ ap (λ (l : List (ℕ × ℕ)). (get_or l w (0, 0)).1) same
 
 -- the word stands at its holder's place, and the write there is replaced
-replaced_there : (blocks : List (Option (List (ℕ × ℕ)))) (holders : List (ℕ × ℕ)) (c w v p : ℕ) → ArePlaced blocks holders
-    → p ≡ (get_or holders w (0, 0)).1 → is_at p w (kept_by blocks c) ≡ true → set (kept_by blocks c) p (w, v) ≡ with_kept (kept_by blocks c) w v
-replaced_there blocks holders c w v p placed place there = replaced_is (kept_by blocks c) p w v there
+replaced_there : (blocks : List (Option (List (ℕ × ℕ)))) (holders : List (ℕ × ℕ)) (c w v p : ℕ)
+    → ArePlaced blocks holders
+    → p ≡ (get_or holders w (0, 0)).1 → is_at p w (kept_by blocks c) ≡ true
+    → set (kept_by blocks c) p (w, v) ≡ with_kept (kept_by blocks c) w v
+replaced_there blocks holders c w v p placed place there = replaced_is (kept_by blocks c) p w v
+    there
     (λ i at. one_place blocks holders c w i placed at ∙ sym place)
 
-pub replaced_in : (blocks : List (Option (List (ℕ × ℕ)))) (holders : List (ℕ × ℕ)) (c w v p : ℕ) (read block : Option (List (ℕ × ℕ)))
-    → ArePlaced blocks holders → p ≡ (get_or holders w (0, 0)).1 → is_at p w (kept_by blocks c) ≡ true → read ≡ get_or blocks c None
-    → block ≡ Some (set (unwrap_or read []) p (w, v)) → set blocks c block ≡ set blocks c (Some (with_kept (kept_by blocks c) w v))
+pub replaced_in : (blocks : List (Option (List (ℕ × ℕ)))) (holders : List (ℕ × ℕ)) (c w v p : ℕ)
+    (read block : Option (List (ℕ × ℕ)))
+    → ArePlaced blocks holders → p ≡ (get_or holders w (0, 0)).1 → is_at p w (kept_by blocks c)
+    ≡ true → read ≡ get_or blocks c None
+    → block ≡ Some (set (unwrap_or read []) p (w, v)) → set blocks c block
+    ≡ set blocks c (Some (with_kept (kept_by blocks c) w v))
 replaced_in blocks holders c w v p read block placed place there is new = ap (set blocks c)
     (new ∙ ap (λ (o : Option (List (ℕ × ℕ))). Some (set (unwrap_or o []) p (w, v))) is
     ∙ ap (λ ws. Some ws) (replaced_there blocks holders c w v p placed place there))
 
-pub replaced_length : (blocks : List (Option (List (ℕ × ℕ)))) (holders : List (ℕ × ℕ)) (c w v p : ℕ) → ArePlaced blocks holders
-    → p ≡ (get_or holders w (0, 0)).1 → is_at p w (kept_by blocks c) ≡ true → length (with_kept (kept_by blocks c) w v) ≡ length (kept_by blocks c) + 0
+pub replaced_length : (blocks : List (Option (List (ℕ × ℕ)))) (holders : List (ℕ × ℕ)) (c w v p : ℕ)
+    → ArePlaced blocks holders
+    → p ≡ (get_or holders w (0, 0)).1 → is_at p w (kept_by blocks c) ≡ true
+    → length (with_kept (kept_by blocks c) w v) ≡ length (kept_by blocks c) + 0
 replaced_length blocks holders c w v p placed place there =
     let same = ap length (replaced_there blocks holders c w v p placed place there) in
     omega (arith, same, length-set (kept_by blocks c) p (w, v))
 
 -- it doesn't, and the write comes last
-pub pushed_in : (blocks : List (Option (List (ℕ × ℕ)))) (holders : List (ℕ × ℕ)) (c w v p : ℕ) → ArePlaced blocks holders
-    → p ≡ (get_or holders w (0, 0)).1 → is_at p w (kept_by blocks c) ≡ false → kept_by blocks c ++ (w, v) ∷ [] ≡ with_kept (kept_by blocks c) w v
+pub pushed_in : (blocks : List (Option (List (ℕ × ℕ)))) (holders : List (ℕ × ℕ)) (c w v p : ℕ)
+    → ArePlaced blocks holders
+    → p ≡ (get_or holders w (0, 0)).1 → is_at p w (kept_by blocks c) ≡ false → kept_by blocks c
+    ++ (w, v) ∷ [] ≡ with_kept (kept_by blocks c) w v
 pushed_in blocks holders c w v p placed place nowhere = pushed_is (kept_by blocks c) w v
-    (not_kept blocks holders c w placed (subst (λ x. is_at x w (kept_by blocks c) ≡ false) place nowhere))
+    (not_kept blocks holders c w placed
+    (subst (λ x. is_at x w (kept_by blocks c) ≡ false) place nowhere))
 
-pub pushed_length : (blocks : List (Option (List (ℕ × ℕ)))) (holders : List (ℕ × ℕ)) (c w v p : ℕ) → ArePlaced blocks holders
-    → p ≡ (get_or holders w (0, 0)).1 → is_at p w (kept_by blocks c) ≡ false → length (with_kept (kept_by blocks c) w v) ≡ length (kept_by blocks c) + 1
+pub pushed_length : (blocks : List (Option (List (ℕ × ℕ)))) (holders : List (ℕ × ℕ)) (c w v p : ℕ)
+    → ArePlaced blocks holders
+    → p ≡ (get_or holders w (0, 0)).1 → is_at p w (kept_by blocks c) ≡ false
+    → length (with_kept (kept_by blocks c) w v) ≡ length (kept_by blocks c) + 1
 pushed_length blocks holders c w v p placed place nowhere =
-    sym (ap length (pushed_in blocks holders c w v p placed place nowhere)) ∙ length-append (kept_by blocks c) ((w, v) ∷ [])
+    sym (ap length (pushed_in blocks holders c w v p placed place nowhere))
+    ∙ length-append (kept_by blocks c) ((w, v) ∷ [])
 
 -- the same of the block that was read
-pub pushed_read : (blocks : List (Option (List (ℕ × ℕ)))) (holders holders' : List (ℕ × ℕ)) (c w v n : ℕ) (read block : Option (List (ℕ × ℕ))) → c < length blocks
-    → ArePlaced blocks holders → ((x : ℕ) → get_or holders' x (0, 0) ≡ get_or holders x (0, 0)) → w < length holders'
-    → ((d i : ℕ) → is_at i w (kept_by blocks d) ≡ false) → read ≡ get_or blocks c None → n ≡ length (unwrap_or read [])
-    → block ≡ Some (unwrap_or read [] ++ (w, v) ∷ []) → ArePlaced (set blocks c block) (set holders' w (c, n))
+pub pushed_read : (blocks : List (Option (List (ℕ × ℕ)))) (holders holders' : List (ℕ × ℕ))
+    (c w v n : ℕ) (read block : Option (List (ℕ × ℕ))) → c < length blocks
+    → ArePlaced blocks holders → ((x : ℕ) → get_or holders' x (0, 0) ≡ get_or holders x (0, 0))
+    → w < length holders'
+    → ((d i : ℕ) → is_at i w (kept_by blocks d) ≡ false) → read ≡ get_or blocks c None
+    → n ≡ length (unwrap_or read [])
+    → block ≡ Some (unwrap_or read [] ++ (w, v) ∷ []) → ArePlaced (set blocks c block)
+    (set holders' w (c, n))
 pushed_read blocks holders holders' c w v n read block low placed same low_w new is size pushed =
     subst (λ b. ArePlaced (set blocks c b) (set holders' w (c, n)))
     (sym (pushed ∙ ap (λ (o : Option (List (ℕ × ℕ))). Some (unwrap_or o [] ++ (w, v) ∷ [])) is))
-    (placed_pushed blocks holders' c w v n low low_w new (size ∙ ap (λ (o : Option (List (ℕ × ℕ))). length (unwrap_or o [])) is)
+    (placed_pushed blocks holders' c w v n low low_w new
+    (size ∙ ap (λ (o : Option (List (ℕ × ℕ))). length (unwrap_or o [])) is)
     (placed_still blocks holders holders' same placed))
 
 -- a word is among the writes
 any_at : (ws : List (ℕ × ℕ)) (i w : ℕ) → is_at i w ws ≡ true → list_any (is_to w) ws ≡ true
 any_at [] i w at = none_at i w at
-any_at ((q, u) ∷ ws) zero w at = by_test (q == w) (ap (λ x. x == w) (word_at 0 w ((q, u) ∷ ws) at) ∙ same_number w)
+any_at ((q, u) ∷ ws) zero w at = by_test (q == w) (ap (λ x. x == w) (word_at 0 w ((q, u) ∷ ws) at)
+    ∙ same_number w)
   where
     by_test : (b : Bool) → b ≡ true → (b || list_any (is_to w) ws) ≡ true
     by_test true e = refl
     by_test false e = never refl e
 any_at ((q, u) ∷ ws) (suc i) w at = by_test (q == w)
-    (any_at ws i w (at_from i w ws (omega (arith, low_at (suc i) w ((q, u) ∷ ws) at)) (word_at (suc i) w ((q, u) ∷ ws) at)))
+    (any_at ws i w (at_from i w ws (omega (arith, low_at (suc i) w ((q, u) ∷ ws) at))
+    (word_at (suc i) w ((q, u) ∷ ws) at)))
   where
     by_test : (b : Bool) → list_any (is_to w) ws ≡ true → (b || list_any (is_to w) ws) ≡ true
     by_test true e = refl
     by_test false e = e
 
 -- a block that keeps something is one of the blocks, and open
-opened_at : (blocks : List (Option (List (ℕ × ℕ)))) (c i w : ℕ) → is_at i w (kept_by blocks c) ≡ true
+opened_at : (blocks : List (Option (List (ℕ × ℕ)))) (c i w : ℕ) → is_at i w (kept_by blocks c)
+    ≡ true
     → (c < length blocks) × (is_some (get_or blocks c None) ≡ true)
 opened_at [] c i w at = none_at i w at
 opened_at (None ∷ blocks) zero i w at = none_at i w at
 opened_at (Some ws ∷ blocks) zero i w at = (omega arith, refl)
-opened_at (b ∷ blocks) (suc c) i w at = let rest = opened_at blocks c i w at in (omega (arith, rest.0), rest.1)
+opened_at (b ∷ blocks) (suc c) i w at = let rest = opened_at blocks c i w at in
+    (omega (arith, rest.0), rest.1)
 
 -- a write that keeps the rules is to a word that no other block keeps
-pub free_by_rules : (kept : Kept) (starting : List StartWord) (earlier : List Entry) (c word value : ℕ) → length kept.blocks ≡ kept.header.callers
-    → HasFollowed kept starting earlier → broken_rule kept.header earlier (entry c (Write word value)) ≡ None → IsFree kept.blocks c word
-free_by_rules kept starting earlier c word value size followed keeps = λ d i at. by_same d c (λ same. same) (λ other.
+pub free_by_rules : (kept : Kept) (starting : List StartWord) (earlier : List Entry)
+    (c word value : ℕ) → length kept.blocks ≡ kept.header.callers
+    → HasFollowed kept starting earlier → broken_rule kept.header earlier
+    (entry c (Write word value)) ≡ None → IsFree kept.blocks c word
+free_by_rules kept starting earlier c word value size followed keeps = λ d i at. by_same d c
+    (λ same. same) (λ other.
     let here = opened_at kept.blocks d i word at in
     let low : d < kept.header.callers = omega (arith, here.0, size) in
     let inside : has_block d earlier ≡ true = sym (followed.blocks d low) ∙ here.1 in
-    let written : list_any (is_to word) (block_writes d earlier) ≡ true = sym (some_to word (block_writes d earlier))
-    ∙ ap is_some (sym (followed.values d word low inside)) ∙ some_to word (kept_by kept.blocks d) ∙ any_at (kept_by kept.blocks d) i word at in
-    never ((write_kept kept.header c word value earlier keeps).free d low other) (holds_is d word earlier inside ∙ written))
+    let written : list_any (is_to word) (block_writes d earlier)
+    ≡ true = sym (some_to word (block_writes d earlier))
+    ∙ ap is_some (sym (followed.values d word low inside)) ∙ some_to word (kept_by kept.blocks d)
+    ∙ any_at (kept_by kept.blocks d) i word at in
+    never ((write_kept kept.header c word value earlier keeps).free d low other)
+    (holds_is d word earlier inside ∙ written))

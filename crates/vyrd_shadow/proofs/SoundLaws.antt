@@ -1,5 +1,7 @@
 -- What stays true of the words, the blocks and the changed words.
-use Rattle.std.proofs.Common.{◌≡◌, ℕ, ◌+◌, ◌^◌, ◌<◌, ◌≤◌, ◌-◌, List, [], length, length-append, Option, Some, None, ap, ◌∙◌, sym, subst, arith, get_or, set, get_or-set_other, get_or-set_same, length-set, take, drop, ◌++◌}
+use Rattle.std.proofs.Common.{◌≡◌, ℕ, ◌+◌, ◌^◌, ◌<◌, ◌≤◌, ◌-◌, List, [], length, length-append}
+use Rattle.std.proofs.Common.{Option, Some, None, ap, ◌∙◌, sym, subst, arith, get_or, set}
+use Rattle.std.proofs.Common.{get_or-set_other, get_or-set_same, length-set, take, drop, ◌++◌}
 use Rattle.std.specs.Prelude.{unwrap_or}
 use Rattle.std.specs.List.{All}
 use Rattle.std.specs.Map.{keys_of}
@@ -11,7 +13,8 @@ use Rattle.vyrd_base.specs.declared.header.Header.{Header}
 use Rattle.vyrd_base.specs.Layout.{plain_words}
 use Rattle.vyrd_base.proofs.BlockLaws.{by_same}
 use Rattle.vyrd_shadow.specs.Blocks.{with_writes, with_kept, AreInRange, kept_count, IsSound}
-use Rattle.vyrd_shadow.proofs.KeptWrites.{differs, in_range_kept, length-with_writes, below_with, keys_below}
+use Rattle.vyrd_shadow.proofs.KeptWrites.{differs, in_range_kept, length-with_writes, below_with}
+use Rattle.vyrd_shadow.proofs.KeptWrites.{keys_below}
 
 -- what is known of the rest when a block is replaced
 record Rest (h : Header) (words changed : List ℕ) (count capacity : ℕ) : Type 0 where
@@ -20,49 +23,65 @@ record Rest (h : Header) (words changed : List ℕ) (count capacity : ℕ) : Typ
   changed_words : All (λ w. w < plain_words h) changed
   room : length changed + count ≤ capacity
 
-sound_set : (h : Header) (words : List ℕ) (blocks : List (Option (List (ℕ × ℕ)))) (changed : List ℕ) (count capacity : ℕ)
+sound_set : (h : Header) (words : List ℕ) (blocks : List (Option (List (ℕ × ℕ)))) (changed : List ℕ)
+    (count capacity : ℕ)
     → IsSound h words blocks changed count capacity
-    → (c : ℕ) (block : Option (List (ℕ × ℕ))) → c < h.callers → AreInRange (plain_words h) (unwrap_or block [])
-    → (words' changed' : List ℕ) (count' capacity' : ℕ) → count' + length (unwrap_or (get_or blocks c None) []) ≡ count + length (unwrap_or block [])
-    → Rest h words' changed' count' capacity' → IsSound h words' (set blocks c block) changed' count' capacity'
-sound_set h words blocks changed count capacity sound c block low in_range words' changed' count' capacity' counts rest = record {
-  all_words = rest.all_words;
-  all_blocks = length-set blocks c block ∙ sound.all_blocks;
-  values = rest.values;
-  writes = λ d. by_same c d
-      (λ same. subst (λ x. AreInRange (plain_words h) (unwrap_or (get_or (set blocks c block) x None) [])) same
-      (subst (λ b. AreInRange (plain_words h) (unwrap_or b []))
-      (sym (get_or-set_same blocks c block None (omega (arith, sound.all_blocks)))) in_range))
-      (λ other. subst (λ b. AreInRange (plain_words h) (unwrap_or b []))
-      (sym (get_or-set_other blocks c d block None (differs c d other))) (sound.writes d));
-  changed_words = rest.changed_words;
-  counted =
-      let sums : kept_count (set blocks c block) + length (unwrap_or (get_or blocks c None) []) ≡ kept_count blocks + length (unwrap_or block [])
-      = sum_by-set (λ b. length (unwrap_or b [])) blocks c block None (omega (arith, sound.all_blocks)) in
-      omega (arith, sums, sound.counted);
-  room = rest.room;
-}
+    → (c : ℕ) (block : Option (List (ℕ × ℕ))) → c < h.callers → AreInRange (plain_words h)
+    (unwrap_or block [])
+    → (words' changed' : List ℕ) (count' capacity' : ℕ)
+    → count' + length (unwrap_or (get_or blocks c None) []) ≡ count + length (unwrap_or block [])
+    → Rest h words' changed' count' capacity' → IsSound h words' (set blocks c block) changed'
+    count' capacity'
+sound_set h words blocks changed count capacity sound c block low in_range words' changed' count'
+    capacity' counts rest = record {
+      all_words = rest.all_words;
+      all_blocks = length-set blocks c block ∙ sound.all_blocks;
+      values = rest.values;
+      writes = λ d. by_same c d
+          (λ same. subst
+          (λ x. AreInRange (plain_words h) (unwrap_or (get_or (set blocks c block) x None) [])) same
+          (subst (λ b. AreInRange (plain_words h) (unwrap_or b []))
+          (sym (get_or-set_same blocks c block None (omega (arith, sound.all_blocks)))) in_range))
+          (λ other. subst (λ b. AreInRange (plain_words h) (unwrap_or b []))
+          (sym (get_or-set_other blocks c d block None (differs c d other))) (sound.writes d));
+      changed_words = rest.changed_words;
+      counted =
+          let sums : kept_count (set blocks c block) + length (unwrap_or (get_or blocks c None) [])
+          ≡ kept_count blocks + length (unwrap_or block [])
+          = sum_by-set (λ b. length (unwrap_or b [])) blocks c block None
+          (omega (arith, sound.all_blocks)) in
+          omega (arith, sums, sound.counted);
+      room = rest.room;
+    }
 
 -- a block keeps no more than all do
-kept_at_most : (blocks : List (Option (List (ℕ × ℕ)))) (c : ℕ) → c < length blocks → length (unwrap_or (get_or blocks c None) []) ≤ kept_count blocks
+kept_at_most : (blocks : List (Option (List (ℕ × ℕ)))) (c : ℕ) → c < length blocks
+    → length (unwrap_or (get_or blocks c None) []) ≤ kept_count blocks
 kept_at_most blocks c low =
-    let sums : kept_count (set blocks c None) + length (unwrap_or (get_or blocks c None) []) ≡ kept_count blocks + 0
+    let sums : kept_count (set blocks c None) + length (unwrap_or (get_or blocks c None) [])
+    ≡ kept_count blocks + 0
     = sum_by-set (λ b. length (unwrap_or b [])) blocks c None None low in
     omega (arith, sums)
 
 -- one more write is kept back
-pub sound_kept : (h : Header) (words : List ℕ) (blocks : List (Option (List (ℕ × ℕ)))) (changed : List ℕ) (count capacity : ℕ)
+pub sound_kept : (h : Header) (words : List ℕ) (blocks : List (Option (List (ℕ × ℕ))))
+    (changed : List ℕ) (count capacity : ℕ)
     → IsSound h words blocks changed count capacity
-    → (c word value : ℕ) (read block : Option (List (ℕ × ℕ))) → c < h.callers → word < plain_words h → value < 2 ^ 63
+    → (c word value : ℕ) (read block : Option (List (ℕ × ℕ))) → c < h.callers → word < plain_words h
+    → value < 2 ^ 63
     → read ≡ get_or blocks c None → block ≡ Some (with_kept (unwrap_or read []) word value)
     → (changed' : List ℕ) (more count' capacity' : ℕ) → changed' ≡ changed
-    → length (unwrap_or block []) ≡ length (unwrap_or read []) + more → count' ≡ count + more → length changed' + count' ≤ capacity'
+    → length (unwrap_or block []) ≡ length (unwrap_or read []) + more → count' ≡ count + more
+    → length changed' + count' ≤ capacity'
     → IsSound h words (set blocks c block) changed' count' capacity'
-sound_kept h words blocks changed count capacity sound c word value read block low low_w small is new changed' more count' capacity' same longer counts room =
-    let size : length (unwrap_or read []) ≡ length (unwrap_or (get_or blocks c None) []) = ap (λ b. length (unwrap_or b [])) is in
+sound_kept h words blocks changed count capacity sound c word value read block low low_w small is
+    new changed' more count' capacity' same longer counts room =
+    let size : length (unwrap_or read []) ≡ length (unwrap_or (get_or blocks c None) []) =
+    ap (λ b. length (unwrap_or b [])) is in
     let in_range : AreInRange (plain_words h) (unwrap_or read []) =
     subst (λ b. AreInRange (plain_words h) (unwrap_or b [])) (sym is) (sound.writes c) in
-    let more_in_range = in_range_kept (plain_words h) word value (unwrap_or read []) low_w small in_range in
+    let more_in_range = in_range_kept (plain_words h) word value (unwrap_or read []) low_w small
+    in_range in
     sound_set h words blocks changed count capacity sound c block low
     (subst (λ b. AreInRange (plain_words h) (unwrap_or b [])) (sym new) more_in_range)
     words changed' count' capacity' (omega arith)
@@ -74,28 +93,42 @@ sound_kept h words blocks changed count capacity sound c word value read block l
     })
 
 -- a block's writes take effect
-pub sound_closed : (h : Header) (words : List ℕ) (blocks : List (Option (List (ℕ × ℕ)))) (changed : List ℕ) (count capacity : ℕ)
+pub sound_closed : (h : Header) (words : List ℕ) (blocks : List (Option (List (ℕ × ℕ))))
+    (changed : List ℕ) (count capacity : ℕ)
     → IsSound h words blocks changed count capacity
-    → (c : ℕ) → c < h.callers → (count' capacity' : ℕ) → count' ≡ count - length (unwrap_or (get_or blocks c None) []) → capacity ≤ capacity'
+    → (c : ℕ) → c < h.callers → (count' capacity' : ℕ) → count' ≡ count
+    - length (unwrap_or (get_or blocks c None) []) → capacity ≤ capacity'
     → IsSound h (with_writes words (unwrap_or (get_or blocks c None) [])) (set blocks c None)
     (changed ++ keys_of (unwrap_or (get_or blocks c None) [])) count' capacity'
 sound_closed h words blocks changed count capacity sound c low count' capacity' counts more =
     let writes = unwrap_or (get_or blocks c None) [] in
     let few = kept_at_most blocks c (omega (arith, low, sound.all_blocks)) in
     sound_set h words blocks changed count capacity sound c None low tt
-    (with_writes words writes) (changed ++ keys_of writes) count' capacity' (omega (arith, few, sound.counted))
+    (with_writes words writes) (changed ++ keys_of writes) count' capacity'
+    (omega (arith, few, sound.counted))
     (record {
       all_words = length-with_writes words writes ∙ sound.all_words;
       values = below_with words (plain_words h) writes sound.values (sound.writes c);
-      changed_words = All-append (λ w. w < plain_words h) changed (keys_of writes) sound.changed_words
+      changed_words = All-append (λ w. w < plain_words h) changed
+          (keys_of writes) sound.changed_words
           (keys_below (plain_words h) writes (sound.writes c));
-      room = omega (arith, few, sound.counted, sound.room, length-append changed (keys_of writes), length-map writes (λ e. e.0));
+      room = omega (
+        arith,
+        few,
+        sound.counted,
+        sound.room,
+        length-append changed
+            (keys_of writes),
+        length-map writes (λ e. e.0),
+      );
     })
 
 -- words that were lent whole have the writes of the block
-pub effect_is : (n : ℕ) (new lent words : List ℕ) (writes : List (ℕ × ℕ)) → n ≡ length words → lent ≡ words → new ≡ with_writes lent writes
+pub effect_is : (n : ℕ) (new lent words : List ℕ) (writes : List (ℕ × ℕ)) → n ≡ length words
+    → lent ≡ words → new ≡ with_writes lent writes
     → take n (new ++ drop (length new) words) ≡ with_writes words writes
 effect_is n new lent words writes size same effect =
     let whole : new ≡ with_writes words writes = effect ∙ ap (λ l. with_writes l writes) same in
     let long : length new ≡ length words = ap length whole ∙ length-with_writes words writes in
-    ap (λ k. take k (new ++ drop (length new) words)) (size ∙ sym long) ∙ take-append_seam new (drop (length new) words) ∙ whole
+    ap (λ k. take k (new ++ drop (length new) words)) (size ∙ sym long)
+    ∙ take-append_seam new (drop (length new) words) ∙ whole

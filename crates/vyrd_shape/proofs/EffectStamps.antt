@@ -1,20 +1,26 @@
--- Where a write last took effect on a word: what one more entry changes, and which words are passed.
-use Rattle.std.proofs.Common.{◌≡◌, ℕ, ◌+◌, ◌≤◌, max, Bool, true, false, cond, not, ◌&&◌, ◌||◌, List, [], ◌∷◌, ◌++◌, length, Some, None, refl, ap, ◌∙◌, sym, subst, arith}
+-- Where a write last took effect on a word: what one more entry changes, and which words are
+-- passed.
+use Rattle.std.proofs.Common.{◌≡◌, ℕ, ◌+◌, ◌≤◌, max, Bool, true, false, cond, not, ◌&&◌, ◌||◌, List}
+use Rattle.std.proofs.Common.{[], ◌∷◌, ◌++◌, length, Some, None, refl, ap, ◌∙◌, sym, subst, arith}
 use Rattle.std.specs.Prelude.{◌==◌, nat_lt, is_some}
 use Rattle.std.specs.Option.{option_or}
 use Rattle.std.proofs.lemmas.List.Folds.{list_any-append}
 use Rattle.std.proofs.Math.Bool.{and-false}
 use Rattle.vyrd_base.specs.declared.header.Header.{Header}
 use Rattle.vyrd_base.specs.declared.log.Kind.{Kind}
-use Rattle.vyrd_base.specs.declared.log.Kind.TheVariants.{Call, Return, Write, Commit, BlockOpen, BlockClose, BlockCommit}
+use Rattle.vyrd_base.specs.declared.log.Kind.TheVariants.{Call, Return, Write, Commit, BlockOpen}
+use Rattle.vyrd_base.specs.declared.log.Kind.TheVariants.{BlockClose, BlockCommit}
 use Rattle.vyrd_base.specs.declared.log.Entry.{Entry}
 use Rattle.vyrd_base.specs.Places.{first_answer}
 use Rattle.vyrd_base.specs.Callers.{has_block, has_inner_commit, holds_word}
 use Rattle.vyrd_base.specs.Shape.{broken_rule}
-use Rattle.vyrd_base.specs.Words.{block_writes, effects_at, effects_of_others, given_to, is_lone_commit}
+use Rattle.vyrd_base.specs.Words.{block_writes, effects_at, effects_of_others, given_to}
+use Rattle.vyrd_base.specs.Words.{is_lone_commit}
 use Rattle.vyrd_base.specs.Front.{WellFormed}
 use Rattle.vyrd_base.proofs.BlockLaws.{entry, by_same, wrote, wrote_is}
-use Rattle.vyrd_base.proofs.EffectLaws.{SameEffects, MoreAtCommit, ends_block, same_after, more_after, own_inner, other_inner, committed_since_open, never}
+use Rattle.vyrd_base.proofs.EffectLaws.{SameEffects, MoreAtCommit, ends_block, same_after}
+use Rattle.vyrd_base.proofs.EffectLaws.{more_after, own_inner, other_inner, committed_since_open}
+use Rattle.vyrd_base.proofs.EffectLaws.{never}
 use Rattle.vyrd_base.proofs.EffectLaws.MoreAt.{at_commit, own, other}
 use Rattle.vyrd_base.proofs.ShadowLaws.{close_kept, block_commit_kept}
 use Rattle.vyrd_base.proofs.TestLaws.{same_number, is_same, is_below, isnt_below, first_true}
@@ -247,7 +253,8 @@ stamp_next h holders w c (Write word value) earlier wf kept held =
     not_true true e = cc
     not_true false e = refl
 
--- A word is passed for a caller with a lone commit in its open block where a write to it took effect
+-- A word is passed for a caller with a lone commit in its open block where a write to it took
+-- effect
 -- after that commit. The caller's own entries since then are of its block, and its writes take
 -- effect at the commit.
 abbrev PassedAt : ℕ → ℕ → List Entry → List Entry → Type 0

@@ -1,11 +1,14 @@
 -- The stamps of commits and words stand in the order of the log, entry by entry.
-use Rattle.std.proofs.Common.{◌≡◌, ℕ, suc, zero, ◌+◌, ◌<◌, ◌≤◌, max, Bool, true, false, cond, ◌&&◌, ◌||◌, List, [], ◌∷◌, length, None, refl, ap, ◌∙◌, sym, subst, arith, get_or, set, get_or-set_other, get_or-set_same}
+use Rattle.std.proofs.Common.{◌≡◌, ℕ, suc, zero, ◌+◌, ◌<◌, ◌≤◌, max, Bool, true, false, cond, ◌&&◌}
+use Rattle.std.proofs.Common.{◌||◌, List, [], ◌∷◌, length, None, refl, ap, ◌∙◌, sym, subst, arith}
+use Rattle.std.proofs.Common.{get_or, set, get_or-set_other, get_or-set_same}
 use Rattle.std.specs.Prelude.{◌==◌, nat_lt, replicate}
 use Rattle.std.proofs.lemmas.List.Sums.{sum_by-cons, count_by-le-length}
 use Rattle.std.proofs.Math.Bool.{and-false}
 use Rattle.vyrd_base.specs.declared.header.Header.{Header}
 use Rattle.vyrd_base.specs.declared.log.Kind.{Kind}
-use Rattle.vyrd_base.specs.declared.log.Kind.TheVariants.{Call, Return, Write, Commit, BlockOpen, BlockClose, BlockCommit}
+use Rattle.vyrd_base.specs.declared.log.Kind.TheVariants.{Call, Return, Write, Commit, BlockOpen}
+use Rattle.vyrd_base.specs.declared.log.Kind.TheVariants.{BlockClose, BlockCommit}
 use Rattle.vyrd_base.specs.declared.log.Entry.{Entry}
 use Rattle.vyrd_base.specs.Callers.{has_block, has_inner_commit, holds_word}
 use Rattle.vyrd_base.specs.Layout.{plain_words}
@@ -15,16 +18,21 @@ use Rattle.vyrd_base.specs.Front.{WellFormed}
 use Rattle.vyrd_base.proofs.BlockLaws.{entry, by_same}
 use Rattle.vyrd_base.proofs.EffectLaws.{own_inner, other_inner, never}
 use Rattle.vyrd_base.proofs.ListLaws.{zeros}
-use Rattle.vyrd_base.proofs.TestLaws.{apart_of, flipped, below_of, is_below, not_below_of, isnt_below}
-use Rattle.vyrd_shape.specs.Stamps.{AreGiven, AreOrdered, AreRaised, AreRanked, CommitStamps, IsAdded, SameOrder, effect_stamp, last_commit, last_effect, rank, takes_effect}
+use Rattle.vyrd_base.proofs.TestLaws.{apart_of, flipped, below_of, is_below, not_below_of}
+use Rattle.vyrd_base.proofs.TestLaws.{isnt_below}
+use Rattle.vyrd_shape.specs.Stamps.{AreGiven, AreOrdered, AreRaised, AreRanked, CommitStamps}
+use Rattle.vyrd_shape.specs.Stamps.{IsAdded, SameOrder, effect_stamp, last_commit, last_effect}
+use Rattle.vyrd_shape.specs.Stamps.{rank, takes_effect}
 use Rattle.vyrd_shape.proofs.StampLaws.{raised_if}
-use Rattle.vyrd_shape.proofs.EffectStamps.{commit_here, commit_none, commit_other, effect_place, last_commit_low, last_effect_low, stamp_next}
+use Rattle.vyrd_shape.proofs.EffectStamps.{commit_here, commit_none, commit_other, effect_place}
+use Rattle.vyrd_shape.proofs.EffectStamps.{last_commit_low, last_effect_low, stamp_next}
 
 -- what comes before the later of two comes before one of them
 lt_max : (k a b : ℕ) → nat_lt k (max a b) ≡ (nat_lt k a || nat_lt k b)
 lt_max k a b = by_first (nat_lt k a) refl
   where
-    by_second : (y : Bool) → nat_lt k b ≡ y → b ≤ max a b → nat_lt k a ≡ false → nat_lt k (max a b) ≡ y
+    by_second : (y : Bool) → nat_lt k b ≡ y → b ≤ max a b → nat_lt k a ≡ false → nat_lt k (max a b)
+        ≡ y
     by_second true e high none = let low = below_of k b e in is_below k (max a b) (omega arith)
     by_second false e high none =
         let low = not_below_of k b e in
@@ -39,7 +47,8 @@ lt_max k a b = by_first (nat_lt k a) refl
         by_second (nat_lt k b) refl (omega arith) e ∙ ap (λ x. x || nat_lt k b) (sym e)
 
 -- stamps that are raised stay in the order of places that are raised
-raised_alike : (b : Bool) (k k' s s' e e' : ℕ) → nat_lt k s ≡ nat_lt k' s' → nat_lt k e ≡ nat_lt k' e'
+raised_alike : (b : Bool) (k k' s s' e e' : ℕ) → nat_lt k s ≡ nat_lt k' s' → nat_lt k e
+    ≡ nat_lt k' e'
     → nat_lt k (raised_if b e s) ≡ nat_lt k' (raised_if b e' s')
 raised_alike true k k' s s' e e' word now =
     lt_max k s e ∙ (λ i. word i || now i) ∙ sym (lt_max k' s' e')
@@ -90,7 +99,8 @@ still d c kind earlier none = by_same c d
     (λ other. still_other d c kind earlier other)
 
 -- what comes before the effects of an entry
-before_effect : (h : Header) (commits : CommitStamps) (words : List ℕ) (earlier : List Entry) (d c : ℕ)
+before_effect : (h : Header) (commits : CommitStamps) (words : List ℕ) (earlier : List Entry)
+    (d c : ℕ)
     → d < h.callers → c < h.callers → has_inner_commit d earlier ≡ true
     → AreOrdered h commits words earlier
     → nat_lt (get_or commits.by_caller d 0) (effect_stamp commits (has_inner_commit c earlier) c)
@@ -118,7 +128,8 @@ before_effect h commits words earlier d c low_d low_c inner ordered =
         ∙ sym (is_below (last_commit d earlier) next (omega arith))
         ∙ ap (λ b. nat_lt (last_commit d earlier) (cond b (last_commit c earlier) next)) (sym is)
 
-effect_low : (commits : CommitStamps) (inner : Bool) (c : ℕ) → AreGiven commits.by_caller commits.next
+effect_low : (commits : CommitStamps) (inner : Bool) (c : ℕ)
+    → AreGiven commits.by_caller commits.next
     → effect_stamp commits inner c ≤ commits.next
 effect_low commits true c given = let low = given c in omega arith
 effect_low commits false c given = omega arith
@@ -168,13 +179,15 @@ ordered_next h commits words words' holders c kind earlier low wf kept held rais
 
 -- a lone commit inside a block
 ordered_added : (h : Header) (old new : CommitStamps) (words words' words'' holders : List ℕ)
-    (c stamp : ℕ) (earlier : List Entry) → c < length old.by_caller → length old.by_caller ≡ h.callers
+    (c stamp : ℕ) (earlier : List Entry) → c < length old.by_caller → length old.by_caller
+    ≡ h.callers
     → WellFormed h earlier → broken_rule h earlier (entry c Commit) ≡ None
     → AreHeld h holders c earlier
     → AreRaised (takes_effect holders (has_block c earlier) c Commit) stamp words words'
     → IsAdded c old words' new words'' → AreOrdered h old words earlier
     → AreOrdered h new words'' (entry c Commit ∷ earlier)
-ordered_added h old new words words' words'' holders c stamp earlier low all wf kept held raised added
+ordered_added h old new words words' words'' holders c stamp earlier low all wf kept held raised
+    added
     ordered = subst (λ k. AreOrdered h k words'' (entry c Commit ∷ earlier)) (sym added.is)
     (record {
       commits = λ d f low_d low_f inner_d inner_f. by_same c d
@@ -224,7 +237,8 @@ ordered_added h old new words words' words'' holders c stamp earlier low all wf 
         w (omega (arith, added.same.lengths))
 
     both : (d f : ℕ) → c ≡ d → c ≡ f
-        → nat_lt (stamps d) (stamps f) ≡ nat_lt (last_commit d (e ∷ earlier)) (last_commit f (e ∷ earlier))
+        → nat_lt (stamps d) (stamps f) ≡ nat_lt (last_commit d (e ∷ earlier))
+        (last_commit f (e ∷ earlier))
     both d f same_d same_f =
         let same : d ≡ f = sym same_d ∙ same_f in
         ap (λ x. nat_lt (stamps d) (stamps x)) (sym same)
@@ -233,7 +247,8 @@ ordered_added h old new words words' words'' holders c stamp earlier low all wf 
         ∙ ap (λ x. nat_lt (last_commit d (e ∷ earlier)) (last_commit x (e ∷ earlier))) same
 
     first : (d f : ℕ) → f < length old.by_caller → c ≡ d → (c == f) ≡ false
-        → nat_lt (stamps d) (stamps f) ≡ nat_lt (last_commit d (e ∷ earlier)) (last_commit f (e ∷ earlier))
+        → nat_lt (stamps d) (stamps f) ≡ nat_lt (last_commit d (e ∷ earlier))
+        (last_commit f (e ∷ earlier))
     first d f low_f same other =
         let given = added.same.given f in
         let low_place = last_commit_low f earlier in
@@ -245,7 +260,8 @@ ordered_added h old new words words' words'' holders c stamp earlier low all wf 
         ∙ ap (λ x. nat_lt (last_commit x (e ∷ earlier)) (last_commit f (e ∷ earlier))) same
 
     second : (d f : ℕ) → d < length old.by_caller → (c == d) ≡ false → c ≡ f
-        → nat_lt (stamps d) (stamps f) ≡ nat_lt (last_commit d (e ∷ earlier)) (last_commit f (e ∷ earlier))
+        → nat_lt (stamps d) (stamps f) ≡ nat_lt (last_commit d (e ∷ earlier))
+        (last_commit f (e ∷ earlier))
     second d f low_d other same =
         let given = added.same.given d in
         let low_place = last_commit_low d earlier in
@@ -258,7 +274,8 @@ ordered_added h old new words words' words'' holders c stamp earlier low all wf 
 
     neither : (d f : ℕ) → d < h.callers → f < h.callers → (c == d) ≡ false → (c == f) ≡ false
         → has_inner_commit d (e ∷ earlier) ≡ true → has_inner_commit f (e ∷ earlier) ≡ true
-        → nat_lt (stamps d) (stamps f) ≡ nat_lt (last_commit d (e ∷ earlier)) (last_commit f (e ∷ earlier))
+        → nat_lt (stamps d) (stamps f) ≡ nat_lt (last_commit d (e ∷ earlier))
+        (last_commit f (e ∷ earlier))
     neither d f low_d low_f other_d other_f inner_d inner_f =
         (λ i. nat_lt (others d other_d i) (others f other_f i))
         ∙ added.same.commits d f (omega (arith, all)) (omega (arith, all))
@@ -266,7 +283,8 @@ ordered_added h old new words words' words'' holders c stamp earlier low all wf 
         (sym (other_inner f c Commit earlier other_f) ∙ inner_f)
         ∙ (λ i. nat_lt (sym (there d other_d) i) (sym (there f other_f) i))
 
-    unmoved : (w : ℕ) → w < plain_words h → last_effect w (e ∷ earlier) [] ≡ last_effect w earlier []
+    unmoved : (w : ℕ) → w < plain_words h → last_effect w (e ∷ earlier) [] ≡ last_effect w earlier
+        []
     unmoved w plain = stamp_next h holders w c Commit earlier wf kept (held w plain)
 
     own_word : (d w : ℕ) → w < length words'' → w < plain_words h → c ≡ d
@@ -282,7 +300,8 @@ ordered_added h old new words words' words'' holders c stamp earlier low all wf 
         ∙ (λ i. nat_lt (sym here i) (sym (unmoved w plain) i))
         ∙ ap (λ x. nat_lt (last_commit x (e ∷ earlier)) (last_effect w (e ∷ earlier) [])) same
 
-    other_word : (d w : ℕ) → d < h.callers → w < length words'' → w < plain_words h → (c == d) ≡ false
+    other_word : (d w : ℕ) → d < h.callers → w < length words'' → w < plain_words h → (c == d)
+        ≡ false
         → has_inner_commit d (e ∷ earlier) ≡ true
         → nat_lt (stamps d) (get_or words'' w 0)
         ≡ nat_lt (last_commit d (e ∷ earlier)) (last_effect w (e ∷ earlier) [])
@@ -307,11 +326,13 @@ pub added_inside : (h : Header) (old new : CommitStamps) (words words' words'' h
     → AreOrdered h new words'' (entry c kind ∷ earlier)
 added_inside h old new words words' words'' holders c stamp Commit earlier low all inner =
     ordered_added h old new words words' words'' holders c stamp earlier (omega (arith, all)) all
-added_inside h old new words words' words'' holders c stamp (Call method args) earlier low all inner =
+added_inside h old new words words' words'' holders c stamp (Call method args) earlier low all
+    inner =
     never (and-false (has_block c earlier)) inner
 added_inside h old new words words' words'' holders c stamp (Return reply) earlier low all inner =
     never (and-false (has_block c earlier)) inner
-added_inside h old new words words' words'' holders c stamp (Write word value) earlier low all inner =
+added_inside h old new words words' words'' holders c stamp (Write word value) earlier low all
+    inner =
     never (and-false (has_block c earlier)) inner
 added_inside h old new words words' words'' holders c stamp BlockOpen earlier low all inner =
     never (and-false (has_block c earlier)) inner
@@ -378,7 +399,8 @@ rank_order : (commits : List ℕ) (c x : ℕ) → c < length commits
 rank_order commits c x low = by_order (nat_lt (get_or commits c 0) x) refl
   where
     by_order : (b : Bool) → nat_lt (get_or commits c 0) x ≡ b
-        → nat_lt (rank commits (get_or commits c 0)) (rank commits x) ≡ nat_lt (get_or commits c 0) x
+        → nat_lt (rank commits (get_or commits c 0)) (rank commits x)
+        ≡ nat_lt (get_or commits c 0) x
     by_order true e =
         is_below (rank commits (get_or commits c 0)) (rank commits x)
         (rank_less commits c x low (below_of (get_or commits c 0) x e)) ∙ sym e

@@ -14,7 +14,8 @@ use Rattle.vyrd_base.proofs.TestLaws.{neither_true}
 use Rattle.vyrd_base.proofs.ShadowLaws.{all_kept, held_false}
 use Rattle.vyrd_shape.proofs.ChainLaws.{any_number}
 
-no_such_number : (p : ℕ → Bool) (n d : ℕ) → list_any p (numbers_below n) ≡ false → d < n → p d ≡ false
+no_such_number : (p : ℕ → Bool) (n d : ℕ) → list_any p (numbers_below n) ≡ false → d < n
+    → p d ≡ false
 no_such_number p n d none low = by_value (p d) refl
   where
     by_value : (b : Bool) → p d ≡ b → p d ≡ false

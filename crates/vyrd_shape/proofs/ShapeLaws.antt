@@ -1,5 +1,8 @@
 -- How phases and holders go on with one more entry.
-use Rattle.std.proofs.Common.{◌≡◌, ◌≢◌, ℕ, suc, zero, ◌+◌, ◌-◌, ◌<◌, ◌≤◌, Bool, true, false, cond, not, ◌&&◌, ◌||◌, List, [], ◌∷◌, length, map, Option, Some, None, refl, ap, ◌∙◌, sym, subst, arith, get_or, set, slice_get, get_or-set_other, get_or-set_same}
+use Rattle.std.proofs.Common.{◌≡◌, ◌≢◌, ℕ, suc, zero, ◌+◌, ◌-◌, ◌<◌, ◌≤◌, Bool, true, false, cond}
+use Rattle.std.proofs.Common.{not, ◌&&◌, ◌||◌, List, [], ◌∷◌, length, map, Option, Some, None, refl}
+use Rattle.std.proofs.Common.{ap, ◌∙◌, sym, subst, arith, get_or, set, slice_get, get_or-set_other}
+use Rattle.std.proofs.Common.{get_or-set_same}
 use Rattle.std.specs.Prelude.{◌==◌, nat_lt, unwrap_or, option_map, is_some, is_none, replicate}
 use Rattle.std.specs.Option.{option_or, option_flatten}
 use Rattle.std.specs.Bool.{then_some}
@@ -9,12 +12,15 @@ use Rattle.std.specs.List.{list_any}
 use Rattle.std.proofs.lemmas.Bool.Decides.{nat_tests}
 use Rattle.vyrd_base.specs.declared.header.Header.{Header}
 use Rattle.vyrd_base.specs.declared.log.Kind.{Kind}
-use Rattle.vyrd_base.specs.declared.log.Kind.TheVariants.{Call, Return, Write, Commit, BlockOpen, BlockClose, BlockCommit}
+use Rattle.vyrd_base.specs.declared.log.Kind.TheVariants.{Call, Return, Write, Commit, BlockOpen}
+use Rattle.vyrd_base.specs.declared.log.Kind.TheVariants.{BlockClose, BlockCommit}
 use Rattle.vyrd_base.specs.declared.log.Entry.{Entry}
 use Rattle.vyrd_base.specs.declared.verdict.Rule.{Rule}
 use Rattle.vyrd_base.specs.Places.{first_answer, numbers_from}
 use Rattle.vyrd_base.specs.Layout.{plain_words}
-use Rattle.vyrd_base.specs.Callers.{Called, by_caller, call_or_return, commit_or_call, commit_or_open, open_or_close, write_or_open, open_call, has_block, has_inner_commit, holds_word}
+use Rattle.vyrd_base.specs.Callers.{Called, by_caller, call_or_return, commit_or_call}
+use Rattle.vyrd_base.specs.Callers.{commit_or_open, open_or_close, write_or_open, open_call}
+use Rattle.vyrd_base.specs.Callers.{has_block, has_inner_commit, holds_word}
 use Rattle.vyrd_base.specs.Shape.{broken_rule, is_held_by_other}
 use Rattle.vyrd_base.specs.Words.{effects_of_others, is_passed}
 use Rattle.vyrd_base.specs.Verdicts.{is_call_open}
@@ -32,7 +38,8 @@ use Rattle.vyrd_shape.specs.Following.{Kept, HasFollowed}
 use Rattle.vyrd_shape.specs.Stamps.{AreOrdered, CommitStamps, has_write, last_commit, last_effect}
 use Rattle.vyrd_shape.proofs.EffectStamps.{passed_by_stamp}
 use Rattle.vyrd_shape.proofs.OrderLaws.{ordered_none}
-use Rattle.vyrd_shape.proofs.ChainLaws.{at_most_set, released_at, released_own, released_other, released_le, differs}
+use Rattle.vyrd_shape.proofs.ChainLaws.{at_most_set, released_at, released_own, released_other}
+use Rattle.vyrd_shape.proofs.ChainLaws.{released_le, differs}
 use Rattle.vyrd_shape.proofs.RuleLaws.{not_held}
 
 -- what a shape with these fields keeps
@@ -46,7 +53,8 @@ kept_by header phases holding commits stamps = record {
 }
 
 -- another caller's entry leaves a phase alone
-phase_of-other : (c d : ℕ) (kind : Kind) (earlier : List Entry) → (d == c) ≡ false → phase_of c (entry d kind ∷ earlier) ≡ phase_of c earlier
+phase_of-other : (c d : ℕ) (kind : Kind) (earlier : List Entry) → (d == c) ≡ false
+    → phase_of c (entry d kind ∷ earlier) ≡ phase_of c earlier
 phase_of-other c d kind earlier e =
     let call = other_answer c d call_or_return kind earlier e in
     let commit = other_answer c d commit_or_call kind earlier e in
@@ -59,7 +67,8 @@ phase_of-other c d kind earlier e =
       inner = unwrap_or (block i) false && unwrap_or (inner i) false;
     }
 
-slice_get-set_other : {A : Type 0} (xs : List A) (i j : ℕ) (x : A) → j ≢ i → slice_get (set xs i x) j ≡ slice_get xs j
+slice_get-set_other : {A : Type 0} (xs : List A) (i j : ℕ) (x : A) → j ≢ i
+    → slice_get (set xs i x) j ≡ slice_get xs j
 slice_get-set_other [] i j x h = refl
 slice_get-set_other (y ∷ xs) zero zero x h = absurd (h refl)
 slice_get-set_other (y ∷ xs) zero (suc j) x h = refl
@@ -67,17 +76,21 @@ slice_get-set_other (y ∷ xs) (suc i) zero x h = refl
 slice_get-set_other (y ∷ xs) (suc i) (suc j) x h = slice_get-set_other xs i j x (λ e. h (ap suc e))
 
 -- a caller's phase goes on, and the others stay
-phases_next : (n : ℕ) (phases : List Phase) (earlier : List Entry) (c : ℕ) (kind : Kind) (next : Phase) → c < length phases
-    → next ≡ phase_of c (entry c kind ∷ earlier) → ((d : ℕ) → d < n → slice_get phases d ≡ Some (phase_of d earlier))
+phases_next : (n : ℕ) (phases : List Phase) (earlier : List Entry) (c : ℕ) (kind : Kind)
+    (next : Phase) → c < length phases
+    → next ≡ phase_of c (entry c kind ∷ earlier)
+    → ((d : ℕ) → d < n → slice_get phases d ≡ Some (phase_of d earlier))
     → (d : ℕ) → d < n → slice_get (set phases c next) d ≡ Some (phase_of d (entry c kind ∷ earlier))
 phases_next n phases earlier c kind next low is all = λ d low_d. by_same c d
-    (λ same. subst (λ x. slice_get (set phases c next) x ≡ Some (phase_of x (entry c kind ∷ earlier))) same
+    (λ same. subst
+    (λ x. slice_get (set phases c next) x ≡ Some (phase_of x (entry c kind ∷ earlier))) same
     (slice_get-set_same phases c next low ∙ ap Some is))
     (λ other. slice_get-set_other phases c d next (differs c d (flipped c d other)) ∙ all d low_d
     ∙ ap Some (sym (phase_of-other d c kind earlier other)))
 
 -- what a caller holds after an entry that touches no block and not this word
-holds_quiet : (d c w : ℕ) (kind : Kind) (earlier : List Entry) → open_or_close kind ≡ None → write_or_open w kind ≡ None
+holds_quiet : (d c w : ℕ) (kind : Kind) (earlier : List Entry) → open_or_close kind ≡ None
+    → write_or_open w kind ≡ None
     → holds_word d w (entry c kind ∷ earlier) ≡ holds_word d w earlier
 holds_quiet d c w kind earlier edge word =
     let block = no_answer d c open_or_close kind earlier edge in
@@ -88,79 +101,106 @@ holds_quiet d c w kind earlier edge word =
 abbrev pub Held : List ℕ → ℕ → ℕ → List Entry → Type 0
 Held by_word d w earlier = holds_word d w earlier ≡ (get_or by_word w 0 == d + 1)
 
-no_block_no_word : (c w : ℕ) (earlier : List Entry) → has_block c earlier ≡ false → holds_word c w earlier ≡ false
-no_block_no_word c w earlier e = ap (λ b. b && unwrap_or (first_answer (by_caller c (write_or_open w)) earlier) false) e
+no_block_no_word : (c w : ℕ) (earlier : List Entry) → has_block c earlier ≡ false
+    → holds_word c w earlier ≡ false
+no_block_no_word c w earlier e =
+    ap (λ b. b && unwrap_or (first_answer (by_caller c (write_or_open w)) earlier) false) e
 
-held_open : (by_word : List ℕ) (c d w : ℕ) (earlier : List Entry) → has_block c earlier ≡ false → Held by_word d w earlier
+held_open : (by_word : List ℕ) (c d w : ℕ) (earlier : List Entry) → has_block c earlier ≡ false
+    → Held by_word d w earlier
     → Held by_word d w (entry c BlockOpen ∷ earlier)
 held_open by_word c d w earlier free was = by_same c d
     (λ same. subst (λ x. Held by_word x w (entry c BlockOpen ∷ earlier)) same
-    (own_holds c w BlockOpen earlier ∙ sym (no_block_no_word c w earlier free) ∙ subst (λ x. Held by_word x w earlier) (sym same) was))
+    (own_holds c w BlockOpen earlier ∙ sym (no_block_no_word c w earlier free)
+    ∙ subst (λ x. Held by_word x w earlier) (sym same) was))
     (λ other. holds_other d c w BlockOpen earlier other ∙ was)
 
 never_one : (g n : ℕ) → g ≢ 0 → (released g n == g) ≡ false
 never_one g n some = by_same n g
-    (λ same. ap (λ x. released g x == g) same ∙ ap (λ x. x == g) (released_own g) ∙ (let none : (0 == g) ≡ false = grind (arith, nat_tests) in none))
+    (λ same. ap (λ x. released g x == g) same ∙ ap (λ x. x == g) (released_own g)
+    ∙ (let none : (0 == g) ≡ false = grind (arith, nat_tests) in none))
     (λ other. ap (λ x. x == g) (released_other g n (differs g n other)) ∙ other)
 
 still_one : (g n h : ℕ) → h ≢ g → h ≢ 0 → (released g n == h) ≡ (n == h)
 still_one g n h other some = by_same n g
     (λ same. ap (λ x. released g x == h) same ∙ ap (λ x. x == h) (released_own g)
-    ∙ (let a : (0 == h) ≡ false = grind (arith, nat_tests) in let b : (n == h) ≡ false = grind (arith, nat_tests) in a ∙ sym b))
+    ∙ (let a : (0 == h) ≡ false = grind (arith, nat_tests) in let b : (n == h)
+    ≡ false = grind (arith, nat_tests) in a ∙ sym b))
     (λ apart. ap (λ x. x == h) (released_other g n (differs g n apart)))
 
 next_apart : (c d : ℕ) → (c == d) ≡ false → d + 1 ≢ c + 1
-next_apart c d other e = let same : d ≡ c = omega arith in let no_same : d ≢ c = grind (arith, nat_tests) in absurd (no_same same)
+next_apart c d other e = let same : d ≡ c = omega arith in let no_same : d
+    ≢ c = grind (arith, nat_tests) in absurd (no_same same)
 
-held_end : (by_word : List ℕ) (c d w : ℕ) (kind : Kind) (earlier : List Entry) → open_or_close kind ≡ Some false
+held_end : (by_word : List ℕ) (c d w : ℕ) (kind : Kind) (earlier : List Entry) → open_or_close kind
+    ≡ Some false
     → Held by_word d w earlier → Held (map (released (c + 1)) by_word) d w (entry c kind ∷ earlier)
 held_end by_word c d w kind earlier edge was =
     by_same c d
     (λ same. subst (λ x. Held (map (released (c + 1)) by_word) x w (entry c kind ∷ earlier)) same
     (own_holds c w kind earlier
     ∙ ap (λ o. unwrap_or (option_or o (first_answer (by_caller c open_or_close) earlier)) false
-    && unwrap_or (option_or (write_or_open w kind) (first_answer (by_caller c (write_or_open w)) earlier)) false) edge
+    && unwrap_or
+    (option_or (write_or_open w kind) (first_answer (by_caller c (write_or_open w)) earlier)) false)
+    edge
     ∙ sym (never_one (c + 1) (get_or by_word w 0) (λ e. absurd (omega arith)))
     ∙ ap (λ x. x == c + 1) (sym (released_at (c + 1) by_word w))))
     (λ other. holds_other d c w kind earlier other ∙ was
-    ∙ sym (still_one (c + 1) (get_or by_word w 0) (d + 1) (next_apart c d other) (λ e. absurd (omega arith)))
+    ∙ sym (still_one (c + 1) (get_or by_word w 0) (d + 1) (next_apart c d other)
+    (λ e. absurd (omega arith)))
     ∙ ap (λ x. x == d + 1) (sym (released_at (c + 1) by_word w)))
 
 -- the list after a write, by whether it is in a block and nobody held the word
 written : Bool → List ℕ → ℕ → ℕ → List ℕ
 written held by_word word c = cond held (set by_word word (c + 1)) by_word
 
-held_write_other : (by_word : List ℕ) (held : Bool) (c d w word value : ℕ) (earlier : List Entry) → (word == w) ≡ false
-    → Held by_word d w earlier → Held (written held by_word word c) d w (entry c (Write word value) ∷ earlier)
+held_write_other : (by_word : List ℕ) (held : Bool) (c d w word value : ℕ) (earlier : List Entry)
+    → (word == w) ≡ false
+    → Held by_word d w earlier → Held (written held by_word word c) d w
+    (entry c (Write word value) ∷ earlier)
 unfolding written
 held_write_other by_word held c d w word value earlier other was =
-    holds_quiet d c w (Write word value) earlier refl (ap (λ b. cond b (Some true) None) other) ∙ was
+    holds_quiet d c w (Write word value) earlier refl (ap (λ b. cond b (Some true) None) other)
+    ∙ was
     ∙ ap (λ x. x == d + 1) (by_held held)
   where
-    by_held : (b : Bool) → get_or by_word w 0 ≡ get_or (cond b (set by_word word (c + 1)) by_word) w 0
-    by_held true = sym (get_or-set_other by_word word w (c + 1) 0 (differs word w (flipped word w other)))
+    by_held : (b : Bool) → get_or by_word w 0 ≡ get_or (cond b (set by_word word (c + 1)) by_word) w
+        0
+    by_held true =
+        sym (get_or-set_other by_word word w (c + 1) 0 (differs word w (flipped word w other)))
     by_held false = refl
 
 -- the word itself, of a caller that isn't in a block
-held_write_out : (by_word : List ℕ) (c d w value : ℕ) (earlier : List Entry) → has_block c earlier ≡ false
+held_write_out : (by_word : List ℕ) (c d w value : ℕ) (earlier : List Entry) → has_block c earlier
+    ≡ false
     → Held by_word d w earlier → Held by_word d w (entry c (Write w value) ∷ earlier)
 held_write_out by_word c d w value earlier out was = by_same c d
     (λ same. subst (λ x. Held by_word x w (entry c (Write w value) ∷ earlier)) same
     (own_holds c w (Write w value) earlier
-    ∙ ap (λ b. b && unwrap_or (option_or (write_or_open w (Write w value)) (first_answer (by_caller c (write_or_open w)) earlier)) false) out
-    ∙ sym (no_block_no_word c w earlier out) ∙ subst (λ x. Held by_word x w earlier) (sym same) was))
+    ∙ ap (λ b. b
+    && unwrap_or
+    (option_or (write_or_open w (Write w value))
+    (first_answer (by_caller c (write_or_open w)) earlier)) false) out
+    ∙ sym (no_block_no_word c w earlier out) ∙ subst (λ x. Held by_word x w earlier)
+    (sym same) was))
     (λ other. holds_other d c w (Write w value) earlier other ∙ was)
 
-now_holds : (c w value : ℕ) (earlier : List Entry) → has_block c earlier ≡ true → holds_word c w (entry c (Write w value) ∷ earlier) ≡ true
+now_holds : (c w value : ℕ) (earlier : List Entry) → has_block c earlier ≡ true
+    → holds_word c w (entry c (Write w value) ∷ earlier) ≡ true
 now_holds c w value earlier inside =
     let same : (w == w) ≡ true = grind (arith, nat_tests) in
     own_holds c w (Write w value) earlier
-    ∙ (λ i. inside i && unwrap_or (option_or (cond (same i) (Some true) None) (first_answer (by_caller c (write_or_open w)) earlier)) false)
+    ∙ (λ i. inside i
+    && unwrap_or
+    (option_or (cond (same i) (Some true) None)
+    (first_answer (by_caller c (write_or_open w)) earlier)) false)
 
 -- the word itself, of a caller in a block, where nobody held the word
-held_write_free : (by_word : List ℕ) (c d w value : ℕ) (earlier : List Entry) → has_block c earlier ≡ true → w < length by_word
+held_write_free : (by_word : List ℕ) (c d w value : ℕ) (earlier : List Entry) → has_block c earlier
+    ≡ true → w < length by_word
     → get_or by_word w 0 ≡ 0
-    → Held by_word d w earlier → Held (set by_word w (c + 1)) d w (entry c (Write w value) ∷ earlier)
+    → Held by_word d w earlier → Held (set by_word w (c + 1)) d w
+    (entry c (Write w value) ∷ earlier)
 held_write_free by_word c d w value earlier inside low free was = by_same c d
     (λ same. subst (λ x. Held (set by_word w (c + 1)) x w (entry c (Write w value) ∷ earlier)) same
     (now_holds c w value earlier inside
@@ -168,12 +208,14 @@ held_write_free by_word c d w value earlier inside low free was = by_same c d
     ∙ ap (λ x. x == c + 1) (sym (get_or-set_same by_word w (c + 1) 0 low))))
     (λ other. holds_other d c w (Write w value) earlier other ∙ was
     ∙ ap (λ x. x == d + 1) free
-    ∙ (let apart : d ≢ c = differs c d (flipped c d other) in let a : (0 == d + 1) ≡ false = grind (arith, nat_tests) in
+    ∙ (let apart : d ≢ c = differs c d (flipped c d other) in let a : (0 == d + 1)
+    ≡ false = grind (arith, nat_tests) in
     let b : (c + 1 == d + 1) ≡ false = grind (arith, nat_tests) in a ∙ sym b)
     ∙ ap (λ x. x == d + 1) (sym (get_or-set_same by_word w (c + 1) 0 low)))
 
 -- the word itself, of a caller in a block that holds it already
-held_write_again : (by_word : List ℕ) (c d w value : ℕ) (earlier : List Entry) → has_block c earlier ≡ true → get_or by_word w 0 ≡ c + 1
+held_write_again : (by_word : List ℕ) (c d w value : ℕ) (earlier : List Entry) → has_block c earlier
+    ≡ true → get_or by_word w 0 ≡ c + 1
     → Held by_word d w earlier → Held by_word d w (entry c (Write w value) ∷ earlier)
 held_write_again by_word c d w value earlier inside held was = by_same c d
     (λ same. subst (λ x. Held by_word x w (entry c (Write w value) ∷ earlier)) same
@@ -182,7 +224,8 @@ held_write_again by_word c d w value earlier inside held was = by_same c d
     (λ other. holds_other d c w (Write w value) earlier other ∙ was)
 
 -- nobody held the word, or its writer did
-whose : (callers : ℕ) (by_word : List ℕ) (c w : ℕ) (earlier : List Entry) → get_or by_word w 0 ≤ callers
+whose : (callers : ℕ) (by_word : List ℕ) (c w : ℕ) (earlier : List Entry) → get_or by_word w 0
+    ≤ callers
     → ((d : ℕ) → d < callers → Held by_word d w earlier)
     → ((d : ℕ) → d < callers → (d == c) ≡ false → holds_word d w earlier ≡ false)
     → (get_or by_word w 0 == 0) ≡ false → get_or by_word w 0 ≡ c + 1
@@ -197,62 +240,83 @@ whose callers by_word c w earlier high was free some =
     cc)
 
 -- what is known of the holders before the entry
-record Before (h : Header) (by_word : List ℕ) (c : ℕ) (kind : Kind) (earlier : List Entry) : Type 0 where
-  rules : broken_rule h earlier (entry c kind) ≡ None
-  words : length by_word ≡ plain_words h
-  high : (w : ℕ) → get_or by_word w 0 ≤ h.callers
-  was : (d w : ℕ) → d < h.callers → w < plain_words h → Held by_word d w earlier
+record Before (h : Header) (by_word : List ℕ) (c : ℕ) (kind : Kind) (earlier : List Entry) : Type 0
+  where
+    rules : broken_rule h earlier (entry c kind) ≡ None
+    words : length by_word ≡ plain_words h
+    high : (w : ℕ) → get_or by_word w 0 ≤ h.callers
+    was : (d w : ℕ) → d < h.callers → w < plain_words h → Held by_word d w earlier
 
-held_written : (h : Header) (by_word : List ℕ) (c d w value : ℕ) (earlier : List Entry) → Before h by_word c (Write w value) earlier
-    → d < h.callers → w < plain_words h → (inside free : Bool) → has_block c earlier ≡ inside → (get_or by_word w 0 == 0) ≡ free
-    → Held (cond (inside && free) (set by_word w (c + 1)) by_word) d w (entry c (Write w value) ∷ earlier)
-held_written h by_word c d w value earlier before low_d low false free e f = held_write_out by_word c d w value earlier e (before.was d w low_d low)
+held_written : (h : Header) (by_word : List ℕ) (c d w value : ℕ) (earlier : List Entry)
+    → Before h by_word c (Write w value) earlier
+    → d < h.callers → w < plain_words h → (inside free : Bool) → has_block c earlier ≡ inside
+    → (get_or by_word w 0 == 0) ≡ free
+    → Held (cond (inside && free) (set by_word w (c + 1)) by_word) d w
+    (entry c (Write w value) ∷ earlier)
+held_written h by_word c d w value earlier before low_d low false free e f =
+    held_write_out by_word c d w value earlier e (before.was d w low_d low)
 held_written h by_word c d w value earlier before low_d low true true e f =
-    held_write_free by_word c d w value earlier e (omega (arith, before.words)) (same_of (get_or by_word w 0) 0 f) (before.was d w low_d low)
+    held_write_free by_word c d w value earlier e (omega (arith, before.words))
+    (same_of (get_or by_word w 0) 0 f) (before.was d w low_d low)
 held_written h by_word c d w value earlier before low_d low true false e f =
     held_write_again by_word c d w value earlier e
     (whose h.callers by_word c w earlier (before.high w) (λ x low_x. before.was x w low_x low)
     (not_held h c w value earlier before.rules) f)
     (before.was d w low_d low)
 
-held_next : (h : Header) (by_word : List ℕ) (c : ℕ) (kind : Kind) (earlier : List Entry) → Before h by_word c kind earlier
-    → (d w : ℕ) → d < h.callers → w < plain_words h → Held (holders_after by_word (has_block c earlier) c kind) d w (entry c kind ∷ earlier)
+held_next : (h : Header) (by_word : List ℕ) (c : ℕ) (kind : Kind) (earlier : List Entry)
+    → Before h by_word c kind earlier
+    → (d w : ℕ) → d < h.callers → w < plain_words h
+    → Held (holders_after by_word (has_block c earlier) c kind) d w (entry c kind ∷ earlier)
 unfolding written
-held_next h by_word c (Call method args) earlier before d w low_d low = holds_quiet d c w (Call method args) earlier refl refl
+held_next h by_word c (Call method args) earlier before d w low_d low = holds_quiet d c w
+    (Call method args) earlier refl refl
     ∙ before.was d w low_d low
-held_next h by_word c (Return reply) earlier before d w low_d low = holds_quiet d c w (Return reply) earlier refl refl ∙ before.was d w low_d low
-held_next h by_word c Commit earlier before d w low_d low = holds_quiet d c w Commit earlier refl refl ∙ before.was d w low_d low
+held_next h by_word c (Return reply) earlier before d w low_d low = holds_quiet d c w
+    (Return reply) earlier refl refl ∙ before.was d w low_d low
+held_next h by_word c Commit earlier before d w low_d low = holds_quiet d c w Commit earlier refl
+    refl ∙ before.was d w low_d low
 held_next h by_word c BlockOpen earlier before d w low_d low =
     held_open by_word c d w earlier (open_kept h c earlier before.rules) (before.was d w low_d low)
-held_next h by_word c BlockClose earlier before d w low_d low = held_end by_word c d w BlockClose earlier refl (before.was d w low_d low)
-held_next h by_word c BlockCommit earlier before d w low_d low = held_end by_word c d w BlockCommit earlier refl (before.was d w low_d low)
+held_next h by_word c BlockClose earlier before d w low_d low = held_end by_word c d w BlockClose
+    earlier refl (before.was d w low_d low)
+held_next h by_word c BlockCommit earlier before d w low_d low = held_end by_word c d w BlockCommit
+    earlier refl (before.was d w low_d low)
 held_next h by_word c (Write word value) earlier before d w low_d low = by_same word w
     (λ same. at_word d w low_d low same)
     (λ other. elsewhere other)
   where
     at_word : (d w : ℕ) → d < h.callers → w < plain_words h → word ≡ w
-        → Held (holders_after by_word (has_block c earlier) c (Write word value)) d w (entry c (Write word value) ∷ earlier)
+        → Held (holders_after by_word (has_block c earlier) c (Write word value)) d w
+        (entry c (Write word value) ∷ earlier)
     at_word d w low_d low same =
-        subst (λ x. Held (holders_after by_word (has_block c earlier) c (Write word value)) d x (entry c (Write word value) ∷ earlier)) same
-        (held_written h by_word c d word value earlier before low_d (omega arith) (has_block c earlier) (get_or by_word word 0 == 0) refl refl)
+        subst (λ x. Held (holders_after by_word (has_block c earlier) c (Write word value)) d x
+        (entry c (Write word value) ∷ earlier)) same
+        (held_written h by_word c d word value earlier before low_d (omega arith)
+        (has_block c earlier) (get_or by_word word 0 == 0) refl refl)
 
     elsewhere : (word == w) ≡ false
-        → Held (holders_after by_word (has_block c earlier) c (Write word value)) d w (entry c (Write word value) ∷ earlier)
+        → Held (holders_after by_word (has_block c earlier) c (Write word value)) d w
+        (entry c (Write word value) ∷ earlier)
     elsewhere other = held_write_other by_word (has_block c earlier
         && (get_or by_word word 0 == 0)) c d w word value earlier other (before.was d w low_d low)
 
-high_next : (by_word : List ℕ) (inside : Bool) (c n : ℕ) (kind : Kind) → c < n → ((w : ℕ) → get_or by_word w 0 ≤ n) → (w : ℕ)
+high_next : (by_word : List ℕ) (inside : Bool) (c n : ℕ) (kind : Kind) → c < n
+    → ((w : ℕ) → get_or by_word w 0 ≤ n) → (w : ℕ)
     → get_or (holders_after by_word inside c kind) w 0 ≤ n
 high_next by_word inside c n (Call method args) low high w = high w
 high_next by_word inside c n (Return reply) low high w = high w
 high_next by_word inside c n Commit low high w = high w
 high_next by_word inside c n BlockOpen low high w = high w
-high_next by_word inside c n BlockClose low high w = let e = released_le (c + 1) (get_or by_word w 0) n (high w) in
+high_next by_word inside c n BlockClose low high w = let e = released_le (c + 1)
+    (get_or by_word w 0) n (high w) in
     omega (arith, e, released_at (c + 1) by_word w)
-high_next by_word inside c n BlockCommit low high w = let e = released_le (c + 1) (get_or by_word w 0) n (high w) in
+high_next by_word inside c n BlockCommit low high w = let e = released_le (c + 1)
+    (get_or by_word w 0) n (high w) in
     omega (arith, e, released_at (c + 1) by_word w)
 high_next by_word inside c n (Write word value) low high w =
-    elim (inside && (get_or by_word word 0 == 0)) as (λ b. get_or (cond b (set by_word word (c + 1)) by_word) w 0 ≤ n) [
+    elim (inside && (get_or by_word word 0 == 0)) as (λ b. get_or
+    (cond b (set by_word word (c + 1)) by_word) w 0 ≤ n) [
       | true ↦ at_most_set by_word word (c + 1) n high (omega arith) w
       | false ↦ high w
     ]
@@ -260,7 +324,8 @@ high_next by_word inside c n (Write word value) low high w =
 -- one more entry that keeps the rules
 pub followed_by : (kept : Kept) (earlier : List Entry) (c : ℕ) (kind : Kind) (next : Phase)
     (commits : CommitStamps) (stamps : List ℕ)
-    → c < kept.header.callers → length kept.phases ≡ kept.header.callers → length kept.holders ≡ plain_words kept.header
+    → c < kept.header.callers → length kept.phases ≡ kept.header.callers → length kept.holders
+    ≡ plain_words kept.header
     → next ≡ phase_of c (entry c kind ∷ earlier)
     → AreOrdered kept.header commits stamps (entry c kind ∷ earlier)
     → commits.next ≤ kept.commits.next + 1
@@ -272,7 +337,8 @@ pub followed_by : (kept : Kept) (earlier : List Entry) (c : ℕ) (kind : Kind) (
       commits = commits;
       stamps = stamps;
     }) (entry c kind ∷ earlier)
-followed_by kept earlier c kind next commits stamps low phases words is ordered more rules followed =
+followed_by kept earlier c kind next commits stamps low phases words is ordered more rules
+    followed =
     let before : Before kept.header kept.holders c kind earlier = record {
       rules = rules;
       words = words;
@@ -281,9 +347,11 @@ followed_by kept earlier c kind next commits stamps low phases words is ordered 
     } in
     record {
       rules = (rules, followed.rules);
-      phases = phases_next kept.header.callers kept.phases earlier c kind next (omega arith) is followed.phases;
+      phases = phases_next kept.header.callers kept.phases earlier c kind next
+          (omega arith) is followed.phases;
       holders = held_next kept.header kept.holders c kind earlier before;
-      callers = high_next kept.holders (has_block c earlier) c kept.header.callers kind low followed.callers;
+      callers = high_next kept.holders (has_block c earlier) c kept.header.callers kind low
+          followed.callers;
       order = ordered;
       numbered = omega (arith, more, followed.numbered);
     }
@@ -305,23 +373,29 @@ pub followed_none : (h : Header) (start : Phase) (n m : ℕ) → ((c : ℕ) → 
 followed_none h start n m is = record {
   rules = tt;
   phases = λ c low. starting h.callers c start low ∙ ap Some (is c);
-  holders = λ c w low low_w. (let e : (0 == c + 1) ≡ false = grind (arith, nat_tests) in sym e) ∙ ap (λ x. x == c + 1) (sym (zeros n w));
+  holders = λ c w low low_w. (let e : (0 == c + 1) ≡ false = grind (arith, nat_tests) in sym e)
+      ∙ ap (λ x. x == c + 1) (sym (zeros n w));
   callers = λ w. omega (arith, zeros n w);
   order = ordered_none h h.callers m;
   numbered = omega arith;
 }
 
 -- a test of numbers that is the same at each
-same_any : (p q : ℕ → Bool) (k n : ℕ) → ((d : ℕ) → d < k + n → p d ≡ q d) → list_any p (numbers_from k n) ≡ list_any q (numbers_from k n)
+same_any : (p q : ℕ → Bool) (k n : ℕ) → ((d : ℕ) → d < k + n → p d ≡ q d)
+    → list_any p (numbers_from k n) ≡ list_any q (numbers_from k n)
 same_any p q k zero same = refl
-same_any p q k (suc n) same = λ i. same k (omega arith) i || same_any p q (k + 1) n (λ d low. same d (omega arith)) i
+same_any p q k (suc n) same = λ i. same k (omega arith) i || same_any p q (k + 1) n
+    (λ d low. same d (omega arith)) i
 
 -- whether another caller holds the word, by the definition and by the holders
-pub raced_is : (kept : Kept) (earlier : List Entry) (holding : Holding) (c w : ℕ) → holding.callers ≡ kept.header.callers
+pub raced_is : (kept : Kept) (earlier : List Entry) (holding : Holding) (c w : ℕ) → holding.callers
+    ≡ kept.header.callers
     → holding.by_word ≡ kept.holders
-    → w < plain_words kept.header → HasFollowed kept earlier → is_held_by_other kept.header c w earlier ≡ is_held_by_another holding c w
+    → w < plain_words kept.header → HasFollowed kept earlier
+    → is_held_by_other kept.header c w earlier ≡ is_held_by_another holding c w
 raced_is kept earlier holding c w callers words low followed =
-    same_any (λ d. not (d == c) && holds_word d w earlier) (λ d. not (d == c) && (get_or kept.holders w 0 == d + 1)) 0 kept.header.callers
+    same_any (λ d. not (d == c) && holds_word d w earlier)
+    (λ d. not (d == c) && (get_or kept.holders w 0 == d + 1)) 0 kept.header.callers
     (λ d low_d. ap (λ b. not (d == c) && b) (followed.holders d w (omega arith) low))
     ∙ (λ i. is_held_by_another (record { callers = sym callers i; by_word = sym words i }) c w)
 
@@ -330,7 +404,8 @@ pub passed_is : (kept : Kept) (earlier : List Entry) (c w : ℕ)
     → ((kept.header.version == 1) ≡ false → length kept.stamps ≡ plain_words kept.header)
     → c < kept.header.callers → w < plain_words kept.header → HasFollowed kept earlier
     → is_passed c w earlier
-    ≡ (has_inner_commit c earlier && nat_lt (get_or kept.commits.by_caller c 0) (get_or kept.stamps w 0))
+    ≡ (has_inner_commit c earlier && nat_lt (get_or kept.commits.by_caller c 0)
+    (get_or kept.stamps w 0))
 passed_is kept earlier c w enough low_c low followed = by_inner (has_inner_commit c earlier) refl
   where
     later : Bool
@@ -339,7 +414,8 @@ passed_is kept earlier c w enough low_c low followed = by_inner (has_inner_commi
     by_version : (b : Bool) → (kept.header.version == 1) ≡ b → has_inner_commit c earlier ≡ true
         → later ≡ nat_lt (last_commit c earlier) (last_effect w earlier [])
     by_version true first inner = never
-        (no_inner_commit kept.header c earlier (same_of kept.header.version 1 first) followed.rules) inner
+        (no_inner_commit kept.header c earlier (same_of kept.header.version 1 first) followed.rules)
+        inner
     by_version false second inner =
         followed.order.words c w low_c (omega (arith, enough second)) low inner
 
@@ -355,38 +431,47 @@ passed_is kept earlier c w enough low_c low followed = by_inner (has_inner_commi
         ∙ ap (λ b. b && later) (sym none)
 
 -- whether some execution is open, by the phases and by the definition
-open_is : (earlier : List Entry) (phases : List Phase) (k : ℕ) → ((i : ℕ) → i < length phases → slice_get phases i ≡ Some (phase_of (k + i) earlier))
-    → list_any (λ phase. is_some phase.open_method) phases ≡ list_any (λ c. is_some (open_call c earlier)) (numbers_from k (length phases))
+open_is : (earlier : List Entry) (phases : List Phase) (k : ℕ)
+    → ((i : ℕ) → i < length phases → slice_get phases i ≡ Some (phase_of (k + i) earlier))
+    → list_any (λ phase. is_some phase.open_method) phases
+    ≡ list_any (λ c. is_some (open_call c earlier)) (numbers_from k (length phases))
 open_is earlier [] k all = refl
 open_is earlier (phase ∷ phases) k all =
     let first : phase ≡ phase_of (k + 0) earlier = cc (all 0 (omega arith)) in
     let here : phase ≡ phase_of k earlier = first ∙ ap (λ c. phase_of c earlier) (omega arith) in
-    let rest = open_is earlier phases (k + 1) (λ i low. all (suc i) (omega arith) ∙ ap (λ c. Some (phase_of c earlier)) (omega arith)) in
+    let rest = open_is earlier phases (k + 1) (λ i low. all (suc i) (omega arith)
+    ∙ ap (λ c. Some (phase_of c earlier)) (omega arith)) in
     (λ i. is_some (here i).open_method || rest i)
-    ∙ ap (λ b. b || list_any (λ c. is_some (open_call c earlier)) (numbers_from (k + 1) (length phases))) (is_some_map (open_call k earlier))
+    ∙ ap (λ b. b || list_any (λ c. is_some (open_call c earlier))
+    (numbers_from (k + 1) (length phases))) (is_some_map (open_call k earlier))
   where
     is_some_map : (o : Option Called) → is_some (option_map (λ called. called.method) o) ≡ is_some o
     is_some_map None = refl
     is_some_map (Some called) = refl
 
-pub call_open_is : (kept : Kept) (earlier : List Entry) → length kept.phases ≡ kept.header.callers → HasFollowed kept earlier
+pub call_open_is : (kept : Kept) (earlier : List Entry) → length kept.phases ≡ kept.header.callers
+    → HasFollowed kept earlier
     → list_any (λ phase. is_some phase.open_method) kept.phases ≡ is_call_open kept.header earlier
 call_open_is kept earlier size followed =
-    open_is earlier kept.phases 0 (λ i low. followed.phases i (omega arith) ∙ ap (λ c. Some (phase_of c earlier)) (omega arith))
+    open_is earlier kept.phases 0 (λ i low. followed.phases i (omega arith)
+    ∙ ap (λ c. Some (phase_of c earlier)) (omega arith))
     ∙ ap (λ n. list_any (λ c. is_some (open_call c earlier)) (numbers_from 0 n)) size
 
 -- what was read is the phase
-pub phase_is : (phases : List Phase) (c : ℕ) (read phase : Phase) → read ≡ get_or phases c read → slice_get phases c ≡ Some phase → read ≡ phase
+pub phase_is : (phases : List Phase) (c : ℕ) (read phase : Phase) → read ≡ get_or phases c read
+    → slice_get phases c ≡ Some phase → read ≡ phase
 phase_is phases c read phase e at = e ∙ get_or_from_slice_get phases c phase read at
 
 -- the rule where a word is held by another caller, and where none of this is so
-pub raced_rule : (o : Option Rule) (raced : Bool) (rule : Option Rule) → is_none o ≡ true → raced ≡ true
+pub raced_rule : (o : Option Rule) (raced : Bool) (rule : Option Rule) → is_none o ≡ true
+    → raced ≡ true
     → option_or o (then_some raced BlockRaced) ≡ rule → Some BlockRaced ≡ rule
 raced_rule None true rule e f is = is
 raced_rule None false rule e f is = cc
 raced_rule (Some other) raced rule e f is = cc
 
-pub clear_rule : (o : Option Rule) (raced : Bool) (rule : Option Rule) → raced ≡ false → option_or o (then_some raced BlockRaced) ≡ rule → o ≡ rule
+pub clear_rule : (o : Option Rule) (raced : Bool) (rule : Option Rule) → raced ≡ false
+    → option_or o (then_some raced BlockRaced) ≡ rule → o ≡ rule
 clear_rule None true rule f is = cc
 clear_rule None false rule f is = is
 clear_rule (Some other) raced rule f is = is

@@ -1,5 +1,7 @@
 -- How the stamps of words are raised.
-use Rattle.std.proofs.Common.{◌≡◌, ◌≢◌, ℕ, ◌<◌, max, Bool, true, false, cond, List, length, refl, ap, ◌∙◌, sym, subst, arith, get_or, set, get_or-set_other, get_or-set_same, length-set}
+use Rattle.std.proofs.Common.{◌≡◌, ◌≢◌, ℕ, ◌<◌, max, Bool, true, false, cond, List, length, refl}
+use Rattle.std.proofs.Common.{ap, ◌∙◌, sym, subst, arith, get_or, set, get_or-set_other}
+use Rattle.std.proofs.Common.{get_or-set_same, length-set}
 use Rattle.std.specs.Prelude.{◌==◌}
 use Rattle.std.proofs.lemmas.Bool.Decides.{nat_tests}
 use Rattle.vyrd_base.proofs.BlockLaws.{by_same}

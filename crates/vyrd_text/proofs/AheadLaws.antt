@@ -1,5 +1,6 @@
 -- How many starting words may come in further bytes.
-use Rattle.std.proofs.Common.{◌≡◌, ℕ, ◌+◌, ◌≤◌, Bool, true, false, cond, List, [], ◌∷◌, ◌++◌, Option, Some, None, refl, ap, sym, ◌∙◌, arith}
+use Rattle.std.proofs.Common.{◌≡◌, ℕ, ◌+◌, ◌≤◌, Bool, true, false, cond, List, [], ◌∷◌, ◌++◌}
+use Rattle.std.proofs.Common.{Option, Some, None, refl, ap, sym, ◌∙◌, arith}
 use Rattle.std.specs.Prelude.{◌==◌}
 use Rattle.std.specs.List.{slice_split, onto_first}
 use Rattle.std.proofs.lemmas.Bool.{not-true}
@@ -14,7 +15,8 @@ use Rattle.vyrd_base.proofs.TestLaws.{first_true, second_true}
 use Rattle.vyrd_text.specs.Ahead.{begins_start, front_starts, after_first, starts_in_lines}
 
 -- a text has at least one part
-pub parts_of : (xs : List ℕ) → (next : List ℕ) × (lines : List (List ℕ)) × (slice_split (λ b. b == 10) xs ≡ next ∷ lines)
+pub parts_of : (xs : List ℕ) → (next : List ℕ) × (lines : List (List ℕ))
+    × (slice_split (λ b. b == 10) xs ≡ next ∷ lines)
 parts_of xs = by_parts (slice_split (λ b. b == 10) xs) refl (split_longer (λ b. b == 10) [] xs)
   where
     by_parts : (ps : List (List ℕ)) → slice_split (λ b. b == 10) xs ≡ ps → Longer ([] ∷ []) ps
@@ -24,24 +26,28 @@ parts_of xs = by_parts (slice_split (λ b. b == 10) xs) refl (split_longer (λ b
 
 -- one line more, which counts where it begins as a starting line
 pub front_step : (line more : List ℕ) → lacks 10 line ≡ true
-    → front_starts (cut (line ++ 10 ∷ more)) ≡ cond (begins_start line) (1 + front_starts (cut more)) 0
+    → front_starts (cut (line ++ 10 ∷ more)) ≡ cond (begins_start line)
+    (1 + front_starts (cut more)) 0
 front_step line more lack =
     let p = parts_of more in
     ap front_starts (split_at 10 line more lack ∙ ap (λ ps. line ∷ ps) p.2)
     ∙ ap (λ ps. cond (begins_start line) (1 + front_starts ps) 0) (sym p.2)
 
 -- a starting line begins with its first letter, and so it counts
-pub one_start_more : (line more : List ℕ) (s : StartWord) → lacks 10 line ≡ true → start_in line ≡ Some s
+pub one_start_more : (line more : List ℕ) (s : StartWord) → lacks 10 line ≡ true → start_in line
+    ≡ Some s
     → front_starts (cut (line ++ 10 ∷ more)) ≡ 1 + front_starts (cut more)
 one_start_more line more s lack is =
-    front_step line more lack ∙ ap (λ b. cond b (1 + front_starts (cut more)) 0) (ap begins_start (start_in_sound line s is).0)
+    front_step line more lack ∙ ap (λ b. cond b (1 + front_starts (cut more)) 0)
+    (ap begins_start (start_in_sound line s is).0)
 
 -- an unfinished line doesn't count
 pub front_last : (text : List ℕ) → lacks 10 text ≡ true → front_starts (cut text) ≡ 0
 front_last text lack = ap front_starts (split_whole 10 text lack)
 
 -- the lines after the first
-pub later_step : (line more : List ℕ) → lacks 10 line ≡ true → front_starts (after_first (cut (line ++ 10 ∷ more))) ≡ front_starts (cut more)
+pub later_step : (line more : List ℕ) → lacks 10 line ≡ true
+    → front_starts (after_first (cut (line ++ 10 ∷ more))) ≡ front_starts (cut more)
 later_step line more lack = ap (λ ps. front_starts (after_first ps)) (split_at 10 line more lack)
 
 pub later_last : (text : List ℕ) → lacks 10 text ≡ true → front_starts (after_first (cut text)) ≡ 0
@@ -52,10 +58,12 @@ after_onto x [] = refl
 after_onto x (p ∷ ps) = refl
 
 -- they are the same, whatever more stands in the first line
-after_same : (xs text : List ℕ) → lacks 10 xs ≡ true → after_first (cut (xs ++ text)) ≡ after_first (cut text)
+after_same : (xs text : List ℕ) → lacks 10 xs ≡ true → after_first (cut (xs ++ text))
+    ≡ after_first (cut text)
 after_same [] text lack = refl
 after_same (x ∷ xs) text lack =
-    ap (λ b. after_first (cond b ([] ∷ cut (xs ++ text)) (onto_first x (cut (xs ++ text))))) (not-true (x == 10) (first_true _ _ lack))
+    ap (λ b. after_first (cond b ([] ∷ cut (xs ++ text)) (onto_first x (cut (xs ++ text)))))
+    (not-true (x == 10) (first_true _ _ lack))
     ∙ after_onto x (cut (xs ++ text)) ∙ after_same xs text (second_true _ _ lack)
 
 -- the first line counts for one at most
@@ -64,11 +72,13 @@ front_cap [] = omega arith
 front_cap (rest ∷ []) = omega arith
 front_cap (line ∷ next ∷ lines) = by_test (begins_start line)
   where
-    by_test : (b : Bool) → cond b (1 + front_starts (next ∷ lines)) 0 ≤ 1 + front_starts (next ∷ lines)
+    by_test : (b : Bool) → cond b (1 + front_starts (next ∷ lines)) 0 ≤ 1 + front_starts
+        (next ∷ lines)
     by_test true = omega arith
     by_test false = omega arith
 
-pub ahead_first : (fault : Option TextFault) (o : Option Header) (starting : Bool) (xs text : List ℕ) → o ≡ None → lacks 10 xs ≡ true
+pub ahead_first : (fault : Option TextFault) (o : Option Header) (starting : Bool)
+    (xs text : List ℕ) → o ≡ None → lacks 10 xs ≡ true
     → starts_in_lines fault o starting (cut (xs ++ text)) ≤ front_starts (after_first (cut text))
 ahead_first (Some f) o starting xs text e lack = omega arith
 ahead_first None None starting xs text e lack =
@@ -77,15 +87,24 @@ ahead_first None None starting xs text e lack =
 ahead_first None (Some h) starting xs text e lack = cc
 
 -- how many may come in lines, where some may come
-ahead_some : (fault : Option TextFault) (o : Option Header) (h : Header) (starting : Bool) (lines : List (List ℕ)) → o ≡ Some h
+ahead_some : (fault : Option TextFault) (o : Option Header) (h : Header) (starting : Bool)
+    (lines : List (List ℕ)) → o ≡ Some h
     → starts_in_lines fault o starting lines ≤ front_starts lines
 ahead_some (Some f) o h starting lines e = omega arith
 ahead_some None None h starting lines e = cc
 ahead_some None (Some x) h true lines e = omega arith
 ahead_some None (Some x) h false lines e = omega arith
 
-pub ahead_begun : (fault : Option TextFault) (o : Option Header) (h : Header) (starting : Bool) (xs text : List ℕ) → o ≡ Some h → lacks 10 xs ≡ true
-    → starts_in_lines fault o starting (cut (xs ++ text)) ≤ 1 + front_starts (after_first (cut text))
+pub ahead_begun : (fault : Option TextFault) (o : Option Header) (h : Header) (starting : Bool)
+    (xs text : List ℕ) → o ≡ Some h → lacks 10 xs ≡ true
+    → starts_in_lines fault o starting (cut (xs ++ text)) ≤ 1 + front_starts
+    (after_first (cut text))
 ahead_begun fault o h starting xs text e lack =
     let same = ap front_starts (after_same xs text lack) in
-    omega (arith, ahead_some fault o h starting (cut (xs ++ text)) e, front_cap (cut (xs ++ text)), same)
+    omega (
+      arith,
+      ahead_some fault o h starting (cut (xs ++ text)) e,
+      front_cap
+          (cut (xs ++ text)),
+      same,
+    )

@@ -1,5 +1,6 @@
 -- What a reader makes of entries that lie whole in a piece.
-use Rattle.std.proofs.Common.{◌≡◌, ℕ, suc, ◌+◌, ◌≤◌, true, false, cond, List, [], ◌∷◌, ◌++◌, length, Option, Some, None, refl, ap, sym, ◌∙◌, arith, subst, append_assoc}
+use Rattle.std.proofs.Common.{◌≡◌, ℕ, suc, ◌+◌, ◌≤◌, true, false, cond, List, [], ◌∷◌, ◌++◌, length}
+use Rattle.std.proofs.Common.{Option, Some, None, refl, ap, sym, ◌∙◌, arith, subst, append_assoc}
 use Rattle.std.specs.Prelude.{is_some, option_map}
 use Rattle.std.specs.List.{list_all}
 use Rattle.std.proofs.lemmas.List.{append-nil}
@@ -20,14 +21,17 @@ use Rattle.vyrd_text.proofs.LineSteps.{entry_read}
 pub nothing_taken : (r : LineState) → IsTaken r [] [] [] r
 nothing_taken r = record {
   max_lines = refl;
-  follows = λ ss es before f. subst (λ xs. Follows r xs (es ++ []) (before ++ [])) (sym (append-nil ss))
-      (subst (λ xs. Follows r ss xs (before ++ [])) (sym (append-nil es)) (subst (λ xs. Follows r ss es xs) (sym (append-nil before)) f));
+  follows = λ ss es before f. subst (λ xs. Follows r xs (es ++ []) (before ++ []))
+      (sym (append-nil ss))
+      (subst (λ xs. Follows r ss xs (before ++ [])) (sym (append-nil es))
+      (subst (λ xs. Follows r ss es xs) (sym (append-nil before)) f));
   noticed = λ n. n;
   room = λ after. omega arith;
 }
 
 -- nothing of a piece was taken in
-pub nothing_fed : (r : LineState) (piece : List ℕ) (entries : List Entry) → IsFedFront r piece entries entries r piece
+pub nothing_fed : (r : LineState) (piece : List ℕ) (entries : List Entry)
+    → IsFedFront r piece entries entries r piece
 nothing_fed r piece entries = record {
   read = [];
   parted = refl;
@@ -37,29 +41,41 @@ nothing_fed r piece entries = record {
 }
 
 -- entries that fit are taken in one by one
-entries_taken : (h : Header) (es : List Entry) (r : LineState) → r.header ≡ Some h → r.fault ≡ None → r.starting ≡ false → r.ended ≡ false
-    → r.unfinished ≡ [] → 1 ≤ r.max_lines → r.line + length es ≤ r.max_lines + 1 → list_all (is_entry_of h.subject) es ≡ true
-    → IsTaken r (entries_text es) [] es (record r { line = r.line + length es; starting = false; unfinished = [] })
+entries_taken : (h : Header) (es : List Entry) (r : LineState) → r.header ≡ Some h → r.fault ≡ None
+    → r.starting ≡ false → r.ended ≡ false
+    → r.unfinished ≡ [] → 1 ≤ r.max_lines → r.line + length es ≤ r.max_lines + 1
+    → list_all (is_entry_of h.subject) es ≡ true
+    → IsTaken r (entries_text es) [] es
+    (record r { line = r.line + length es; starting = false; unfinished = [] })
 entries_taken h [] r has fine plain not_ended empty low fits all =
     let same : r.line ≡ r.line + 0 = omega arith in
-    subst (IsTaken r [] [] []) (λ i. record r { line = same i; starting = plain i; unfinished = empty i }) (nothing_taken r)
+    subst (IsTaken r [] [] [])
+    (λ i. record r { line = same i; starting = plain i; unfinished = empty i }) (nothing_taken r)
 entries_taken h (e ∷ es) r has fine plain not_ended empty low fits all =
     let is = first_true _ _ all in
     let line = entry_line e in
     let next : LineState = record r { line = r.line + 1; starting = false; unfinished = [] } in
     let last : ℕ → LineState = λ n. record r { line = n; starting = false; unfinished = [] } in
-    let one : IsTaken r (line ++ 10 ∷ []) [] (e ∷ []) next = line_at_once r next line [] (e ∷ []) empty
-    (entry_read r line (entry_line_whole h.subject e is) fine low h has (isnt_below r.max_lines r.line (omega arith)) not_ended
-    (ap (λ b. cond b (start_in line) None) plain) (entry_line_isnt_end e) e (entry_in-entry_line h.subject e is)) in
-    let more = entries_taken h es next has fine refl not_ended refl low (omega arith) (second_true (is_entry_of h.subject e) _ all) in
-    let both = taken_then r next (last (r.line + 1 + length es)) (line ++ 10 ∷ []) (entries_text es) [] [] (e ∷ []) es one more in
+    let one : IsTaken r (line ++ 10 ∷ []) [] (e ∷ []) next = line_at_once r next line []
+    (e ∷ []) empty
+    (entry_read r line (entry_line_whole h.subject e is) fine low h has
+    (isnt_below r.max_lines r.line (omega arith)) not_ended
+    (ap (λ b. cond b (start_in line) None) plain) (entry_line_isnt_end e) e
+    (entry_in-entry_line h.subject e is)) in
+    let more = entries_taken h es next has fine refl not_ended refl low (omega arith)
+    (second_true (is_entry_of h.subject e) _ all) in
+    let both = taken_then r next (last (r.line + 1 + length es)) (line ++ 10 ∷ []) (entries_text es)
+    [] [] (e ∷ []) es one more in
     let same : r.line + 1 + length es ≡ r.line + suc (length es) = omega arith in
-    subst (λ xs. IsTaken r xs [] (e ∷ es) (last (r.line + suc (length es)))) (append_assoc line (10 ∷ []) (entries_text es))
+    subst (λ xs. IsTaken r xs [] (e ∷ es) (last (r.line + suc (length es))))
+    (append_assoc line (10 ∷ []) (entries_text es))
     (subst (λ n. IsTaken r ((line ++ 10 ∷ []) ++ entries_text es) [] (e ∷ es) (last n)) same both)
 
 -- entries at the front of a piece were taken in
-pub entries_fed : (h : Header) (r : LineState) (piece rest : List ℕ) (before after : List Entry) (count : ℕ) → r.header ≡ Some h → r.fault ≡ None
-    → r.starting ≡ false → r.ended ≡ false → r.unfinished ≡ [] → 1 ≤ r.max_lines → r.line + count ≤ r.max_lines + 1
+pub entries_fed : (h : Header) (r : LineState) (piece rest : List ℕ) (before after : List Entry)
+    (count : ℕ) → r.header ≡ Some h → r.fault ≡ None
+    → r.starting ≡ false → r.ended ≡ false → r.unfinished ≡ [] → 1 ≤ r.max_lines → r.line + count
+    ≤ r.max_lines + 1
     → AreEntriesAtFront h.subject piece before after rest count
     → IsFedFront r piece before after (record r { line = r.line + count }) rest
 entries_fed h r piece rest before after count has fine plain not_ended empty low fits are = record {
@@ -68,24 +84,34 @@ entries_fed h r piece rest before after count has fine plain not_ended empty low
   found = are.found;
   grown = are.grown;
   taken = subst (IsTaken r (entries_text are.found) [] are.found)
-      (λ i. record r { line = r.line + are.counted i; starting = sym plain i; unfinished = sym empty i })
-      (entries_taken h are.found r has fine plain not_ended empty low (omega (arith, are.counted)) are.of_subject);
+      (λ i. record r {
+        line = r.line + are.counted i;
+        starting = sym plain i;
+        unfinished = sym empty i;
+      })
+      (entries_taken h are.found r has fine plain not_ended empty low (omega (arith, are.counted))
+      are.of_subject);
 }
 
 -- entries at the front of what was left of a piece were taken in
-pub fed_on : (a b c : LineState) (xs piece rest : List ℕ) (start start_new : List StartWord) (before middle after : List Entry)
+pub fed_on : (a b c : LineState) (xs piece rest : List ℕ) (start start_new : List StartWord)
+    (before middle after : List Entry)
     → IsFed a xs start start_new before middle b
-    → (front : IsFedFront b piece middle after c rest) → IsFed a (xs ++ front.read) start start_new before after c
+    → (front : IsFedFront b piece middle after c rest)
+    → IsFed a (xs ++ front.read) start start_new before after c
 fed_on a b c xs piece rest start start_new before middle after fed front = record {
   starts = fed.starts;
   start_grown = fed.start_grown;
   found = fed.found ++ front.found;
-  grown = front.grown ∙ ap (λ t. t ++ front.found) fed.grown ∙ append_assoc before fed.found front.found;
-  taken = subst (λ ss. IsTaken a (xs ++ front.read) ss (fed.found ++ front.found) c) (append-nil fed.starts)
+  grown = front.grown ∙ ap (λ t. t ++ front.found) fed.grown
+      ∙ append_assoc before fed.found front.found;
+  taken = subst (λ ss. IsTaken a (xs ++ front.read) ss (fed.found ++ front.found) c)
+      (append-nil fed.starts)
       (taken_then a b c xs front.read fed.starts [] fed.found front.found fed.taken front.taken);
 }
 
 -- what isn't there is nothing in any view of it
-pub none_mapped : {A B : Type 0} (f : A → B) (o : Option A) → is_some o ≡ false → option_map f o ≡ None
+pub none_mapped : {A B : Type 0} (f : A → B) (o : Option A) → is_some o ≡ false → option_map f o
+    ≡ None
 none_mapped f None e = refl
 none_mapped f (Some x) e = cc

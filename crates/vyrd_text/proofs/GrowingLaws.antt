@@ -1,5 +1,6 @@
 -- What longer bytes say to a reader.
-use Rattle.std.proofs.Common.{◌≡◌, ℕ, ◌≤◌, ◌||◌, true, false, List, [], ◌++◌, Option, Some, None, refl, ap, sym, ◌∙◌}
+use Rattle.std.proofs.Common.{◌≡◌, ℕ, ◌≤◌, ◌||◌, true, false, List, [], ◌++◌, Option, Some, None}
+use Rattle.std.proofs.Common.{refl, ap, sym, ◌∙◌}
 use Rattle.std.proofs.lemmas.List.{append-nil}
 use Rattle.vyrd_base.specs.declared.log.Entry.{Entry}
 use Rattle.vyrd_base.specs.declared.log.StartWord.{StartWord}
@@ -25,22 +26,33 @@ module _ (r : ReaderState) (bytes more : List ℕ) (low : 1 ≤ r.max_lines) whe
   pub fault_lasts : (f : TextFault) → old.fault ≡ Some f → new ≡ old
   fault_lasts f e = grown.grown.fault f e
 
-  pub fault_lasts_whole : (f : TextFault) → old.fault ≡ Some f → reading (whole r) (bytes ++ more) ≡ old
+  pub fault_lasts_whole : (f : TextFault) → old.fault ≡ Some f → reading (whole r) (bytes ++ more)
+      ≡ old
   fault_lasts_whole f e = (reading_grows r.max_lines true bytes more low).grown.fault f e
 
   pub entries_last : (found : List Entry) × (new.entries ≡ old.entries ++ found)
   entries_last = by_fault old.fault refl
     where
-      by_fault : (o : Option TextFault) → old.fault ≡ o → (found : List Entry) × (new.entries ≡ old.entries ++ found)
+      by_fault : (o : Option TextFault) → old.fault ≡ o → (found : List Entry)
+          × (new.entries ≡ old.entries ++ found)
       by_fault None e = grown.grown.entries e
-      by_fault (Some f) e = ([], ap (λ read. read.entries) (grown.grown.fault f e) ∙ sym (append-nil old.entries))
+      by_fault (Some f) e = (
+        [],
+        ap (λ read. read.entries) (grown.grown.fault f e)
+            ∙ sym (append-nil old.entries),
+      )
 
   pub starts_last : (found : List StartWord) × (new.starting ≡ old.starting ++ found)
   starts_last = by_fault old.fault refl
     where
-      by_fault : (o : Option TextFault) → old.fault ≡ o → (found : List StartWord) × (new.starting ≡ old.starting ++ found)
+      by_fault : (o : Option TextFault) → old.fault ≡ o → (found : List StartWord)
+          × (new.starting ≡ old.starting ++ found)
       by_fault None e = grown.grown.starting e
-      by_fault (Some f) e = ([], ap (λ read. read.starting) (grown.grown.fault f e) ∙ sym (append-nil old.starting))
+      by_fault (Some f) e = (
+        [],
+        ap (λ read. read.starting) (grown.grown.fault f e)
+            ∙ sym (append-nil old.starting),
+      )
 
   pub starts_stay : (has_any old.entries || old.ended) ≡ true → new.starting ≡ old.starting
   starts_stay begun = by_fault old.fault refl
@@ -57,4 +69,5 @@ module _ (r : ReaderState) (bytes more : List ℕ) (low : 1 ≤ r.max_lines) whe
       by_fault (Some f) e = ap (λ read. read.ended) (grown.grown.fault f e) ∙ is
 
   pub still_read : (f : TextFault) → r.fault ≡ Some f → HasRead r bytes → HasRead r (bytes ++ more)
-  still_read f e has = fed_read r r bytes more [] [] has (faulty_fed (lines_of r) f more r.start [] low e)
+  still_read f e has = fed_read r r bytes more [] [] has
+      (faulty_fed (lines_of r) f more r.start [] low e)

@@ -1,5 +1,6 @@
 -- The first line has one reading.
-use Rattle.std.proofs.Common.{◌≡◌, ℕ, ◌<◌, ◌^◌, Bool, true, false, cond, ◌&&◌, List, [], ◌∷◌, ◌++◌, Option, Some, None, Err, refl, ap, sym, ◌∙◌, arith}
+use Rattle.std.proofs.Common.{◌≡◌, ℕ, ◌<◌, ◌^◌, Bool, true, false, cond, ◌&&◌, List, [], ◌∷◌, ◌++◌}
+use Rattle.std.proofs.Common.{Option, Some, None, Err, refl, ap, sym, ◌∙◌, arith}
 use Rattle.std.specs.Prelude.{nat_lt, codes, decimal, ok_or}
 use Rattle.std.specs.List.{list_all}
 use Rattle.std.specs.Str.{bytes_eq}
@@ -12,7 +13,8 @@ use Rattle.vyrd_base.specs.declared.verdict.Rule.TheVariants.{BadHeader, Unknown
 use Rattle.vyrd_base.specs.Limits.{is_sized}
 use Rattle.vyrd_base.specs.Subjects.{is_built_in, limits_of}
 use Rattle.vyrd_base.specs.Spelling.{header_line, subject_name}
-use Rattle.vyrd_base.specs.Lines.{fields_of, number_of, subject_called, header_if, header_of, header_spelled, header_from, header_in}
+use Rattle.vyrd_base.specs.Lines.{fields_of, number_of, subject_called, header_if, header_of}
+use Rattle.vyrd_base.specs.Lines.{header_spelled, header_from, header_in}
 use Rattle.vyrd_base.proofs.HeaderLaws.{small_size, small_callers}
 use Rattle.vyrd_base.proofs.SplitLaws.{split-join, number_of_decimal, bytes_same}
 use Rattle.vyrd_base.proofs.SplitLaws.{is_plain_field}
@@ -27,11 +29,13 @@ use Rattle.vyrd_text.proofs.PartLaws.{one_before_space}
 pub no_callers : (text : List ℕ) (m : ℕ) (r : List ℕ) → m < 2 ^ 64 → text ≡ decimal m ++ 32 ∷ r
     → ((n : ℕ) → n < 2 ^ 32 → r ≡ decimal n → ⊥) → AreLimitsRead text None
 no_callers text m r low e none size callers sized f =
-    let is = one_before_space m size r (decimal callers) low (let h = small_size size callers sized in omega (arith, h)) (sym e ∙ f) in
+    let is = one_before_space m size r (decimal callers) low
+    (let h = small_size size callers sized in omega (arith, h)) (sym e ∙ f) in
     none callers (small_callers size callers sized) is.1
 
 -- numbers that aren't within the limits
-pub not_sized : (text : List ℕ) (m n : ℕ) (r : List ℕ) → m < 2 ^ 64 → n < 2 ^ 64 → text ≡ decimal m ++ 32 ∷ r → r ≡ decimal n
+pub not_sized : (text : List ℕ) (m n : ℕ) (r : List ℕ) → m < 2 ^ 64 → n < 2 ^ 64 → text ≡ decimal m
+    ++ 32 ∷ r → r ≡ decimal n
     → is_sized m n ≡ false → AreLimitsRead text None
 not_sized text m n r low small e f bad size callers sized g =
     let s = small_size size callers sized in
@@ -45,30 +49,45 @@ not_sized text m n r low small e f bad size callers sized g =
     number_same a b l h e = sym (number_of_decimal a l) ∙ ap number_of e ∙ number_of_decimal b h
 
 -- a version that no subject follows
-pub no_subject : (line r : List ℕ) (m : ℕ) (s : List ℕ) → m < 2 ^ 64 → line ≡ codes "vyrd " ++ r → r ≡ decimal m ++ 32 ∷ s
-    → ((subject : Subject) (rest : List ℕ) → is_built_in subject ≡ true → s ≡ subject_name subject ++ 32 ∷ rest → ⊥) → AreNumbersRead line None
+pub no_subject : (line r : List ℕ) (m : ℕ) (s : List ℕ) → m < 2 ^ 64 → line ≡ codes "vyrd " ++ r
+    → r ≡ decimal m ++ 32 ∷ s
+    → ((subject : Subject) (rest : List ℕ) → is_built_in subject ≡ true → s ≡ subject_name subject
+    ++ 32 ∷ rest → ⊥) → AreNumbersRead line None
 no_subject line r m s low e f none version subject size callers small built sized g =
-    let after = append_cancel_left (codes "vyrd ") r (decimal version ++ 32 ∷ (subject_name subject ++ 32 ∷ (decimal size ++ 32 ∷ decimal callers))) (sym e ∙ g) in
-    let is = one_before_space m version s (subject_name subject ++ 32 ∷ (decimal size ++ 32 ∷ decimal callers)) low (omega arith) (sym f ∙ after) in
+    let after = append_cancel_left (codes "vyrd ") r
+    (decimal version ++ 32 ∷ (subject_name subject ++ 32 ∷ (decimal size ++ 32 ∷ decimal callers)))
+    (sym e ∙ g) in
+    let is = one_before_space m version s
+    (subject_name subject ++ 32 ∷ (decimal size ++ 32 ∷ decimal callers)) low (omega arith)
+    (sym f ∙ after) in
     none subject (decimal size ++ 32 ∷ decimal callers) built is.1
 
 -- a subject that no limits follow
-pub no_limits : (line r : List ℕ) (m : ℕ) (s : List ℕ) (found : Subject) (t : List ℕ) → m < 2 ^ 64 → line ≡ codes "vyrd " ++ r → r ≡ decimal m ++ 32 ∷ s
+pub no_limits : (line r : List ℕ) (m : ℕ) (s : List ℕ) (found : Subject) (t : List ℕ) → m < 2 ^ 64
+    → line ≡ codes "vyrd " ++ r → r ≡ decimal m ++ 32 ∷ s
     → s ≡ subject_name found ++ 32 ∷ t → AreLimitsRead t None → AreNumbersRead line None
 no_limits line r m s found t low e f h none version subject size callers small built sized g =
-    let after = append_cancel_left (codes "vyrd ") r (decimal version ++ 32 ∷ (subject_name subject ++ 32 ∷ (decimal size ++ 32 ∷ decimal callers))) (sym e ∙ g) in
-    let is = one_before_space m version s (subject_name subject ++ 32 ∷ (decimal size ++ 32 ∷ decimal callers)) low (omega arith) (sym f ∙ after) in
-    none size callers sized (one_name found subject t (decimal size ++ 32 ∷ decimal callers) (sym h ∙ is.1))
+    let after = append_cancel_left (codes "vyrd ") r
+    (decimal version ++ 32 ∷ (subject_name subject ++ 32 ∷ (decimal size ++ 32 ∷ decimal callers)))
+    (sym e ∙ g) in
+    let is = one_before_space m version s
+    (subject_name subject ++ 32 ∷ (decimal size ++ 32 ∷ decimal callers)) low (omega arith)
+    (sym f ∙ after) in
+    none size callers sized (one_name found subject t (decimal size ++ 32 ∷ decimal callers)
+    (sym h ∙ is.1))
 
 -- a line with a version, a subject and limits is read as that header, where the version is known
-pub header_known : (line : List ℕ) (version : ℕ) (subject : Subject) (size callers : ℕ) → AreNumbersRead line (Some (version, subject, size, callers))
+pub header_known : (line : List ℕ) (version : ℕ) (subject : Subject) (size callers : ℕ)
+    → AreNumbersRead line (Some (version, subject, size, callers))
     → header_in line ≡ ok_or (header_of version subject size callers) UnknownVersion
 unfolding header_in
 header_known line version subject size callers is =
     ap (λ l. header_from l (fields_of l)) is.3
     ∙ ap (header_from text) fields
-    ∙ (λ i. header_spelled text (number_of_decimal version v i) (subject_read subject is.1 i) (number_of_decimal size s i) (number_of_decimal callers c i))
-    ∙ ap (λ b. cond b (ok_or (header_of version subject size callers) UnknownVersion) (Err BadHeader))
+    ∙ (λ i. header_spelled text (number_of_decimal version v i) (subject_read subject is.1 i)
+    (number_of_decimal size s i) (number_of_decimal callers c i))
+    ∙ ap (λ b. cond b (ok_or (header_of version subject size callers) UnknownVersion)
+    (Err BadHeader))
     (both_true _ _ (both_true _ _ (is_below version (2 ^ 32) is.0) is.2) (bytes_same text))
   where
     text : List ℕ
@@ -88,7 +107,8 @@ header_known line version subject size callers is =
 
     plain : list_all is_plain_field (codes "vyrd" ∷ parts) ≡ true
     plain = both_true _ _ (plain_number version v)
-        (both_true _ _ (plain_subject subject) (both_true _ _ (plain_number size s) (both_true _ _ (plain_number callers c) refl)))
+        (both_true _ _ (plain_subject subject)
+        (both_true _ _ (plain_number size s) (both_true _ _ (plain_number callers c) refl)))
 
     fields : fields_of text ≡ codes "vyrd" ∷ parts
     fields = split-join 32 (codes "vyrd") parts (plain_spaces (codes "vyrd" ∷ parts) plain)
@@ -99,31 +119,40 @@ spelled_none : (line : List ℕ) (version : ℕ) (subject : Option Subject) (siz
     → header_spelled line version subject size callers ≡ Err BadHeader
 spelled_none line version None size callers known none = refl
 spelled_none line version (Some subject) size callers known none =
-    by_test (nat_lt version (2 ^ 32) && is_sized size callers && bytes_eq (header_line version subject size callers) line) refl
+    by_test (nat_lt version (2 ^ 32) && is_sized size callers
+    && bytes_eq (header_line version subject size callers) line) refl
   where
-    by_test : (b : Bool) → (nat_lt version (2 ^ 32) && is_sized size callers && bytes_eq (header_line version subject size callers) line) ≡ b
-        → cond b (ok_or (header_of version subject size callers) UnknownVersion) (Err BadHeader) ≡ Err BadHeader
+    by_test : (b : Bool)
+        → (nat_lt version (2 ^ 32) && is_sized size callers
+        && bytes_eq (header_line version subject size callers) line) ≡ b
+        → cond b (ok_or (header_of version subject size callers) UnknownVersion) (Err BadHeader)
+        ≡ Err BadHeader
     by_test false e = refl
     by_test true e =
         let same = (bytes_eq-Decides (header_line version subject size callers) line).0
         (second_true (nat_lt version (2 ^ 32) && is_sized size callers) _ e) in
-        absurd (none version subject size callers (below_of version (2 ^ 32) (first_true _ _ (first_true _ _ e)))
-        (known subject refl) (second_true (nat_lt version (2 ^ 32)) _ (first_true _ _ e)) (sym same))
+        absurd (none version subject size callers
+        (below_of version (2 ^ 32) (first_true _ _ (first_true _ _ e)))
+        (known subject refl) (second_true (nat_lt version (2 ^ 32)) _ (first_true _ _ e))
+        (sym same))
 
-from_none : (line : List ℕ) (fields : List (List ℕ)) → AreNumbersRead line None → header_from line fields ≡ Err BadHeader
+from_none : (line : List ℕ) (fields : List (List ℕ)) → AreNumbersRead line None
+    → header_from line fields ≡ Err BadHeader
 from_none line [] none = refl
 from_none line (a ∷ []) none = refl
 from_none line (a ∷ b ∷ []) none = refl
 from_none line (a ∷ b ∷ c ∷ []) none = refl
 from_none line (a ∷ b ∷ c ∷ d ∷ []) none = refl
-from_none line (a ∷ b ∷ c ∷ d ∷ e ∷ more) none = spelled_none line (number_of b) (subject_called c) (number_of d) (number_of e) (called_built_in c) none
+from_none line (a ∷ b ∷ c ∷ d ∷ e ∷ more) none = spelled_none line (number_of b) (subject_called c)
+    (number_of d) (number_of e) (called_built_in c) none
 
 pub header_unknown : (line : List ℕ) → AreNumbersRead line None → Err BadHeader ≡ header_in line
 unfolding header_in
 header_unknown line none = sym (from_none line (fields_of line) none)
 
 -- the header that was made is the one with the numbers
-made_if : (h : Header) (b : Bool) (e : limits_of h.subject h.version h.size h.callers ≡ b) → b ≡ true
+made_if : (h : Header) (b : Bool) (e : limits_of h.subject h.version h.size h.callers ≡ b)
+    → b ≡ true
     → Some h ≡ header_if h.version h.subject h.size h.callers b e
 made_if h true e t = ap (λ w. Some (record {
   version = h.version;
@@ -134,17 +163,23 @@ made_if h true e t = ap (λ w. Some (record {
 })) (Bool-set _ _ h.within e)
 made_if h false e t = cc
 
-pub made : (version : ℕ) (subject : Subject) (size callers : ℕ) (h : Header) → h.version ≡ version → h.subject ≡ subject
+pub made : (version : ℕ) (subject : Subject) (size callers : ℕ) (h : Header) → h.version ≡ version
+    → h.subject ≡ subject
     → h.size ≡ size → h.callers ≡ callers
     → header_of version subject size callers ≡ Some h
 made version subject size callers h v s n c =
-    (λ i. header_of (sym v i) (sym s i) (sym n i) (sym c i)) ∙ sym (made_if h (limits_of h.subject h.version h.size h.callers) refl h.within)
+    (λ i. header_of (sym v i) (sym s i) (sym n i) (sym c i))
+    ∙ sym (made_if h (limits_of h.subject h.version h.size h.callers) refl h.within)
 
-not_made_if : (version : ℕ) (subject : Subject) (size callers : ℕ) (b : Bool) (e : limits_of subject version size callers ≡ b)
-    → ¬ (limits_of subject version size callers ≡ true) → header_if version subject size callers b e ≡ None
+not_made_if : (version : ℕ) (subject : Subject) (size callers : ℕ) (b : Bool)
+    (e : limits_of subject version size callers ≡ b)
+    → ¬ (limits_of subject version size callers ≡ true) → header_if version subject size callers b e
+    ≡ None
 not_made_if version subject size callers true e no_header = absurd (no_header e)
 not_made_if version subject size callers false e no_header = refl
 
-pub not_made : (version : ℕ) (subject : Subject) (size callers : ℕ) → ¬ (limits_of subject version size callers ≡ true)
+pub not_made : (version : ℕ) (subject : Subject) (size callers : ℕ)
+    → ¬ (limits_of subject version size callers ≡ true)
     → header_of version subject size callers ≡ None
-not_made version subject size callers no_header = not_made_if version subject size callers (limits_of subject version size callers) refl no_header
+not_made version subject size callers no_header = not_made_if version subject size callers
+    (limits_of subject version size callers) refl no_header

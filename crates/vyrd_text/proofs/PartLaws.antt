@@ -1,5 +1,6 @@
 -- A line has one reading: its parts are what stands between its spaces.
-use Rattle.std.proofs.Common.{◌≡◌, ℕ, ◌<◌, ◌^◌, true, ◌&&◌, List, ◌∷◌, ◌++◌, get_or, Option, Some, None, refl, ap, sym, ◌∙◌, arith}
+use Rattle.std.proofs.Common.{◌≡◌, ℕ, ◌<◌, ◌^◌, true, ◌&&◌, List, ◌∷◌, ◌++◌, get_or, Option, Some}
+use Rattle.std.proofs.Common.{None, refl, ap, sym, ◌∙◌, arith}
 use Rattle.std.specs.Prelude.{◌==◌, nat_lt, codes, decimal}
 use Rattle.std.specs.List.{slice_split}
 use Rattle.std.proofs.lemmas.List.{append_cancel_left}
@@ -14,7 +15,8 @@ use Rattle.vyrd_base.specs.declared.multiset.MultisetMethod.TheVariants.{Lookup}
 use Rattle.vyrd_base.specs.declared.buffers.BuffersMethod.TheVariants.{Append, AppendFrom, Cut}
 use Rattle.vyrd_base.specs.declared.buffers.BuffersMethod.TheVariants.{Length, Read}
 use Rattle.vyrd_base.specs.declared.log.Kind.{Kind}
-use Rattle.vyrd_base.specs.declared.log.Kind.TheVariants.{Call, Return, Write, Commit, BlockOpen, BlockClose, BlockCommit}
+use Rattle.vyrd_base.specs.declared.log.Kind.TheVariants.{Call, Return, Write, Commit, BlockOpen}
+use Rattle.vyrd_base.specs.declared.log.Kind.TheVariants.{BlockClose, BlockCommit}
 use Rattle.vyrd_base.specs.declared.log.Entry.{Entry}
 use Rattle.vyrd_base.specs.Subjects.{arity_of, are_padded, is_named}
 use Rattle.vyrd_base.specs.Spelling.{method_name, entry_line, is_entry_of}
@@ -26,51 +28,73 @@ use Rattle.vyrd_base.proofs.TestLaws.{both_true, first_true, second_true, below_
 use Rattle.vyrd_text.specs.Spelled.{kind_text, call_text, AreArgsRead, IsCallRead, IsKindRead}
 
 -- the number before a space and what follows the space are one
-pub one_before_space : (m n : ℕ) (r s : List ℕ) → m < 2 ^ 64 → n < 2 ^ 64 → decimal m ++ 32 ∷ r ≡ decimal n ++ 32 ∷ s → (m ≡ n) × (r ≡ s)
+pub one_before_space : (m n : ℕ) (r s : List ℕ) → m < 2 ^ 64 → n < 2 ^ 64 → decimal m ++ 32 ∷ r
+    ≡ decimal n ++ 32 ∷ s → (m ≡ n) × (r ≡ s)
 one_before_space m n r s low small e =
-    let parts : decimal m ∷ slice_split (λ b. b == 32) r ≡ decimal n ∷ slice_split (λ b. b == 32) s =
-    sym (split_at 32 (decimal m) r (decimal_lacks 32 m no_space low)) ∙ ap (slice_split (λ b. b == 32)) e
+    let parts : decimal m ∷ slice_split (λ b. b == 32) r ≡ decimal n ∷ slice_split
+    (λ b. b == 32) s =
+    sym (split_at 32 (decimal m) r (decimal_lacks 32 m no_space low))
+    ∙ ap (slice_split (λ b. b == 32)) e
     ∙ split_at 32 (decimal n) s (decimal_lacks 32 n no_space small) in
     let same : decimal m ≡ decimal n = cc in
-    let tails : 32 ∷ r ≡ 32 ∷ s = append_cancel_left (decimal m) (32 ∷ r) (32 ∷ s) (e ∙ ap (λ t. t ++ 32 ∷ s) (sym same)) in
+    let tails : 32 ∷ r ≡ 32 ∷ s = append_cancel_left (decimal m) (32 ∷ r) (32 ∷ s)
+    (e ∙ ap (λ t. t ++ 32 ∷ s) (sym same)) in
     (decimal_injective m n low small same, cc)
 
 -- a word before a space that no value follows isn't a write
-pub no_value : (text : List ℕ) (w : ℕ) (r : List ℕ) → w < 2 ^ 64 → text ≡ decimal w ++ 32 ∷ r → ((n : ℕ) → n < 2 ^ 64 → r ≡ decimal n → ⊥)
+pub no_value : (text : List ℕ) (w : ℕ) (r : List ℕ) → w < 2 ^ 64 → text ≡ decimal w ++ 32 ∷ r
+    → ((n : ℕ) → n < 2 ^ 64 → r ≡ decimal n → ⊥)
     → (subject : Subject) → IsKindRead subject (codes "write " ++ text) None
 no_value text w r low e none subject (Write word value) ok f =
     let small : word < 2 ^ 32 = below_of word (2 ^ 32) (first_true _ _ ok) in
     let fits : value < 2 ^ 64 = below_of value (2 ^ 64) (second_true (nat_lt word (2 ^ 32)) _ ok) in
-    let is = one_before_space w word r (decimal value) low (omega arith) (sym e ∙ append_cancel_left (codes "write ") text (decimal word ++ 32 ∷ decimal value) f) in
+    let is = one_before_space w word r (decimal value) low (omega arith)
+    (sym e ∙ append_cancel_left (codes "write ") text (decimal word ++ 32 ∷ decimal value) f) in
     none value fits is.1
-no_value text w r low e none subject (Call method args) ok f = absurd (let h : 119 ≡ 99 = ap (λ t. get_or t 0 0) f in omega (arith, h))
-no_value text w r low e none subject (Return reply) ok f = absurd (let h : 119 ≡ 114 = ap (λ t. get_or t 0 0) f in omega (arith, h))
-no_value text w r low e none subject Commit ok f = absurd (let h : 119 ≡ 99 = ap (λ t. get_or t 0 0) f in omega (arith, h))
-no_value text w r low e none subject BlockOpen ok f = absurd (let h : 119 ≡ 111 = ap (λ t. get_or t 0 0) f in omega (arith, h))
-no_value text w r low e none subject BlockClose ok f = absurd (let h : 119 ≡ 99 = ap (λ t. get_or t 0 0) f in omega (arith, h))
-no_value text w r low e none subject BlockCommit ok f = absurd (let h : 119 ≡ 99 = ap (λ t. get_or t 0 0) f in omega (arith, h))
+no_value text w r low e none subject (Call method args) ok f = absurd
+    (let h : 119 ≡ 99 = ap (λ t. get_or t 0 0) f in omega (arith, h))
+no_value text w r low e none subject (Return reply) ok f = absurd
+    (let h : 119 ≡ 114 = ap (λ t. get_or t 0 0) f in omega (arith, h))
+no_value text w r low e none subject Commit ok f = absurd
+    (let h : 119 ≡ 99 = ap (λ t. get_or t 0 0) f in omega (arith, h))
+no_value text w r low e none subject BlockOpen ok f = absurd
+    (let h : 119 ≡ 111 = ap (λ t. get_or t 0 0) f in omega (arith, h))
+no_value text w r low e none subject BlockClose ok f = absurd
+    (let h : 119 ≡ 99 = ap (λ t. get_or t 0 0) f in omega (arith, h))
+no_value text w r low e none subject BlockCommit ok f = absurd
+    (let h : 119 ≡ 99 = ap (λ t. get_or t 0 0) f in omega (arith, h))
 
 -- nor is a word before what no call spells a call
-pub no_call : (subject : Subject) (text : List ℕ) → IsCallRead subject text None → IsKindRead subject (codes "call " ++ text) None
+pub no_call : (subject : Subject) (text : List ℕ) → IsCallRead subject text None
+    → IsKindRead subject (codes "call " ++ text) None
 no_call subject text none (Call method args) ok e =
     let same_padded : (is_named method subject && are_padded (arity_of method) args) ≡ true =
     first_true _ _ (first_true _ _ (first_true _ _ ok)) in
     none method args
     (first_true _ _ same_padded)
     (second_true (is_named method subject) _ same_padded)
-    (below_of args.a (2 ^ 32) (second_true (is_named method subject && are_padded (arity_of method) args) _
+    (below_of args.a (2 ^ 32)
+    (second_true (is_named method subject && are_padded (arity_of method) args) _
     (first_true _ _ (first_true _ _ ok))))
-    (below_of args.b (2 ^ 32) (second_true (is_named method subject && are_padded (arity_of method) args
+    (below_of args.b (2 ^ 32)
+    (second_true (is_named method subject && are_padded (arity_of method) args
     && nat_lt args.a (2 ^ 32)) _ (first_true _ _ ok)))
-    (below_of args.c (2 ^ 32) (second_true (is_named method subject && are_padded (arity_of method) args
+    (below_of args.c (2 ^ 32)
+    (second_true (is_named method subject && are_padded (arity_of method) args
     && nat_lt args.a (2 ^ 32) && nat_lt args.b (2 ^ 32)) _ ok))
     (append_cancel_left (codes "call ") text (call_text method args) e)
-no_call subject text none (Return reply) ok e = absurd (let h : 99 ≡ 114 = ap (λ t. get_or t 0 0) e in omega (arith, h))
-no_call subject text none (Write word value) ok e = absurd (let h : 99 ≡ 119 = ap (λ t. get_or t 0 0) e in omega (arith, h))
-no_call subject text none Commit ok e = absurd (let h : 97 ≡ 111 = ap (λ t. get_or t 1 0) e in omega (arith, h))
-no_call subject text none BlockOpen ok e = absurd (let h : 99 ≡ 111 = ap (λ t. get_or t 0 0) e in omega (arith, h))
-no_call subject text none BlockClose ok e = absurd (let h : 97 ≡ 108 = ap (λ t. get_or t 1 0) e in omega (arith, h))
-no_call subject text none BlockCommit ok e = absurd (let h : 97 ≡ 108 = ap (λ t. get_or t 1 0) e in omega (arith, h))
+no_call subject text none (Return reply) ok e = absurd
+    (let h : 99 ≡ 114 = ap (λ t. get_or t 0 0) e in omega (arith, h))
+no_call subject text none (Write word value) ok e = absurd
+    (let h : 99 ≡ 119 = ap (λ t. get_or t 0 0) e in omega (arith, h))
+no_call subject text none Commit ok e = absurd
+    (let h : 97 ≡ 111 = ap (λ t. get_or t 1 0) e in omega (arith, h))
+no_call subject text none BlockOpen ok e = absurd
+    (let h : 99 ≡ 111 = ap (λ t. get_or t 0 0) e in omega (arith, h))
+no_call subject text none BlockClose ok e = absurd
+    (let h : 97 ≡ 108 = ap (λ t. get_or t 1 0) e in omega (arith, h))
+no_call subject text none BlockCommit ok e = absurd
+    (let h : 97 ≡ 108 = ap (λ t. get_or t 1 0) e in omega (arith, h))
 
 -- one number before a space and no number after it are not two arguments
 pub no_second : (text : List ℕ) (m : ℕ) (r : List ℕ) → m < 2 ^ 64 → text ≡ decimal m ++ 32 ∷ r
@@ -83,18 +107,22 @@ no_second text m r low e none args padded a b c f =
 pub no_middle : (text : List ℕ) (m : ℕ) (r : List ℕ) → m < 2 ^ 64 → text ≡ decimal m ++ 32 ∷ r
     → ((n : ℕ) (s : List ℕ) → n < 2 ^ 32 → r ≡ decimal n ++ 32 ∷ s → ⊥) → AreArgsRead 3 text None
 no_middle text m r low e none args padded a b c f =
-    let is = one_before_space m args.a r (decimal args.b ++ 32 ∷ decimal args.c) low (omega arith) (sym e ∙ f) in
+    let is = one_before_space m args.a r (decimal args.b ++ 32 ∷ decimal args.c) low (omega arith)
+    (sym e ∙ f) in
     none args.b (decimal args.c) b is.1
 
-pub no_third : (text : List ℕ) (m n : ℕ) (r s : List ℕ) → m < 2 ^ 64 → n < 2 ^ 64 → text ≡ decimal m ++ 32 ∷ r
+pub no_third : (text : List ℕ) (m n : ℕ) (r s : List ℕ) → m < 2 ^ 64 → n < 2 ^ 64 → text ≡ decimal m
+    ++ 32 ∷ r
     → r ≡ decimal n ++ 32 ∷ s → ((k : ℕ) → k < 2 ^ 32 → s ≡ decimal k → ⊥) → AreArgsRead 3 text None
 no_third text m n r s low small e f none args padded a b c g =
-    let is = one_before_space m args.a r (decimal args.b ++ 32 ∷ decimal args.c) low (omega arith) (sym e ∙ g) in
+    let is = one_before_space m args.a r (decimal args.b ++ 32 ∷ decimal args.c) low (omega arith)
+    (sym e ∙ g) in
     let more = one_before_space n args.b s (decimal args.c) small (omega arith) (sym f ∙ is.1) in
     none args.c c more.1
 
 -- an entry's line is its caller, a space and what it says
-pub entry_line_is : (caller : ℕ) (kind : Kind) → entry_line (record { caller = caller; kind = kind }) ≡ decimal caller ++ 32 ∷ kind_text kind
+pub entry_line_is : (caller : ℕ) (kind : Kind)
+    → entry_line (record { caller = caller; kind = kind }) ≡ decimal caller ++ 32 ∷ kind_text kind
 entry_line_is caller (Call method args) = refl
 entry_line_is caller (Return reply) = refl
 entry_line_is caller (Write word value) = refl
@@ -104,7 +132,8 @@ entry_line_is caller BlockClose = refl
 entry_line_is caller BlockCommit = refl
 
 -- a line that isn't an entry's
-pub no_entry : (subject : Subject) (line : List ℕ) → ((e : Entry) → is_entry_of subject e ≡ true → line ≡ entry_line e → ⊥)
+pub no_entry : (subject : Subject) (line : List ℕ)
+    → ((e : Entry) → is_entry_of subject e ≡ true → line ≡ entry_line e → ⊥)
     → None ≡ entry_in subject line
 no_entry subject line none = by_answer (entry_in subject line) refl
   where
@@ -113,24 +142,31 @@ no_entry subject line none = by_answer (entry_in subject line) refl
     by_answer (Some x) e = let is = entry_in_sound subject line x e in absurd (none x is.1 is.0)
 
 -- a line without a number before a space
-pub no_caller : (subject : Subject) (line : List ℕ) → ((n : ℕ) (rest : List ℕ) → n < 2 ^ 32 → line ≡ decimal n ++ 32 ∷ rest → ⊥)
+pub no_caller : (subject : Subject) (line : List ℕ)
+    → ((n : ℕ) (rest : List ℕ) → n < 2 ^ 32 → line ≡ decimal n ++ 32 ∷ rest → ⊥)
     → None ≡ entry_in subject line
 no_caller subject line none = no_entry subject line
-    (λ e ok same. none e.caller (kind_text e.kind) (below_of e.caller (2 ^ 32) (first_true _ _ ok)) (same ∙ entry_line_is e.caller e.kind))
+    (λ e ok same. none e.caller (kind_text e.kind) (below_of e.caller (2 ^ 32) (first_true _ _ ok))
+    (same ∙ entry_line_is e.caller e.kind))
 
 -- a line that says nothing after its caller
 pub no_kind : (subject : Subject) (line : List ℕ) (caller : ℕ) (rest : List ℕ) → caller < 2 ^ 64
-    → line ≡ decimal caller ++ 32 ∷ rest → IsKindRead subject rest None → None ≡ entry_in subject line
+    → line ≡ decimal caller ++ 32 ∷ rest → IsKindRead subject rest None
+    → None ≡ entry_in subject line
 no_kind subject line caller rest low is none = no_entry subject line (λ e ok same.
     let small : e.caller < 2 ^ 32 = below_of e.caller (2 ^ 32) (first_true _ _ ok) in
-    let parts = one_before_space caller e.caller rest (kind_text e.kind) low (omega arith) (sym is ∙ same ∙ entry_line_is e.caller e.kind) in
+    let parts = one_before_space caller e.caller rest (kind_text e.kind) low (omega arith)
+    (sym is ∙ same ∙ entry_line_is e.caller e.kind) in
     none e.kind (second_true (nat_lt e.caller (2 ^ 32)) _ ok) parts.1)
 
 -- a line that is an entry's
-pub entry_read : (subject : Subject) (line : List ℕ) (caller : ℕ) (kind : Kind) (rest : List ℕ) → caller < 2 ^ 32
+pub entry_read : (subject : Subject) (line : List ℕ) (caller : ℕ) (kind : Kind) (rest : List ℕ)
+    → caller < 2 ^ 32
     → line ≡ decimal caller ++ 32 ∷ rest → IsKindRead subject rest (Some kind)
     → Some (record { caller = caller; kind = kind }) ≡ entry_in subject line
 entry_read subject line caller kind rest low is read =
     let entry : Entry = record { caller = caller; kind = kind } in
-    let same : line ≡ entry_line entry = is ∙ ap (λ t. decimal caller ++ 32 ∷ t) read.1 ∙ sym (entry_line_is caller kind) in
-    sym (ap (entry_in subject) same ∙ entry_in-entry_line subject entry (both_true _ _ (is_below caller (2 ^ 32) low) read.0))
+    let same : line ≡ entry_line entry = is ∙ ap (λ t. decimal caller ++ 32 ∷ t) read.1
+    ∙ sym (entry_line_is caller kind) in
+    sym (ap (entry_in subject) same ∙ entry_in-entry_line subject entry
+    (both_true _ _ (is_below caller (2 ^ 32) low) read.0))

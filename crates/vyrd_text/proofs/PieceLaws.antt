@@ -1,5 +1,7 @@
 -- A piece comes apart at its line feeds.
-use Rattle.std.proofs.Common.{◌≡◌, ℕ, suc, zero, ◌+◌, ◌-◌, ◌<◌, ◌≤◌, Bool, true, false, cond, not, List, [], ◌∷◌, ◌++◌, take, drop, length, get_or, refl, ap, sym, ◌∙◌, arith}
+use Rattle.std.proofs.Common.{◌≡◌, ℕ, suc, zero, ◌+◌, ◌-◌, ◌<◌, ◌≤◌, Bool, true, false, cond, not}
+use Rattle.std.proofs.Common.{List, [], ◌∷◌, ◌++◌, take, drop, length, get_or, refl, ap, sym, ◌∙◌}
+use Rattle.std.proofs.Common.{arith}
 use Rattle.std.specs.Prelude.{◌==◌, count_by}
 use Rattle.std.proofs.lemmas.List.{take_all, take-append-drop, drop_more, take_rest}
 use Rattle.std.proofs.lemmas.List.Sums.{sum_by-append, sum_by-cons}
@@ -12,14 +14,18 @@ not_true true h = absurd (h refl)
 not_true false h = refl
 
 -- before the first line feed there is none
-pub front_one_line : (k : ℕ) (xs : List ℕ) → k ≤ length xs → ((i : ℕ) → i < k → ¬ ((get_or xs i 0 == 10) ≡ true)) → lacks 10 (take k xs) ≡ true
+pub front_one_line : (k : ℕ) (xs : List ℕ) → k ≤ length xs
+    → ((i : ℕ) → i < k → ¬ ((get_or xs i 0 == 10) ≡ true)) → lacks 10 (take k xs) ≡ true
 front_one_line zero xs h none = refl
 front_one_line (suc k) [] h none = refl
 front_one_line (suc k) (x ∷ xs) h none =
-    both_true _ _ (not_true (x == 10) (none 0 (omega arith))) (front_one_line k xs (omega arith) (λ i l. none (suc i) (omega arith)))
+    both_true _ _ (not_true (x == 10) (none 0 (omega arith)))
+    (front_one_line k xs (omega arith) (λ i l. none (suc i) (omega arith)))
 
-pub whole_one_line : (xs : List ℕ) → ((i : ℕ) → i < length xs → ¬ ((get_or xs i 0 == 10) ≡ true)) → lacks 10 xs ≡ true
-whole_one_line xs none = ap (lacks 10) (sym (take_all (length xs) xs (omega arith))) ∙ front_one_line (length xs) xs (omega arith) none
+pub whole_one_line : (xs : List ℕ) → ((i : ℕ) → i < length xs → ¬ ((get_or xs i 0 == 10) ≡ true))
+    → lacks 10 xs ≡ true
+whole_one_line xs none = ap (lacks 10) (sym (take_all (length xs) xs (omega arith)))
+    ∙ front_one_line (length xs) xs (omega arith) none
 
 is_byte : (b : ℕ) → (b == 10) ≡ true → b ≡ 10
 is_byte b e = grind (arith, nat_tests)
@@ -32,7 +38,8 @@ parts_at xs k h e =
     ∙ (λ i. is_byte (get_or xs k 0) e i ∷ sym (take_rest xs (k + 1)) i))
 
 -- a line takes one line feed away
-pub count_line : (line after : List ℕ) → 1 + count_by (λ b. b == 10) after ≤ count_by (λ b. b == 10) (line ++ 10 ∷ after)
+pub count_line : (line after : List ℕ) → 1 + count_by (λ b. b == 10) after ≤ count_by (λ b. b == 10)
+    (line ++ 10 ∷ after)
 count_line line after =
     let whole = sum_by-append (λ b. cond (b == 10) 1 0) line (10 ∷ after) in
     let one = sum_by-cons (λ b. cond (b == 10) 1 0) 10 after in

@@ -1,5 +1,7 @@
 -- How a reader goes on.
-use Rattle.std.proofs.Common.{◌≡◌, ℕ, ◌+◌, ◌≤◌, Bool, true, false, List, [], ◌∷◌, ◌++◌, length, Option, Some, None, refl, ap, sym, subst, ◌∙◌, arith, append_assoc, length-append}
+use Rattle.std.proofs.Common.{◌≡◌, ℕ, ◌+◌, ◌≤◌, Bool, true, false, List, [], ◌∷◌, ◌++◌, length}
+use Rattle.std.proofs.Common.{Option, Some, None, refl, ap, sym, subst, ◌∙◌, arith, append_assoc}
+use Rattle.std.proofs.Common.{length-append}
 use Rattle.std.specs.Prelude.{◌==◌, is_some, IsSome}
 use Rattle.std.specs.List.{slice_split}
 use Rattle.std.proofs.lemmas.List.{append-nil}
@@ -8,68 +10,88 @@ use Rattle.vyrd_base.specs.declared.log.Entry.{Entry}
 use Rattle.vyrd_base.specs.declared.log.StartWord.{StartWord}
 use Rattle.vyrd_base.specs.Reading.{Reading, TextFault, Input, reading}
 use Rattle.vyrd_base.proofs.ReadingGrows.{reading_grows, input_of}
-use Rattle.vyrd_text.specs.Readers.{LineState, ReaderState, fresh, input_to, with_read, known, unless_faulty, goes_on, Follows, HasRead}
+use Rattle.vyrd_text.specs.Readers.{LineState, ReaderState, fresh, input_to, with_read, known}
+use Rattle.vyrd_text.specs.Readers.{unless_faulty, goes_on, Follows, HasRead}
 use Rattle.vyrd_text.specs.Ahead.{starts_in_lines, starts_ahead}
 use Rattle.vyrd_text.specs.Steps.{with_line, IsTaken, IsLineTaken}
 
 -- what was read before, before what was read before
-twice : (ss ts : List StartWord) (es gs : List Entry) (r : Reading) → with_read ss es (with_read ts gs r) ≡ with_read (ss ++ ts) (es ++ gs) r
-twice ss ts es gs r = λ i. record r { starting = sym (append_assoc ss ts r.starting) i; entries = sym (append_assoc es gs r.entries) i }
+twice : (ss ts : List StartWord) (es gs : List Entry) (r : Reading)
+    → with_read ss es (with_read ts gs r) ≡ with_read (ss ++ ts) (es ++ gs) r
+twice ss ts es gs r = λ i. record r {
+  starting = sym (append_assoc ss ts r.starting) i;
+  entries = sym (append_assoc es gs r.entries) i;
+}
 
 -- a line that goes on
-pub longer_line : (r : LineState) (ss : List StartWord) (es : List Entry) (before xs : List ℕ) → Follows r ss es before
+pub longer_line : (r : LineState) (ss : List StartWord) (es : List Entry) (before xs : List ℕ)
+    → Follows r ss es before
     → Follows (with_line r (r.unfinished ++ xs)) ss es (before ++ xs)
 longer_line r ss es before xs follows is_whole more =
     let input : Input = input_to r is_whole in
     ap (reading input) (append_assoc before xs more) ∙ follows is_whole (xs ++ more)
-    ∙ ap (λ t. with_read ss es (unless_faulty r input (slice_split (λ b. b == 10) t) r.fault)) (sym (append_assoc r.unfinished xs more))
+    ∙ ap (λ t. with_read ss es (unless_faulty r input (slice_split (λ b. b == 10) t) r.fault))
+    (sym (append_assoc r.unfinished xs more))
 
 -- a fault that is found stays
-pub fault_found : (r : LineState) (ss : List StartWord) (es : List Entry) (before xs : List ℕ) (f : TextFault) → 1 ≤ r.max_lines
+pub fault_found : (r : LineState) (ss : List StartWord) (es : List Entry) (before xs : List ℕ)
+    (f : TextFault) → 1 ≤ r.max_lines
     → Follows r ss es before → goes_on r false xs ≡ known r (Some f)
     → Follows (record r { fault = Some f }) ss es (before ++ xs)
 fault_found r ss es before xs f low follows is is_whole more =
-    let old : reading (input_of r.max_lines false) (before ++ xs) ≡ with_read ss es (known r (Some f)) = follows false xs ∙ ap (with_read ss es) is in
-    (reading_grows r.max_lines is_whole (before ++ xs) more low).grown.fault f (ap (λ read. read.fault) old) ∙ old
+    let old : reading (input_of r.max_lines false) (before ++ xs) ≡ with_read ss es
+    (known r (Some f)) = follows false xs ∙ ap (with_read ss es) is in
+    (reading_grows r.max_lines is_whole (before ++ xs) more low).grown.fault f
+    (ap (λ read. read.fault) old) ∙ old
 
 -- one step of the reader, from one reader to another with the same limit
-pub step : (r new : LineState) (ss ts : List StartWord) (es gs : List Entry) (before xs : List ℕ) → new.max_lines ≡ r.max_lines
-    → ((is_whole : Bool) (more : List ℕ) → goes_on r is_whole (xs ++ more) ≡ with_read ts gs (goes_on new is_whole more))
+pub step : (r new : LineState) (ss ts : List StartWord) (es gs : List Entry) (before xs : List ℕ)
+    → new.max_lines ≡ r.max_lines
+    → ((is_whole : Bool) (more : List ℕ) → goes_on r is_whole (xs ++ more) ≡ with_read ts gs
+    (goes_on new is_whole more))
     → Follows r ss es before → Follows new (ss ++ ts) (es ++ gs) (before ++ xs)
 step r new ss ts es gs before xs same on follows is_whole more =
     ap (λ n. reading (record { max_lines = n; is_whole = is_whole }) ((before ++ xs) ++ more)) same
-    ∙ ap (reading (input_to r is_whole)) (append_assoc before xs more) ∙ follows is_whole (xs ++ more)
+    ∙ ap (reading (input_to r is_whole)) (append_assoc before xs more)
+    ∙ follows is_whole (xs ++ more)
     ∙ ap (with_read ss es) (on is_whole more) ∙ twice ss ts es gs (goes_on new is_whole more)
 
 -- what was taken in turn was taken together
-pub taken_then : (a b c : LineState) (xs ys : List ℕ) (ss ts : List StartWord) (gs hs : List Entry) → IsTaken a xs ss gs b → IsTaken b ys ts hs c
+pub taken_then : (a b c : LineState) (xs ys : List ℕ) (ss ts : List StartWord) (gs hs : List Entry)
+    → IsTaken a xs ss gs b → IsTaken b ys ts hs c
     → IsTaken a (xs ++ ys) (ss ++ ts) (gs ++ hs) c
 taken_then a b c xs ys ss ts gs hs first second = record {
   max_lines = second.max_lines ∙ first.max_lines;
   follows = λ rs es before f is_whole more.
       ap (λ t. reading (input_to c is_whole) (t ++ more)) (sym (append_assoc before xs ys))
-      ∙ second.follows (rs ++ ss) (es ++ gs) (before ++ xs) (first.follows rs es before f) is_whole more
-      ∙ (λ i. with_read (append_assoc rs ss ts i) (append_assoc es gs hs i) (goes_on c is_whole more));
+      ∙ second.follows (rs ++ ss) (es ++ gs) (before ++ xs) (first.follows rs es before f) is_whole
+      more
+      ∙ (λ i. with_read (append_assoc rs ss ts i) (append_assoc es gs hs i)
+      (goes_on c is_whole more));
   noticed = λ n. second.noticed (first.noticed n);
   room = λ after.
       let one = first.room (ys ++ after) in
       let other = second.room after in
-      let same : starts_ahead a ((xs ++ ys) ++ after) ≡ starts_ahead a (xs ++ (ys ++ after)) = ap (starts_ahead a) (append_assoc xs ys after) in
+      let same : starts_ahead a ((xs ++ ys) ++ after) ≡ starts_ahead a (xs ++ (ys ++ after)) =
+      ap (starts_ahead a) (append_assoc xs ys after) in
       omega (arith, length-append ss ts, one, other, same);
 }
 
 -- bytes before a line feed, and then the line feed
-pub line_then : (a b c : LineState) (line : List ℕ) (ss : List StartWord) (found : List Entry) → IsTaken a line [] [] b → IsLineTaken b ss found c
+pub line_then : (a b c : LineState) (line : List ℕ) (ss : List StartWord) (found : List Entry)
+    → IsTaken a line [] [] b → IsLineTaken b ss found c
     → IsTaken a (line ++ 10 ∷ []) ss found c
-line_then a b c line ss found first second = taken_then a b c line (10 ∷ []) [] ss [] found first (record {
-  max_lines = second.max_lines;
-  follows = second.follows;
-  noticed = λ n. second.noticed;
-  room = second.room;
-})
+line_then a b c line ss found first second = taken_then a b c line (10 ∷ []) [] ss [] found first
+    (record {
+      max_lines = second.max_lines;
+      follows = second.follows;
+      noticed = λ n. second.noticed;
+      room = second.room;
+    })
 
 -- a whole line at once, for a reader without an unfinished one
-pub line_at_once : (a c : LineState) (line : List ℕ) (ss : List StartWord) (found : List Entry) → a.unfinished ≡ []
+pub line_at_once : (a c : LineState) (line : List ℕ) (ss : List StartWord) (found : List Entry)
+    → a.unfinished ≡ []
     → IsLineTaken (with_line a line) ss found c → IsTaken a (line ++ 10 ∷ []) ss found c
 line_at_once a c line ss found empty taken = record {
   max_lines = taken.max_lines;
@@ -80,30 +102,37 @@ line_at_once a c line ss found empty taken = record {
   noticed = λ n. taken.noticed;
   room = λ after.
       let same : line ++ 10 ∷ after ≡ a.unfinished ++ ((line ++ 10 ∷ []) ++ after) =
-      sym (append_assoc line (10 ∷ []) after) ∙ ap (λ t. t ++ ((line ++ 10 ∷ []) ++ after)) (sym empty) in
-      subst (λ t. length ss + starts_ahead c after ≤ starts_in_lines a.fault a.header a.starting (slice_split (λ b. b == 10) t))
+      sym (append_assoc line (10 ∷ []) after) ∙ ap (λ t. t ++ ((line ++ 10 ∷ []) ++ after))
+      (sym empty) in
+      subst (λ t. length ss + starts_ahead c after ≤ starts_in_lines a.fault a.header a.starting
+      (slice_split (λ b. b == 10) t))
       same (taken.room after);
 }
 
 -- a reader with a fault takes nothing in
-pub faulty_taken : (a : LineState) (f : TextFault) (xs : List ℕ) → 1 ≤ a.max_lines → a.fault ≡ Some f → IsTaken a xs [] [] a
+pub faulty_taken : (a : LineState) (f : TextFault) (xs : List ℕ) → 1 ≤ a.max_lines
+    → a.fault ≡ Some f → IsTaken a xs [] [] a
 faulty_taken a f xs low is = record {
   max_lines = refl;
   follows = λ ss es before fol is_whole more.
       fault_found a ss es before xs f low fol
-      (ap (unless_faulty a (input_to a false) (slice_split (λ b. b == 10) (a.unfinished ++ xs))) is) is_whole more
+      (ap (unless_faulty a (input_to a false) (slice_split (λ b. b == 10) (a.unfinished ++ xs))) is)
+      is_whole more
       ∙ (λ i. with_read (sym (append-nil ss) i) (sym (append-nil es) i) (known a (Some f)))
       ∙ ap (λ o. with_read (ss ++ []) (es ++ [])
-      (unless_faulty a (input_to a is_whole) (slice_split (λ b. b == 10) (a.unfinished ++ more)) o)) (sym is);
+      (unless_faulty a (input_to a is_whole) (slice_split (λ b. b == 10) (a.unfinished ++ more)) o))
+      (sym is);
   noticed = λ n. n;
   room = λ after.
       let none : starts_ahead a after ≡ 0 =
-      ap (λ o. starts_in_lines o a.header a.starting (slice_split (λ b. b == 10) (a.unfinished ++ after))) is in
+      ap (λ o. starts_in_lines o a.header a.starting
+      (slice_split (λ b. b == 10) (a.unfinished ++ after))) is in
       omega (arith, none);
 }
 
 -- a fault that is found when bytes come
-pub fault_taken : (a : LineState) (f : TextFault) (xs : List ℕ) → 1 ≤ a.max_lines → goes_on a false xs ≡ known a (Some f)
+pub fault_taken : (a : LineState) (f : TextFault) (xs : List ℕ) → 1 ≤ a.max_lines
+    → goes_on a false xs ≡ known a (Some f)
     → IsTaken a xs [] [] (record a { fault = Some f })
 fault_taken a f xs low is = record {
   max_lines = refl;
@@ -130,7 +159,13 @@ reader_with r start = record {
 
 pub fresh_has_read : (max : ℕ) → HasRead (reader_with (fresh max) []) []
 unfolding reading
-fresh_has_read max = record { header = refl; start = refl; ended = refl; fault = refl; follows = λ is_whole more. refl }
+fresh_has_read max = record {
+  header = refl;
+  start = refl;
+  ended = refl;
+  fault = refl;
+  follows = λ is_whole more. refl;
+}
 
 pub no_none : (o : Option Header) → IsSome o → o ≡ None → ⊥
 no_none None is e = cc

@@ -1,53 +1,67 @@
 -- What a reader makes of bytes without a line feed.
-use Rattle.std.proofs.Common.{◌≡◌, ℕ, ◌+◌, ◌<◌, ◌≤◌, Bool, true, false, cond, ◌&&◌, ◌||◌, List, [], ◌∷◌, ◌++◌, length, Option, Some, None, refl, ap, sym, ◌∙◌, arith, length-append}
+use Rattle.std.proofs.Common.{◌≡◌, ℕ, ◌+◌, ◌<◌, ◌≤◌, Bool, true, false, cond, ◌&&◌, ◌||◌, List, []}
+use Rattle.std.proofs.Common.{◌∷◌, ◌++◌, length, Option, Some, None, refl, ap, sym, ◌∙◌, arith}
+use Rattle.std.proofs.Common.{length-append}
 use Rattle.std.specs.Prelude.{◌==◌, nat_lt, option_map}
 use Rattle.std.specs.List.{slice_split}
 use Rattle.std.proofs.Math.Bool.{and-false}
 use Rattle.vyrd_base.specs.declared.header.Header.{Header}
 use Rattle.vyrd_base.specs.declared.log.StartWord.{StartWord}
 use Rattle.vyrd_base.specs.declared.verdict.Rule.{Rule}
-use Rattle.vyrd_base.specs.declared.verdict.Rule.TheVariants.{TooManyLines, AfterEnd, BadHeader, BadEntry, NoLineFeed}
+use Rattle.vyrd_base.specs.declared.verdict.Rule.TheVariants.{TooManyLines, AfterEnd, BadHeader}
+use Rattle.vyrd_base.specs.declared.verdict.Rule.TheVariants.{BadEntry, NoLineFeed}
 use Rattle.vyrd_base.specs.Shape.{◌breaks◌, first_broken}
-use Rattle.vyrd_base.specs.Reading.{Input, has_any, stopped, ended, unfinished_rule, header_before, fault_on}
+use Rattle.vyrd_base.specs.Reading.{Input, has_any, stopped, ended, unfinished_rule, header_before}
+use Rattle.vyrd_base.specs.Reading.{fault_on}
 use Rattle.vyrd_base.proofs.SplitLaws.{lacks, lacks-append, split_whole}
 use Rattle.vyrd_base.proofs.TestLaws.{is_below, isnt_below}
 use Rattle.vyrd_text.specs.Readers.{LineState, input_to, known, lines_on, goes_on}
 use Rattle.vyrd_text.proofs.LineSteps.{fine_on, body_on}
 
 -- the rules of an unfinished line, for bytes that may go on
-unfinished_cases : (max n : ℕ) (bad : Rule) (ys : List ℕ) → unfinished_rule (record { max_lines = max; is_whole = false }) n bad ys
-    ≡ cond (has_any ys && nat_lt max n) (Some TooManyLines) (cond (nat_lt 64 (length ys)) (Some bad) None)
+unfinished_cases : (max n : ℕ) (bad : Rule) (ys : List ℕ)
+    → unfinished_rule (record { max_lines = max; is_whole = false }) n bad ys
+    ≡ cond (has_any ys && nat_lt max n) (Some TooManyLines)
+    (cond (nat_lt 64 (length ys)) (Some bad) None)
 unfinished_cases max n bad ys =
     ap (λ b. cond (has_any ys && nat_lt max n) (Some TooManyLines)
-    (cond (nat_lt 64 (length ys)) (Some bad) (cond b (Some NoLineFeed) None))) (and-false (has_any ys))
+    (cond (nat_lt 64 (length ys)) (Some bad) (cond b (Some NoLineFeed) None)))
+    (and-false (has_any ys))
 
 some_bytes : (ys : List ℕ) → 0 < length ys → has_any ys ≡ true
 some_bytes [] h = absurd (omega arith)
 some_bytes (y ∷ ys) h = refl
 
 -- an unfinished line is the same, whether it may become a starting line or not
-pub rest_body : (input : Input) (h : Header) (starting : Bool) (last : Option StartWord) (n : ℕ) (ys : List ℕ)
+pub rest_body : (input : Input) (h : Header) (starting : Bool) (last : Option StartWord) (n : ℕ)
+    (ys : List ℕ)
     → body_on input h starting last n (ys ∷ []) ≡ stopped n (unfinished_rule input n BadEntry ys)
 rest_body input h true last n ys = refl
 rest_body input h false last n ys = refl
 
 -- a reader where nothing is wrong, with bytes that don't end its line
-module _ (r : LineState) (fine : r.fault ≡ None) (low : 1 ≤ r.max_lines) (one_line : lacks 10 r.unfinished ≡ true) (xs : List ℕ)
+module _ (r : LineState) (fine : r.fault ≡ None) (low : 1 ≤ r.max_lines)
+    (one_line : lacks 10 r.unfinished ≡ true) (xs : List ℕ)
     (lack : lacks 10 xs ≡ true) (some : 0 < length xs) where
   any : has_any (r.unfinished ++ xs) ≡ true
   any = some_bytes (r.unfinished ++ xs) (omega (arith, length-append r.unfinished xs))
 
   -- they are one unfinished line
-  on : goes_on r false xs ≡ lines_on (input_to r false) r.line r.header r.starting r.last r.ended ((r.unfinished ++ xs) ∷ [])
+  on : goes_on r false xs ≡ lines_on (input_to r false) r.line r.header r.starting r.last r.ended
+      ((r.unfinished ++ xs) ∷ [])
   on = fine_on r (input_to r false) (slice_split (λ b. b == 10) (r.unfinished ++ xs)) fine
-      ∙ ap (lines_on (input_to r false) r.line r.header r.starting r.last r.ended) (split_whole 10 (r.unfinished ++ xs) (lacks-append 10 r.unfinished xs one_line lack))
+      ∙ ap (lines_on (input_to r false) r.line r.header r.starting r.last r.ended)
+      (split_whole 10 (r.unfinished ++ xs) (lacks-append 10 r.unfinished xs one_line lack))
 
   module _ (no_header : r.header ≡ None) (one : r.line ≡ 1) (not_ended : r.ended ≡ false) where
-    first_rest : (o : Option Rule) → cond (nat_lt 64 (length (r.unfinished ++ xs))) (Some BadHeader) None ≡ o
-        → goes_on r false xs ≡ known r (option_map (λ rule. record { line = r.line; rule = rule }) o)
+    first_rest : (o : Option Rule) → cond (nat_lt 64 (length (r.unfinished ++ xs)))
+        (Some BadHeader) None ≡ o
+        → goes_on r false xs
+        ≡ known r (option_map (λ rule. record { line = r.line; rule = rule }) o)
     first_rest o is =
         on
-        ∙ ap (λ h. lines_on (input_to r false) r.line h r.starting r.last r.ended ((r.unfinished ++ xs) ∷ [])) no_header
+        ∙ ap (λ h. lines_on (input_to r false) r.line h r.starting r.last r.ended
+        ((r.unfinished ++ xs) ∷ [])) no_header
         ∙ ap (stopped 1) (unfinished_cases r.max_lines 1 BadHeader (r.unfinished ++ xs)
         ∙ (λ i. cond (any i && isnt_below r.max_lines 1 low i) (Some TooManyLines) (is i)))
         ∙ (λ i. record {
@@ -58,55 +72,93 @@ module _ (r : LineState) (fine : r.fault ≡ None) (low : 1 ≤ r.max_lines) (on
           fault = option_map (λ rule. record { line = sym one i; rule = rule }) o;
         })
 
-    pub first_long : 64 < length r.unfinished + length xs → goes_on r false xs ≡ known r (Some (record { line = r.line; rule = BadHeader }))
+    pub first_long : 64 < length r.unfinished + length xs → goes_on r false xs
+        ≡ known r (Some (record { line = r.line; rule = BadHeader }))
     first_long h = first_rest (Some BadHeader)
-        (ap (λ b. cond b (Some BadHeader) None) (is_below 64 (length (r.unfinished ++ xs)) (omega (arith, length-append r.unfinished xs))))
+        (ap (λ b. cond b (Some BadHeader) None)
+        (is_below 64 (length (r.unfinished ++ xs)) (omega (arith, length-append r.unfinished xs))))
 
     pub first_short : length r.unfinished + length xs ≤ 64 → goes_on r false xs ≡ known r None
     first_short h = first_rest None
-        (ap (λ b. cond b (Some BadHeader) None) (isnt_below 64 (length (r.unfinished ++ xs)) (omega (arith, length-append r.unfinished xs))))
+        (ap (λ b. cond b (Some BadHeader) None)
+        (isnt_below 64 (length (r.unfinished ++ xs))
+        (omega (arith, length-append r.unfinished xs))))
 
   module _ (h : Header) (has : r.header ≡ Some h) where
-    ended_rest : (o : Option Rule) → r.ended ≡ true → cond (nat_lt r.max_lines r.line) (Some TooManyLines) (Some AfterEnd) ≡ o
-        → goes_on r false xs ≡ known r (option_map (λ rule. record { line = r.line; rule = rule }) o)
+    ended_rest : (o : Option Rule) → r.ended ≡ true → cond (nat_lt r.max_lines r.line)
+        (Some TooManyLines) (Some AfterEnd) ≡ o
+        → goes_on r false xs
+        ≡ known r (option_map (λ rule. record { line = r.line; rule = rule }) o)
     ended_rest o done is =
         on
-        ∙ (λ i. lines_on (input_to r false) r.line (has i) r.starting r.last (done i) ((r.unfinished ++ xs) ∷ []))
+        ∙ (λ i. lines_on (input_to r false) r.line (has i) r.starting r.last (done i)
+        ((r.unfinished ++ xs) ∷ []))
         ∙ ap (λ b. header_before h (ended r.line
-        (first_broken (((b || false) && nat_lt r.max_lines r.line breaks TooManyLines) ∷ ((b || false) breaks AfterEnd) ∷ [])))) any
+        (first_broken (((b || false) && nat_lt r.max_lines r.line breaks TooManyLines)
+        ∷ ((b || false) breaks AfterEnd) ∷ [])))) any
         ∙ ap (λ p. header_before h (ended r.line p)) is
-        ∙ (λ i. record { header = sym has i; starting = []; entries = []; ended = sym done i; fault = fault_on r.line o })
+        ∙ (λ i. record {
+          header = sym has i;
+          starting = [];
+          entries = [];
+          ended = sym done i;
+          fault = fault_on r.line o;
+        })
 
     entry_rest : (o : Option Rule) → r.ended ≡ false
-        → cond (nat_lt r.max_lines r.line) (Some TooManyLines) (cond (nat_lt 64 (length (r.unfinished ++ xs))) (Some BadEntry) None) ≡ o
-        → goes_on r false xs ≡ known r (option_map (λ rule. record { line = r.line; rule = rule }) o)
+        → cond (nat_lt r.max_lines r.line) (Some TooManyLines)
+        (cond (nat_lt 64 (length (r.unfinished ++ xs))) (Some BadEntry) None) ≡ o
+        → goes_on r false xs
+        ≡ known r (option_map (λ rule. record { line = r.line; rule = rule }) o)
     entry_rest o going is =
         on
-        ∙ (λ i. lines_on (input_to r false) r.line (has i) r.starting r.last (going i) ((r.unfinished ++ xs) ∷ []))
-        ∙ ap (header_before h) (rest_body (input_to r false) h r.starting r.last r.line (r.unfinished ++ xs))
-        ∙ ap (λ p. header_before h (stopped r.line p)) (unfinished_cases r.max_lines r.line BadEntry (r.unfinished ++ xs)
+        ∙ (λ i. lines_on (input_to r false) r.line (has i) r.starting r.last (going i)
+        ((r.unfinished ++ xs) ∷ []))
+        ∙ ap (header_before h)
+        (rest_body (input_to r false) h r.starting r.last r.line (r.unfinished ++ xs))
+        ∙ ap (λ p. header_before h (stopped r.line p))
+        (unfinished_cases r.max_lines r.line BadEntry (r.unfinished ++ xs)
         ∙ ap (λ b. cond (b && nat_lt r.max_lines r.line) (Some TooManyLines)
         (cond (nat_lt 64 (length (r.unfinished ++ xs))) (Some BadEntry) None)) any ∙ is)
-        ∙ (λ i. record { header = sym has i; starting = []; entries = []; ended = sym going i; fault = fault_on r.line o })
+        ∙ (λ i. record {
+          header = sym has i;
+          starting = [];
+          entries = [];
+          ended = sym going i;
+          fault = fault_on r.line o;
+        })
 
-    pub rest_past : r.max_lines < r.line → goes_on r false xs ≡ known r (Some (record { line = r.line; rule = TooManyLines }))
+    pub rest_past : r.max_lines < r.line → goes_on r false xs
+        ≡ known r (Some (record { line = r.line; rule = TooManyLines }))
     rest_past past = by_end r.ended refl
       where
-        by_end : (b : Bool) → r.ended ≡ b → goes_on r false xs ≡ known r (Some (record { line = r.line; rule = TooManyLines }))
-        by_end true is = ended_rest (Some TooManyLines) is (ap (λ b. cond b (Some TooManyLines) (Some AfterEnd)) (is_below r.max_lines r.line past))
+        by_end : (b : Bool) → r.ended ≡ b → goes_on r false xs
+            ≡ known r (Some (record { line = r.line; rule = TooManyLines }))
+        by_end true is = ended_rest (Some TooManyLines) is
+            (ap (λ b. cond b (Some TooManyLines) (Some AfterEnd))
+            (is_below r.max_lines r.line past))
         by_end false is = entry_rest (Some TooManyLines) is
-            (ap (λ b. cond b (Some TooManyLines) (cond (nat_lt 64 (length (r.unfinished ++ xs))) (Some BadEntry) None))
+            (ap (λ b. cond b (Some TooManyLines)
+            (cond (nat_lt 64 (length (r.unfinished ++ xs))) (Some BadEntry) None))
             (is_below r.max_lines r.line past))
 
     module _ (within : r.line ≤ r.max_lines) where
-      pub rest_after_end : r.ended ≡ true → goes_on r false xs ≡ known r (Some (record { line = r.line; rule = AfterEnd }))
-      rest_after_end is = ended_rest (Some AfterEnd) is (ap (λ b. cond b (Some TooManyLines) (Some AfterEnd)) (isnt_below r.max_lines r.line within))
+      pub rest_after_end : r.ended ≡ true → goes_on r false xs
+          ≡ known r (Some (record { line = r.line; rule = AfterEnd }))
+      rest_after_end is = ended_rest (Some AfterEnd) is
+          (ap (λ b. cond b (Some TooManyLines) (Some AfterEnd))
+          (isnt_below r.max_lines r.line within))
 
       pub rest_long : r.ended ≡ false → 64 < length r.unfinished + length xs
           → goes_on r false xs ≡ known r (Some (record { line = r.line; rule = BadEntry }))
-      rest_long is h = entry_rest (Some BadEntry) is (λ i. cond (isnt_below r.max_lines r.line within i) (Some TooManyLines)
-          (cond (is_below 64 (length (r.unfinished ++ xs)) (omega (arith, length-append r.unfinished xs)) i) (Some BadEntry) None))
+      rest_long is h = entry_rest (Some BadEntry) is
+          (λ i. cond (isnt_below r.max_lines r.line within i) (Some TooManyLines)
+          (cond (is_below 64 (length (r.unfinished ++ xs))
+          (omega (arith, length-append r.unfinished xs)) i) (Some BadEntry) None))
 
-      pub rest_short : r.ended ≡ false → length r.unfinished + length xs ≤ 64 → goes_on r false xs ≡ known r None
-      rest_short is h = entry_rest None is (λ i. cond (isnt_below r.max_lines r.line within i) (Some TooManyLines)
-          (cond (isnt_below 64 (length (r.unfinished ++ xs)) (omega (arith, length-append r.unfinished xs)) i) (Some BadEntry) None))
+      pub rest_short : r.ended ≡ false → length r.unfinished + length xs ≤ 64 → goes_on r false xs
+          ≡ known r None
+      rest_short is h = entry_rest None is
+          (λ i. cond (isnt_below r.max_lines r.line within i) (Some TooManyLines)
+          (cond (isnt_below 64 (length (r.unfinished ++ xs))
+          (omega (arith, length-append r.unfinished xs)) i) (Some BadEntry) None))

@@ -1,5 +1,6 @@
 -- What the parts of a starting line say of it.
-use Rattle.std.proofs.Common.{◌≡◌, ℕ, ◌<◌, ◌^◌, true, List, ◌∷◌, ◌++◌, Option, Some, None, refl, ap, sym, ◌∙◌, arith}
+use Rattle.std.proofs.Common.{◌≡◌, ℕ, ◌<◌, ◌^◌, true, List, ◌∷◌, ◌++◌, Option, Some, None, refl, ap}
+use Rattle.std.proofs.Common.{sym, ◌∙◌, arith}
 use Rattle.std.specs.Prelude.{nat_lt, codes, decimal}
 use Rattle.std.proofs.lemmas.List.{append_cancel_left}
 use Rattle.vyrd_base.specs.declared.log.StartWord.{StartWord}
@@ -10,7 +11,8 @@ use Rattle.vyrd_base.proofs.TestLaws.{both_true, first_true, second_true, below_
 use Rattle.vyrd_text.proofs.PartLaws.{one_before_space}
 
 -- a line that isn't a starting word's
-no_start : (line : List ℕ) → ((s : StartWord) → is_start s ≡ true → line ≡ start_line s → ⊥) → None ≡ start_in line
+no_start : (line : List ℕ) → ((s : StartWord) → is_start s ≡ true → line ≡ start_line s → ⊥)
+    → None ≡ start_in line
 no_start line none = by_answer (start_in line) refl
   where
     by_answer : (o : Option StartWord) → start_in line ≡ o → None ≡ o
@@ -18,29 +20,41 @@ no_start line none = by_answer (start_in line) refl
     by_answer (Some s) e = let is = start_in_sound line s e in absurd (none s is.1 is.0)
 
 -- a line that doesn't begin as one
-pub no_word : (line : List ℕ) → ((rest : List ℕ) → line ≡ codes "start " ++ rest → ⊥) → None ≡ start_in line
+pub no_word : (line : List ℕ) → ((rest : List ℕ) → line ≡ codes "start " ++ rest → ⊥)
+    → None ≡ start_in line
 no_word line none = no_start line (λ s ok same. none (decimal s.word ++ 32 ∷ decimal s.value) same)
 
 -- a line without a number before a space after that
 pub no_number : (line rest : List ℕ) → line ≡ codes "start " ++ rest
-    → ((n : ℕ) (more : List ℕ) → n < 2 ^ 32 → rest ≡ decimal n ++ 32 ∷ more → ⊥) → None ≡ start_in line
+    → ((n : ℕ) (more : List ℕ) → n < 2 ^ 32 → rest ≡ decimal n ++ 32 ∷ more → ⊥)
+    → None ≡ start_in line
 no_number line rest is none = no_start line (λ s ok same.
     none s.word (decimal s.value) (below_of s.word (2 ^ 32) (first_true _ _ ok))
-    (append_cancel_left (codes "start ") rest (decimal s.word ++ 32 ∷ decimal s.value) (sym is ∙ same)))
+    (append_cancel_left (codes "start ") rest (decimal s.word ++ 32 ∷ decimal s.value)
+    (sym is ∙ same)))
 
 -- a line without a value after the number
-pub no_start_value : (line rest : List ℕ) (word : ℕ) (more : List ℕ) → line ≡ codes "start " ++ rest → word < 2 ^ 32
-    → rest ≡ decimal word ++ 32 ∷ more → ((n : ℕ) → n < 2 ^ 64 → more ≡ decimal n → ⊥) → None ≡ start_in line
+pub no_start_value : (line rest : List ℕ) (word : ℕ) (more : List ℕ) → line ≡ codes "start " ++ rest
+    → word < 2 ^ 32
+    → rest ≡ decimal word ++ 32 ∷ more → ((n : ℕ) → n < 2 ^ 64 → more ≡ decimal n → ⊥)
+    → None ≡ start_in line
 no_start_value line rest word more is low parts none = no_start line (λ s ok same.
     let small : s.word < 2 ^ 32 = below_of s.word (2 ^ 32) (first_true _ _ ok) in
-    let after = append_cancel_left (codes "start ") rest (decimal s.word ++ 32 ∷ decimal s.value) (sym is ∙ same) in
-    let one = one_before_space word s.word more (decimal s.value) (omega arith) (omega arith) (sym parts ∙ after) in
+    let after = append_cancel_left (codes "start ") rest (decimal s.word ++ 32 ∷ decimal s.value)
+    (sym is ∙ same) in
+    let one = one_before_space word s.word more (decimal s.value) (omega arith) (omega arith)
+    (sym parts ∙ after) in
     none s.value (below_of s.value (2 ^ 64) (second_true (nat_lt s.word (2 ^ 32)) _ ok)) one.1)
 
 -- a line that is one
-pub start_made : (line rest : List ℕ) (word : ℕ) (more : List ℕ) (value : ℕ) → line ≡ codes "start " ++ rest → word < 2 ^ 32
-    → rest ≡ decimal word ++ 32 ∷ more → value < 2 ^ 64 → more ≡ decimal value → Some (record { word = word; value = value }) ≡ start_in line
+pub start_made : (line rest : List ℕ) (word : ℕ) (more : List ℕ) (value : ℕ) → line ≡ codes "start "
+    ++ rest → word < 2 ^ 32
+    → rest ≡ decimal word ++ 32 ∷ more → value < 2 ^ 64 → more ≡ decimal value
+    → Some (record { word = word; value = value }) ≡ start_in line
 start_made line rest word more value is low parts small end =
     let s : StartWord = record { word = word; value = value } in
-    let same : line ≡ start_line s = is ∙ ap (λ t. codes "start " ++ t) (parts ∙ ap (λ t. decimal word ++ 32 ∷ t) end) in
-    sym (ap start_in same ∙ start_in-start_line s (both_true _ _ (is_below word (2 ^ 32) low) (is_below value (2 ^ 64) small)))
+    let same : line ≡ start_line s = is ∙ ap (λ t. codes "start " ++ t)
+    (parts ∙ ap (λ t. decimal word ++ 32 ∷ t) end) in
+    sym (ap start_in same
+    ∙ start_in-start_line s
+    (both_true _ _ (is_below word (2 ^ 32) low) (is_below value (2 ^ 64) small)))

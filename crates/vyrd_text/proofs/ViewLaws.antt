@@ -1,5 +1,6 @@
 -- What the fields of a reader say of its state.
-use Rattle.std.proofs.Common.{◌≡◌, ℕ, Bool, true, false, cond, List, [], ◌∷◌, Option, Some, None, refl}
+use Rattle.std.proofs.Common.{◌≡◌, ℕ, Bool, true, false, cond, List, [], ◌∷◌, Option, Some, None}
+use Rattle.std.proofs.Common.{refl}
 use Rattle.std.specs.Prelude.{is_some, option_map}
 use Rattle.vyrd_base.specs.declared.header.Header.{Header}
 use Rattle.vyrd_base.specs.declared.verdict.Rule.TheVariants.{NoLineFeed, NoEnd}
@@ -13,12 +14,14 @@ pub fault_none : (o : Option LineFault) → is_some o ≡ false → option_map f
 fault_none None e = refl
 fault_none (Some f) e = cc
 
-pub fault_some : (o : Option LineFault) → is_some o ≡ true → (f : TextFault) × (option_map fault_of o ≡ Some f)
+pub fault_some : (o : Option LineFault) → is_some o ≡ true → (f : TextFault)
+    × (option_map fault_of o ≡ Some f)
 fault_some None e = cc
 fault_some (Some f) e = (fault_of f, refl)
 
 -- `end` is read after a header
-pub header_of_ended : (r : LineState) → IsSteady r → r.ended ≡ true → (h : Header) × (r.header ≡ Some h)
+pub header_of_ended : (r : LineState) → IsSteady r → r.ended ≡ true → (h : Header)
+    × (r.header ≡ Some h)
 header_of_ended r steady done = by_header r.header refl
   where
     by_header : (o : Option Header) → r.header ≡ o → (h : Header) × (o ≡ Some h)

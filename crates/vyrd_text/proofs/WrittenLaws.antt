@@ -1,5 +1,7 @@
 -- What is appended in turn.
-use Rattle.std.proofs.Common.{◌≡◌, ℕ, ◌≤◌, ◌^◌, true, cond, ◌&&◌, List, [], ◌∷◌, ◌++◌, take, length, Result, Ok, Err, refl, ap, sym, ◌∙◌, arith, append_assoc, append-nil, length-append}
+use Rattle.std.proofs.Common.{◌≡◌, ℕ, ◌≤◌, ◌^◌, true, cond, ◌&&◌, List, [], ◌∷◌, ◌++◌, take, length}
+use Rattle.std.proofs.Common.{Result, Ok, Err, refl, ap, sym, ◌∙◌, arith, append_assoc, append-nil}
+use Rattle.std.proofs.Common.{length-append}
 use Rattle.std.specs.Prelude.{codes, decimal, map, flat_map, nat_lt, OnOk}
 use Rattle.std.specs.List.{AllByRecursion}
 use Rattle.std.specs.Result.{is_ok}
@@ -9,47 +11,58 @@ use Rattle.vyrd_base.specs.declared.subject.Subject.{Subject}
 use Rattle.vyrd_base.specs.declared.subject.Method.{Method}
 use Rattle.vyrd_base.specs.declared.subject.Args.{Args}
 use Rattle.vyrd_base.specs.declared.log.Kind.{Kind}
-use Rattle.vyrd_base.specs.declared.log.Kind.TheVariants.{Call, Return, Write, Commit, BlockOpen, BlockClose, BlockCommit}
+use Rattle.vyrd_base.specs.declared.log.Kind.TheVariants.{Call, Return, Write, Commit, BlockOpen}
+use Rattle.vyrd_base.specs.declared.log.Kind.TheVariants.{BlockClose, BlockCommit}
 use Rattle.vyrd_base.specs.declared.log.Entry.{Entry}
 use Rattle.vyrd_base.specs.declared.log.StartWord.{StartWord}
 use Rattle.vyrd_base.specs.Subjects.{arity_of}
-use Rattle.vyrd_base.specs.Spelling.{ended_line, start_line, entry_line, header_line, log_text, is_kind_of, is_entry_of, spaced, method_name}
+use Rattle.vyrd_base.specs.Spelling.{ended_line, start_line, entry_line, header_line, log_text}
+use Rattle.vyrd_base.specs.Spelling.{is_kind_of, is_entry_of, spaced, method_name}
 use Rattle.vyrd_base.proofs.ReadingLaws.{AllOf}
 use Rattle.vyrd_base.proofs.TestLaws.{first_true, second_true}
 use Rattle.vyrd_text.specs.Spelled.{call_text}
 use Rattle.vyrd_text.specs.Written.{is_padded, is_of_subject, is_writable}
 
 -- the front of a list that goes on from a longer front
-pub front_of_front : (old more middle now : List ℕ) → middle ≡ old ++ more → take (length middle) now ≡ middle → take (length old) now ≡ old
+pub front_of_front : (old more middle now : List ℕ) → middle ≡ old ++ more
+    → take (length middle) now ≡ middle → take (length old) now ≡ old
 front_of_front old more middle now e f =
     let long : length old ≤ length middle = omega (arith, ap length e, length-append old more) in
-    sym (take-take (length old) (length middle) now long) ∙ ap (take (length old)) (f ∙ e) ∙ take_at old more (length old) refl
+    sym (take-take (length old) (length middle) now long) ∙ ap (take (length old)) (f ∙ e)
+    ∙ take_at old more (length old) refl
 
 -- the last part of what is appended
-pub appended : {E : Type 0} (r : Result (Unit {0}) E) (was more now target : List ℕ) → now ≡ cond (is_ok r) (was ++ more) was
+pub appended : {E : Type 0} (r : Result (Unit {0}) E) (was more now target : List ℕ)
+    → now ≡ cond (is_ok r) (was ++ more) was
     → was ++ more ≡ target → OnOk r (now ≡ target)
 appended (Ok x) was more now target e f = e ∙ f
 appended (Err x) was more now target e f = tt
 
 -- a header, starting words, entries and `end` are a log's text
-pub whole_log : (h : Header) (start : List StartWord) (entries : List Entry) (old first second third : List ℕ)
+pub whole_log : (h : Header) (start : List StartWord) (entries : List Entry)
+    (old first second third : List ℕ)
     → first ≡ old ++ ended_line (header_line h.version h.subject h.size h.callers)
     → second ≡ first ++ flat_map (λ s. ended_line (start_line s)) start
-    → third ≡ second ++ flat_map (λ e. ended_line (entry_line e)) entries → third ++ codes "end\n" ≡ old ++ log_text h start entries
+    → third ≡ second ++ flat_map (λ e. ended_line (entry_line e)) entries → third ++ codes "end\n"
+    ≡ old ++ log_text h start entries
 unfolding log_text
 whole_log h start entries old first second third e f g =
     let line = ended_line (header_line h.version h.subject h.size h.callers) in
     let starts = flat_map (λ s. ended_line (start_line s)) start in
     let lines = flat_map (λ x. ended_line (entry_line x)) entries in
-    let begun : second ≡ old ++ (line ++ starts) = f ∙ ap (λ t. t ++ starts) e ∙ append_assoc old line starts in
-    ap (λ t. t ++ codes "end\n") (g ∙ ap (λ t. t ++ lines) begun ∙ append_assoc old (line ++ starts) lines)
+    let begun : second ≡ old ++ (line ++ starts) = f ∙ ap (λ t. t ++ starts) e
+    ∙ append_assoc old line starts in
+    ap (λ t. t ++ codes "end\n")
+    (g ∙ ap (λ t. t ++ lines) begun ∙ append_assoc old (line ++ starts) lines)
     ∙ append_assoc old ((line ++ starts) ++ lines) (codes "end\n")
 
 -- an entry that has a spelling can be written
-entry_writable : (subject : Subject) (e : Entry) → is_entry_of subject e ≡ true → is_writable subject e ≡ true
+entry_writable : (subject : Subject) (e : Entry) → is_entry_of subject e ≡ true
+    → is_writable subject e ≡ true
 entry_writable subject e is = by_kind e.kind (second_true (nat_lt e.caller (2 ^ 32)) _ is)
   where
-    by_kind : (kind : Kind) → is_kind_of subject kind ≡ true → (is_of_subject subject kind && is_padded kind) ≡ true
+    by_kind : (kind : Kind) → is_kind_of subject kind ≡ true
+        → (is_of_subject subject kind && is_padded kind) ≡ true
     by_kind (Call method args) k = first_true _ _ (first_true _ _ (first_true _ _ k))
     by_kind (Return reply) k = refl
     by_kind (Write word value) k = refl
@@ -58,7 +71,8 @@ entry_writable subject e is = by_kind e.kind (second_true (nat_lt e.caller (2 ^ 
     by_kind BlockClose k = refl
     by_kind BlockCommit k = refl
 
-pub all_writable : (subject : Subject) (es : List Entry) → AllOf subject es → AllByRecursion (λ e. is_writable subject e ≡ true) es
+pub all_writable : (subject : Subject) (es : List Entry) → AllOf subject es
+    → AllByRecursion (λ e. is_writable subject e ≡ true) es
 all_writable subject [] all = tt
 all_writable subject (e ∷ es) all = (entry_writable subject e all.0, all_writable subject es all.1)
 
@@ -70,6 +84,7 @@ spaced_fields field (n ∷ ns) = ap (λ rest. field ++ 32 ∷ rest) (spaced_fiel
 
 -- a method's name, and after it its arguments, each after a space
 pub call_text_after : (method : Method) (args : Args) → call_text method args
-    ≡ method_name method ++ flat_map (λ n. 32 ∷ decimal n) (take (arity_of method) (args.a ∷ args.b ∷ args.c ∷ []))
+    ≡ method_name method ++ flat_map (λ n. 32 ∷ decimal n)
+    (take (arity_of method) (args.a ∷ args.b ∷ args.c ∷ []))
 call_text_after method args =
     spaced_fields (method_name method) (take (arity_of method) (args.a ∷ args.b ∷ args.c ∷ []))

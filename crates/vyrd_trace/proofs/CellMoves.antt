@@ -1,5 +1,6 @@
 -- The cells and the claims after a step at one cell.
-use Rattle.std.proofs.Common.{◌≡◌, ◌≢◌, ℕ, ◌+◌, ◌*◌, ◌%◌, ◌<◌, ◌≤◌, List, true, Option, Some, None, refl, sym, ap, ◌∙◌, subst, arith}
+use Rattle.std.proofs.Common.{◌≡◌, ◌≢◌, ℕ, ◌+◌, ◌*◌, ◌%◌, ◌<◌, ◌≤◌, List, true, Option, Some, None}
+use Rattle.std.proofs.Common.{refl, sym, ap, ◌∙◌, subst, arith}
 use Rattle.std.specs.Prelude.{slice_index}
 use mathlib.Core.Logic.{dite}
 use mathlib.Core.Option.{some}
@@ -17,16 +18,20 @@ use Rattle.vyrd_trace.specs.Rule.{Ghost, IsAt, InHand, FitsCell, Knows, Kept}
 use Rattle.vyrd_trace.proofs.Stays.{St, Same, refit}
 
 -- a cell that fits depends on its claimer's action alone
-fits_other : (plain : ℕ) (f h : ℕ → Stage) (k w n : ℕ) (o : Option ℕ) → ((c : ℕ) → o ≡ Some c → h c ≡ f c)
+fits_other : (plain : ℕ) (f h : ℕ → Stage) (k w n : ℕ) (o : Option ℕ)
+    → ((c : ℕ) → o ≡ Some c → h c ≡ f c)
     → FitsCell plain f k w n o → FitsCell plain h k w n o
 fits_other plain f h k w n None same fits = fits
-fits_other plain f h k w n (Some c) same fits = subst (InHand plain c k w n) (sym (same c refl)) fits
+fits_other plain f h k w n (Some c) same fits = subst (InHand plain c k w n)
+    (sym (same c refl)) fits
 
 -- a cell in hand is that of its claimer's action
-pub in_hand : (plain : ℕ) (f : ℕ → Stage) (k w n by : ℕ) (o : Option ℕ) → o ≡ Some by → FitsCell plain f k w n o → InHand plain by k w n (f by)
+pub in_hand : (plain : ℕ) (f : ℕ → Stage) (k w n by : ℕ) (o : Option ℕ) → o ≡ Some by
+    → FitsCell plain f k w n o → InHand plain by k w n (f by)
 in_hand plain f k w n by o is fits = subst (FitsCell plain f k w n) is fits
 
-module _ (p : Plan) (s : St) (r : Kept p s) (id : ℕ) (v : Record) (at : get_elem? s.views id ≡ some v) (live : v.live ≡ true) where
+module _ (p : Plan) (s : St) (r : Kept p s) (id : ℕ) (v : Record)
+    (at : get_elem? s.views id ≡ some v) (live : v.live ≡ true) where
   abbrev pub G : Ghost
   G = r.ghost_state
 
@@ -37,44 +42,68 @@ module _ (p : Plan) (s : St) (r : Kept p s) (id : ℕ) (v : Record) (at : get_el
   Mine = r.seats id v at live
 
   -- at another cell the claimer is another caller, if this caller's action is at k0 or at none
-  others_claim : (k : ℕ) → k < p.plain + p.locks → ((w n : ℕ) → InHand p.plain By k w n v.stage → ⊥) → (c : ℕ) → G.claimer k ≡ Some c → c ≢ By
-  others_claim k inside not_here c is same = not_here (slice_index s.words (k + 1)) (last_value G.history k)
-      (subst (InHand p.plain By k (slice_index s.words (k + 1)) (last_value G.history k)) Mine.at_stage
+  others_claim : (k : ℕ) → k < p.plain + p.locks → ((w n : ℕ) → InHand p.plain By k w n v.stage → ⊥)
+      → (c : ℕ) → G.claimer k ≡ Some c → c ≢ By
+  others_claim k inside not_here c is same = not_here (slice_index s.words (k + 1))
+      (last_value G.history k)
+      (subst (InHand p.plain By k (slice_index s.words (k + 1)) (last_value G.history k))
+      Mine.at_stage
       (in_hand p.plain G.stage k _ _ By (G.claimer k) (is ∙ ap Some same) (r.cells k inside)))
 
   module _ (k0 : ℕ) (inside : k0 < p.plain + p.locks) where
     -- the cells after a step at k0 with a new action of this caller
     pub moved : (st : Stage) (w' : ℕ) (o : Option ℕ) (words : List ℕ) (h : List Stamped)
-        → ((k : ℕ) → k ≢ k0 → slice_index words (k + 1) ≡ slice_index s.words (k + 1)) → slice_index words (k0 + 1) ≡ w'
-        → ((k : ℕ) → k ≢ k0 → last_value h k ≡ last_value G.history k) → ((k w n : ℕ) → k ≢ k0 → InHand p.plain By k w n v.stage → ⊥)
+        → ((k : ℕ) → k ≢ k0 → slice_index words (k + 1) ≡ slice_index s.words (k + 1))
+        → slice_index words (k0 + 1) ≡ w'
+        → ((k : ℕ) → k ≢ k0 → last_value h k ≡ last_value G.history k)
+        → ((k w n : ℕ) → k ≢ k0 → InHand p.plain By k w n v.stage → ⊥)
         → FitsCell p.plain (upd G.stage By st) k0 w' (last_value h k0) o
-        → (k : ℕ) → k < p.plain + p.locks → FitsCell p.plain (upd G.stage By st) k (slice_index words (k + 1)) (last_value h k) (upd G.claimer k0 o k)
+        → (k : ℕ) → k < p.plain + p.locks → FitsCell p.plain (upd G.stage By st) k
+        (slice_index words (k + 1)) (last_value h k) (upd G.claimer k0 o k)
     moved st w' o words h elsewhere here same not_here fits k l = dite (ℕ_discrete k k0)
         (λ e. let is : upd G.claimer k0 o k ≡ o = upd_here G.claimer k0 o k e in
-        subst (FitsCell p.plain (upd G.stage By st) k (slice_index words (k + 1)) (last_value h k)) (sym is)
-        (subst (λ (x : ℕ). FitsCell p.plain (upd G.stage By st) x (slice_index words (x + 1)) (last_value h x) o) (sym e)
-        (subst (λ (x : ℕ). FitsCell p.plain (upd G.stage By st) k0 x (last_value h k0) o) (sym here) fits)))
-        (λ no. subst (FitsCell p.plain (upd G.stage By st) k (slice_index words (k + 1)) (last_value h k)) (sym (upd_else G.claimer k0 o k no))
+        subst (FitsCell p.plain (upd G.stage By st) k (slice_index words (k + 1)) (last_value h k))
+        (sym is)
+        (subst (λ (x : ℕ). FitsCell p.plain (upd G.stage By st) x (slice_index words (x + 1))
+        (last_value h x) o) (sym e)
+        (subst (λ (x : ℕ). FitsCell p.plain (upd G.stage By st) k0 x (last_value h k0) o)
+        (sym here) fits)))
+        (λ no. subst (FitsCell p.plain (upd G.stage By st) k (slice_index words (k + 1))
+        (last_value h k)) (sym (upd_else G.claimer k0 o k no))
         (refit p.plain (upd G.stage By st) k _ _ _ _ (G.claimer k) (elsewhere k no) (same k no)
         (fits_other p.plain G.stage (upd G.stage By st) k _ _ (G.claimer k)
-        (λ c is. upd_else G.stage By st c (others_claim k l (λ w n. not_here k w n no) c is)) (r.cells k l))))
+        (λ c is. upd_else G.stage By st c (others_claim k l (λ w n. not_here k w n no) c is))
+        (r.cells k l))))
 
     -- the claims after it: the new action is at k0, if it is anywhere, and then the cell is claimed
-    pub claims_moved : (st : Stage) (o : Option ℕ) → ((k : ℕ) → IsAt st k → (k ≡ k0) × (o ≡ Some By)) → ((c : ℕ) → c ≢ By → G.claimer k0 ≡ Some c → ⊥)
+    pub claims_moved : (st : Stage) (o : Option ℕ)
+        → ((k : ℕ) → IsAt st k → (k ≡ k0) × (o ≡ Some By))
+        → ((c : ℕ) → c ≢ By → G.claimer k0 ≡ Some c → ⊥)
         → (c k : ℕ) → IsAt (upd G.stage By st c) k → upd G.claimer k0 o k ≡ Some c
     claims_moved st o new free c k at' = dite (ℕ_discrete c By)
-        (λ e. let n = new k (subst (λ (x : Stage). IsAt x k) (upd_here G.stage By st c e) at') in upd_here G.claimer k0 o k n.0
+        (λ e. let n = new k (subst (λ (x : Stage). IsAt x k) (upd_here G.stage By st c e) at') in
+        upd_here G.claimer k0 o k n.0
         ∙ n.1 ∙ ap Some (sym e))
-        (λ no. let was = r.claims c k (subst (λ (x : Stage). IsAt x k) (upd_else G.stage By st c no) at') in
-        let apart : k ≢ k0 = λ e. free c no (ap G.claimer (sym e) ∙ was) in upd_else G.claimer k0 o k apart ∙ was)
+        (λ no. let was = r.claims c k
+        (subst (λ (x : Stage). IsAt x k) (upd_else G.stage By st c no) at') in
+        let apart : k ≢ k0 = λ e. free c no (ap G.claimer (sym e) ∙ was) in
+        upd_else G.claimer k0 o k apart ∙ was)
 
     -- the ghost state after it differs at this caller alone
-    pub same_moved : (h : List Stamped) (st : Stage) (o : Option ℕ) → ((c : ℕ) → c ≢ By → part c h ≡ part c G.history)
-        → Same G record { history = h; owner = G.owner; stage = upd G.stage By st; claimer = upd G.claimer k0 o } By
-    same_moved h st o parts = record { owners = λ c. refl; parts = parts; stages = λ c no. upd_else G.stage By st c no }
+    pub same_moved : (h : List Stamped) (st : Stage) (o : Option ℕ)
+        → ((c : ℕ) → c ≢ By → part c h ≡ part c G.history)
+        → Same G record {
+          history = h;
+          owner = G.owner;
+          stage = upd G.stage By st;
+          claimer = upd G.claimer k0 o;
+        } By
+    same_moved h st o parts =
+        record { owners = λ c. refl; parts = parts; stages = λ c no. upd_else G.stage By st c no }
 
 -- a free cell: its word is even, and it isn't a lock that is given
-pub free_cell : (plain : ℕ) (f : ℕ → Stage) (k w n : ℕ) (o : Option ℕ) → w % 2 ≡ 0 → (plain ≤ k → w ≡ 0)
+pub free_cell : (plain : ℕ) (f : ℕ → Stage) (k w n : ℕ) (o : Option ℕ) → w % 2 ≡ 0
+    → (plain ≤ k → w ≡ 0)
     → FitsCell plain f k w n o → (o ≡ None) × (w ≡ 2 * n)
 free_cell plain f k w n None even lock fits = (refl, fits)
 free_cell plain f k w n (Some c) even lock fits = absurd (taken (f c) fits)
@@ -86,7 +115,8 @@ free_cell plain f k w n (Some c) even lock fits = absurd (taken (f c) fits)
     taken (Giving c') h = let a = h.2 in let z = lock h.1 in omega arith
 
 -- a held lock of a caller at rest: nobody has it in hand
-pub held_cell : (plain : ℕ) (f : ℕ → Stage) (k w n by : ℕ) (o : Option ℕ) → plain ≤ k → n ≡ by + 1 → f by ≡ Rest
+pub held_cell : (plain : ℕ) (f : ℕ → Stage) (k w n by : ℕ) (o : Option ℕ) → plain ≤ k → n ≡ by + 1
+    → f by ≡ Rest
     → FitsCell plain f k w n o → (o ≡ None) × (w ≡ 2 * n)
 held_cell plain f k w n by None lock held rest fits = (refl, fits)
 held_cell plain f k w n by (Some c) lock held rest fits = absurd (taken (f c) refl fits)
@@ -102,16 +132,23 @@ held_cell plain f k w n by (Some c) lock held rest fits = absurd (taken (f c) re
     taken (Giving c') is h = let a = h.3 in omega arith
 
 -- an action at one cell has no other cell in hand
-pub nowhere : (plain by k0 : ℕ) (b : ℕ) (st : Stage) → st ≡ Claimed k0 b → (k w n : ℕ) → k ≢ k0 → InHand plain by k w n st → ⊥
-nowhere plain by k0 b st is k w n apart h = let x : InHand plain by k w n (Claimed k0 b) = subst (InHand plain by k w n) is h in apart (sym x.0)
+pub nowhere : (plain by k0 : ℕ) (b : ℕ) (st : Stage) → st ≡ Claimed k0 b → (k w n : ℕ) → k ≢ k0
+    → InHand plain by k w n st → ⊥
+nowhere plain by k0 b st is k w n apart h = let x : InHand plain by k w n (Claimed k0 b) =
+    subst (InHand plain by k w n) is h in apart (sym x.0)
 
-pub nowhere_drawn : (plain by k0 : ℕ) (b m : ℕ) (st : Stage) → st ≡ Drawn k0 b m → (k w n : ℕ) → k ≢ k0 → InHand plain by k w n st → ⊥
+pub nowhere_drawn : (plain by k0 : ℕ) (b m : ℕ) (st : Stage) → st ≡ Drawn k0 b m → (k w n : ℕ)
+    → k ≢ k0 → InHand plain by k w n st → ⊥
 nowhere_drawn plain by k0 b m st is k w n apart h = let x : InHand plain by k w n (Drawn k0 b m) =
     subst (InHand plain by k w n) is h in apart (sym x.0)
 
-pub nowhere_giving : (plain by k0 : ℕ) (st : Stage) → st ≡ Giving k0 → (k w n : ℕ) → k ≢ k0 → InHand plain by k w n st → ⊥
-nowhere_giving plain by k0 st is k w n apart h = let x : InHand plain by k w n (Giving k0) = subst (InHand plain by k w n) is h in apart (sym x.0)
+pub nowhere_giving : (plain by k0 : ℕ) (st : Stage) → st ≡ Giving k0 → (k w n : ℕ) → k ≢ k0
+    → InHand plain by k w n st → ⊥
+nowhere_giving plain by k0 st is k w n apart h = let x : InHand plain by k w n (Giving k0) =
+    subst (InHand plain by k w n) is h in apart (sym x.0)
 
 -- a caller at rest has none
-pub nowhere_rest : (plain by k0 : ℕ) (st : Stage) → st ≡ Rest → (k w n : ℕ) → k ≢ k0 → InHand plain by k w n st → ⊥
-nowhere_rest plain by k0 st is k w n apart h = let x : InHand plain by k w n Rest = subst (InHand plain by k w n) is h in x
+pub nowhere_rest : (plain by k0 : ℕ) (st : Stage) → st ≡ Rest → (k w n : ℕ) → k ≢ k0
+    → InHand plain by k w n st → ⊥
+nowhere_rest plain by k0 st is k w n apart h = let x : InHand plain by k w n Rest =
+    subst (InHand plain by k w n) is h in x

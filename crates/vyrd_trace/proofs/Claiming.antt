@@ -1,5 +1,7 @@
 -- A look, and a claim that is won or lost, keep the rule.
-use Rattle.std.proofs.Common.{◌≡◌, ℕ, ◌+◌, ◌-◌, ◌/◌, ◌%◌, ◌<◌, ◌≤◌, List, length, set, Bool, true, eqb, Option, Some, refl, sym, ap, ◌∙◌, subst, arith, length-set, get_or-set_same, eq-eqb, ne_eqb}
+use Rattle.std.proofs.Common.{◌≡◌, ℕ, ◌+◌, ◌-◌, ◌/◌, ◌%◌, ◌<◌, ◌≤◌, List, length, set, Bool, true}
+use Rattle.std.proofs.Common.{eqb, Option, Some, refl, sym, ap, ◌∙◌, subst, arith, length-set}
+use Rattle.std.proofs.Common.{get_or-set_same, eq-eqb, ne_eqb}
 use Rattle.std.specs.Prelude.{slice_index}
 use Rattle.std.proofs.lemmas.List.{get_or-set_other, set-get_or}
 use Rattle.vyrd_base.proofs.UpdateLaws.{upd, upd_here}
@@ -22,8 +24,10 @@ use Rattle.vyrd_trace.proofs.Stays.{St, turned, refit, same_refl}
 use Rattle.vyrd_trace.proofs.CellMoves.{moved, claims_moved, same_moved, free_cell, nowhere_rest}
 
 module _ (p : Plan) where
-  unmoved : (s : St) (r : Kept p s) (id : ℕ) (c : List (ℕ × Unit {0})) (v : Record) (l : Look) → get_elem? s.views id ≡ some v
-      → v.live ≡ true → (i : ℕ) → Kept p (stepped s i (slice_index s.words i) id c (acting v v.stage l) keeps)
+  unmoved : (s : St) (r : Kept p s) (id : ℕ) (c : List (ℕ × Unit {0})) (v : Record) (l : Look)
+      → get_elem? s.views id ≡ some v
+      → v.live ≡ true → (i : ℕ)
+      → Kept p (stepped s i (slice_index s.words i) id c (acting v v.stage l) keeps)
   unmoved s r id c v l at live i =
       let g = r.ghost_state in
       let mine = r.seats id v at live in
@@ -37,7 +41,8 @@ module _ (p : Plan) where
         legal = r.legal;
         short = let a = r.short v.caller in let b = ap length mine.whole in omega arith;
         claims = r.claims;
-        cells = λ k l. refit p.plain g.stage k _ _ _ _ (g.claimer k) (ap (λ (x : List ℕ). slice_index x (k + 1)) same) refl (r.cells k l);
+        cells = λ k l. refit p.plain g.stage k _ _ _ _ (g.claimer k)
+            (ap (λ (x : List ℕ). slice_index x (k + 1)) same) refl (r.cells k l);
       }
 
   -- looks: nothing changes but the looks
@@ -57,9 +62,11 @@ module _ (p : Plan) where
       )
 
   -- a claim that is won: the word is `old`, which is even, and for a lock 0
-  won : (s : St) (r : Kept p s) (id : ℕ) (c : List (ℕ × Unit {0})) (v : Record) (k0 old new : ℕ) (st : Stage) (l : Look)
+  won : (s : St) (r : Kept p s) (id : ℕ) (c : List (ℕ × Unit {0})) (v : Record) (k0 old new : ℕ)
+      (st : Stage) (l : Look)
       → get_elem? s.views id ≡ some v → v.live ≡ true → k0 < p.plain + p.locks → v.stage ≡ Rest
-      → old % 2 ≡ 0 → (p.plain ≤ k0 → old ≡ 0) → new ≡ old + 1 → slice_index s.words (k0 + 1) ≡ old → st ≡ Claimed k0 (old / 2)
+      → old % 2 ≡ 0 → (p.plain ≤ k0 → old ≡ 0) → new ≡ old + 1 → slice_index s.words (k0 + 1) ≡ old
+      → st ≡ Claimed k0 (old / 2)
       → Kept p (stepped s (k0 + 1) new id c (acting v st l) keeps)
   won s r id c v k0 old new st l at live inside rest even lock up hit is =
       let by : ℕ = v.caller in
@@ -67,10 +74,18 @@ module _ (p : Plan) where
       let mine = r.seats id v at live in
       let o : Option ℕ = Some by in
       let wide = r.wide in
-      let cell = subst (λ (x : ℕ). FitsCell p.plain g.stage k0 x (last_value g.history k0) (g.claimer k0)) hit (r.cells k0 inside) in
-      let free = free_cell p.plain g.stage k0 old (last_value g.history k0) (g.claimer k0) even lock cell in
+      let cell = subst (λ (x : ℕ). FitsCell p.plain g.stage k0 x (last_value g.history k0)
+      (g.claimer k0)) hit (r.cells k0 inside) in
+      let free = free_cell p.plain g.stage k0 old (last_value g.history k0) (g.claimer k0) even lock
+      cell in
       let twice = free.1 in
-      let h : Ghost = record { history = g.history; owner = g.owner; stage = upd g.stage by st; claimer = upd g.claimer k0 o } in
+      let h : Ghost =
+      record {
+        history = g.history;
+        owner = g.owner;
+        stage = upd g.stage by st;
+        claimer = upd g.claimer k0 o;
+      } in
       let words : List ℕ = set s.words (k0 + 1) new in
       turned p s r (k0 + 1) new id c v v.lane st l h at live record {
         same = same_moved p s r id v at live k0 inside g.history st o (λ c _. refl);
@@ -80,13 +95,15 @@ module _ (p : Plan) where
         counted = get_or-set_other s.words (k0 + 1) 0 new 0 (λ z. omega arith) ∙ r.counted;
         legal = r.legal;
         short = let a = r.short by in let b = ap length mine.whole in omega arith;
-        claims = claims_moved p s r id v at live k0 inside st o (λ k x. let y : k0 ≡ k = subst (λ (q : Stage). IsAt q k) is x in
+        claims = claims_moved p s r id v at live k0 inside st o
+            (λ k x. let y : k0 ≡ k = subst (λ (q : Stage). IsAt q k) is x in
             (sym y, refl)) (λ c no has. let f = free.0 in absurd (cc));
         cells = moved p s r id v at live k0 inside st new o words g.history
             (λ k no. get_or-set_other s.words (k0 + 1) (k + 1) new 0 (λ z. no (omega arith)))
             (get_or-set_same s.words (k0 + 1) new 0 (omega arith)) (λ k _. refl)
             (nowhere_rest p.plain by k0 v.stage rest)
-            (subst (InHand p.plain by k0 new (last_value g.history k0)) (sym (upd_here g.stage by st by refl ∙ is)) (
+            (subst (InHand p.plain by k0 new (last_value g.history k0))
+            (sym (upd_here g.stage by st by refl ∙ is)) (
               refl,
               omega arith,
               omega arith,
@@ -96,9 +113,12 @@ module _ (p : Plan) where
 
   -- a try of a claim: won if the word is the expected one, and otherwise nothing changes but the
   -- looks
-  pub claims_cell : (next : Look → ℕ → ℕ → Look) (slots id : ℕ) (me : Sitting) (k0 old new : ℕ) → me.0.live ≡ true
-      → k0 < p.plain + p.locks → me.0.stage ≡ Rest → old % 2 ≡ 0 → (p.plain ≤ k0 → old ≡ 0) → new ≡ old + 1
-      → Allows (Kept p) slots id me (k0 + 1) (λ n. either (eqb n old) new n) (tried next (step slots (k0 + 1) old new none) me)
+  pub claims_cell : (next : Look → ℕ → ℕ → Look) (slots id : ℕ) (me : Sitting) (k0 old new : ℕ)
+      → me.0.live ≡ true
+      → k0 < p.plain + p.locks → me.0.stage ≡ Rest → old % 2 ≡ 0 → (p.plain ≤ k0 → old ≡ 0)
+      → new ≡ old + 1
+      → Allows (Kept p) slots id me (k0 + 1) (λ n. either (eqb n old) new n)
+      (tried next (step slots (k0 + 1) old new none) me)
   claims_cell next slots id me k0 old new live inside rest even lock up s r _ at _ =
       let n : ℕ = slice_index s.words (k0 + 1) in
       let l : Look = next me.0.look ((k0 + 1) - 1) n in
@@ -108,15 +128,19 @@ module _ (p : Plan) where
         acting me.0 st l,
         keeps,
         tt,
-        subst (λ (b : Bool). Kept p (stepped s (k0 + 1) (either b new n) id me.1 (acting me.0 st l) keeps)) (sym (eq-eqb n old hit))
-            (won s r id me.1 me.0 k0 old new st l at live inside rest even lock up hit (ap (λ (x : ℕ). Claimed x (old / 2)) back)),
+        subst (λ (b : Bool). Kept p
+            (stepped s (k0 + 1) (either b new n) id me.1 (acting me.0 st l) keeps))
+            (sym (eq-eqb n old hit))
+            (won s r id me.1 me.0 k0 old new st l at live inside rest even lock up hit
+            (ap (λ (x : ℕ). Claimed x (old / 2)) back)),
         ((λ _. refl), (λ no. absurd (no hit))),
       ))
       (λ miss. (
         acting me.0 me.0.stage l,
         keeps,
         tt,
-        subst (λ (b : Bool). Kept p (stepped s (k0 + 1) (either b new n) id me.1 (acting me.0 me.0.stage l) keeps))
+        subst (λ (b : Bool). Kept p
+            (stepped s (k0 + 1) (either b new n) id me.1 (acting me.0 me.0.stage l) keeps))
             (sym (ne_eqb n old miss)) (unmoved s r id me.1 me.0 l at live (k0 + 1)),
         ((λ hit. absurd (miss hit)), (λ _. refl)),
       ))

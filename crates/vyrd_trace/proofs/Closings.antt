@@ -1,5 +1,7 @@
 -- A table whose records are one at rest has one history, of which the hands' lanes are the parts.
-use Rattle.std.proofs.Common.{◌≡◌, ℕ, zero, suc, ◌+◌, ◌*◌, ◌/◌, ◌<◌, ◌≤◌, List, [], ◌∷◌, ◌++◌, map, length, get_or, true, Option, Some, None, refl, sym, ap, ◌∙◌, subst, arith, take, drop}
+use Rattle.std.proofs.Common.{◌≡◌, ℕ, zero, suc, ◌+◌, ◌*◌, ◌/◌, ◌<◌, ◌≤◌, List, [], ◌∷◌, ◌++◌, map}
+use Rattle.std.proofs.Common.{length, get_or, true, Option, Some, None, refl, sym, ap, ◌∙◌, subst}
+use Rattle.std.proofs.Common.{arith, take, drop}
 use Rattle.std.specs.Prelude.{slice_get, slice_index, slice_index_or}
 use Rattle.std.specs.List.{All, sum_by}
 use Rattle.std.proofs.lemmas.List.{length-map, take_all, drop_all, append-nil}
@@ -22,7 +24,8 @@ use Rattle.vyrd_trace.specs.Records.{own_lane}
 use Rattle.vyrd_trace.specs.Hands.{HandView}
 use Rattle.vyrd_trace.proofs.Parts.{below, below_more, below_none, below_all}
 use Rattle.vyrd_trace.proofs.HistoryGrows.{numbered}
-use Rattle.vyrd_trace.specs.Closing.{lanes_of, own_lane_of, own_lanes, IsMerge, AreTwice, HasHistory}
+use Rattle.vyrd_trace.specs.Closing.{lanes_of, own_lane_of, own_lanes, IsMerge, AreTwice}
+use Rattle.vyrd_trace.specs.Closing.{HasHistory}
 
 -- each hand's lane is its caller's part
 abbrev pub AreParts : List Stamped → List HandView → Type 0
@@ -33,22 +36,26 @@ St = State (Unit {0}) Record
 
 -- the hand at place c, with its lane
 lane_at : (hs : List HandView) (c : ℕ) → c < length hs
-    → (h : HandView) × (slice_get (own_lanes hs) c ≡ Some (own_lane_of h)) × (slice_index_or (lanes_of hs) c [] ≡ h.lane)
+    → (h : HandView) × (slice_get (own_lanes hs) c ≡ Some (own_lane_of h))
+    × (slice_index_or (lanes_of hs) c [] ≡ h.lane)
     × ((d : HandView) → slice_index_or hs c d ≡ h)
 lane_at [] c l = absurd (omega arith)
 lane_at (h ∷ hs) zero l = (h, refl, refl, λ d. refl)
 lane_at (h ∷ hs) (suc c) l = lane_at hs c (omega arith)
 
 -- a seat at rest has its own lane and those that it gathered
-has_any : (n : ℕ) (g : Ghost) (id : ℕ) (v : Record) → v.stage ≡ Rest → Knows n g id v → (i : ℕ) (l : Lane)
+has_any : (n : ℕ) (g : Ghost) (id : ℕ) (v : Record) → v.stage ≡ Rest → Knows n g id v
+    → (i : ℕ) (l : Lane)
     → slice_get (own_lane v ∷ v.gathered) i ≡ Some l → HasLane g id l
 has_any n g id v rest k zero l e = let same : own_lane v ≡ l = cc in
     subst (HasLane g id) same record { owned = k.owned; whole = k.whole; rests = k.at_stage ∙ rest }
 has_any n g id v rest k (suc i) l e = k.others i l e
 
-module _ (p : Plan) (s : St) (r : Kept p s) (id : ℕ) (v : Record) (hs : List HandView) (at : get_elem? s.views id
+module _ (p : Plan) (s : St) (r : Kept p s) (id : ℕ) (v : Record) (hs : List HandView)
+    (at : get_elem? s.views id
     ≡ some v) (live : v.live ≡ true) (rest : v.stage ≡ Rest)
-    (all : own_lane v ∷ v.gathered ≡ own_lanes hs) (count : length hs ≡ p.callers) (order : (i : ℕ) (d : HandView) → i < length hs
+    (all : own_lane v ∷ v.gathered ≡ own_lanes hs) (count : length hs ≡ p.callers)
+    (order : (i : ℕ) (d : HandView) → i < length hs
     → (slice_index_or hs i d).caller ≡ i) where
   abbrev G : Ghost
   G = r.ghost_state
@@ -58,7 +65,8 @@ module _ (p : Plan) (s : St) (r : Kept p s) (id : ℕ) (v : Record) (hs : List H
       × (slice_index_or (lanes_of hs) c [] ≡ h.lane) × ((d : HandView) → slice_index_or hs c d ≡ h)
   has c l = let f = lane_at hs c l in (
     f.0,
-    has_any p.callers G id v rest (r.seats id v at live) c (own_lane_of f.0) (ap (λ (ls : List Lane). slice_get ls c) all
+    has_any p.callers G id v rest (r.seats id v at live) c (own_lane_of f.0)
+        (ap (λ (ls : List Lane). slice_get ls c) all
         ∙ f.1),
     ap (λ (h : HandView). h.caller) (sym (f.3 f.0)) ∙ order c f.0 l,
     f.2,
@@ -72,23 +80,28 @@ module _ (p : Plan) (s : St) (r : Kept p s) (id : ℕ) (v : Record) (hs : List H
       (λ no. (r.idle c (r.outside c (omega arith))).1)
 
   pub are_parts : AreParts G.history hs
-  are_parts k d l = let f = has k l in subst (λ (h : HandView). part h.caller G.history ≡ h.lane) (sym (f.4 d)) f.1.whole
+  are_parts k d l = let f = has k l in subst (λ (h : HandView). part h.caller G.history ≡ h.lane)
+      (sym (f.4 d)) f.1.whole
 
   pub are_twice : AreTwice p G.history s.words
   are_twice k l = by_claimer (G.claimer k) (r.cells k l)
     where
-      by_claimer : (o : Option ℕ) → FitsCell p.plain G.stage k (slice_index s.words (k + 1)) (last_value G.history k) o
+      by_claimer : (o : Option ℕ) → FitsCell p.plain G.stage k (slice_index s.words (k + 1))
+          (last_value G.history k) o
           → slice_index s.words (k + 1) ≡ 2 * last_value G.history k
       by_claimer None fits = fits
-      by_claimer (Some c) fits = let x : InHand p.plain c k (slice_index s.words (k + 1)) (last_value G.history k) Rest =
-          subst (InHand p.plain c k (slice_index s.words (k + 1)) (last_value G.history k)) (rests c) fits in absurd x
+      by_claimer (Some c) fits = let x : InHand p.plain c k (slice_index s.words (k + 1))
+          (last_value G.history k) Rest =
+          subst (InHand p.plain c k (slice_index s.words (k + 1)) (last_value G.history k))
+          (rests c) fits in absurd x
 
 abbrev pub size : HandView → ℕ
 size h = length h.lane
 
 -- the events of the first n callers are as many as their lanes have
 sums : (hs : List HandView) (h : List Stamped)
-    → ((c : ℕ) → c < length (lanes_of hs) → part c h ≡ slice_index_or (lanes_of hs) c []) → (n : ℕ) → n ≤ length hs
+    → ((c : ℕ) → c < length (lanes_of hs) → part c h ≡ slice_index_or (lanes_of hs) c []) → (n : ℕ)
+    → n ≤ length hs
     → below n h ≡ sum_by size (take n hs)
 sums hs h parts zero l = below_none h
 sums hs h parts (suc n) l =
@@ -101,26 +114,36 @@ sums hs h parts (suc n) l =
     let b = below_more n h in
     let up : suc n ≡ n + 1 = omega arith in
     let same : size (get_or hs n at.0) ≡ size at.0 = ap size item in
-    let goal : below (suc n) h ≡ sum_by size (take (n + 1) hs) = omega arith in goal ∙ ap (λ (k : ℕ). sum_by size (take k hs)) (sym up)
+    let goal : below (suc n) h ≡ sum_by size (take (n + 1) hs) = omega arith in goal
+    ∙ ap (λ (k : ℕ). sum_by size (take k hs)) (sym up)
 
 -- the history is as long as the lanes together
-pub total_length : (hs : List HandView) (h : List Stamped) → IsMerge h (lanes_of hs) → length h ≡ sum_by size hs
+pub total_length : (hs : List HandView) (h : List Stamped) → IsMerge h (lanes_of hs) → length h
+    ≡ sum_by size hs
 total_length hs h m =
-    let all = below_all (length hs) h (λ i e at. let x = (m.placed i e at).1 in let n = length-map hs (λ (v : HandView). v.lane) in omega arith) in
-    sym all ∙ sums hs h m.parts (length hs) (omega arith) ∙ ap (sum_by size) (take_all (length hs) hs (omega arith))
+    let all = below_all (length hs) h
+    (λ i e at. let x = (m.placed i e at).1 in let n = length-map hs (λ (v : HandView). v.lane) in
+    omega arith) in
+    sym all ∙ sums hs h m.parts (length hs) (omega arith)
+    ∙ ap (sum_by size) (take_all (length hs) hs (omega arith))
 
 -- a list whose element at each place is a function of the place
-from_places : (f : ℕ → ℕ) (k : ℕ) (ws : List ℕ) → ((j : ℕ) → j < length ws → slice_index ws j ≡ f (k + j)) → ws ≡ map f (numbers_from k (length ws))
+from_places : (f : ℕ → ℕ) (k : ℕ) (ws : List ℕ)
+    → ((j : ℕ) → j < length ws → slice_index ws j ≡ f (k + j))
+    → ws ≡ map f (numbers_from k (length ws))
 from_places f k [] each = refl
 from_places f k (x ∷ xs) each =
     let first : k + 0 ≡ k = omega arith in
     let head : x ≡ f k = each 0 (omega arith) ∙ ap f first in
-    let tail = from_places f (k + 1) xs (λ j l. let next : k + suc j ≡ (k + 1) + j = omega arith in each (suc j) (omega arith) ∙ ap f next) in
+    let tail = from_places f (k + 1) xs (λ j l. let next : k + suc j ≡ (k + 1) + j = omega arith in
+    each (suc j) (omega arith) ∙ ap f next) in
     λ i. head i ∷ tail i
 
 -- the halves of the words are the last values
-pub halved : (p : Plan) (h : List Stamped) (words halves : List ℕ) → AreTwice p h words → length halves ≡ p.plain + p.locks
-    → ((k : ℕ) → k < p.plain + p.locks → slice_index halves k ≡ slice_index words (k + 1) / 2) → halves ≡ last_values p h
+pub halved : (p : Plan) (h : List Stamped) (words halves : List ℕ) → AreTwice p h words
+    → length halves ≡ p.plain + p.locks
+    → ((k : ℕ) → k < p.plain + p.locks → slice_index halves k ≡ slice_index words (k + 1) / 2)
+    → halves ≡ last_values p h
 halved p h words halves twice long half =
     from_places (last_value h) 0 halves (λ j l.
     let a = twice j (omega arith) in
@@ -129,19 +152,25 @@ halved p h words halves twice long half =
     let from : j ≡ 0 + j = omega arith in same ∙ ap (last_value h) from)
     ∙ ap (λ (n : ℕ). map (last_value h) (numbers_from 0 n)) long
 
--- A closed table has a history: a legal one, of which each hand's lane is its caller's part, and each word is twice the
+-- A closed table has a history: a legal one, of which each hand's lane is its caller's part, and
+-- each word is twice the
 -- last value.
-pub has_history : (p : Plan) (words halves : List ℕ) (slots : List (Unit {0})) (id : ℕ) (v : Record) (hs : List HandView)
-    → Final (Seen (Kept p) id v) words slots → v.live ≡ true → v.stage ≡ Rest → own_lane v ∷ v.gathered ≡ own_lanes hs
-    → length hs ≡ p.callers → ((i : ℕ) (d : HandView) → i < length hs → (slice_index_or hs i d).caller ≡ i)
+pub has_history : (p : Plan) (words halves : List ℕ) (slots : List (Unit {0})) (id : ℕ) (v : Record)
+    (hs : List HandView)
+    → Final (Seen (Kept p) id v) words slots → v.live ≡ true → v.stage ≡ Rest
+    → own_lane v ∷ v.gathered ≡ own_lanes hs
+    → length hs ≡ p.callers
+    → ((i : ℕ) (d : HandView) → i < length hs → (slice_index_or hs i d).caller ≡ i)
     → length halves ≡ p.plain + p.locks
-    → ((k : ℕ) → k < p.plain + p.locks → slice_index halves k ≡ slice_index words (k + 1) / 2) → HasHistory p hs halves
+    → ((k : ℕ) → k < p.plain + p.locks → slice_index halves k ≡ slice_index words (k + 1) / 2)
+    → HasHistory p hs halves
 has_history p words halves slots id v hs f live rest all count order long half =
     let s = f.0 in
     let r = f.1.0 in
     let at = f.1.1 in
     let h = r.ghost_state.history in
-    let twice = subst (AreTwice p h) f.2 (are_twice p s r id v hs at live rest all count order) in record {
+    let twice = subst (AreTwice p h) f.2 (are_twice p s r id v hs at live rest all count order) in
+    record {
       history = h;
       legal = r.legal;
       parts = are_parts p s r id v hs at live rest all count order;
@@ -150,7 +179,8 @@ has_history p words halves slots id v hs f live rest all count order long half =
 
 -- The lanes of all hands are merged in it, and it is as long as they are together.
 pub is_merge : (p : Plan) (words : List ℕ) (hs : List HandView) → length hs ≡ p.callers
-    → ((i : ℕ) (d : HandView) → i < length hs → (slice_index_or hs i d).caller ≡ i) → (one : HasHistory p hs words)
+    → ((i : ℕ) (d : HandView) → i < length hs → (slice_index_or hs i d).caller ≡ i)
+    → (one : HasHistory p hs words)
     → IsMerge one.history (lanes_of hs) × (length one.history ≡ sum_by size hs)
 is_merge p words hs count order one = (merge, total_length hs one.history merge)
   where
@@ -171,6 +201,8 @@ is_merge p words hs count order one = (merge, total_length hs one.history merge)
     }
 
 -- what a slice of a `Vec` that was lent whole writes back
-pub back : (len : ℕ) (new old : List Stamped) → length new ≡ length old → len ≡ length old → take len (new ++ drop (length new) old) ≡ new
-back len new old same is = ap (λ (l : List Stamped). take len (new ++ l)) (drop_all (length new) old (omega arith))
+pub back : (len : ℕ) (new old : List Stamped) → length new ≡ length old → len ≡ length old
+    → take len (new ++ drop (length new) old) ≡ new
+back len new old same is = ap (λ (l : List Stamped). take len (new ++ l))
+    (drop_all (length new) old (omega arith))
     ∙ ap (take len) (append-nil new) ∙ take_all len new (omega arith)

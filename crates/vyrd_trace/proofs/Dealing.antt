@@ -1,5 +1,8 @@
 -- A new table, a record for the next caller, and two records that become one.
-use Rattle.std.proofs.Common.{◌≡◌, ◌≢◌, ◌⊎◌, ℕ, zero, suc, ◌+◌, ◌<◌, ◌≤◌, List, [], ◌∷◌, ◌++◌, length, set, replicate, Bool, true, false, cond, eqb, Option, Some, None, refl, sym, ap, ◌∙◌, subst, ⊎_elim, inl, inr, arith, eq-eqb, ne_eqb, true≢false}
+use Rattle.std.proofs.Common.{◌≡◌, ◌≢◌, ◌⊎◌, ℕ, zero, suc, ◌+◌, ◌<◌, ◌≤◌, List, [], ◌∷◌, ◌++◌}
+use Rattle.std.proofs.Common.{length, set, replicate, Bool, true, false, cond, eqb, Option, Some}
+use Rattle.std.proofs.Common.{None, refl, sym, ap, ◌∙◌, subst, ⊎_elim, inl, inr, arith, eq-eqb}
+use Rattle.std.proofs.Common.{ne_eqb, true≢false}
 use Rattle.std.specs.Prelude.{slice_get}
 use Rattle.std.proofs.lemmas.List.{get_or-replicate, length-replicate}
 use mathlib.Core.Option.{some, some-injective, some-ne-none}
@@ -27,9 +30,15 @@ unfolding is_legal
 none_is_legal z = refl
 
 -- the rule holds of a new table
-pub opens : (p : Plan) → 1 ≤ p.callers → Kept p (opening (replicate (1 + (p.plain + p.locks)) 0) [] first_record)
+pub opens : (p : Plan) → 1 ≤ p.callers
+    → Kept p (opening (replicate (1 + (p.plain + p.locks)) 0) [] first_record)
 opens p some_caller = record {
-  ghost_state = record { history = []; owner = upd (λ _. None) 0 (Some 0); stage = λ _. Rest; claimer = λ _. None };
+  ghost_state = record {
+    history = [];
+    owner = upd (λ _. None) 0 (Some 0);
+    stage = λ _. Rest;
+    claimer = λ _. None;
+  };
   wide = length-replicate (1 + (p.plain + p.locks)) 0;
   counted = get_or-replicate (1 + (p.plain + p.locks)) 0 0 0 (omega arith);
   legal = none_is_legal (cells_in p);
@@ -42,7 +51,13 @@ opens p some_caller = record {
 }
   where
     one : (j : ℕ) (v : Record) → get_elem? (first_record ∷ []) j ≡ some v → v.live ≡ true
-        → Knows p.callers (record { history = []; owner = upd (λ _. None) 0 (Some 0); stage = λ _. Rest; claimer = λ _. None }) j v
+        → Knows p.callers
+        (record {
+          history = [];
+          owner = upd (λ _. None) 0 (Some 0);
+          stage = λ _. Rest;
+          claimer = λ _. None;
+        }) j v
     one zero v e live = subst (Knows p.callers (record {
       history = [];
       owner = upd (λ _. None) 0 (Some 0);
@@ -59,15 +74,18 @@ opens p some_caller = record {
     }
     one (suc j) v e live = absurd (some-ne-none v (sym e))
 
-at_end : {A : Type 0} (l : List A) (a b : A) (j : ℕ) → get_elem? (l ++ a ∷ []) j ≡ some b → (get_elem? l j ≡ some b) ⊎ ((j ≡ length l) × (a ≡ b))
+at_end : {A : Type 0} (l : List A) (a b : A) (j : ℕ) → get_elem? (l ++ a ∷ []) j ≡ some b
+    → (get_elem? l j ≡ some b) ⊎ ((j ≡ length l) × (a ≡ b))
 at_end [] a b zero e = inr (refl, some-injective a b e)
 at_end [] a b (suc j) e = absurd (some-ne-none b (sym e))
 at_end (x ∷ xs) a b zero e = inl e
 at_end (x ∷ xs) a b (suc j) e = ⊎_elim (λ t. inl t) (λ t. inr (ap suc t.0, t.1)) (at_end xs a b j e)
 
 -- the lanes of a seat where new owners are added
-lane_kept : (g h : Ghost) (seat : ℕ) (l : Lane) → h.history ≡ g.history → ((c : ℕ) → h.stage c ≡ g.stage c)
-    → (g.owner l.caller ≡ Some seat → h.owner l.caller ≡ Some seat) → HasLane g seat l → HasLane h seat l
+lane_kept : (g h : Ghost) (seat : ℕ) (l : Lane) → h.history ≡ g.history
+    → ((c : ℕ) → h.stage c ≡ g.stage c)
+    → (g.owner l.caller ≡ Some seat → h.owner l.caller ≡ Some seat) → HasLane g seat l
+    → HasLane h seat l
 lane_kept g h seat l same stages owns has = record {
   owned = owns has.owned;
   whole = ap (part l.caller) same ∙ has.whole;
@@ -75,7 +93,8 @@ lane_kept g h seat l same stages owns has = record {
 }
 
 -- the record of a seat where new owners are added
-knows_kept : (n : ℕ) (g h : Ghost) (j : ℕ) (u : Record) → h.history ≡ g.history → ((c : ℕ) → h.stage c ≡ g.stage c)
+knows_kept : (n : ℕ) (g h : Ghost) (j : ℕ) (u : Record) → h.history ≡ g.history
+    → ((c : ℕ) → h.stage c ≡ g.stage c)
     → ((c : ℕ) → g.owner c ≡ Some j → h.owner c ≡ Some j)
     → (u.caller ≡ 0 → (c : ℕ) → u.next ≤ c → h.owner c ≡ None) → Knows n g j u → Knows n h j u
 knows_kept n g h j u same stages owns unmade k = record {
@@ -89,7 +108,8 @@ knows_kept n g h j u same stages owns unmade k = record {
 }
 
 -- the record of caller 0 makes one for the next caller
-pub splits : (p : Plan) (id : ℕ) (v : Record) → v.live ≡ true → v.caller ≡ 0 → v.next < p.callers → Splits (Kept p) id v (dealer v) (dealt v)
+pub splits : (p : Plan) (id : ℕ) (v : Record) → v.live ≡ true → v.caller ≡ 0 → v.next < p.callers
+    → Splits (Kept p) id v (dealer v) (dealt v)
 splits p id v live zeroth room s r at =
     let g = r.ghost_state in
     let mine = r.seats id v at live in
@@ -97,10 +117,16 @@ splits p id v live zeroth room s r at =
     let new : ℕ = length views in
     let free : g.owner v.next ≡ None = mine.unmade zeroth v.next (omega arith) in
     let idle = r.idle v.next free in
-    let h : Ghost = record { history = g.history; owner = upd g.owner v.next (Some new); stage = g.stage; claimer = g.claimer } in
+    let h : Ghost = record {
+      history = g.history;
+      owner = upd g.owner v.next (Some new);
+      stage = g.stage;
+      claimer = g.claimer;
+    } in
     let others = λ (c j : ℕ) (o : g.owner c ≡ Some j). let no : c ≢ v.next = λ e. let f : g.owner c
     ≡ g.owner v.next = ap g.owner e in absurd (cc) in upd_else g.owner v.next (Some new) c no ∙ o in
-    let positive : v.next ≢ 0 = λ e. let f : g.owner v.next ≡ g.owner v.caller = ap g.owner (e ∙ sym zeroth) in
+    let positive : v.next ≢ 0 = λ e. let f : g.owner v.next ≡ g.owner v.caller = ap g.owner
+    (e ∙ sym zeroth) in
     let m = mine.owned in absurd (cc) in record {
       ghost_state = h;
       wide = r.wide;
@@ -115,22 +141,27 @@ splits p id v live zeroth room s r at =
       outside = λ c le. upd_else g.owner v.next (Some new) c (λ e. omega arith) ∙ r.outside c le;
       seats = λ j u e alive. ⊎_elim
           (λ (x : get_elem? views j ≡ some u). ⊎_elim
-          (λ (y : (j ≡ id) × (dealer v ≡ u)). subst (λ (z : ℕ × Record). Knows p.callers h z.0 z.1) (λ q. (sym y.0 q, y.1 q))
+          (λ (y : (j ≡ id) × (dealer v ≡ u)). subst (λ (z : ℕ × Record). Knows p.callers h z.0 z.1)
+          (λ q. (sym y.0 q, y.1 q))
           record {
             owned = others v.caller id mine.owned;
             whole = mine.whole;
             at_stage = mine.at_stage;
             in_range = mine.in_range;
-            others = λ i l q. lane_kept g h id l refl (λ _. refl) (others l.caller id) (mine.others i l q);
+            others = λ i l q. lane_kept g h id l refl (λ _. refl) (others l.caller id)
+                (mine.others i l q);
             apart = mine.apart;
-            unmade = λ z c le. upd_else g.owner v.next (Some new) c (λ q. omega arith) ∙ mine.unmade z c (omega arith);
+            unmade = λ z c le. upd_else g.owner v.next (Some new) c (λ q. omega arith)
+                ∙ mine.unmade z c (omega arith);
           })
           (λ (y : (j ≢ id) × (get_elem? s.views j ≡ some u)). let k = r.seats j u y.1 alive in
           knows_kept p.callers g h j u refl (λ _. refl) (λ c. others c j)
-          (λ z. let f : g.owner u.caller ≡ g.owner v.caller = ap g.owner (z ∙ sym zeroth) in let a = k.owned in
+          (λ z. let f : g.owner u.caller ≡ g.owner v.caller = ap g.owner (z ∙ sym zeroth) in let a =
+          k.owned in
           let b = mine.owned in absurd (y.0 (cc))) k)
           (at_set s.views id j (dealer v) u x))
-          (λ (x : (j ≡ new) × (dealt v ≡ u)). subst (λ (z : ℕ × Record). Knows p.callers h z.0 z.1) (λ q. (sym x.0 q, x.1 q))
+          (λ (x : (j ≡ new) × (dealt v ≡ u)). subst (λ (z : ℕ × Record). Knows p.callers h z.0 z.1)
+          (λ q. (sym x.0 q, x.1 q))
           record {
             owned = upd_here g.owner v.next (Some new) v.next refl;
             whole = idle.0;
@@ -169,30 +200,42 @@ given_else : (other id j : ℕ) → j ≢ other → given other id (Some j) ≡ 
 given_else other id j apart = ap (λ (b : Bool). cond b (Some id) (Some j)) (ne_eqb j other apart)
 
 -- a record takes in another's lanes, where that one is at rest
-pub joins : (p : Plan) (id : ℕ) (v : Record) (other : ℕ) (w : Record) → v.live ≡ true → w.live ≡ true → w.stage ≡ Rest
+pub joins : (p : Plan) (id : ℕ) (v : Record) (other : ℕ) (w : Record) → v.live ≡ true
+    → w.live ≡ true → w.stage ≡ Rest
     → Joins (Kept p) id v other w (gathering v w) spent
 joins p id v other w live alive rest s r at differ there =
     let g = r.ghost_state in
     let mine = r.seats id v at live in
     let was : get_elem? s.views other
     ≡ some w = ⊎_elim (λ (t : (other ≡ id) × (gathering v w ≡ w)). absurd (differ t.0))
-    (λ (t : (other ≢ id) × (get_elem? s.views other ≡ some w)). t.1) (at_set s.views id other (gathering v w) w there) in
+    (λ (t : (other ≢ id) × (get_elem? s.views other ≡ some w)). t.1)
+    (at_set s.views id other (gathering v w) w there) in
     let theirs = r.seats other w was alive in
-    let h : Ghost = record { history = g.history; owner = λ c. given other id (g.owner c); stage = g.stage; claimer = g.claimer } in
-    let keeps = λ (c j : ℕ) (apart : j ≢ other) (o : g.owner c ≡ Some j). ap (given other id) o ∙ given_else other id j apart in
-    let moves = λ (c : ℕ) (o : g.owner c ≡ Some other). ap (given other id) o ∙ given_other other id in
+    let h : Ghost = record {
+      history = g.history;
+      owner = λ c. given other id (g.owner c);
+      stage = g.stage;
+      claimer = g.claimer;
+    } in
+    let keeps = λ (c j : ℕ) (apart : j ≢ other) (o : g.owner c ≡ Some j). ap (given other id) o
+    ∙ given_else other id j apart in
+    let moves = λ (c : ℕ) (o : g.owner c ≡ Some other). ap (given other id) o
+    ∙ given_other other id in
     let joined : Knows p.callers h id (gathering v w) = record {
       owned = keeps v.caller id (λ e. differ (sym e)) mine.owned;
       whole = mine.whole;
       at_stage = mine.at_stage;
       in_range = mine.in_range;
       others = λ i l e. ⊎_elim
-          (λ (x : slice_get v.gathered i ≡ Some l). lane_kept g h id l refl (λ _. refl) (keeps l.caller id (λ q. differ (sym q))) (mine.others i l x))
-          (λ (x : (j : ℕ) × (slice_get (own_lane w ∷ w.gathered) j ≡ Some l)). taken l x.0 x.1 theirs moves)
+          (λ (x : slice_get v.gathered i ≡ Some l). lane_kept g h id l refl (λ _. refl)
+          (keeps l.caller id (λ q. differ (sym q))) (mine.others i l x))
+          (λ (x : (j : ℕ) × (slice_get (own_lane w ∷ w.gathered) j ≡ Some l)). taken l x.0 x.1
+          theirs moves)
           (slice_get_append v.gathered (own_lane w ∷ w.gathered) i l e);
       apart = λ i l e. ⊎_elim
           (λ (x : slice_get v.gathered i ≡ Some l). mine.apart i l x)
-          (λ (x : (j : ℕ) × (slice_get (own_lane w ∷ w.gathered) j ≡ Some l)). apart_from g v.caller l.caller id other mine.owned
+          (λ (x : (j : ℕ) × (slice_get (own_lane w ∷ w.gathered) j ≡ Some l)). apart_from g v.caller
+          l.caller id other mine.owned
           (their l x.0 x.1 theirs) differ)
           (slice_get_append v.gathered (own_lane w ∷ w.gathered) i l e);
       unmade = λ z c le. ap (given other id) (mine.unmade z c le);
@@ -207,28 +250,45 @@ joins p id v other w live alive rest s r at differ there =
       idle = λ c e. r.idle c (given_none other id (g.owner c) e);
       outside = λ c le. ap (given other id) (r.outside c le);
       seats = λ j u e here. ⊎_elim
-          (λ (x : (j ≡ other) × (spent ≡ u)). absurd (true≢false (sym here ∙ sym (ap (λ (q : Record). q.live) x.1))))
+          (λ (x : (j ≡ other) × (spent ≡ u)). absurd
+          (true≢false (sym here ∙ sym (ap (λ (q : Record). q.live) x.1))))
           (λ (x : (j ≢ other) × (get_elem? (set s.views id (gathering v w)) j ≡ some u)). ⊎_elim
-          (λ (y : (j ≡ id) × (gathering v w ≡ u)). subst (λ (z : ℕ × Record). Knows p.callers h z.0 z.1) (λ q. (sym y.0 q, y.1 q)) joined)
+          (λ (y : (j ≡ id) × (gathering v w ≡ u)). subst
+          (λ (z : ℕ × Record). Knows p.callers h z.0 z.1) (λ q. (sym y.0 q, y.1 q)) joined)
           (λ (y : (j ≢ id) × (get_elem? s.views j ≡ some u)). let k = r.seats j u y.1 here in
-          knows_kept p.callers g h j u refl (λ _. refl) (λ c. keeps c j x.0) (λ z c le. ap (given other id) (k.unmade z c le)) k)
+          knows_kept p.callers g h j u refl (λ _. refl) (λ c. keeps c j x.0)
+          (λ z c le. ap (given other id) (k.unmade z c le)) k)
           (at_set s.views id j (gathering v w) u x.1))
           (at_set (set s.views id (gathering v w)) other j spent u e);
     }
   where
-    their : {g : Ghost} (l : Lane) (j : ℕ) → slice_get (own_lane w ∷ w.gathered) j ≡ Some l → Knows p.callers g other w
+    their : {g : Ghost} (l : Lane) (j : ℕ) → slice_get (own_lane w ∷ w.gathered) j ≡ Some l
+        → Knows p.callers g other w
         → g.owner l.caller ≡ Some other
-    their {g} l zero e k = let same : own_lane w ≡ l = cc in subst (λ (q : Lane). g.owner q.caller ≡ Some other) same k.owned
+    their {g} l zero e k = let same : own_lane w ≡ l = cc in
+        subst (λ (q : Lane). g.owner q.caller ≡ Some other) same k.owned
     their {g} l (suc j) e k = (k.others j l e).owned
 
-    taken : {g : Ghost} (l : Lane) (j : ℕ) → slice_get (own_lane w ∷ w.gathered) j ≡ Some l → Knows p.callers g other w
+    taken : {g : Ghost} (l : Lane) (j : ℕ) → slice_get (own_lane w ∷ w.gathered) j ≡ Some l
+        → Knows p.callers g other w
         → ((c : ℕ) → g.owner c ≡ Some other → given other id (g.owner c) ≡ Some id)
-        → HasLane (record { history = g.history; owner = λ c. given other id (g.owner c); stage = g.stage; claimer = g.claimer }) id l
+        → HasLane (record {
+          history = g.history;
+          owner = λ c. given other id (g.owner c);
+          stage = g.stage;
+          claimer = g.claimer;
+        }) id l
     taken {g} l zero e k moves = let same : own_lane w ≡ l = cc in
         subst (HasLane (record {
           history = g.history;
           owner = λ c. given other id (g.owner c);
           stage = g.stage;
           claimer = g.claimer;
-        }) id) same record { owned = moves w.caller k.owned; whole = k.whole; rests = k.at_stage ∙ rest }
-    taken {g} l (suc j) e k moves = let x = k.others j l e in record { owned = moves l.caller x.owned; whole = x.whole; rests = x.rests }
+        }) id) same record {
+          owned = moves w.caller k.owned;
+          whole = k.whole;
+          rests = k.at_stage
+              ∙ rest;
+        }
+    taken {g} l (suc j) e k moves = let x = k.others j l e in
+        record { owned = moves l.caller x.owned; whole = x.whole; rests = x.rests }

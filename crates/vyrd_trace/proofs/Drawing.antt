@@ -1,5 +1,8 @@
 -- A draw keeps the rule: the event may come next in the history.
-use Rattle.std.proofs.Common.{◌≡◌, ◌≢◌, ℕ, ◌+◌, ◌*◌, ◌%◌, ◌^◌, ◌<◌, ◌≤◌, List, [], ◌∷◌, ◌++◌, length, true, false, Option, Some, refl, sym, ap, ◌∙◌, subst, arith, length-append, length-set, get_or-set_same, eq-eqb, ne_eqb, mul-le-mul}
+use Rattle.std.proofs.Common.{◌≡◌, ◌≢◌, ℕ, ◌+◌, ◌*◌, ◌%◌, ◌^◌, ◌<◌, ◌≤◌, List, [], ◌∷◌, ◌++◌}
+use Rattle.std.proofs.Common.{length, true, false, Option, Some, refl, sym, ap, ◌∙◌, subst, arith}
+use Rattle.std.proofs.Common.{length-append, length-set, get_or-set_same, eq-eqb, ne_eqb}
+use Rattle.std.proofs.Common.{mul-le-mul}
 use Rattle.std.specs.Prelude.{slice_index}
 use Rattle.std.proofs.lemmas.List.{get_or-set_other}
 use mathlib.Core.Option.{some, none}
@@ -21,10 +24,12 @@ use Rattle.vyrd_trace.specs.Lanes.{stamp, last_value, HoldsBy, cells_in}
 use Rattle.vyrd_trace.specs.Records.{before_of, drawn, with_event}
 use Rattle.vyrd_trace.specs.Rule.{Ghost, IsAt, InHand, FitsCell, Kept}
 use Rattle.vyrd_trace.specs.Steps.{Sitting, drew, MayDraw}
-use Rattle.vyrd_trace.proofs.HistoryGrows.{value_after, legal-snoc, may_read, may_write, may_take, may_give, may_mark}
+use Rattle.vyrd_trace.proofs.HistoryGrows.{value_after, legal-snoc, may_read, may_write, may_take}
+use Rattle.vyrd_trace.proofs.HistoryGrows.{may_give, may_mark}
 use Rattle.vyrd_trace.proofs.Parts.{value-snoc, part-mine, part-other, legal_bounded, held_value}
 use Rattle.vyrd_trace.proofs.Stays.{St, turned, refit, below, changed}
-use Rattle.vyrd_trace.proofs.CellMoves.{in_hand, moved, claims_moved, held_cell, nowhere, nowhere_rest}
+use Rattle.vyrd_trace.proofs.CellMoves.{in_hand, moved, claims_moved, held_cell, nowhere}
+use Rattle.vyrd_trace.proofs.CellMoves.{nowhere_rest}
 use Rattle.vyrd_trace.specs.Hands.{most_events}
 
 module _ (p : Plan) (few : p.callers ≤ 64) (short : p.limit ≤ most_events) where
@@ -35,9 +40,12 @@ module _ (p : Plan) (few : p.callers ≤ 64) (short : p.limit ≤ most_events) w
       let b = r.counted in
       let c : p.callers * p.limit ≤ 64 * most_events = mul-le-mul few short in omega arith
 
-  -- A draw of any event that may come next. What is left to say is which action each caller has in hand afterwards, which
-  -- caller has each cell, and that the cells' words, which stay, fit their values in the longer history.
-  drew_keeps : (s : St) (r : Kept p s) (id : ℕ) (c : List (ℕ × Unit {0})) (v : Record) (did : Did) (stage : ℕ
+  -- A draw of any event that may come next. What is left to say is which action each caller has in
+  -- hand afterwards, which
+  -- caller has each cell, and that the cells' words, which stay, fit their values in the longer
+  -- history.
+  drew_keeps : (s : St) (r : Kept p s) (id : ℕ) (c : List (ℕ × Unit {0})) (v : Record) (did : Did)
+      (stage : ℕ
       → Stage) (claimer : ℕ → Option ℕ) (st : Stage)
       → get_elem? s.views id ≡ some v → v.live ≡ true → length v.lane < p.limit
       → may_do (cells_in p) (newest_first r.ghost_state.history) v.caller did ≡ true
@@ -45,14 +53,20 @@ module _ (p : Plan) (few : p.callers ≤ 64) (short : p.limit ≤ most_events) w
       → ((by k : ℕ) → IsAt (stage by) k → claimer k ≡ Some by)
       → ((k : ℕ) → k < p.plain + p.locks
       → FitsCell p.plain stage k (slice_index s.words (k + 1))
-      (last_value (r.ghost_state.history ++ stamp (slice_index s.words 0) v.caller did ∷ []) k) (claimer k))
+      (last_value (r.ghost_state.history ++ stamp (slice_index s.words 0) v.caller did ∷ []) k)
+      (claimer k))
       → Kept p (stepped s 0 ((slice_index s.words 0 + 1) % 2 ^ 64) id c
       (changed v (v.lane ++ stamp (slice_index s.words 0) v.caller did ∷ []) st v.look) keeps)
   drew_keeps s r id c v did stage claimer st at live room may in_hand_now others claims cells =
       let n : ℕ = slice_index s.words 0 in
       let g = r.ghost_state in
       let e : Stamped = stamp n v.caller did in
-      let h : Ghost = record { history = g.history ++ e ∷ []; owner = g.owner; stage = stage; claimer = claimer } in
+      let h : Ghost = record {
+        history = g.history ++ e ∷ [];
+        owner = g.owner;
+        stage = stage;
+        claimer = claimer;
+      } in
       let mine = r.seats id v at live in
       let bound = bounded s r in
       let up : (n + 1) % 18446744073709551616 ≡ n + 1 = omega arith in
@@ -67,17 +81,21 @@ module _ (p : Plan) (few : p.callers ≤ 64) (short : p.limit ≤ most_events) w
         whole = part-mine v.caller g.history e refl ∙ ap (λ l. l ++ e ∷ []) mine.whole;
         at_stage = in_hand_now;
         wide = length-set s.words 0 ((n + 1) % 2 ^ 64) ∙ wide;
-        counted = get_or-set_same s.words 0 ((n + 1) % 2 ^ 64) 0 (omega arith) ∙ up ∙ omega (arith, length-append g.history (e ∷ []));
+        counted = get_or-set_same s.words 0 ((n + 1) % 2 ^ 64) 0 (omega arith) ∙ up
+            ∙ omega (arith, length-append g.history (e ∷ []));
         legal = legal-snoc (cells_in p) g.history e r.legal counted mine.in_range may;
         short = omega (arith, length-append v.lane (e ∷ []));
         claims = claims;
         cells = λ k l. refit p.plain stage k _ _ _ _ (claimer k)
-            (get_or-set_other s.words 0 (k + 1) ((n + 1) % 2 ^ 64) 0 (λ z. omega arith)) refl (cells k l);
+            (get_or-set_other s.words 0 (k + 1) ((n + 1) % 2 ^ 64) 0 (λ z. omega arith)) refl
+            (cells k l);
       }
 
   -- a mark changes no action and no cell
-  marks : (slots id : ℕ) (me : Sitting) (kind : Kind) → me.0.live ≡ true → length me.0.lane < p.limit → is_write kind ≡ false
-      → Allows (Kept p) slots id me 0 (λ n. (n + 1) % 2 ^ 64) (drew (Marked kind) (step slots 0 1 0 none) me)
+  marks : (slots id : ℕ) (me : Sitting) (kind : Kind) → me.0.live ≡ true
+      → length me.0.lane < p.limit → is_write kind ≡ false
+      → Allows (Kept p) slots id me 0 (λ n. (n + 1) % 2 ^ 64)
+      (drew (Marked kind) (step slots 0 1 0 none) me)
   marks slots id me kind live room mark s r _ at _ =
       let n : ℕ = slice_index s.words 0 in
       let v : Record = me.0 in
@@ -88,16 +106,22 @@ module _ (p : Plan) (few : p.callers ≤ 64) (short : p.limit ≤ most_events) w
         keeps,
         tt,
         drew_keeps s r id me.1 v (Marked kind) g.stage g.claimer v.stage at live room
-            (may_mark (cells_in p) (newest_first g.history) v.caller kind mark) mine.at_stage (λ _ _. refl) r.claims
-            (λ k l. refit p.plain g.stage k _ _ _ _ (g.claimer k) refl (value-snoc g.history e k) (r.cells k l)),
+            (may_mark (cells_in p) (newest_first g.history) v.caller kind mark) mine.at_stage
+            (λ _ _. refl) r.claims
+            (λ k l. refit p.plain g.stage k _ _ _ _ (g.claimer k) refl (value-snoc g.history e k)
+            (r.cells k l)),
         (refl, below p s r v mine.whole n r.counted),
       )
 
   -- an event at a cell that this caller has claimed: the cell's value is then m
-  acts : (slots id : ℕ) (me : Sitting) (did : Did) (k0 b m : ℕ) → me.0.live ≡ true → length me.0.lane < p.limit
-      → k0 < p.plain + p.locks → me.0.stage ≡ Claimed k0 b → drawn me.0.stage me.0.caller did ≡ Drawn k0 b m
-      → ((k w : ℕ) → k ≢ k0 → value_after k w me.0.caller did ≡ w) → value_after k0 b me.0.caller did ≡ m → (p.plain ≤ k0 → m ≡ me.0.caller + 1)
-      → ((h : List Stamped) → last_value h k0 ≡ b → (p.plain ≤ k0 → b ≡ 0) → may_do (cells_in p) (newest_first h) me.0.caller did ≡ true)
+  acts : (slots id : ℕ) (me : Sitting) (did : Did) (k0 b m : ℕ) → me.0.live ≡ true
+      → length me.0.lane < p.limit
+      → k0 < p.plain + p.locks → me.0.stage ≡ Claimed k0 b → drawn me.0.stage me.0.caller did
+      ≡ Drawn k0 b m
+      → ((k w : ℕ) → k ≢ k0 → value_after k w me.0.caller did ≡ w)
+      → value_after k0 b me.0.caller did ≡ m → (p.plain ≤ k0 → m ≡ me.0.caller + 1)
+      → ((h : List Stamped) → last_value h k0 ≡ b → (p.plain ≤ k0 → b ≡ 0)
+      → may_do (cells_in p) (newest_first h) me.0.caller did ≡ true)
       → Allows (Kept p) slots id me 0 (λ n. (n + 1) % 2 ^ 64) (drew did (step slots 0 1 0 none) me)
   acts slots id me did k0 b m live room inside claimed next away here lock follows s r _ at _ =
       let n : ℕ = slice_index s.words 0 in
@@ -109,19 +133,26 @@ module _ (p : Plan) (few : p.callers ≤ 64) (short : p.limit ≤ most_events) w
       let hist : List Stamped = g.history ++ e ∷ [] in
       let st : Stage = drawn v.stage by did in
       let o : Option ℕ = Some by in
-      let mine_is : g.claimer k0 ≡ Some by = r.claims by k0 (subst (λ (x : Stage). IsAt x k0) (sym (mine.at_stage ∙ claimed)) refl) in
+      let mine_is : g.claimer k0 ≡ Some by = r.claims by k0
+      (subst (λ (x : Stage). IsAt x k0) (sym (mine.at_stage ∙ claimed)) refl) in
       let fits = in_hand p.plain g.stage k0 _ _ by (g.claimer k0) mine_is (r.cells k0 inside) in
-      let cell : InHand p.plain by k0 (slice_index s.words (k0 + 1)) (last_value g.history k0) (Claimed k0 b) =
-      subst (InHand p.plain by k0 (slice_index s.words (k0 + 1)) (last_value g.history k0)) (mine.at_stage ∙ claimed) fits in
-      let now : last_value hist k0 ≡ m = value-snoc g.history e k0 ∙ ap (λ (x : ℕ). value_after k0 x by did) cell.2 ∙ here in (
+      let cell : InHand p.plain by k0 (slice_index s.words (k0 + 1)) (last_value g.history k0)
+      (Claimed k0 b) =
+      subst (InHand p.plain by k0 (slice_index s.words (k0 + 1)) (last_value g.history k0))
+      (mine.at_stage ∙ claimed) fits in
+      let now : last_value hist k0 ≡ m = value-snoc g.history e k0
+      ∙ ap (λ (x : ℕ). value_after k0 x by did) cell.2 ∙ here in (
         with_event v n did,
         keeps,
         tt,
-        drew_keeps s r id me.1 v did (upd g.stage by st) (upd g.claimer k0 o) st at live room (follows g.history cell.2 cell.3)
+        drew_keeps s r id me.1 v did (upd g.stage by st) (upd g.claimer k0 o) st at live room
+            (follows g.history cell.2 cell.3)
             (upd_here g.stage by st by refl) (λ c no. upd_else g.stage by st c no)
-            (claims_moved p s r id v at live k0 inside st o (λ k x. let y : k0 ≡ k = subst (λ (q : Stage). IsAt q k) next x in
+            (claims_moved p s r id v at live k0 inside st o
+            (λ k x. let y : k0 ≡ k = subst (λ (q : Stage). IsAt q k) next x in
             (sym y, refl)) (λ c no is. no (sym (same_Some by c (sym mine_is ∙ is)))))
-            (moved p s r id v at live k0 inside st (slice_index s.words (k0 + 1)) o s.words hist (λ k _. refl) refl
+            (moved p s r id v at live k0 inside st (slice_index s.words (k0 + 1)) o s.words hist
+            (λ k _. refl) refl
             (λ k no. value-snoc g.history e k ∙ away k (last_value g.history k) no)
             (nowhere p.plain by k0 b v.stage claimed)
             (subst (InHand p.plain by k0 (slice_index s.words (k0 + 1)) (last_value hist k0))
@@ -130,9 +161,11 @@ module _ (p : Plan) (few : p.callers ≤ 64) (short : p.limit ≤ most_events) w
       )
 
   -- the give of a lock that this caller holds
-  gives : (slots id : ℕ) (me : Sitting) (k0 : ℕ) → me.0.live ≡ true → length me.0.lane < p.limit → p.plain ≤ k0
+  gives : (slots id : ℕ) (me : Sitting) (k0 : ℕ) → me.0.live ≡ true → length me.0.lane < p.limit
+      → p.plain ≤ k0
       → k0 < p.plain + p.locks → me.0.stage ≡ Rest → HoldsBy me.0.lane me.0.caller k0
-      → Allows (Kept p) slots id me 0 (λ n. (n + 1) % 2 ^ 64) (drew (Gave k0) (step slots 0 1 0 none) me)
+      → Allows (Kept p) slots id me 0 (λ n. (n + 1) % 2 ^ 64)
+      (drew (Gave k0) (step slots 0 1 0 none) me)
   gives slots id me k0 live room lock inside rest held s r _ at _ =
       let n : ℕ = slice_index s.words 0 in
       let v : Record = me.0 in
@@ -144,8 +177,10 @@ module _ (p : Plan) (few : p.callers ≤ 64) (short : p.limit ≤ most_events) w
       let st : Stage = Giving k0 in
       let o : Option ℕ = Some by in
       let was : last_value g.history k0
-      ≡ by + 1 = held_value (cells_in p) k0 by g.history lock r.legal (ap (λ (l : List Stamped). last_value l k0) mine.whole ∙ held) in
-      let free = held_cell p.plain g.stage k0 (slice_index s.words (k0 + 1)) (last_value g.history k0) by (g.claimer k0) lock was
+      ≡ by + 1 = held_value (cells_in p) k0 by g.history lock r.legal
+      (ap (λ (l : List Stamped). last_value l k0) mine.whole ∙ held) in
+      let free = held_cell p.plain g.stage k0 (slice_index s.words (k0 + 1))
+      (last_value g.history k0) by (g.claimer k0) lock was
       (mine.at_stage ∙ rest) (r.cells k0 inside) in
       let now : last_value hist k0 ≡ 0 = value-snoc g.history e k0 ∙ rw (eq-eqb k0 k0 refl) refl in
       let word : slice_index s.words (k0 + 1) ≡ 2 * (by + 1) = free.1 ∙ ap (λ (x : ℕ). 2 * x) was in (
@@ -153,10 +188,13 @@ module _ (p : Plan) (few : p.callers ≤ 64) (short : p.limit ≤ most_events) w
         keeps,
         tt,
         drew_keeps s r id me.1 v (Gave k0) (upd g.stage by st) (upd g.claimer k0 o) st at live room
-            (may_give (cells_in p) (newest_first g.history) by k0 lock inside was) (upd_here g.stage by st by refl)
+            (may_give (cells_in p) (newest_first g.history) by k0 lock inside was)
+            (upd_here g.stage by st by refl)
             (λ c no. upd_else g.stage by st c no)
-            (claims_moved p s r id v at live k0 inside st o (λ k x. (sym x, refl)) (λ c no is. let f = free.0 in absurd (cc)))
-            (moved p s r id v at live k0 inside st (slice_index s.words (k0 + 1)) o s.words hist (λ k _. refl) refl
+            (claims_moved p s r id v at live k0 inside st o (λ k x. (sym x, refl))
+            (λ c no is. let f = free.0 in absurd (cc)))
+            (moved p s r id v at live k0 inside st (slice_index s.words (k0 + 1)) o s.words hist
+            (λ k _. refl) refl
             (λ k no. value-snoc g.history e k ∙ rw (ne_eqb k0 k (λ x. no (sym x))) refl)
             (nowhere_rest p.plain by k0 v.stage rest)
             (subst (InHand p.plain by k0 (slice_index s.words (k0 + 1)) (last_value hist k0))
@@ -165,16 +203,20 @@ module _ (p : Plan) (few : p.callers ≤ 64) (short : p.limit ≤ most_events) w
       )
 
   -- any event that may come next
-  pub draws : (slots id : ℕ) (me : Sitting) (did : Did) → me.0.live ≡ true → length me.0.lane < p.limit → MayDraw p me.0 did
+  pub draws : (slots id : ℕ) (me : Sitting) (did : Did) → me.0.live ≡ true
+      → length me.0.lane < p.limit → MayDraw p me.0 did
       → Allows (Kept p) slots id me 0 (λ n. (n + 1) % 2 ^ 64) (drew did (step slots 0 1 0 none) me)
   draws slots id me (Marked kind) live room may = marks slots id me kind live room may
   draws slots id me (Gave k) live room may = gives slots id me k live room may.0 may.1 may.2 may.3
   draws slots id me (Read k x) live room may = let a = may.0 in
-      acts slots id me (Read k x) k x x live room (omega arith) may.1 refl (λ _ _ _. refl) refl (λ z. absurd (omega arith))
+      acts slots id me (Read k x) k x x live room (omega arith) may.1 refl (λ _ _ _. refl) refl
+      (λ z. absurd (omega arith))
       (λ h is _. may_read (cells_in p) (newest_first h) me.0.caller k x a (sym is))
   draws slots id me (Wrote k x) live room may = let a = may.0 in let b : ℕ = before_of me.0.stage in
-      acts slots id me (Wrote k x) k b x live room (omega arith) may.2 refl (λ j w no. rw (ne_eqb k j (λ e. no (sym e))) refl)
-      (rw (eq-eqb k k refl) refl) (λ z. absurd (omega arith)) (λ h _ _. may_write (cells_in p) (newest_first h) me.0.caller k x a may.1)
+      acts slots id me (Wrote k x) k b x live room (omega arith) may.2 refl
+      (λ j w no. rw (ne_eqb k j (λ e. no (sym e))) refl)
+      (rw (eq-eqb k k refl) refl) (λ z. absurd (omega arith))
+      (λ h _ _. may_write (cells_in p) (newest_first h) me.0.caller k x a may.1)
   draws slots id me (Took k) live room may =
       acts slots id me (Took k) k 0 (me.0.caller + 1) live room may.1 may.2 refl
       (λ j w no. rw (ne_eqb k j (λ e. no (sym e))) refl) (rw (eq-eqb k k refl) refl) (λ _. refl)

@@ -1,5 +1,7 @@
 -- One caller's part of a history, and what it says of the whole.
-use Rattle.std.proofs.Common.{◌≡◌, ◌≢◌, ℕ, zero, suc, ◌+◌, ◌*◌, ◌<◌, ◌≤◌, List, [], ◌∷◌, ◌++◌, length, get_or, Bool, true, false, cond, eqb, Some, refl, sym, ap, ◌∙◌, subst, arith, append-nil, eq-eqb, ne_eqb, suc-mul}
+use Rattle.std.proofs.Common.{◌≡◌, ◌≢◌, ℕ, zero, suc, ◌+◌, ◌*◌, ◌<◌, ◌≤◌, List, [], ◌∷◌, ◌++◌}
+use Rattle.std.proofs.Common.{length, get_or, Bool, true, false, cond, eqb, Some, refl, sym, ap}
+use Rattle.std.proofs.Common.{◌∙◌, subst, arith, append-nil, eq-eqb, ne_eqb, suc-mul}
 use Rattle.std.specs.Prelude.{slice_get, slice_index_or, ltb}
 use Rattle.std.specs.List.{All}
 use Rattle.std.proofs.lemmas.List.Elements.{filter-append, All-filter}
@@ -16,19 +18,24 @@ use Rattle.vyrd_base.specs.Parts.{part}
 use Rattle.vyrd_trace.specs.Lanes.{last_value, HoldsBy}
 use Rattle.vyrd_trace.proofs.HistoryGrows.{value_after, value_in-snoc, numbered, legal_induction}
 
-pub value-snoc : (h : List Stamped) (e : Stamped) (cell : ℕ) → last_value (h ++ e ∷ []) cell ≡ value_after cell (last_value h cell) e.caller e.did
+pub value-snoc : (h : List Stamped) (e : Stamped) (cell : ℕ) → last_value (h ++ e ∷ []) cell
+    ≡ value_after cell (last_value h cell) e.caller e.did
 value-snoc h e cell = value_in-snoc h e cell
 
 -- one event more is in its caller's part, at the end, and in no other's
-pub part-mine : (c : ℕ) (h : List Stamped) (e : Stamped) → e.caller ≡ c → part c (h ++ e ∷ []) ≡ part c h ++ e ∷ []
+pub part-mine : (c : ℕ) (h : List Stamped) (e : Stamped) → e.caller ≡ c → part c (h ++ e ∷ [])
+    ≡ part c h ++ e ∷ []
 part-mine c h e is = filter-append (λ (x : Stamped). eqb x.caller c) h (e ∷ [])
     ∙ ap (λ (b : Bool). part c h ++ cond b (e ∷ []) []) (eq-eqb e.caller c is)
 
-pub part-other : (c : ℕ) (h : List Stamped) (e : Stamped) → e.caller ≢ c → part c (h ++ e ∷ []) ≡ part c h
+pub part-other : (c : ℕ) (h : List Stamped) (e : Stamped) → e.caller ≢ c → part c (h ++ e ∷ [])
+    ≡ part c h
 part-other c h e apart = filter-append (λ (x : Stamped). eqb x.caller c) h (e ∷ [])
-    ∙ ap (λ (b : Bool). part c h ++ cond b (e ∷ []) []) (ne_eqb e.caller c apart) ∙ append-nil (part c h)
+    ∙ ap (λ (b : Bool). part c h ++ cond b (e ∷ []) []) (ne_eqb e.caller c apart)
+    ∙ append-nil (part c h)
 
-get_there : (h : List Stamped) (i : ℕ) (d : Stamped) → i < length h → slice_get h i ≡ Some (get_or h i d)
+get_there : (h : List Stamped) (i : ℕ) (d : Stamped) → i < length h → slice_get h i
+    ≡ Some (get_or h i d)
 get_there [] i d l = absurd (omega arith)
 get_there (x ∷ xs) zero d l = refl
 get_there (x ∷ xs) (suc i) d l = get_there xs i d (omega arith)
@@ -41,7 +48,8 @@ pub below : ℕ → List Stamped → ℕ
 below n [] = 0
 below n (e ∷ es) = cond (ltb e.caller n) 1 0 + below n es
 
-length-part : (n : ℕ) (e : Stamped) (es : List Stamped) (b : Bool) → eqb e.caller n ≡ b → length (part n (e ∷ es)) ≡ cond b 1 0 + length (part n es)
+length-part : (n : ℕ) (e : Stamped) (es : List Stamped) (b : Bool) → eqb e.caller n ≡ b
+    → length (part n (e ∷ es)) ≡ cond b 1 0 + length (part n es)
 length-part n e es true is = rw is (omega arith)
 length-part n e es false is = rw is (omega arith)
 
@@ -56,7 +64,8 @@ below_more n (e ∷ es) =
     let y : ℕ = cond (ltb e.caller n) 1 0 in
     let w : ℕ = cond (eqb e.caller n) 1 0 in
     let a' : x ≡ y + w = a in let l' : length (part n (e ∷ es)) ≡ w + length (part n es) = l in
-    let goal : x + below (suc n) es ≡ (y + below n es) + length (part n (e ∷ es)) = omega arith in goal
+    let goal : x + below (suc n) es ≡ (y + below n es) + length (part n (e ∷ es)) = omega arith in
+    goal
 
 pub below_none : (h : List Stamped) → below 0 h ≡ 0
 unfolding below
@@ -67,14 +76,16 @@ below_none (e ∷ es) =
     let a : x ≡ 0 = grind (arith, nat_tests) in
     let goal : x + below 0 es ≡ 0 = omega arith in goal
 
-below_bounded : (n limit : ℕ) (h : List Stamped) → ((c : ℕ) → length (part c h) ≤ limit) → below n h ≤ n * limit
+below_bounded : (n limit : ℕ) (h : List Stamped) → ((c : ℕ) → length (part c h) ≤ limit) → below n h
+    ≤ n * limit
 below_bounded zero limit h short = let r = below_none h in omega arith
 below_bounded (suc n) limit h short =
     let r = below_bounded n limit h short in
     let m = below_more n h in
     let s = short n in omega (arith, suc-mul n limit)
 
-pub below_all : (n : ℕ) (h : List Stamped) → ((i : ℕ) (e : Stamped) → slice_get h i ≡ Some e → e.caller < n) → below n h ≡ length h
+pub below_all : (n : ℕ) (h : List Stamped)
+    → ((i : ℕ) (e : Stamped) → slice_get h i ≡ Some e → e.caller < n) → below n h ≡ length h
 unfolding below
 below_all n [] inside = refl
 below_all n (e ∷ es) inside =
@@ -85,7 +96,8 @@ below_all n (e ∷ es) inside =
     let goal : x + below n es ≡ suc (length es) = omega arith in goal
 
 -- a legal history is no longer than its callers' parts together
-pub legal_bounded : (z : Cells) (limit : ℕ) (h : List Stamped) → is_legal z h ≡ true → ((c : ℕ) → length (part c h) ≤ limit)
+pub legal_bounded : (z : Cells) (limit : ℕ) (h : List Stamped) → is_legal z h ≡ true
+    → ((c : ℕ) → length (part c h) ≤ limit)
     → length h ≤ z.callers * limit
 legal_bounded z limit h legal short =
     let a = below_all z.callers h (λ i e p. (numbered z h legal i e p).1) in
@@ -96,8 +108,10 @@ abbrev HoldsToo : ℕ → ℕ → List Stamped → Type 0
 HoldsToo k c h = HoldsBy (part c h) c k → last_value h k ≡ c + 1
 
 -- after one event more, be it this caller's or another's
-held_step : (z : Cells) (k c : ℕ) (h : List Stamped) (by : ℕ) (d : Did) → z.plain ≤ k → HoldsToo k c h → may_do z (newest_first h) by d ≡ true
-    → (by ≡ c → value_after k (last_value (part c h) k) by d ≡ c + 1 → value_after k (last_value h k) by d ≡ c + 1)
+held_step : (z : Cells) (k c : ℕ) (h : List Stamped) (by : ℕ) (d : Did) → z.plain ≤ k
+    → HoldsToo k c h → may_do z (newest_first h) by d ≡ true
+    → (by ≡ c → value_after k (last_value (part c h) k) by d ≡ c + 1
+    → value_after k (last_value h k) by d ≡ c + 1)
     × (by ≢ c → HoldsBy (part c h) c k → value_after k (last_value h k) by d ≡ c + 1)
 held_step z k c h by (Read c' x) lock holds may = ((λ _ t. holds t), (λ _ t. holds t))
 held_step z k c h by (Wrote c' x) lock holds may =
@@ -107,7 +121,8 @@ held_step z k c h by (Wrote c' x) lock holds may =
 held_step z k c h by (Took c') lock holds may = dite (ℕ_discrete c' k)
     (λ e. let now = same_of (last_value h c') 0 (second_true (is_lock z c') _ may) in
     let z0 : last_value h k ≡ 0 = ap (last_value h) (sym e) ∙ now in
-    rw (eq-eqb c' k e) ((λ same _. ap (λ n. n + 1) same), (λ _ t. let v = holds t in absurd (omega arith))))
+    rw (eq-eqb c' k e)
+    ((λ same _. ap (λ n. n + 1) same), (λ _ t. let v = holds t in absurd (omega arith))))
     (λ no. rw (ne_eqb c' k no) ((λ _ t. holds t), (λ _ t. holds t)))
 held_step z k c h by (Gave c') lock holds may = dite (ℕ_discrete c' k)
     (λ e. let now = same_of (last_value h c') (by + 1) (second_true (is_lock z c') _ may) in
@@ -116,20 +131,27 @@ held_step z k c h by (Gave c') lock holds may = dite (ℕ_discrete c' k)
     (λ no. rw (ne_eqb c' k no) ((λ _ t. holds t), (λ _ t. holds t)))
 held_step z k c h by (Marked m) lock holds may = ((λ _ t. holds t), (λ _ t. holds t))
 
-pub held_value : (z : Cells) (k c : ℕ) (h : List Stamped) → z.plain ≤ k → is_legal z h ≡ true → HoldsBy (part c h) c k → last_value h k ≡ c + 1
+pub held_value : (z : Cells) (k c : ℕ) (h : List Stamped) → z.plain ≤ k → is_legal z h ≡ true
+    → HoldsBy (part c h) c k → last_value h k ≡ c + 1
 held_value z k c h lock legal =
-    legal_induction z (HoldsToo k c) (λ t. absurd (omega arith)) (λ l e so_far may. let s = held_step z k c l e.caller e.did lock so_far may in
+    legal_induction z (HoldsToo k c) (λ t. absurd (omega arith))
+    (λ l e so_far may. let s = held_step z k c l e.caller e.did lock so_far may in
     dite (ℕ_discrete e.caller c)
     (λ is. λ t. value-snoc l e k ∙ s.0 is (sym (value-snoc (part c l) e k)
     ∙ ap (λ (p : List Stamped). last_value p k) (sym (part-mine c l e is)) ∙ t))
-    (λ no. λ t. value-snoc l e k ∙ s.1 no (ap (λ (p : List Stamped). last_value p k) (sym (part-other c l e no)) ∙ t))) h legal
+    (λ no. λ t. value-snoc l e k
+    ∙ s.1 no (ap (λ (p : List Stamped). last_value p k) (sym (part-other c l e no)) ∙ t))) h legal
 
-all_below : (z : Cells) (h : List Stamped) → is_legal z h ≡ true → All (λ (e : Stamped). e.number < length h) h
-all_below z h legal k d l = let n = (numbered z h legal k (get_or h k d) (get_there h k d l)).0 in omega arith
+all_below : (z : Cells) (h : List Stamped) → is_legal z h ≡ true
+    → All (λ (e : Stamped). e.number < length h) h
+all_below z h legal k d l = let n = (numbered z h legal k (get_or h k d) (get_there h k d l)).0 in
+    omega arith
 
 -- the numbers of a caller's events are below the history's length
-pub part_below : (z : Cells) (c : ℕ) (h : List Stamped) → is_legal z h ≡ true → All (λ (e : Stamped). e.number < length h) (part c h)
-part_below z c h legal = All-filter (λ (e : Stamped). eqb e.caller c) (λ (e : Stamped). e.number < length h) h (all_below z h legal)
+pub part_below : (z : Cells) (c : ℕ) (h : List Stamped) → is_legal z h ≡ true
+    → All (λ (e : Stamped). e.number < length h) (part c h)
+part_below z c h legal = All-filter (λ (e : Stamped). eqb e.caller c)
+    (λ (e : Stamped). e.number < length h) h (all_below z h legal)
 
 -- an event of a part stands in the history, and the other way round
 pub part_in : (c : ℕ) (h : List Stamped) (k : ℕ) (d : Stamped) → k < length (part c h)
@@ -137,40 +159,60 @@ pub part_in : (c : ℕ) (h : List Stamped) (k : ℕ) (d : Stamped) → k < lengt
 part_in c [] k d l = absurd (omega arith)
 part_in c (x ∷ xs) k d l = at (eqb x.caller c) refl (λ j l'. part_in c xs j d l')
   where
-    here : (j : ℕ) → ((j : ℕ) → j < length (part c xs) → (i : ℕ) × (slice_get xs i ≡ Some (slice_index_or (part c xs) j d)))
-        → j < length (x ∷ part c xs) → (i : ℕ) × (slice_get (x ∷ xs) i ≡ Some (slice_index_or (x ∷ part c xs) j d))
+    here : (j : ℕ)
+        → ((j : ℕ) → j < length (part c xs) → (i : ℕ)
+        × (slice_get xs i ≡ Some (slice_index_or (part c xs) j d)))
+        → j < length (x ∷ part c xs) → (i : ℕ)
+        × (slice_get (x ∷ xs) i ≡ Some (slice_index_or (x ∷ part c xs) j d))
     here zero more l' = (0, refl)
     here (suc j) more l' = let f = more j (omega arith) in (suc f.0, f.1)
 
     at : (b : Bool) → eqb x.caller c ≡ b
-        → ((j : ℕ) → j < length (part c xs) → (i : ℕ) × (slice_get xs i ≡ Some (slice_index_or (part c xs) j d)))
+        → ((j : ℕ) → j < length (part c xs) → (i : ℕ)
+        × (slice_get xs i ≡ Some (slice_index_or (part c xs) j d)))
         → (i : ℕ) × (slice_get (x ∷ xs) i ≡ Some (slice_index_or (part c (x ∷ xs)) k d))
     at false is more =
-        let same : part c (x ∷ xs) ≡ part c xs = ap (λ (b : Bool). cond b (x ∷ part c xs) (part c xs)) is in
+        let same : part c (x ∷ xs) ≡ part c xs =
+        ap (λ (b : Bool). cond b (x ∷ part c xs) (part c xs)) is in
         let f = more k (subst (λ (q : List Stamped). k < length q) same l) in
         (suc f.0, f.1 ∙ ap (λ (q : List Stamped). Some (slice_index_or q k d)) (sym same))
     at true is more =
-        let same : part c (x ∷ xs) ≡ x ∷ part c xs = ap (λ (b : Bool). cond b (x ∷ part c xs) (part c xs)) is in
+        let same : part c (x ∷ xs) ≡ x ∷ part c xs =
+        ap (λ (b : Bool). cond b (x ∷ part c xs) (part c xs)) is in
         let f = here k more (subst (λ (q : List Stamped). k < length q) same l) in
         (f.0, f.1 ∙ ap (λ (q : List Stamped). Some (slice_index_or q k d)) (sym same))
 
-pub in_part : (c : ℕ) (h : List Stamped) (i : ℕ) (e : Stamped) → slice_get h i ≡ Some e → e.caller ≡ c
+pub in_part : (c : ℕ) (h : List Stamped) (i : ℕ) (e : Stamped) → slice_get h i ≡ Some e → e.caller
+    ≡ c
     → (k : ℕ) × (k < length (part c h)) × ((d : Stamped) → slice_index_or (part c h) k d ≡ e)
 in_part c [] i e q is = absurd (cc)
 in_part c (x ∷ xs) zero e q is =
     let same : x ≡ e = cc in
     let b : eqb x.caller c ≡ true = eq-eqb x.caller c (ap (λ (s : Stamped). s.caller) same ∙ is) in
-    let p : part c (x ∷ xs) ≡ x ∷ part c xs = ap (λ (b : Bool). cond b (x ∷ part c xs) (part c xs)) b in
-    (0, subst (λ (q : List Stamped). 0 < length q) (sym p) (omega arith), λ d. ap (λ (q : List Stamped). slice_index_or q 0 d) p ∙ same)
+    let p : part c (x ∷ xs) ≡ x ∷ part c xs = ap (λ (b : Bool). cond b (x ∷ part c xs) (part c xs))
+    b in (
+      0,
+      subst (λ (q : List Stamped). 0 < length q) (sym p) (omega arith),
+      λ d. ap
+          (λ (q : List Stamped). slice_index_or q 0 d) p ∙ same,
+    )
 in_part c (x ∷ xs) (suc i) e q is = let f = in_part c xs i e q is in at (eqb x.caller c) refl f
   where
-    at : (b : Bool) → eqb x.caller c ≡ b → (k : ℕ) × (k < length (part c xs)) × ((d : Stamped) → slice_index_or (part c xs) k d ≡ e)
-        → (k : ℕ) × (k < length (part c (x ∷ xs))) × ((d : Stamped) → slice_index_or (part c (x ∷ xs)) k d ≡ e)
+    at : (b : Bool) → eqb x.caller c ≡ b → (k : ℕ) × (k < length (part c xs))
+        × ((d : Stamped) → slice_index_or (part c xs) k d ≡ e)
+        → (k : ℕ) × (k < length (part c (x ∷ xs)))
+        × ((d : Stamped) → slice_index_or (part c (x ∷ xs)) k d ≡ e)
     at false is' f =
-        let p : part c (x ∷ xs) ≡ part c xs = ap (λ (b : Bool). cond b (x ∷ part c xs) (part c xs)) is' in
-        (f.0, subst (λ (q : List Stamped). f.0 < length q) (sym p) f.1, λ d. ap (λ (q : List Stamped). slice_index_or q f.0 d) p ∙ f.2 d)
+        let p : part c (x ∷ xs) ≡ part c xs = ap (λ (b : Bool). cond b (x ∷ part c xs) (part c xs))
+        is' in (
+          f.0,
+          subst (λ (q : List Stamped). f.0 < length q) (sym p) f.1,
+          λ d. ap
+              (λ (q : List Stamped). slice_index_or q f.0 d) p ∙ f.2 d,
+        )
     at true is' f =
-        let p : part c (x ∷ xs) ≡ x ∷ part c xs = ap (λ (b : Bool). cond b (x ∷ part c xs) (part c xs)) is' in
+        let p : part c (x ∷ xs) ≡ x ∷ part c xs =
+        ap (λ (b : Bool). cond b (x ∷ part c xs) (part c xs)) is' in
         let l = f.1 in (
           suc f.0,
           subst (λ (q : List Stamped). suc f.0 < length q) (sym p) (omega arith),

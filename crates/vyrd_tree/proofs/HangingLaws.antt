@@ -1,5 +1,6 @@
 -- The test of a node that hangs says so, and the other way round.
-use Rattle.std.proofs.Common.{◌≡◌, ◌≢◌, ℕ, ◌+◌, ◌≤◌, ◌⊎◌, inl, inr, true, false, not, List, ap, ◌∙◌, sym, subst, arith}
+use Rattle.std.proofs.Common.{◌≡◌, ◌≢◌, ℕ, ◌+◌, ◌≤◌, ◌⊎◌, inl, inr, true, false, not, List, ap, ◌∙◌}
+use Rattle.std.proofs.Common.{sym, subst, arith}
 use Rattle.std.specs.Prelude.{◌==◌, ◌&&◌, ◌||◌, nat_le, slice_index}
 use Rattle.std.specs.List.{list_all, AllByRecursion as Each}
 use Rattle.std.proofs.lemmas.Bool.Decides.{nat_tests}
@@ -7,7 +8,8 @@ use Rattle.vyrd_base.specs.declared.header.Header.{Header}
 use Rattle.vyrd_base.specs.declared.subject.Subject.TheVariants.{Tree}
 use Rattle.vyrd_base.specs.Tree.{level_of, entries_of}
 use Rattle.vyrd_base.specs.Tree.{last_of, nodes, low_of}
-use Rattle.vyrd_base.proofs.TestLaws.{both_true, first_true, second_true, same_of, is_same, isnt_same, is_at_most, at_most_of}
+use Rattle.vyrd_base.proofs.TestLaws.{both_true, first_true, second_true, same_of, is_same}
+use Rattle.vyrd_base.proofs.TestLaws.{isnt_same, is_at_most, at_most_of}
 use Rattle.vyrd_base.proofs.PlaceLaws.{pass_all}
 use Rattle.vyrd_memory.specs.Alone.{Memory, words_in}
 use Rattle.vyrd_memory.proofs.NumberLists.{all_pass}
@@ -22,7 +24,8 @@ use Rattle.vyrd_tree.specs.Laws.Alone.FullNodeSplits.{hanging_same_words}
 not_true : (n : ℕ) → not (n == 0) ≡ true → n ≢ 0
 not_true n e = grind (arith, nat_tests)
 
-module _ (size : ℕ) (words : List ℕ) (low : ℕ → ℕ) (level key node : ℕ) (t : IsTree size (slice_index words) low) where
+module _ (size : ℕ) (words : List ℕ) (low : ℕ → ℕ) (level key node : ℕ)
+    (t : IsTree size (slice_index words) low) where
   abbrev last : ℕ
   last = last_of size words
 
@@ -35,62 +38,88 @@ module _ (size : ℕ) (words : List ℕ) (low : ℕ → ℕ) (level key node : �
       clash : false ≡ true → ⊥
       clash e = cc
 
-  says : hangs_in size words level key node ≡ true → IsHanging size (slice_index words) low level key node
+  says : hangs_in size words level key node ≡ true → IsHanging size (slice_index words) low level
+      key node
   says e = record {
     in_use = used;
-    level_is = same_of (level_of words node) level (second_true (nat_le node last) (level_of words node == level) two);
+    level_is = same_of (level_of words node) level
+        (second_true (nat_le node last) (level_of words node == level) two);
     low_is = sym (low_is size words low t node used) ∙ same_of (low_of last words node) key
-        (second_true (nat_le node last && level_of words node == level) (low_of last words node == key) three);
-    some = not_true key (second_true (nat_le node last && level_of words node == level && low_of last words node == key) (not (key == 0)) four);
+        (second_true (nat_le node last && level_of words node == level)
+        (low_of last words node == key) three);
+    some = not_true key
+        (second_true (nat_le node last && level_of words node == level
+        && low_of last words node == key) (not (key == 0)) four);
     unnamed = λ n in_use some. subst (Each (λ entry. entry.1 ≢ node)) (same n in_use)
-        (all_says (λ entry. not (entry.1 == node)) (λ entry. entry.1 ≢ node) elsewhere (entries_of words n)
-        (inner n some (all_pass (leads_elsewhere words node) 0 (last + 1) all n (omega arith) (omega arith))));
+        (all_says (λ entry. not (entry.1 == node)) (λ entry. entry.1 ≢ node) elsewhere
+        (entries_of words n)
+        (inner n some (all_pass (leads_elsewhere words node) 0 (last + 1) all n (omega arith)
+        (omega arith))));
   }
     where
-      four : (nat_le node last && level_of words node == level && low_of last words node == key && not (key == 0)) ≡ true
-      four = first_true (nat_le node last && level_of words node == level && low_of last words node == key && not (key == 0))
+      four : (nat_le node last && level_of words node == level && low_of last words node == key
+          && not (key == 0)) ≡ true
+      four = first_true (nat_le node last && level_of words node == level
+          && low_of last words node == key && not (key == 0))
           (list_all (leads_elsewhere words node) (nodes last)) e
 
       all : list_all (leads_elsewhere words node) (nodes last) ≡ true
-      all = second_true (nat_le node last && level_of words node == level && low_of last words node == key && not (key == 0))
+      all = second_true (nat_le node last && level_of words node == level
+          && low_of last words node == key && not (key == 0))
           (list_all (leads_elsewhere words node) (nodes last)) e
 
-      three : (nat_le node last && level_of words node == level && low_of last words node == key) ≡ true
-      three = first_true (nat_le node last && level_of words node == level && low_of last words node == key) (not (key == 0)) four
+      three : (nat_le node last && level_of words node == level && low_of last words node == key)
+          ≡ true
+      three = first_true (nat_le node last && level_of words node == level
+          && low_of last words node == key) (not (key == 0)) four
 
       two : (nat_le node last && level_of words node == level) ≡ true
-      two = first_true (nat_le node last && level_of words node == level) (low_of last words node == key) three
+      two = first_true (nat_le node last && level_of words node == level)
+          (low_of last words node == key) three
 
       used : node ≤ last
       used = at_most_of node last (first_true (nat_le node last) (level_of words node == level) two)
 
       inner : (n : ℕ) → level_of words n ≢ 0 → leads_elsewhere words node n ≡ true
           → list_all (λ entry. not (entry.1 == node)) (entries_of words n) ≡ true
-      inner n some e = ap (λ b. b || list_all (λ entry. not (entry.1 == node)) (entries_of words n)) (sym (isnt_same (level_of words n) 0 some)) ∙ e
+      inner n some e = ap (λ b. b || list_all (λ entry. not (entry.1 == node)) (entries_of words n))
+          (sym (isnt_same (level_of words n) 0 some)) ∙ e
 
-  passes : IsHanging size (slice_index words) low level key node → hangs_in size words level key node ≡ true
+  passes : IsHanging size (slice_index words) low level key node
+      → hangs_in size words level key node ≡ true
   passes is =
-      both_true (nat_le node last && level_of words node == level && low_of last words node == key && not (key == 0))
+      both_true (nat_le node last && level_of words node == level && low_of last words node == key
+      && not (key == 0))
       (list_all (leads_elsewhere words node) (nodes last))
-      (both_true (nat_le node last && level_of words node == level && low_of last words node == key) (not (key == 0))
+      (both_true (nat_le node last && level_of words node == level && low_of last words node == key)
+      (not (key == 0))
       (both_true (nat_le node last && level_of words node == level) (low_of last words node == key)
-      (both_true (nat_le node last) (level_of words node == level) (is_at_most node last is.in_use) (is_same (level_of words node) level is.level_is))
-      (is_same (low_of last words node) key (low_is size words low t node is.in_use ∙ is.low_is))) (ap not (isnt_same key 0 is.some)))
-      (pass_all (leads_elsewhere words node) 0 (last + 1) (λ n from to. by_level n (omega arith) (zero_or (level_of words n))))
+      (both_true (nat_le node last) (level_of words node == level) (is_at_most node last is.in_use)
+      (is_same (level_of words node) level is.level_is))
+      (is_same (low_of last words node) key (low_is size words low t node is.in_use ∙ is.low_is)))
+      (ap not (isnt_same key 0 is.some)))
+      (pass_all (leads_elsewhere words node) 0 (last + 1)
+      (λ n from to. by_level n (omega arith) (zero_or (level_of words n))))
     where
-      by_level : (n : ℕ) → n ≤ last → (level_of words n ≡ 0) ⊎ (level_of words n ≢ 0) → leads_elsewhere words node n ≡ true
-      by_level n used (inl leaf) = ap (λ b. b || list_all (λ entry. not (entry.1 == node)) (entries_of words n)) (is_same (level_of words n) 0 leaf)
+      by_level : (n : ℕ) → n ≤ last → (level_of words n ≡ 0) ⊎ (level_of words n ≢ 0)
+          → leads_elsewhere words node n ≡ true
+      by_level n used (inl leaf) =
+          ap (λ b. b || list_all (λ entry. not (entry.1 == node)) (entries_of words n))
+          (is_same (level_of words n) 0 leaf)
       by_level n used (inr some) =
-          ap (λ b. b || list_all (λ entry. not (entry.1 == node)) (entries_of words n)) (isnt_same (level_of words n) 0 some)
+          ap (λ b. b || list_all (λ entry. not (entry.1 == node)) (entries_of words n))
+          (isnt_same (level_of words n) 0 some)
           ∙ all_passes (λ entry. not (entry.1 == node)) (λ entry. entry.1 ≢ node)
           (λ entry other. ap not (isnt_same entry.1 node other)) (entries_of words n)
           (subst (Each (λ entry. entry.1 ≢ node)) (sym (same n used)) (is.unnamed n used some))
 
-pub hanging_says : (h : Header) (m : Memory) (low : ℕ → ℕ) (level key node : ℕ) → h.subject ≡ Tree → IsTree h.size m low
+pub hanging_says : (h : Header) (m : Memory) (low : ℕ → ℕ) (level key node : ℕ) → h.subject ≡ Tree
+    → IsTree h.size m low
     → is_hanging h m level key node ≡ true
     → IsHanging h.size m low level key node
 hanging_says h m low level key node is t e =
-    hanging_same_words h.size (slice_index (words_in h m)) m low level key node back there (says h.size (words_in h m) low level key node there e)
+    hanging_same_words h.size (slice_index (words_in h m)) m low level key node back there
+    (says h.size (words_in h m) low level key node there e)
   where
     back : SameWords h.size (slice_index (words_in h m)) m
     back cell small = sym (words_same h m is cell small)
@@ -98,9 +127,12 @@ hanging_says h m low level key node is t e =
     there : IsTree h.size (slice_index (words_in h m)) low
     there = same_words_tree h.size m (slice_index (words_in h m)) low (words_same h m is) t
 
-pub hanging_passes : (h : Header) (m : Memory) (low : ℕ → ℕ) (level key node : ℕ) → h.subject ≡ Tree → IsTree h.size m low
+pub hanging_passes : (h : Header) (m : Memory) (low : ℕ → ℕ) (level key node : ℕ) → h.subject ≡ Tree
+    → IsTree h.size m low
     → IsHanging h.size m low level key node
     → is_hanging h m level key node ≡ true
 hanging_passes h m low level key node is t hangs =
-    passes h.size (words_in h m) low level key node (same_words_tree h.size m (slice_index (words_in h m)) low (words_same h m is) t)
-    (hanging_same_words h.size m (slice_index (words_in h m)) low level key node (words_same h m is) t hangs)
+    passes h.size (words_in h m) low level key node
+    (same_words_tree h.size m (slice_index (words_in h m)) low (words_same h m is) t)
+    (hanging_same_words h.size m (slice_index (words_in h m)) low level key node
+    (words_same h m is) t hangs)

@@ -1,5 +1,7 @@
 -- The chain of a tree's leaves, node by node, with a flag for each node that was seen.
-use Rattle.std.proofs.Common.{◌≡◌, ℕ, zero, suc, ◌+◌, ◌-◌, ◌<◌, Bool, true, false, ◌||◌, List, [], ◌∷◌, length, get_or, set, refl, ap, ◌∙◌, sym, subst, arith, get_or-set_same, get_or-set_other}
+use Rattle.std.proofs.Common.{◌≡◌, ℕ, zero, suc, ◌+◌, ◌-◌, ◌<◌, Bool, true, false, ◌||◌, List, []}
+use Rattle.std.proofs.Common.{◌∷◌, length, get_or, set, refl, ap, ◌∙◌, sym, subst, arith}
+use Rattle.std.proofs.Common.{get_or-set_same, get_or-set_other}
 use Rattle.std.specs.Prelude.{◌==◌, ◌≢◌, nat_le, replicate}
 use Rattle.std.specs.List.{list_any}
 use Rattle.std.proofs.lemmas.Bool.Decides.{nat_tests}
@@ -13,13 +15,16 @@ use Rattle.vyrd_base.proofs.AddedLaws.{added-append, added-collected}
 
 -- The flags tell the nodes that were seen, and a node past the flags counts as seen.
 abbrev pub Marks : ℕ → List Bool → List ℕ → Type 0
-Marks size flags seen = (q : ℕ) → get_or flags q true ≡ (nat_le size q || list_any (λ m. m == q) seen)
+Marks size flags seen = (q : ℕ) → get_or flags q true
+    ≡ (nat_le size q || list_any (λ m. m == q) seen)
 
 -- what was added so far, with the chain from this node on, is what the whole chain shows
-pub record Walk (size : ℕ) (words : List ℕ) (sums : Amounts) (flags : List Bool) (left node : ℕ) : Type 0 where
+pub record Walk (size : ℕ) (words : List ℕ) (sums : Amounts) (flags : List Bool)
+    (left node : ℕ) : Type 0 where
   pub seen : List ℕ
   pub marks : Marks size flags seen
-  pub rest : added sums (chain_parts_from size words left seen node) ≡ collected (chain_parts size words)
+  pub rest : added sums (chain_parts_from size words left seen node)
+      ≡ collected (chain_parts size words)
 
 pub none_marked : (n q : ℕ) → get_or (replicate n false) q true ≡ (nat_le n q || false)
 none_marked zero q = grind (arith, nat_tests)
@@ -30,23 +35,28 @@ none_marked (suc n) (suc q) = none_marked n q ∙ ap (λ b. b || false) (one_les
     one_less m k = grind (arith, nat_tests)
 
 -- at the start
-pub walk_begins : (size : ℕ) (words : List ℕ) (sums : Amounts) (flags : List Bool) (left : ℕ) → sums ≡ [] → left ≡ size → flags ≡ replicate size false
+pub walk_begins : (size : ℕ) (words : List ℕ) (sums : Amounts) (flags : List Bool) (left : ℕ)
+    → sums ≡ [] → left ≡ size → flags ≡ replicate size false
     → Walk size words sums flags left 0
 walk_begins size words sums flags left empty all none = record {
   seen = [];
   marks = λ q. ap (λ s. get_or s q true) none ∙ none_marked size q;
-  rest = ap (λ s. added s (chain_parts_from size words left [] 0)) empty ∙ ap (λ n. added [] (chain_parts_from size words n [] 0)) all
+  rest = ap (λ s. added s (chain_parts_from size words left [] 0)) empty
+      ∙ ap (λ n. added [] (chain_parts_from size words n [] 0)) all
       ∙ added-collected (chain_parts size words);
 }
 
 -- before the last turn a node is left
-pub walk_left : (size : ℕ) (words : List ℕ) (sums : Amounts) (flags : List Bool) (turn n : ℕ) → turn < size
+pub walk_left : (size : ℕ) (words : List ℕ) (sums : Amounts) (flags : List Bool) (turn n : ℕ)
+    → turn < size
     → Walk size words sums flags (size - turn) n
     → Walk size words sums flags (suc (size - (turn + 1))) n
 walk_left size words sums flags turn n more walk =
-    let one : size - turn ≡ suc (size - (turn + 1)) = omega arith in subst (λ left. Walk size words sums flags left n) one walk
+    let one : size - turn ≡ suc (size - (turn + 1)) = omega arith in
+    subst (λ left. Walk size words sums flags left n) one walk
 
-pub marked : (size n : ℕ) (flags : List Bool) (seen : List ℕ) → n < length flags → Marks size flags seen → Marks size (set flags n true) (n ∷ seen)
+pub marked : (size n : ℕ) (flags : List Bool) (seen : List ℕ) → n < length flags
+    → Marks size flags seen → Marks size (set flags n true) (n ∷ seen)
 marked size n flags seen within marks q = by_test (n == q) refl
   where
     same_of : (n == q) ≡ true → n ≡ q
@@ -55,10 +65,13 @@ marked size n flags seen within marks q = by_test (n == q) refl
     other_of : (n == q) ≡ false → q ≢ n
     other_of e = grind (arith, nat_tests)
 
-    by_test : (b : Bool) → (n == q) ≡ b → get_or (set flags n true) q true ≡ (nat_le size q || ((n == q) || list_any (λ m. m == q) seen))
+    by_test : (b : Bool) → (n == q) ≡ b → get_or (set flags n true) q true
+        ≡ (nat_le size q || ((n == q) || list_any (λ m. m == q) seen))
     by_test true e =
-        ap (λ k. get_or (set flags n true) k true) (sym (same_of e)) ∙ get_or-set_same flags n true true within
-        ∙ sym (ap (λ b. nat_le size q || (b || list_any (λ m. m == q) seen)) e ∙ or-true (nat_le size q))
+        ap (λ k. get_or (set flags n true) k true) (sym (same_of e))
+        ∙ get_or-set_same flags n true true within
+        ∙ sym (ap (λ b. nat_le size q || (b || list_any (λ m. m == q) seen)) e
+        ∙ or-true (nat_le size q))
     by_test false e =
         get_or-set_other flags n q true true (other_of e) ∙ marks q
         ∙ sym (ap (λ b. nat_le size q || (b || list_any (λ m. m == q) seen)) e)
@@ -66,44 +79,56 @@ marked size n flags seen within marks q = by_test (n == q) refl
 -- a node, and what follows it
 onward : (size : ℕ) (words : List ℕ) (sums : Amounts) (flags : List Bool) (left n : ℕ)
     (walk : Walk size words sums flags (suc left) n) (ends back : Bool)
-    → n < length flags → (right_of words n == 0) ≡ ends → get_or (set flags n true) (right_of words n) true ≡ back
-    → added (added sums (node_parts words n)) (parts_after size words left walk.seen n ends back) ≡ collected (chain_parts size words)
+    → n < length flags → (right_of words n == 0) ≡ ends → get_or (set flags n true)
+    (right_of words n) true ≡ back
+    → added (added sums (node_parts words n)) (parts_after size words left walk.seen n ends back)
+    ≡ collected (chain_parts size words)
 onward size words sums flags left n walk ends back within is_end is_back =
-    let marks : Marks size (set flags n true) (n ∷ walk.seen) = marked size n flags walk.seen within walk.marks in
+    let marks : Marks size (set flags n true) (n ∷ walk.seen) = marked size n flags walk.seen within
+    walk.marks in
     let right : ℕ = right_of words n in
     let test : Bool = (nat_le size right || list_any (λ m. m == right) (n ∷ walk.seen)) in
     let sums' : Amounts = added sums (node_parts words n) in
     sym (ap (λ b. added sums' (parts_after size words left walk.seen n b test)) is_end
-    ∙ ap (λ b. added sums' (parts_after size words left walk.seen n ends b)) (sym (marks right) ∙ is_back))
-    ∙ sym (added-append (node_parts words n) (parts_after size words left walk.seen n (right == 0) test) sums)
+    ∙ ap (λ b. added sums' (parts_after size words left walk.seen n ends b))
+    (sym (marks right) ∙ is_back))
+    ∙ sym (added-append (node_parts words n)
+    (parts_after size words left walk.seen n (right == 0) test) sums)
     ∙ walk.rest
 
 -- at the node where the chain ends
 pub walk_ends : (size : ℕ) (words : List ℕ) (sums t : Amounts) (flags : List Bool) (left n : ℕ)
     → Walk size words sums flags (suc left) n → n < length flags
-    → t ≡ added sums (node_parts words n) → right_of words n ≡ 0 → t ≡ collected (chain_parts size words)
+    → t ≡ added sums (node_parts words n) → right_of words n ≡ 0
+    → t ≡ collected (chain_parts size words)
 walk_ends size words sums t flags left n walk within more ends =
-    more ∙ onward size words sums flags left n walk true (get_or (set flags n true) (right_of words n) true) within
+    more ∙ onward size words sums flags left n walk true
+    (get_or (set flags n true) (right_of words n) true) within
     (is_same (right_of words n) 0 ends) refl
 
 -- at a link past the nodes or back to the chain
 pub walk_breaks : (size : ℕ) (words : List ℕ) (sums t : Amounts) (flags : List Bool) (left n : ℕ)
     → Walk size words sums flags (suc left) n → n < length flags
-    → t ≡ added sums (node_parts words n) → right_of words n ≢ 0 → get_or (set flags n true) (right_of words n) true ≡ true
+    → t ≡ added sums (node_parts words n) → right_of words n ≢ 0 → get_or (set flags n true)
+    (right_of words n) true ≡ true
     → added t damage ≡ collected (chain_parts size words)
 walk_breaks size words sums t flags left n walk within more on back =
-    ap (λ s. added s damage) more ∙ onward size words sums flags left n walk false true within (isnt_same (right_of words n) 0 on) back
+    ap (λ s. added s damage) more ∙ onward size words sums flags left n walk false true within
+    (isnt_same (right_of words n) 0 on) back
 
 -- at any other link
 pub walk_goes_on : (size : ℕ) (words : List ℕ) (sums t : Amounts) (flags : List Bool) (left n : ℕ)
     → Walk size words sums flags (suc left) n → n < length flags
-    → t ≡ added sums (node_parts words n) → right_of words n ≢ 0 → get_or (set flags n true) (right_of words n) true ≡ false
+    → t ≡ added sums (node_parts words n) → right_of words n ≢ 0 → get_or (set flags n true)
+    (right_of words n) true ≡ false
     → Walk size words t (set flags n true) left (right_of words n)
 walk_goes_on size words sums t flags left n walk within more on new = record {
   seen = n ∷ walk.seen;
   marks = marked size n flags walk.seen within walk.marks;
-  rest = ap (λ s. added s (chain_parts_from size words left (n ∷ walk.seen) (right_of words n))) more
-      ∙ onward size words sums flags left n walk false false within (isnt_same (right_of words n) 0 on) new;
+  rest = ap (λ s. added s (chain_parts_from size words left (n ∷ walk.seen) (right_of words n)))
+      more
+      ∙ onward size words sums flags left n walk false false within
+      (isnt_same (right_of words n) 0 on) new;
 }
 
 -- a node that isn't seen is within the flags

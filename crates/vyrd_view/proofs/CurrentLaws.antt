@@ -1,5 +1,7 @@
 -- What is kept of a tree's words stays that of the words, node by node.
-use Rattle.std.proofs.Common.{◌≡◌, ℕ, zero, suc, ◌+◌, ◌*◌, ◌/◌, ◌%◌, ◌^◌, ◌<◌, Bool, true, false, cond, ◌&&◌, ◌||◌, List, [], ◌∷◌, replicate, get_or, set, refl, ap, ◌∙◌, sym, arith}
+use Rattle.std.proofs.Common.{◌≡◌, ℕ, zero, suc, ◌+◌, ◌*◌, ◌/◌, ◌%◌, ◌^◌, ◌<◌, Bool, true, false}
+use Rattle.std.proofs.Common.{cond, ◌&&◌, ◌||◌, List, [], ◌∷◌, replicate, get_or, set, refl, ap}
+use Rattle.std.proofs.Common.{◌∙◌, sym, arith}
 use Rattle.std.specs.Prelude.{◌==◌, ◌≢◌, nat_le, nat_lt, slice_index}
 use Rattle.std.specs.List.{list_any}
 use Rattle.vyrd_base.specs.Amounts.{given}
@@ -8,16 +10,19 @@ use Rattle.vyrd_base.proofs.SumLaws.{nothing_given}
 use Rattle.vyrd_base.proofs.ListLaws.{zeros}
 use Rattle.vyrd_base.proofs.TestLaws.{apart_of, isnt_same, neither_true, isnt_below}
 use Rattle.vyrd_view.specs.Pairs.{is_touched}
-use Rattle.vyrd_view.specs.Chains.{chain_nodes_from, chain_breaks_from, is_on_chain, is_broken, entry_pair, node_pair, is_stale, has_link}
+use Rattle.vyrd_view.specs.Chains.{chain_nodes_from, chain_breaks_from, is_on_chain, is_broken}
+use Rattle.vyrd_view.specs.Chains.{entry_pair, node_pair, is_stale, has_link}
 use Rattle.vyrd_view.specs.Comparing.{AgreeElsewhere}
 use Rattle.vyrd_view.proofs.DecodedLaws.{word_untouched}
 
-link_untouched : (w : ℕ) (changed : List ℕ) → w % 12 ≡ 3 → has_link changed ≡ false → list_any (λ x. x == w) changed ≡ false
+link_untouched : (w : ℕ) (changed : List ℕ) → w % 12 ≡ 3 → has_link changed ≡ false
+    → list_any (λ x. x == w) changed ≡ false
 link_untouched w [] at unlinked = refl
 link_untouched w (x ∷ changed) at unlinked =
     let both = neither_true (x % 12 == 3) (has_link changed) unlinked in
     let apart : x ≢ w = λ same. apart_of (x % 12) 3 both.0 (ap (λ k. k % 12) same ∙ at) in
-    ap (λ b. b || list_any (λ y. y == w) changed) (isnt_same x w apart) ∙ link_untouched w changed at both.1
+    ap (λ b. b || list_any (λ y. y == w) changed) (isnt_same x w apart)
+    ∙ link_untouched w changed at both.1
 
 -- what follows a node on the chain, and whether that is damage
 abbrev nodes_by : Bool → Bool → List ℕ → List ℕ
@@ -39,48 +44,64 @@ breaks_by ends back rest = elim ends [
 ]
 
 module _ (before words changed : List ℕ) (elsewhere : AgreeElsewhere before words changed) where
-  same_word : (size part w : ℕ) → w / size ≡ part → is_touched size part changed ≡ false → slice_index words w ≡ slice_index before w
+  same_word : (size part w : ℕ) → w / size ≡ part → is_touched size part changed ≡ false
+      → slice_index words w ≡ slice_index before w
   same_word size part w at untouched = elsewhere w (word_untouched size part w changed at untouched)
 
-  same_node_word : (n i : ℕ) → i < 12 → is_touched 12 n changed ≡ false → node_word words n i ≡ node_word before n i
+  same_node_word : (n i : ℕ) → i < 12 → is_touched 12 n changed ≡ false → node_word words n i
+      ≡ node_word before n i
   same_node_word n i low untouched = same_word 12 n (12 * n + i) (omega arith) untouched
 
-  entry_untouched : (n j : ℕ) → j < 4 → is_touched 12 n changed ≡ false → entry_pair words n j ≡ entry_pair before n j
+  entry_untouched : (n j : ℕ) → j < 4 → is_touched 12 n changed ≡ false → entry_pair words n j
+      ≡ entry_pair before n j
   entry_untouched n j low untouched =
       ap (λ (k : ℕ). cond {A = ℕ × ℕ} (nat_lt j k)
-      (cond {A = ℕ × ℕ} (nat_lt (node_word words n (4 + j)) (2 ^ 32) && nat_lt (node_word words n (8 + j)) (2 ^ 32)) (node_word words n (4 + j), 2 ^ 32 + node_word words n (8 + j)) (2 ^ 33, 1))
+      (cond {A = ℕ × ℕ} (nat_lt (node_word words n (4 + j)) (2 ^ 32)
+      && nat_lt (node_word words n (8 + j)) (2 ^ 32))
+      (node_word words n (4 + j), 2 ^ 32 + node_word words n (8 + j)) (2 ^ 33, 1))
       (0, 0)) (same_node_word n 1 (omega arith) untouched)
       ∙ ap (λ (k : ℕ). cond {A = ℕ × ℕ} (nat_lt j (count_of before n))
-      (cond {A = ℕ × ℕ} (nat_lt k (2 ^ 32) && nat_lt (node_word words n (8 + j)) (2 ^ 32)) (k, 2 ^ 32 + node_word words n (8 + j)) (2 ^ 33, 1))
+      (cond {A = ℕ × ℕ} (nat_lt k (2 ^ 32) && nat_lt (node_word words n (8 + j)) (2 ^ 32))
+      (k, 2 ^ 32 + node_word words n (8 + j)) (2 ^ 33, 1))
       (0, 0)) (same_node_word n (4 + j) (omega (arith, low)) untouched)
       ∙ ap (λ (v : ℕ). cond {A = ℕ × ℕ} (nat_lt j (count_of before n))
-      (cond {A = ℕ × ℕ} (nat_lt (node_word before n (4 + j)) (2 ^ 32) && nat_lt v (2 ^ 32)) (node_word before n (4 + j), 2 ^ 32 + v) (2 ^ 33, 1))
+      (cond {A = ℕ × ℕ} (nat_lt (node_word before n (4 + j)) (2 ^ 32) && nat_lt v (2 ^ 32))
+      (node_word before n (4 + j), 2 ^ 32 + v) (2 ^ 33, 1))
       (0, 0)) (same_node_word n (8 + j) (omega (arith, low)) untouched)
 
-  pub node_untouched : (marks : List Bool) (m : ℕ) → is_stale marks (m / 4) changed ≡ false → node_pair words marks m ≡ node_pair before marks m
+  pub node_untouched : (marks : List Bool) (m : ℕ) → is_stale marks (m / 4) changed ≡ false
+      → node_pair words marks m ≡ node_pair before marks m
   node_untouched marks m fresh = by_mark (get_or marks (m / 4) false) fresh
     where
       by_mark : (b : Bool) → (b && is_touched 12 (m / 4) changed) ≡ false
-          → cond {A = ℕ × ℕ} b (entry_pair words (m / 4) (m % 4)) (0, 0) ≡ cond {A = ℕ × ℕ} b (entry_pair before (m / 4) (m % 4)) (0, 0)
+          → cond {A = ℕ × ℕ} b (entry_pair words (m / 4) (m % 4)) (0, 0) ≡ cond {A = ℕ × ℕ} b
+          (entry_pair before (m / 4) (m % 4)) (0, 0)
       by_mark true e = entry_untouched (m / 4) (m % 4) (omega arith) e
       by_mark false e = refl
 
   module _ (unlinked : has_link changed ≡ false) where
     same_link : (n : ℕ) → right_of words n ≡ right_of before n
-    same_link n = elsewhere (12 * n + 3) (link_untouched (12 * n + 3) changed (omega arith) unlinked)
+    same_link n = elsewhere (12 * n + 3)
+        (link_untouched (12 * n + 3) changed (omega arith) unlinked)
 
-    same_nodes : (size left : ℕ) (seen : List ℕ) (n : ℕ) → chain_nodes_from size words left seen n ≡ chain_nodes_from size before left seen n
+    same_nodes : (size left : ℕ) (seen : List ℕ) (n : ℕ) → chain_nodes_from size words left seen n
+        ≡ chain_nodes_from size before left seen n
     same_nodes size zero seen n = refl
     same_nodes size (suc left) seen n =
-        ap (λ r. n ∷ nodes_by (r == 0) (nat_le size r || list_any (λ m. m == r) (n ∷ seen)) (chain_nodes_from size words left (n ∷ seen) r)) (same_link n)
-        ∙ ap (λ s. n ∷ nodes_by (right_of before n == 0) (nat_le size (right_of before n) || list_any (λ m. m == right_of before n) (n ∷ seen)) s)
+        ap (λ r. n ∷ nodes_by (r == 0) (nat_le size r || list_any (λ m. m == r) (n ∷ seen))
+        (chain_nodes_from size words left (n ∷ seen) r)) (same_link n)
+        ∙ ap (λ s. n ∷ nodes_by (right_of before n == 0)
+        (nat_le size (right_of before n) || list_any (λ m. m == right_of before n) (n ∷ seen)) s)
         (same_nodes size left (n ∷ seen) (right_of before n))
 
-    same_breaks : (size left : ℕ) (seen : List ℕ) (n : ℕ) → chain_breaks_from size words left seen n ≡ chain_breaks_from size before left seen n
+    same_breaks : (size left : ℕ) (seen : List ℕ) (n : ℕ) → chain_breaks_from size words left seen n
+        ≡ chain_breaks_from size before left seen n
     same_breaks size zero seen n = refl
     same_breaks size (suc left) seen n =
-        ap (λ r. breaks_by (r == 0) (nat_le size r || list_any (λ m. m == r) (n ∷ seen)) (chain_breaks_from size words left (n ∷ seen) r)) (same_link n)
-        ∙ ap (λ b. breaks_by (right_of before n == 0) (nat_le size (right_of before n) || list_any (λ m. m == right_of before n) (n ∷ seen)) b)
+        ap (λ r. breaks_by (r == 0) (nat_le size r || list_any (λ m. m == r) (n ∷ seen))
+        (chain_breaks_from size words left (n ∷ seen) r)) (same_link n)
+        ∙ ap (λ b. breaks_by (right_of before n == 0)
+        (nat_le size (right_of before n) || list_any (λ m. m == right_of before n) (n ∷ seen)) b)
         (same_breaks size left (n ∷ seen) (right_of before n))
 
     pub chain_untouched : (size n : ℕ) → is_on_chain size words n ≡ is_on_chain size before n
@@ -96,18 +117,23 @@ module _ (before words changed : List ℕ) (elsewhere : AgreeElsewhere before wo
 no_entry : (n node j : ℕ) → entry_pair (replicate n 0) node j ≡ (0, 0)
 no_entry n node j =
     ap (λ (k : ℕ). cond {A = ℕ × ℕ} (nat_lt j k)
-    (cond {A = ℕ × ℕ} (nat_lt (node_word (replicate n 0) node (4 + j)) (2 ^ 32) && nat_lt (node_word (replicate n 0) node (8 + j)) (2 ^ 32))
-    (node_word (replicate n 0) node (4 + j), 2 ^ 32 + node_word (replicate n 0) node (8 + j)) (2 ^ 33, 1))
+    (cond {A = ℕ × ℕ} (nat_lt (node_word (replicate n 0) node (4 + j)) (2 ^ 32)
+    && nat_lt (node_word (replicate n 0) node (8 + j)) (2 ^ 32))
+    (node_word (replicate n 0) node (4 + j), 2 ^ 32 + node_word (replicate n 0) node (8 + j))
+    (2 ^ 33, 1))
     (0, 0)) (zeros n (12 * node + 1))
     ∙ ap (λ (b : Bool). cond {A = ℕ × ℕ} b
-    (cond {A = ℕ × ℕ} (nat_lt (node_word (replicate n 0) node (4 + j)) (2 ^ 32) && nat_lt (node_word (replicate n 0) node (8 + j)) (2 ^ 32))
-    (node_word (replicate n 0) node (4 + j), 2 ^ 32 + node_word (replicate n 0) node (8 + j)) (2 ^ 33, 1))
+    (cond {A = ℕ × ℕ} (nat_lt (node_word (replicate n 0) node (4 + j)) (2 ^ 32)
+    && nat_lt (node_word (replicate n 0) node (8 + j)) (2 ^ 32))
+    (node_word (replicate n 0) node (4 + j), 2 ^ 32 + node_word (replicate n 0) node (8 + j))
+    (2 ^ 33, 1))
     (0, 0)) (isnt_below j 0 (omega arith))
 
 pub no_node : (n : ℕ) (marks : List Bool) (m : ℕ) → node_pair (replicate n 0) marks m ≡ (0, 0)
 no_node n marks m = by_mark (get_or marks (m / 4) false)
   where
-    by_mark : (b : Bool) → cond {A = ℕ × ℕ} b (entry_pair (replicate n 0) (m / 4) (m % 4)) (0, 0) ≡ (0, 0)
+    by_mark : (b : Bool) → cond {A = ℕ × ℕ} b (entry_pair (replicate n 0) (m / 4) (m % 4)) (0, 0)
+        ≡ (0, 0)
     by_mark true = no_entry n (m / 4) (m % 4)
     by_mark false = refl
 
@@ -129,11 +155,15 @@ whole_chain n size left = ap (λ r. elim (r == 0) [
   ]
 ]) (zeros n (12 * 0 + 3))
 
-pub first_is_marked : (n size i : ℕ) → 0 < size → get_or (set (replicate size false) 0 true) i false ≡ is_on_chain size (replicate n 0) i
+pub first_is_marked : (n size i : ℕ) → 0 < size → get_or (set (replicate size false) 0 true) i false
+    ≡ is_on_chain size (replicate n 0) i
 unfolding is_on_chain
 first_is_marked n zero i some = absurd (omega arith)
-first_is_marked n (suc left) zero some = sym (ap (list_any (λ m. m == 0)) (one_node n (suc left) left))
-first_is_marked n (suc left) (suc i) some = none left i ∙ sym (ap (list_any (λ m. m == suc i)) (one_node n (suc left) left) ∙ ap (λ b. b || false) (isnt_same 0 (suc i) (λ e. absurd (omega (arith, e)))))
+first_is_marked n (suc left) zero some =
+    sym (ap (list_any (λ m. m == 0)) (one_node n (suc left) left))
+first_is_marked n (suc left) (suc i) some = none left i
+    ∙ sym (ap (list_any (λ m. m == suc i)) (one_node n (suc left) left)
+    ∙ ap (λ b. b || false) (isnt_same 0 (suc i) (λ e. absurd (omega (arith, e)))))
   where
     none : (k j : ℕ) → get_or (replicate k false) j false ≡ false
     none zero j = refl

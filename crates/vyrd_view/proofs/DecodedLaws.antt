@@ -234,7 +234,8 @@ pub kept_others : (width places parts held : ℕ) (gives : Gives) (before : List
     → AgreeElsewhere before words changed → (m : ℕ) → m < length pairs
     → is_touched width (m / places) changed ≡ false
     → get_or pairs m (0, 0) ≡ pair_at width places gives words m
-kept_others width places parts held gives before pairs kept few count words changed new elsewhere m low untouched =
+kept_others width places parts held gives before pairs kept few count words changed new elsewhere m
+    low untouched =
     let f : ℕ → ℕ × ℕ = pair_at width places gives before in
     let inside : m < held * places =
     omega (arith, low, ap length kept, length_below f (held * places)) in

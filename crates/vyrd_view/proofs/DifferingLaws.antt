@@ -16,7 +16,8 @@ module _ (before words : List ℕ) where
 
   one_more : (changed : List ℕ) (index : ℕ) → index < length changed
       → differing before words (drop index changed)
-      ≡ more_by changed index (get_or words (get_or changed index 0) 0 == get_or before (get_or changed index 0) 0)
+      ≡ more_by changed index
+      (get_or words (get_or changed index 0) 0 == get_or before (get_or changed index 0) 0)
   unfolding more_by
   one_more changed index low = ap (differing before words) (drop_more changed index 0 low)
 

@@ -1,5 +1,6 @@
 -- Two sides that are empty.
-use Rattle.std.proofs.Common.{◌≡◌, ℕ, zero, suc, ◌+◌, ◌^◌, ◌≤◌, false, cond, [], None, length, replicate, refl, ap, ◌∙◌, sym, subst, arith}
+use Rattle.std.proofs.Common.{◌≡◌, ℕ, zero, suc, ◌+◌, ◌^◌, ◌≤◌, false, cond, [], None, length}
+use Rattle.std.proofs.Common.{replicate, refl, ap, ◌∙◌, sym, subst, arith}
 use Rattle.std.specs.Prelude.{count_by}
 use Rattle.std.proofs.lemmas.List.{length-replicate}
 use Rattle.std.proofs.lemmas.List.Sums.{sum_by-cons}
@@ -11,7 +12,8 @@ use Rattle.vyrd_view.specs.declared.sides.Sides.{Sides}
 use Rattle.vyrd_view.specs.Rests as rests
 use Rattle.vyrd_view.specs.Homes.{no_home, home_at, is_taken, is_apart, IsHomeOf}
 use Rattle.vyrd_view.specs.Sided.{AreSettled, IsSettled, shown_at, specified_of}
-use Rattle.vyrd_view.proofs.SidedLaws.{is_settled, shown_nowhere, specified_nowhere, specified_formed}
+use Rattle.vyrd_view.proofs.SidedLaws.{is_settled, shown_nowhere, specified_nowhere}
+use Rattle.vyrd_view.proofs.SidedLaws.{specified_formed}
 
 all_free : (n i : ℕ) → is_taken (home_at (replicate n no_home) i) ≡ false
 all_free zero i = refl
@@ -20,10 +22,17 @@ all_free (suc n) (suc i) = all_free n i
 
 none_counted : (n : ℕ) → count_by is_apart (replicate n no_home) ≡ 0
 none_counted zero = refl
-none_counted (suc n) = omega (arith, sum_by-cons (λ (h : Home). cond (is_apart h) 1 0) no_home (replicate n no_home), none_counted n)
+none_counted (suc n) = omega (
+  arith,
+  sum_by-cons (λ (h : Home). cond (is_apart h) 1 0) no_home
+      (replicate n no_home),
+  none_counted n,
+)
 
-module _ (s : Sides) (bits : ℕ) (few : bits ≤ 20) (sum : s.homes.shift + bits ≡ 64) (free : s.homes.places.items ≡ replicate (2 ^ bits + 3) no_home)
-    (none : s.homes.apart ≡ 0) (shown : s.rest.shown ≡ []) (specified : s.rest.specified ≡ []) (settled : rests.IsSettled s.rest) (some : 1 ≤ bits) where
+module _ (s : Sides) (bits : ℕ) (few : bits ≤ 20) (sum : s.homes.shift + bits ≡ 64)
+    (free : s.homes.places.items ≡ replicate (2 ^ bits + 3) no_home)
+    (none : s.homes.apart ≡ 0) (shown : s.rest.shown ≡ []) (specified : s.rest.specified ≡ [])
+    (settled : rests.IsSettled s.rest) (some : 1 ≤ bits) where
   untaken : (i : ℕ) → is_taken (home_at s.homes.places.items i) ≡ false
   untaken i = ap (λ ps. is_taken (home_at ps i)) free ∙ all_free (2 ^ bits + 3) i
 
@@ -33,7 +42,13 @@ module _ (s : Sides) (bits : ℕ) (few : bits ≤ 20) (sum : s.homes.shift + bit
     homes = record {
       reach = λ i taken. absurd (let no = untaken i in cc);
       first = λ i taken. absurd (let no = untaken i in cc);
-      room = λ q. omega (arith, places_within s.homes.shift bits q sum, ap length free, length-replicate (2 ^ bits + 3) no_home);
+      room = λ q. omega (
+        arith,
+        places_within s.homes.shift bits q sum,
+        ap length free,
+        length-replicate
+            (2 ^ bits + 3) no_home,
+      );
     };
     away = λ i within. (
       ap (λ a. amount_of a (home_at s.homes.places.items i).key) shown,

@@ -1,12 +1,14 @@
 -- The four places of a node.
-use Rattle.std.proofs.Common.{◌≡◌, ℕ, zero, suc, ◌+◌, ◌*◌, ◌/◌, ◌%◌, ◌<◌, ◌≤◌, Bool, true, false, cond}
+use Rattle.std.proofs.Common.{◌≡◌, ℕ, zero, suc, ◌+◌, ◌*◌, ◌/◌, ◌%◌, ◌<◌, ◌≤◌, Bool, true, false}
+use Rattle.std.proofs.Common.{cond}
 use Rattle.std.proofs.Common.{◌&&◌, ◌||◌, List, [], ◌∷◌, length, get_or, refl, ap, ◌∙◌, sym, arith}
 use Rattle.std.specs.Prelude.{◌==◌, ◌≢◌, nat_lt}
 use Rattle.vyrd_base.proofs.TestLaws.{same_of, apart_of, below_of, not_below_of}
 use Rattle.vyrd_view.specs.Pairs.{is_touched}
 use Rattle.vyrd_view.specs.Chains.{entry_pair, node_pair, is_stale}
 
-stale_unmarked : (marks : List Bool) (part : ℕ) (changed : List ℕ) → get_or marks part false ≡ false → is_stale marks part changed ≡ false
+stale_unmarked : (marks : List Bool) (part : ℕ) (changed : List ℕ) → get_or marks part false ≡ false
+    → is_stale marks part changed ≡ false
 stale_unmarked marks part changed unmarked = ap (λ b. b && is_touched 12 part changed) unmarked
 
 stale_rest : (marks : List Bool) (part word : ℕ) (left : List ℕ) → (word / 12 == part) ≡ false
@@ -17,7 +19,8 @@ stale_rest marks part word left apart rest =
 -- the places of the nodes that aren't stale are up to date
 abbrev pub AreNodesFresh : ℕ → List ℕ → List Bool → List (ℕ × ℕ) → List ℕ → Type 0
 AreNodesFresh size words marks pairs left =
-    (m : ℕ) → m < 4 * size → is_stale marks (m / 4) left ≡ false → get_or pairs m (0, 0) ≡ node_pair words marks m
+    (m : ℕ) → m < 4 * size → is_stale marks (m / 4) left ≡ false → get_or pairs m (0, 0)
+    ≡ node_pair words marks m
 
 -- one word less is left, of a node that isn't marked
 pub fresh_unmarked : (size : ℕ) (words : List ℕ) (marks : List Bool) (pairs : List (ℕ × ℕ))
@@ -26,7 +29,8 @@ pub fresh_unmarked : (size : ℕ) (words : List ℕ) (marks : List Bool) (pairs 
 fresh_unmarked size words marks pairs word left unmarked fresh m inside rest =
     by_test (word / 12 == m / 4) refl
   where
-    by_test : (b : Bool) → (word / 12 == m / 4) ≡ b → get_or pairs m (0, 0) ≡ node_pair words marks m
+    by_test : (b : Bool) → (word / 12 == m / 4) ≡ b → get_or pairs m (0, 0)
+        ≡ node_pair words marks m
     by_test true e = fresh m inside (stale_unmarked marks (m / 4) (word ∷ left)
         (ap (λ k. get_or marks k false) (sym (same_of (word / 12) (m / 4) e)) ∙ unmarked))
     by_test false e = fresh m inside (stale_rest marks (m / 4) word left e rest)

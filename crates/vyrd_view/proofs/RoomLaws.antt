@@ -1,12 +1,15 @@
 -- Words of which the last ones have no room of their own, since they are 0.
-use Rattle.std.proofs.Common.{◌≡◌, ℕ, zero, suc, ◌+◌, ◌-◌, ◌*◌, ◌/◌, ◌%◌, ◌<◌, ◌≤◌, Bool, true, false, ◌||◌}
-use Rattle.std.proofs.Common.{List, [], ◌∷◌, ◌++◌, length, map, get_or, take, drop, replicate, All, refl, ap, ◌∙◌}
+use Rattle.std.proofs.Common.{◌≡◌, ℕ, zero, suc, ◌+◌, ◌-◌, ◌*◌, ◌/◌, ◌%◌, ◌<◌, ◌≤◌, Bool, true}
+use Rattle.std.proofs.Common.{false, ◌||◌}
+use Rattle.std.proofs.Common.{List, [], ◌∷◌, ◌++◌, length, map, get_or, take, drop, replicate, All}
+use Rattle.std.proofs.Common.{refl, ap, ◌∙◌}
 use Rattle.std.proofs.Common.{sym, subst, arith}
 use Rattle.std.specs.Prelude.{◌==◌, ◌≢◌, nat_lt, slice_index}
 use Rattle.std.specs.List.{list_any}
 use Rattle.std.proofs.lemmas.List.{ext_get_or, length-append, length-replicate, length-take}
 use Rattle.std.proofs.lemmas.List.{append_assoc, append-nil, drop_all, take_all}
-use Rattle.std.proofs.lemmas.List.{get_or_append_left, get_or-append_right, get_or_past, get_or-take}
+use Rattle.std.proofs.lemmas.List.{get_or_append_left, get_or-append_right, get_or_past}
+use Rattle.std.proofs.lemmas.List.{get_or-take}
 use Rattle.std.proofs.lemmas.List.{get_or-replicate}
 use Rattle.std.proofs.lemmas.List.Elements.{All-head, All-tail, All-weaker}
 use Rattle.std.proofs.lemmas.Nat.{div-mul-add, mod-mul-add}
@@ -166,7 +169,8 @@ not_among : (n w : ℕ) (changed : List ℕ) → All (λ x. x < n) changed → n
     → list_any (λ x. x == w) changed ≡ false
 not_among n w [] low high = refl
 not_among n w (x ∷ xs) low high =
-    let apart : x ≢ w = λ same. absurd (omega (arith, same, All-head (λ y. y < n) x xs low, high)) in
+    let apart : x ≢ w = λ same. absurd
+    (omega (arith, same, All-head (λ y. y < n) x xs low, high)) in
     ap (λ b. b || list_any (λ y. y == w) xs) (isnt_same x w apart)
     ∙ not_among n w xs (All-tail (λ y. y < n) x xs low) high
 
@@ -338,7 +342,8 @@ module _ (width places parts : ℕ) (gives : Gives) (some : 1 ≤ places) where
     record {
       few = few;
       count = ap length are ∙ padded_length (more * width) before less;
-      given = room_pairs width places parts held more gives (padded (parts * width) before) pairs now
+      given = room_pairs width places parts held more gives (padded (parts * width) before) pairs
+          now
           some few
           (λ part low past. own_padded width part parts held before low past room.count) room.given
           count old new

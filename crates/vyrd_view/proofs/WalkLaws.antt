@@ -1,5 +1,7 @@
 -- A walk along the chain of leaves, which marks the nodes that it sees.
-use Rattle.std.proofs.Common.{◌≡◌, ℕ, suc, ◌+◌, ◌-◌, ◌<◌, Bool, true, false, ◌||◌, List, [], ◌∷◌, length, length-set, get_or, set, replicate, refl, ap, ◌∙◌, sym, subst, arith}
+use Rattle.std.proofs.Common.{◌≡◌, ℕ, suc, ◌+◌, ◌-◌, ◌<◌, Bool, true, false, ◌||◌, List, [], ◌∷◌}
+use Rattle.std.proofs.Common.{length, length-set, get_or, set, replicate, refl, ap, ◌∙◌, sym, subst}
+use Rattle.std.proofs.Common.{arith}
 use Rattle.std.specs.Prelude.{◌==◌, ◌≢◌, nat_le}
 use Rattle.std.specs.List.{list_any}
 use Rattle.std.proofs.lemmas.List.{get_or_default}
@@ -13,11 +15,14 @@ use Rattle.vyrd_view.proofs.ChainLaws.{Marks, marked, none_marked}
 pub record Walks (size : ℕ) (words : List ℕ) (flags : List Bool) (left node : ℕ) : Type 0 where
   pub seen : List ℕ
   pub marks : Marks size flags seen
-  pub nodes : (q : ℕ) → (list_any (λ m. m == q) seen || list_any (λ m. m == q) (chain_nodes_from size words left seen node))
+  pub nodes : (q : ℕ)
+      → (list_any (λ m. m == q) seen || list_any (λ m. m == q)
+      (chain_nodes_from size words left seen node))
       ≡ list_any (λ m. m == q) (chain_nodes_from size words size [] 0)
   pub breaks : chain_breaks_from size words left seen node ≡ chain_breaks_from size words size [] 0
 
-pub walks_begin : (size : ℕ) (words : List ℕ) (flags : List Bool) (left : ℕ) → left ≡ size → flags ≡ replicate size false
+pub walks_begin : (size : ℕ) (words : List ℕ) (flags : List Bool) (left : ℕ) → left ≡ size
+    → flags ≡ replicate size false
     → Walks size words flags left 0
 walks_begin size words flags left all none = record {
   seen = [];
@@ -26,10 +31,12 @@ walks_begin size words flags left all none = record {
   breaks = ap (λ n. chain_breaks_from size words n [] 0) all;
 }
 
-pub walks_left : (size : ℕ) (words : List ℕ) (flags : List Bool) (turn n : ℕ) → turn < size → Walks size words flags (size - turn) n
+pub walks_left : (size : ℕ) (words : List ℕ) (flags : List Bool) (turn n : ℕ) → turn < size
+    → Walks size words flags (size - turn) n
     → Walks size words flags (suc (size - (turn + 1))) n
 walks_left size words flags turn n more walk =
-    let one : size - turn ≡ suc (size - (turn + 1)) = omega arith in subst (λ left. Walks size words flags left n) one walk
+    let one : size - turn ≡ suc (size - (turn + 1)) = omega arith in
+    subst (λ left. Walks size words flags left n) one walk
 
 -- the nodes that follow one on the chain
 abbrev pub nodes_after : ℕ → List ℕ → ℕ → List ℕ → ℕ → Bool → Bool → List ℕ
@@ -57,81 +64,115 @@ or_swap true false x = refl
 or_swap false true x = refl
 or_swap false false x = refl
 
-module _ (size : ℕ) (words : List ℕ) (flags : List Bool) (left n : ℕ) (walk : Walks size words flags (suc left) n) (ends back : Bool)
-    (within : n < length flags) (is_end : (right_of words n == 0) ≡ ends) (is_back : get_or (set flags n true) (right_of words n) true ≡ back) where
+module _ (size : ℕ) (words : List ℕ) (flags : List Bool) (left n : ℕ)
+    (walk : Walks size words flags (suc left) n) (ends back : Bool)
+    (within : n < length flags) (is_end : (right_of words n == 0) ≡ ends)
+    (is_back : get_or (set flags n true) (right_of words n) true ≡ back) where
   now_marked : Marks size (set flags n true) (n ∷ walk.seen)
   now_marked = marked size n flags walk.seen within walk.marks
 
-  test_is : (nat_le size (right_of words n) || list_any (λ m. m == right_of words n) (n ∷ walk.seen)) ≡ back
+  test_is : (nat_le size (right_of words n) || list_any (λ m. m == right_of words n)
+      (n ∷ walk.seen)) ≡ back
   test_is = sym (now_marked (right_of words n)) ∙ is_back
 
-  onward_nodes : (q : ℕ) → (list_any (λ m. m == q) (n ∷ walk.seen) || list_any (λ m. m == q) (nodes_after size words left walk.seen n ends back))
+  onward_nodes : (q : ℕ)
+      → (list_any (λ m. m == q) (n ∷ walk.seen) || list_any (λ m. m == q)
+      (nodes_after size words left walk.seen n ends back))
       ≡ list_any (λ m. m == q) (chain_nodes_from size words size [] 0)
   onward_nodes q =
-      or_swap (list_any (λ m. m == q) walk.seen) (n == q) (list_any (λ m. m == q) (nodes_after size words left walk.seen n ends back))
+      or_swap (list_any (λ m. m == q) walk.seen) (n == q)
+      (list_any (λ m. m == q) (nodes_after size words left walk.seen n ends back))
       ∙ ap (λ rest. list_any (λ m. m == q) walk.seen || ((n == q) || list_any (λ m. m == q) rest))
-      (sym (ap (λ e. nodes_after size words left walk.seen n e (nat_le size (right_of words n) || list_any (λ m. m == right_of words n) (n ∷ walk.seen))) is_end
+      (sym (ap (λ e. nodes_after size words left walk.seen n e
+      (nat_le size (right_of words n) || list_any (λ m. m == right_of words n) (n ∷ walk.seen)))
+      is_end
       ∙ ap (nodes_after size words left walk.seen n ends) test_is))
       ∙ walk.nodes q
 
-  onward_breaks : breaks_after size words left walk.seen n ends back ≡ chain_breaks_from size words size [] 0
+  onward_breaks : breaks_after size words left walk.seen n ends back
+      ≡ chain_breaks_from size words size [] 0
   onward_breaks =
-      sym (ap (λ e. breaks_after size words left walk.seen n e (nat_le size (right_of words n) || list_any (λ m. m == right_of words n) (n ∷ walk.seen))) is_end
+      sym (ap (λ e. breaks_after size words left walk.seen n e
+      (nat_le size (right_of words n) || list_any (λ m. m == right_of words n) (n ∷ walk.seen)))
+      is_end
       ∙ ap (breaks_after size words left walk.seen n ends) test_is)
       ∙ walk.breaks
 
 -- the marks of a walk whose chain has been seen
-seen_all : (size : ℕ) (words : List ℕ) (flags : List Bool) (seen : List ℕ) → length flags ≡ size → Marks size flags seen
-    → ((q : ℕ) → list_any (λ m. m == q) seen ≡ list_any (λ m. m == q) (chain_nodes_from size words size [] 0))
+seen_all : (size : ℕ) (words : List ℕ) (flags : List Bool) (seen : List ℕ) → length flags ≡ size
+    → Marks size flags seen
+    → ((q : ℕ) → list_any (λ m. m == q) seen ≡ list_any (λ m. m == q)
+    (chain_nodes_from size words size [] 0))
     → (n : ℕ) → n < size → get_or flags n false ≡ is_on_chain size words n
 unfolding is_on_chain
 seen_all size words flags seen count marks all n low =
     get_or_default flags n false true (omega (arith, low, count)) ∙ marks n
     ∙ ap (λ b. b || list_any (λ m. m == n) seen) (isnt_at_most size n low) ∙ all n
 
-pub walk_over : (size : ℕ) (words : List ℕ) (flags : List Bool) (n : ℕ) → length flags ≡ size → Walks size words flags 0 n
+pub walk_over : (size : ℕ) (words : List ℕ) (flags : List Bool) (n : ℕ) → length flags ≡ size
+    → Walks size words flags 0 n
     → (q : ℕ) → q < size → get_or flags q false ≡ is_on_chain size words q
 walk_over size words flags n count walk q low =
-    seen_all size words flags walk.seen count walk.marks (λ k. sym (or-false (list_any (λ m. m == k) walk.seen)) ∙ walk.nodes k) q low
+    seen_all size words flags walk.seen count walk.marks
+    (λ k. sym (or-false (list_any (λ m. m == k) walk.seen)) ∙ walk.nodes k) q low
 
-pub unbroken_over : (size : ℕ) (words : List ℕ) (flags : List Bool) (n : ℕ) → Walks size words flags 0 n → false ≡ is_broken size words
+pub unbroken_over : (size : ℕ) (words : List ℕ) (flags : List Bool) (n : ℕ)
+    → Walks size words flags 0 n → false ≡ is_broken size words
 unfolding is_broken
 unbroken_over size words flags n walk = walk.breaks
 
-pub walk_stops : (size : ℕ) (words : List ℕ) (flags : List Bool) (left n : ℕ) → length flags ≡ size → Walks size words flags (suc left) n
-    → n < length flags → right_of words n ≡ 0 → (q : ℕ) → q < size → get_or (set flags n true) q false ≡ is_on_chain size words q
+pub walk_stops : (size : ℕ) (words : List ℕ) (flags : List Bool) (left n : ℕ) → length flags ≡ size
+    → Walks size words flags (suc left) n
+    → n < length flags → right_of words n ≡ 0 → (q : ℕ) → q < size
+    → get_or (set flags n true) q false ≡ is_on_chain size words q
 walk_stops size words flags left n count walk within ends q low =
     let is_end = is_same (right_of words n) 0 ends in
     let back : Bool = get_or (set flags n true) (right_of words n) true in
-    seen_all size words (set flags n true) (n ∷ walk.seen) (length-set flags n true ∙ count) (marked size n flags walk.seen within walk.marks)
-    (λ k. sym (or-false (list_any (λ m. m == k) (n ∷ walk.seen))) ∙ onward_nodes size words flags left n walk true back within is_end refl k) q low
+    seen_all size words (set flags n true) (n ∷ walk.seen) (length-set flags n true ∙ count)
+    (marked size n flags walk.seen within walk.marks)
+    (λ k. sym (or-false (list_any (λ m. m == k) (n ∷ walk.seen)))
+    ∙ onward_nodes size words flags left n walk true back within is_end refl k) q low
 
-pub unbroken_stops : (size : ℕ) (words : List ℕ) (flags : List Bool) (left n : ℕ) → Walks size words flags (suc left) n
+pub unbroken_stops : (size : ℕ) (words : List ℕ) (flags : List Bool) (left n : ℕ)
+    → Walks size words flags (suc left) n
     → n < length flags → right_of words n ≡ 0 → false ≡ is_broken size words
 unfolding is_broken
 unbroken_stops size words flags left n walk within ends =
-    onward_breaks size words flags left n walk true (get_or (set flags n true) (right_of words n) true) within (is_same (right_of words n) 0 ends) refl
+    onward_breaks size words flags left n walk true
+    (get_or (set flags n true) (right_of words n) true) within (is_same (right_of words n) 0 ends)
+    refl
 
-pub walk_breaks_off : (size : ℕ) (words : List ℕ) (flags : List Bool) (left n : ℕ) → length flags ≡ size → Walks size words flags (suc left) n
-    → n < length flags → right_of words n ≢ 0 → get_or (set flags n true) (right_of words n) true ≡ true
+pub walk_breaks_off : (size : ℕ) (words : List ℕ) (flags : List Bool) (left n : ℕ) → length flags
+    ≡ size → Walks size words flags (suc left) n
+    → n < length flags → right_of words n ≢ 0 → get_or (set flags n true) (right_of words n) true
+    ≡ true
     → (q : ℕ) → q < size → get_or (set flags n true) q false ≡ is_on_chain size words q
 walk_breaks_off size words flags left n count walk within on back q low =
-    seen_all size words (set flags n true) (n ∷ walk.seen) (length-set flags n true ∙ count) (marked size n flags walk.seen within walk.marks)
+    seen_all size words (set flags n true) (n ∷ walk.seen) (length-set flags n true ∙ count)
+    (marked size n flags walk.seen within walk.marks)
     (λ k. sym (or-false (list_any (λ m. m == k) (n ∷ walk.seen)))
-    ∙ onward_nodes size words flags left n walk false true within (isnt_same (right_of words n) 0 on) back k) q low
+    ∙ onward_nodes size words flags left n walk false true within
+    (isnt_same (right_of words n) 0 on) back k) q low
 
-pub broken_off : (size : ℕ) (words : List ℕ) (flags : List Bool) (left n : ℕ) → Walks size words flags (suc left) n
-    → n < length flags → right_of words n ≢ 0 → get_or (set flags n true) (right_of words n) true ≡ true → true ≡ is_broken size words
+pub broken_off : (size : ℕ) (words : List ℕ) (flags : List Bool) (left n : ℕ)
+    → Walks size words flags (suc left) n
+    → n < length flags → right_of words n ≢ 0 → get_or (set flags n true) (right_of words n) true
+    ≡ true → true ≡ is_broken size words
 unfolding is_broken
 broken_off size words flags left n walk within on back =
-    onward_breaks size words flags left n walk false true within (isnt_same (right_of words n) 0 on) back
+    onward_breaks size words flags left n walk false true within (isnt_same (right_of words n) 0 on)
+    back
 
-pub walk_on : (size : ℕ) (words : List ℕ) (flags : List Bool) (left n : ℕ) → Walks size words flags (suc left) n
-    → n < length flags → right_of words n ≢ 0 → get_or (set flags n true) (right_of words n) true ≡ false
+pub walk_on : (size : ℕ) (words : List ℕ) (flags : List Bool) (left n : ℕ)
+    → Walks size words flags (suc left) n
+    → n < length flags → right_of words n ≢ 0 → get_or (set flags n true) (right_of words n) true
+    ≡ false
     → Walks size words (set flags n true) left (right_of words n)
 walk_on size words flags left n walk within on new = record {
   seen = n ∷ walk.seen;
   marks = marked size n flags walk.seen within walk.marks;
-  nodes = onward_nodes size words flags left n walk false false within (isnt_same (right_of words n) 0 on) new;
-  breaks = onward_breaks size words flags left n walk false false within (isnt_same (right_of words n) 0 on) new;
+  nodes = onward_nodes size words flags left n walk false false within
+      (isnt_same (right_of words n) 0 on) new;
+  breaks = onward_breaks size words flags left n walk false false within
+      (isnt_same (right_of words n) 0 on) new;
 }

@@ -1,5 +1,6 @@
 -- The first line has one reading.
-use Rattle.std.proofs.Common.{◌≡◌, ℕ, ◌<◌, ◌^◌, Bool, true, false, cond, List, [], ◌∷◌, ◌++◌, Option, Some, None, refl, ap, sym, ◌∙◌, arith}
+use Rattle.std.proofs.Common.{◌≡◌, ℕ, ◌<◌, ◌^◌, Bool, true, false, cond, List, [], ◌∷◌, ◌++◌}
+use Rattle.std.proofs.Common.{Option, Some, None, refl, ap, sym, ◌∙◌, arith}
 use Rattle.std.specs.Prelude.{codes, decimal}
 use Rattle.std.specs.Option.{option_map}
 use Rattle.std.specs.List.{list_all}
@@ -31,24 +32,33 @@ pub no_callers : (text : List ℕ) (m : ℕ) (r : List ℕ) → m < 2 ^ 64 → t
     → ((n : ℕ) (s : List ℕ) → n < 2 ^ 32 → r ≡ decimal n ++ 32 ∷ s → ⊥)
     → AreBoundsRead text None
 no_callers text m r low e none size callers variant s c f =
-    let is = one_before_space m size r (decimal callers ++ 32 ∷ variant_name variant) low (omega arith) (sym e ∙ f) in
+    let is = one_before_space m size r (decimal callers ++ 32 ∷ variant_name variant) low
+    (omega arith) (sym e ∙ f) in
     none callers (variant_name variant) c is.1
 
 -- a number of callers that no variant follows
-pub no_variant : (text : List ℕ) (m n : ℕ) (r t : List ℕ) → m < 2 ^ 64 → n < 2 ^ 64 → text ≡ decimal m ++ 32 ∷ r
+pub no_variant : (text : List ℕ) (m n : ℕ) (r t : List ℕ) → m < 2 ^ 64 → n < 2 ^ 64
+    → text ≡ decimal m ++ 32 ∷ r
     → r ≡ decimal n ++ 32 ∷ t → IsVariantRead t None
     → AreBoundsRead text None
 no_variant text m n r t low small e g none size callers variant s c f =
-    let is = one_before_space m size r (decimal callers ++ 32 ∷ variant_name variant) low (omega arith) (sym e ∙ f) in
-    let more = one_before_space n callers t (variant_name variant) small (omega arith) (sym g ∙ is.1) in
+    let is = one_before_space m size r (decimal callers ++ 32 ∷ variant_name variant) low
+    (omega arith) (sym e ∙ f) in
+    let more = one_before_space n callers t (variant_name variant) small (omega arith)
+    (sym g ∙ is.1) in
     none variant more.1
 
 -- a line that no bounds end
-pub no_bounds : (line r : List ℕ) (found : Subject) (t : List ℕ) → line ≡ codes "work " ++ r → r ≡ subject_name found ++ 32 ∷ t → AreBoundsRead t None
+pub no_bounds : (line r : List ℕ) (found : Subject) (t : List ℕ) → line ≡ codes "work " ++ r
+    → r ≡ subject_name found ++ 32 ∷ t → AreBoundsRead t None
     → IsFirstRead line None
 no_bounds line r found t e g none subject size callers variant built s c f =
-    let after = append_cancel_left (codes "work ") r (subject_name subject ++ 32 ∷ (decimal size ++ 32 ∷ (decimal callers ++ 32 ∷ variant_name variant))) (sym e ∙ f) in
-    none size callers variant s c (one_name found subject t (decimal size ++ 32 ∷ (decimal callers ++ 32 ∷ variant_name variant)) (sym g ∙ after))
+    let after = append_cancel_left (codes "work ") r
+    (subject_name subject
+    ++ 32 ∷ (decimal size ++ 32 ∷ (decimal callers ++ 32 ∷ variant_name variant))) (sym e ∙ f) in
+    none size callers variant s c
+    (one_name found subject t (decimal size ++ 32 ∷ (decimal callers ++ 32 ∷ variant_name variant))
+    (sym g ∙ after))
 
 variant_read : (variant : Variant) → variant_called (variant_name variant) ≡ Some variant
 variant_read Correct = refl
@@ -59,41 +69,55 @@ plain_variant Correct = refl
 plain_variant Broken = refl
 
 -- a first line and what it names
-module _ (subject : Subject) (size callers : ℕ) (variant : Variant) (s : size < 2 ^ 64) (c : callers < 2 ^ 64) where
+module _ (subject : Subject) (size callers : ℕ) (variant : Variant) (s : size < 2 ^ 64)
+    (c : callers < 2 ^ 64) where
   parts : List (List ℕ)
   parts = subject_name subject ∷ decimal size ∷ decimal callers ∷ variant_name variant ∷ []
 
-  plain : list_all is_plain_field (codes "work" ∷ subject_name subject ∷ decimal size ∷ decimal callers ∷ variant_name variant ∷ []) ≡ true
+  plain : list_all is_plain_field (codes "work" ∷ subject_name subject ∷ decimal size
+      ∷ decimal callers ∷ variant_name variant ∷ []) ≡ true
   plain = both_true _ _ refl (both_true _ _ (plain_subject subject)
-      (both_true _ _ (plain_number size s) (both_true _ _ (plain_number callers c) (both_true _ _ (plain_variant variant) refl))))
+      (both_true _ _ (plain_number size s)
+      (both_true _ _ (plain_number callers c) (both_true _ _ (plain_variant variant) refl))))
 
-  fields : fields_of (work_header_line subject size callers variant) ≡ codes "work" ∷ subject_name subject ∷ decimal size ∷ decimal callers ∷ variant_name variant ∷ []
-  fields = split-join 32 (codes "work") (subject_name subject ∷ decimal size ∷ decimal callers ∷ variant_name variant ∷ [])
-      (plain_spaces (codes "work" ∷ subject_name subject ∷ decimal size ∷ decimal callers ∷ variant_name variant ∷ []) plain)
+  fields : fields_of (work_header_line subject size callers variant) ≡ codes "work"
+      ∷ subject_name subject ∷ decimal size ∷ decimal callers ∷ variant_name variant ∷ []
+  fields = split-join 32 (codes "work") (subject_name subject ∷ decimal size ∷ decimal callers
+      ∷ variant_name variant ∷ [])
+      (plain_spaces (codes "work" ∷ subject_name subject ∷ decimal size ∷ decimal callers
+      ∷ variant_name variant ∷ []) plain)
 
   -- it is one line
   pub first_line_whole : lacks 10 (work_header_line subject size callers variant) ≡ true
-  first_line_whole = lacks-join 10 32 (codes "work") (subject_name subject ∷ decimal size ∷ decimal callers ∷ variant_name variant ∷ []) refl
-      (plain_line_feeds (codes "work" ∷ subject_name subject ∷ decimal size ∷ decimal callers ∷ variant_name variant ∷ []) plain)
+  first_line_whole = lacks-join 10 32 (codes "work")
+      (subject_name subject ∷ decimal size ∷ decimal callers ∷ variant_name variant ∷ []) refl
+      (plain_line_feeds (codes "work" ∷ subject_name subject ∷ decimal size ∷ decimal callers
+      ∷ variant_name variant ∷ []) plain)
 
   -- it is read as the header with its numbers, if there is one
-  pub begun_known : is_built_in subject ≡ true → begun_in (work_header_line subject size callers variant) ≡ option_map (begun variant) (header_of 1 subject size callers)
+  pub begun_known : is_built_in subject ≡ true
+      → begun_in (work_header_line subject size callers variant) ≡ option_map (begun variant)
+      (header_of 1 subject size callers)
   unfolding begun_in
   begun_known built =
       let line = work_header_line subject size callers variant in
       ap (begun_from line) fields
-      ∙ (λ i. begun_if_spelled line (subject_read subject built i) (number_of_decimal size s i) (number_of_decimal callers c i) (variant_read variant i))
-      ∙ ap (λ b. cond b (option_map (begun variant) (header_of 1 subject size callers)) None) (bytes_same line)
+      ∙ (λ i. begun_if_spelled line (subject_read subject built i) (number_of_decimal size s i)
+      (number_of_decimal callers c i) (variant_read variant i))
+      ∙ ap (λ b. cond b (option_map (begun variant) (header_of 1 subject size callers)) None)
+      (bytes_same line)
 
 -- a workload's header and variant are read back from its first line
-pub begun_in-first_line : (h : Header) (variant : Variant) → h.version ≡ 1 → begun_in (work_header_line h.subject h.size h.callers variant) ≡ Some (begun variant h)
+pub begun_in-first_line : (h : Header) (variant : Variant) → h.version ≡ 1
+    → begun_in (work_header_line h.subject h.size h.callers variant) ≡ Some (begun variant h)
 begun_in-first_line h variant one =
     let s : h.size < 2 ^ 64 = let l = size_in_32_bits h in omega (arith, l) in
     let c : h.callers < 2 ^ 64 = let l = callers_in_32_bits h in omega (arith, l) in
     begun_known h.subject h.size h.callers variant s c (first_version_built_in h one)
     ∙ ap (option_map (begun variant)) (made 1 h.subject h.size h.callers h one refl refl refl)
 
--- what a first line is read as: a workload of nothing, whose first line it is, and whose runs leave logs of version 1
+-- what a first line is read as: a workload of nothing, whose first line it is, and whose runs leave
+-- logs of version 1
 pub record IsBegun (line : List ℕ) (w : Workload) : Type 0 where
   pub version : w.header.version ≡ 1
   pub empty : w ≡ begun w.variant w.header
@@ -103,20 +127,27 @@ pub begun_in_sound : (line : List ℕ) (w : Workload) → begun_in line ≡ Some
 unfolding begun_in
 begun_in_sound line w found = from (fields_of line) found
   where
-    of_header : (subject : Subject) (size callers : ℕ) (variant : Variant) (b : Bool) (e : limits_of subject 1 size callers ≡ b)
+    of_header : (subject : Subject) (size callers : ℕ) (variant : Variant) (b : Bool)
+        (e : limits_of subject 1 size callers ≡ b)
         → line ≡ work_header_line subject size callers variant
-        → option_map (begun variant) (header_if 1 subject size callers b e) ≡ Some w → IsBegun line w
+        → option_map (begun variant) (header_if 1 subject size callers b e) ≡ Some w
+        → IsBegun line w
     of_header subject size callers variant false e same f = cc
     of_header subject size callers variant true e same f =
-        let is : begun variant (record { version = 1; subject = subject; size = size; callers = callers; within = e }) ≡ w = cc in record {
+        let is : begun variant
+        (record { version = 1; subject = subject; size = size; callers = callers; within = e })
+        ≡ w = cc in record {
           version = ap (λ (x : Workload). x.header.version) (sym is);
           empty = sym is ∙ ap (λ x. begun x.variant x.header) is;
-          line_is = same ∙ ap (λ x. work_header_line x.header.subject x.header.size x.header.callers x.variant) is;
+          line_is = same
+              ∙ ap (λ x. work_header_line x.header.subject x.header.size x.header.callers x.variant)
+              is;
         }
 
     spelled : (subject : Subject) (size callers : ℕ) (variant : Variant) (b : Bool)
         → bytes_eq (work_header_line subject size callers variant) line ≡ b
-        → cond b (option_map (begun variant) (header_of 1 subject size callers)) None ≡ Some w → IsBegun line w
+        → cond b (option_map (begun variant) (header_of 1 subject size callers)) None ≡ Some w
+        → IsBegun line w
     spelled subject size callers variant false t f = cc
     spelled subject size callers variant true t f =
         of_header subject size callers variant (limits_of subject 1 size callers) refl
@@ -127,7 +158,8 @@ begun_in_sound line w found = from (fields_of line) found
     if_spelled None size callers variant f = cc
     if_spelled (Some subject) size callers None f = cc
     if_spelled (Some subject) size callers (Some variant) f =
-        spelled subject size callers variant (bytes_eq (work_header_line subject size callers variant) line) refl f
+        spelled subject size callers variant
+        (bytes_eq (work_header_line subject size callers variant) line) refl f
 
     from : (parts : List (List ℕ)) → begun_from line parts ≡ Some w → IsBegun line w
     from [] f = cc
@@ -135,7 +167,8 @@ begun_in_sound line w found = from (fields_of line) found
     from (a ∷ b ∷ []) f = cc
     from (a ∷ b ∷ c ∷ []) f = cc
     from (a ∷ b ∷ c ∷ d ∷ []) f = cc
-    from (a ∷ b ∷ c ∷ d ∷ e ∷ more) f = if_spelled (subject_called b) (number_of c) (number_of d) (variant_called e) f
+    from (a ∷ b ∷ c ∷ d ∷ e ∷ more) f = if_spelled (subject_called b) (number_of c) (number_of d)
+        (variant_called e) f
 
 -- a line that names nothing isn't a first line
 pub no_first : (line : List ℕ) → IsFirstRead line None → None ≡ begun_in line
@@ -145,18 +178,25 @@ no_first line none = by_answer (begun_in line) refl
     by_answer None e = refl
     by_answer (Some w) e =
         let is = begun_in_sound line w e in
-        absurd (none w.header.subject w.header.size w.header.callers w.variant (first_version_built_in w.header is.version)
+        absurd (none w.header.subject w.header.size w.header.callers w.variant
+        (first_version_built_in w.header is.version)
         (size_in_32_bits w.header) (callers_in_32_bits w.header) is.line_is)
 
-module _ (line : List ℕ) (subject : Subject) (size callers : ℕ) (variant : Variant) (s : size < 2 ^ 32) (c : callers < 2 ^ 32)
-    (built : is_built_in subject ≡ true) (is : line ≡ work_header_line subject size callers variant) where
-  on_line : begun_in line ≡ option_map (begun variant) (header_of 1 subject size callers)
-  on_line = ap begun_in is ∙ begun_known subject size callers variant (omega (arith, s)) (omega (arith, c)) built
+module _ (line : List ℕ) (subject : Subject) (size callers : ℕ) (variant : Variant)
+    (s : size < 2 ^ 32) (c : callers < 2 ^ 32)
+    (built : is_built_in subject ≡ true) (is : line ≡ work_header_line subject size callers variant)
+  where
+    on_line : begun_in line ≡ option_map (begun variant) (header_of 1 subject size callers)
+    on_line = ap begun_in is ∙ begun_known subject size callers variant (omega (arith, s))
+        (omega (arith, c)) built
 
-  -- its numbers aren't within the limits
-  pub out_of_bounds : ¬ (limits_of subject 1 size callers ≡ true) → None ≡ begun_in line
-  out_of_bounds no_header = sym (on_line ∙ ap (option_map (begun variant)) (not_made 1 subject size callers no_header))
+    -- its numbers aren't within the limits
+    pub out_of_bounds : ¬ (limits_of subject 1 size callers ≡ true) → None ≡ begun_in line
+    out_of_bounds no_header =
+        sym (on_line ∙ ap (option_map (begun variant)) (not_made 1 subject size callers no_header))
 
-  -- or they are
-  pub first_found : (h : Header) → h.version ≡ 1 → h.subject ≡ subject → h.size ≡ size → h.callers ≡ callers → Some (begun variant h) ≡ begun_in line
-  first_found h v u n k = sym (on_line ∙ ap (option_map (begun variant)) (made 1 subject size callers h v u n k))
+    -- or they are
+    pub first_found : (h : Header) → h.version ≡ 1 → h.subject ≡ subject → h.size ≡ size → h.callers
+        ≡ callers → Some (begun variant h) ≡ begun_in line
+    first_found h v u n k =
+        sym (on_line ∙ ap (option_map (begun variant)) (made 1 subject size callers h v u n k))

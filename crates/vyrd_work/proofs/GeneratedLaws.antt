@@ -1,5 +1,6 @@
 -- Generated workloads, one operation at a time, and that they keep the limits.
-use Rattle.std.proofs.Common.{◌≡◌, ℕ, suc, zero, ◌+◌, ◌-◌, ◌/◌, ◌%◌, ◌<◌, ◌≤◌, ◌^◌, Bool, true, false, cond, ◌&&◌, List, ◌∷◌, length, refl, ap, sym, ◌∙◌, arith}
+use Rattle.std.proofs.Common.{◌≡◌, ℕ, suc, zero, ◌+◌, ◌-◌, ◌/◌, ◌%◌, ◌<◌, ◌≤◌, ◌^◌, Bool, true}
+use Rattle.std.proofs.Common.{false, cond, ◌&&◌, List, ◌∷◌, length, refl, ap, sym, ◌∙◌, arith}
 use Rattle.std.specs.Prelude.{◌==◌, nat_lt}
 use Rattle.std.specs.List.{AllByRecursion}
 use Rattle.std.proofs.Math.Bool.{or-true}
@@ -14,7 +15,8 @@ use Rattle.vyrd_work.specs.declared.work.WorkOp.{WorkOp}
 use Rattle.vyrd_memory.specs.Arguments.{are_small}
 use Rattle.vyrd_memory.specs.Bounds.{most_ops}
 use Rattle.vyrd_work.specs.WorkLimits.{is_op_of, KeepsLimits}
-use Rattle.vyrd_work.specs.Generated.{next_draw, upper, work_op_from, ops_from, generated_header, generated}
+use Rattle.vyrd_work.specs.Generated.{next_draw, upper, work_op_from, ops_from, generated_header}
+use Rattle.vyrd_work.specs.Generated.{generated}
 
 -- one more operation is drawn
 pub ops_step : (n i x y : ℕ) (o : WorkOp) → i < n → y ≡ next_draw x → o ≡ work_op_from i y
@@ -33,13 +35,15 @@ op_by a b c v w =
     (record { method = OfMultiset Lookup; args = record { a = v; b = 0; c = 0 } })))
 
 by_fits : (a b c : Bool) (v w : ℕ)
-    → (same_subject (subject_of (op_by a b c v w).method) Multiset && are_args 64 (op_by a b c v w).method (op_by a b c v w).args) ≡ true
+    → (same_subject (subject_of (op_by a b c v w).method) Multiset
+    && are_args 64 (op_by a b c v w).method (op_by a b c v w).args) ≡ true
 by_fits true b c v w = refl
 by_fits false true c v w = ap (λ t. t && true && true) (or-true (w == 0))
 by_fits false false true v w = refl
 by_fits false false false v w = refl
 
-by_small : (a b c : Bool) (v w : ℕ) → nat_lt v (2 ^ 32) ≡ true → nat_lt w (2 ^ 32) ≡ true → are_small (op_by a b c v w).args ≡ true
+by_small : (a b c : Bool) (v w : ℕ) → nat_lt v (2 ^ 32) ≡ true → nat_lt w (2 ^ 32) ≡ true
+    → are_small (op_by a b c v w).args ≡ true
 by_small true b c v w e f = both_true _ _ (both_true _ _ e refl) refl
 by_small false true c v w e f = both_true _ _ (both_true _ _ e f) refl
 by_small false false true v w e f = both_true _ _ (both_true _ _ e refl) refl
@@ -48,24 +52,28 @@ by_small false false false v w e f = both_true _ _ (both_true _ _ e refl) refl
 op_fits : (i x : ℕ) → is_op_of generated_header (work_op_from i x) ≡ true
 op_fits i x =
     let kind = upper x % 8 in
-    both_true _ _ (is_below (i % 4) 4 (omega arith)) (by_fits (nat_lt kind 3) (kind == 3) (nat_lt kind 6) ((upper x / 8) % 256) (upper x / 2048))
+    both_true _ _ (is_below (i % 4) 4 (omega arith))
+    (by_fits (nat_lt kind 3) (kind == 3) (nat_lt kind 6) ((upper x / 8) % 256) (upper x / 2048))
 
 op_small : (i x : ℕ) → x < 2147483648 → are_small (work_op_from i x).op.args ≡ true
 op_small i x h =
     let kind = upper x % 8 in
     by_small (nat_lt kind 3) (kind == 3) (nat_lt kind 6) ((upper x / 8) % 256) (upper x / 2048)
-    (is_below ((upper x / 8) % 256) (2 ^ 32) (omega arith)) (is_below (upper x / 2048) (2 ^ 32) (omega arith))
+    (is_below ((upper x / 8) % 256) (2 ^ 32) (omega arith))
+    (is_below (upper x / 2048) (2 ^ 32) (omega arith))
 
 next_small : (x : ℕ) → next_draw x < 2147483648
 next_small x = omega arith
 
-all_fit : (left i x : ℕ) → AllByRecursion (λ o. is_op_of generated_header o ≡ true) (ops_from left i x)
+all_fit : (left i x : ℕ) → AllByRecursion (λ o. is_op_of generated_header o ≡ true)
+    (ops_from left i x)
 all_fit zero i x = tt
 all_fit (suc left) i x = (op_fits i (next_draw x), all_fit left (i + 1) (next_draw x))
 
 all_small : (left i x : ℕ) → AllByRecursion (λ o. are_small o.op.args ≡ true) (ops_from left i x)
 all_small zero i x = tt
-all_small (suc left) i x = (op_small i (next_draw x) (next_small x), all_small left (i + 1) (next_draw x))
+all_small (suc left) i x =
+    (op_small i (next_draw x) (next_small x), all_small left (i + 1) (next_draw x))
 
 count : (left i x : ℕ) → length (ops_from left i x) ≡ left
 count zero i x = refl

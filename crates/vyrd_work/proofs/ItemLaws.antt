@@ -1,5 +1,6 @@
 -- A later line has one reading.
-use Rattle.std.proofs.Common.{◌≡◌, ℕ, ◌<◌, ◌^◌, Bool, true, false, cond, ◌&&◌, List, [], ◌∷◌, ◌++◌, get_or, Option, Some, None, refl, ap, sym, ◌∙◌, arith}
+use Rattle.std.proofs.Common.{◌≡◌, ℕ, ◌<◌, ◌^◌, Bool, true, false, cond, ◌&&◌, List, [], ◌∷◌, ◌++◌}
+use Rattle.std.proofs.Common.{get_or, Option, Some, None, refl, ap, sym, ◌∙◌, arith}
 use Rattle.std.specs.Prelude.{nat_lt, nat_le, codes, decimal}
 use Rattle.std.specs.Option.{option_map, option_and_then}
 use Rattle.std.specs.List.{list_all}
@@ -18,7 +19,8 @@ use Rattle.vyrd_base.specs.Spelling.{method_name, arg_fields, end_line, is_kind_
 use Rattle.vyrd_base.specs.Lines.{fields_of, method_called, args_from}
 use Rattle.vyrd_base.proofs.SplitLaws.{lacks, split-join, lacks-join, number_of_decimal, bytes_same}
 use Rattle.vyrd_base.proofs.SplitLaws.{is_plain_field}
-use Rattle.vyrd_base.proofs.LineLaws.{plain_number, plain_spaces, plain_line_feeds, call_guess, plain_entry, below_32}
+use Rattle.vyrd_base.proofs.LineLaws.{plain_number, plain_spaces, plain_line_feeds, call_guess}
+use Rattle.vyrd_base.proofs.LineLaws.{plain_entry, below_32}
 use Rattle.vyrd_base.proofs.TestLaws.{both_true, first_true, second_true, below_of}
 use Rattle.vyrd_memory.specs.declared.op.Turn.{Turn}
 use Rattle.vyrd_text.specs.Spelled.{call_text, IsCallRead}
@@ -37,15 +39,19 @@ pub item_in_sound : (subject : Subject) (line : List ℕ) (x : Item) → item_in
 unfolding item_in
 item_in_sound subject line x found = by_guess (guessed_item subject (fields_of line)) found
   where
-    checked : (y : Item) (b : Bool) → (is_item_of subject y && bytes_eq (item_line y) line) ≡ b → cond b (Some y) None ≡ Some x
+    checked : (y : Item) (b : Bool) → (is_item_of subject y && bytes_eq (item_line y) line) ≡ b
+        → cond b (Some y) None ≡ Some x
         → (line ≡ item_line x) × (is_item_of subject x ≡ true)
     checked y false t f = cc
     checked y true t f =
         let same : y ≡ x = cc in
-        let spelled = (bytes_eq-Decides (item_line y) line).0 (second_true (is_item_of subject y) _ t) in
+        let spelled = (bytes_eq-Decides (item_line y) line).0
+        (second_true (is_item_of subject y) _ t) in
         (sym spelled ∙ ap item_line same, ap (is_item_of subject) (sym same) ∙ first_true _ _ t)
 
-    by_guess : (o : Option Item) → option_and_then (λ y. cond (is_item_of subject y && bytes_eq (item_line y) line) (Some y) None) o ≡ Some x
+    by_guess : (o : Option Item)
+        → option_and_then (λ y. cond (is_item_of subject y && bytes_eq (item_line y) line)
+        (Some y) None) o ≡ Some x
         → (line ≡ item_line x) × (is_item_of subject x ≡ true)
     by_guess None f = cc
     by_guess (Some y) f = checked y (is_item_of subject y && bytes_eq (item_line y) line) refl f
@@ -65,7 +71,8 @@ module _ (subject : Subject) (o : WorkOp) (is : is_item_of subject (item.Op o) �
   pub op_caller : nat_lt o.caller (2 ^ 32) ≡ true
   op_caller = first_true _ _ is
 
-  op_rest : (is_named o.op.method subject && are_padded (arity_of o.op.method) o.op.args && are_small o.op.args) ≡ true
+  op_rest : (is_named o.op.method subject && are_padded (arity_of o.op.method) o.op.args
+      && are_small o.op.args) ≡ true
   op_rest = second_true (nat_lt o.caller (2 ^ 32)) _ is
 
   pub op_named : is_named o.op.method subject ≡ true
@@ -75,7 +82,8 @@ module _ (subject : Subject) (o : WorkOp) (is : is_item_of subject (item.Op o) �
   op_padded = second_true (is_named o.op.method subject) _ (first_true _ _ op_rest)
 
   pub op_small : are_small o.op.args ≡ true
-  op_small = second_true (is_named o.op.method subject && are_padded (arity_of o.op.method) o.op.args) _ op_rest
+  op_small = second_true
+      (is_named o.op.method subject && are_padded (arity_of o.op.method) o.op.args) _ op_rest
 
   pub op_a : nat_lt o.op.args.a (2 ^ 32) ≡ true
   op_a = first_true _ _ (first_true _ _ op_small)
@@ -88,25 +96,34 @@ module _ (subject : Subject) (o : WorkOp) (is : is_item_of subject (item.Op o) �
 
   -- it can be called in a log
   pub op_call : is_kind_of subject (Call o.op.method o.op.args) ≡ true
-  op_call = both_true _ _ (both_true _ _ (both_true _ _ (both_true _ _ op_named op_padded) op_a) op_b) op_c
+  op_call = both_true _ _
+      (both_true _ _ (both_true _ _ (both_true _ _ op_named op_padded) op_a) op_b) op_c
 
   op_fields_plain : list_all is_plain_field (item_fields (item.Op o)) ≡ true
   op_fields_plain =
       let plain = plain_entry subject (call_of o) (both_true _ _ op_caller op_call) in
-      both_true _ _ refl (both_true _ _ (first_true _ _ plain) (second_true (is_plain_field (codes "call")) _ (second_true (is_plain_field (decimal o.caller)) _ plain)))
+      both_true _ _ refl
+      (both_true _ _ (first_true _ _ plain)
+      (second_true (is_plain_field (codes "call")) _
+      (second_true (is_plain_field (decimal o.caller)) _ plain)))
 
 turns_fields_plain : (subject : Subject) (t : Turn) → is_item_of subject (item.Turns t) ≡ true
     → list_all is_plain_field (item_fields (item.Turns t)) ≡ true
 turns_fields_plain subject t is =
     let caller = below_32 t.caller (first_true _ _ is) in
-    let count = few_turns t.count (second_true (nat_le 1 t.count) _ (second_true (nat_lt t.caller (2 ^ 32)) _ is)) in
-    both_true _ _ refl (both_true _ _ (plain_number t.caller caller) (both_true _ _ (plain_number t.count count) refl))
+    let count = few_turns t.count
+    (second_true (nat_le 1 t.count) _ (second_true (nat_lt t.caller (2 ^ 32)) _ is)) in
+    both_true _ _ refl
+    (both_true _ _ (plain_number t.caller caller) (both_true _ _ (plain_number t.count count) refl))
 
 -- a later line is one line
-pub item_line_whole : (subject : Subject) (x : Item) → is_item_of subject x ≡ true → lacks 10 (item_line x) ≡ true
-item_line_whole subject (item.Op o) is = lacks-join 10 32 (codes "op") (decimal o.caller ∷ method_name o.op.method ∷ arg_fields o.op.method o.op.args) refl
+pub item_line_whole : (subject : Subject) (x : Item) → is_item_of subject x ≡ true
+    → lacks 10 (item_line x) ≡ true
+item_line_whole subject (item.Op o) is = lacks-join 10 32 (codes "op")
+    (decimal o.caller ∷ method_name o.op.method ∷ arg_fields o.op.method o.op.args) refl
     (plain_line_feeds (item_fields (item.Op o)) (op_fields_plain subject o is))
-item_line_whole subject (item.Turns t) is = lacks-join 10 32 (codes "turn") (decimal t.caller ∷ decimal t.count ∷ []) refl
+item_line_whole subject (item.Turns t) is = lacks-join 10 32 (codes "turn")
+    (decimal t.caller ∷ decimal t.count ∷ []) refl
     (plain_line_feeds (item_fields (item.Turns t)) (turns_fields_plain subject t is))
 
 -- a guess at a call says what is called
@@ -119,28 +136,39 @@ guess_is (Some m) fields method args e =
     let equal : args_from fields ≡ args = cc in
     (ap Some same, equal)
 
-item_guess : (subject : Subject) (x : Item) → is_item_of subject x ≡ true → guessed_item subject (item_fields x) ≡ Some x
+item_guess : (subject : Subject) (x : Item) → is_item_of subject x ≡ true
+    → guessed_item subject (item_fields x) ≡ Some x
 item_guess subject (item.Op o) is =
-    let guess = guess_is (method_called subject (method_name o.op.method)) (arg_fields o.op.method o.op.args) o.op.method o.op.args
+    let guess = guess_is (method_called subject (method_name o.op.method))
+    (arg_fields o.op.method o.op.args) o.op.method o.op.args
     (call_guess subject o.op.method o.op.args (op_call subject o is)) in
     let caller = number_of_decimal o.caller (below_32 o.caller (op_caller subject o is)) in
-    λ i. option_map (λ method. item.Op (record { caller = caller i; op = record { method = method; args = guess.1 i } })) (guess.0 i)
+    λ i. option_map
+    (λ method. item.Op
+    (record { caller = caller i; op = record { method = method; args = guess.1 i } })) (guess.0 i)
 item_guess subject (item.Turns t) is =
     let caller = number_of_decimal t.caller (below_32 t.caller (first_true _ _ is)) in
-    let count = number_of_decimal t.count (few_turns t.count (second_true (nat_le 1 t.count) _ (second_true (nat_lt t.caller (2 ^ 32)) _ is))) in
+    let count = number_of_decimal t.count
+    (few_turns t.count
+    (second_true (nat_le 1 t.count) _ (second_true (nat_lt t.caller (2 ^ 32)) _ is))) in
     λ i. Some (item.Turns (record { caller = caller i; count = count i }))
 
-item_line_fields : (subject : Subject) (x : Item) → is_item_of subject x ≡ true → fields_of (item_line x) ≡ item_fields x
-item_line_fields subject (item.Op o) is = split-join 32 (codes "op") (decimal o.caller ∷ method_name o.op.method ∷ arg_fields o.op.method o.op.args)
+item_line_fields : (subject : Subject) (x : Item) → is_item_of subject x ≡ true
+    → fields_of (item_line x) ≡ item_fields x
+item_line_fields subject (item.Op o) is = split-join 32 (codes "op")
+    (decimal o.caller ∷ method_name o.op.method ∷ arg_fields o.op.method o.op.args)
     (plain_spaces (item_fields (item.Op o)) (op_fields_plain subject o is))
-item_line_fields subject (item.Turns t) is = split-join 32 (codes "turn") (decimal t.caller ∷ decimal t.count ∷ [])
+item_line_fields subject (item.Turns t) is = split-join 32 (codes "turn")
+    (decimal t.caller ∷ decimal t.count ∷ [])
     (plain_spaces (item_fields (item.Turns t)) (turns_fields_plain subject t is))
 
 -- what a later line says is read back from it
-pub item_in-item_line : (subject : Subject) (x : Item) → is_item_of subject x ≡ true → item_in subject (item_line x) ≡ Some x
+pub item_in-item_line : (subject : Subject) (x : Item) → is_item_of subject x ≡ true
+    → item_in subject (item_line x) ≡ Some x
 unfolding item_in
 item_in-item_line subject x is =
-    ap (option_and_then (λ y. cond (is_item_of subject y && bytes_eq (item_line y) (item_line x)) (Some y) None))
+    ap (option_and_then (λ y. cond (is_item_of subject y && bytes_eq (item_line y) (item_line x))
+    (Some y) None))
     (ap (guessed_item subject) (item_line_fields subject x is) ∙ item_guess subject x is)
     ∙ ap (λ b. cond b (Some x) None) (both_true _ _ is (bytes_same (item_line x)))
 
@@ -150,44 +178,67 @@ item_line_isnt_end (item.Op o) = refl
 item_line_isnt_end (item.Turns t) = refl
 
 -- what was found is what the line says
-pub item_is : (subject : Subject) (line : List ℕ) (o : Option Item) → IsItemRead subject line o → o ≡ item_in subject line
+pub item_is : (subject : Subject) (line : List ℕ) (o : Option Item) → IsItemRead subject line o
+    → o ≡ item_in subject line
 item_is subject line None none = by_answer (item_in subject line) refl
   where
     by_answer : (o : Option Item) → item_in subject line ≡ o → None ≡ o
     by_answer None e = refl
     by_answer (Some x) e = let is = item_in_sound subject line x e in absurd (none x is.1 is.0)
-item_is subject line (Some x) read = sym (ap (item_in subject) read.1 ∙ item_in-item_line subject x read.0)
+item_is subject line (Some x) read =
+    sym (ap (item_in subject) read.1 ∙ item_in-item_line subject x read.0)
 
 -- a caller that no call follows is no operation's
-pub no_call : (subject : Subject) (text : List ℕ) (n : ℕ) (r : List ℕ) → n < 2 ^ 64 → text ≡ decimal n ++ 32 ∷ r → IsCallRead subject r None
+pub no_call : (subject : Subject) (text : List ℕ) (n : ℕ) (r : List ℕ) → n < 2 ^ 64
+    → text ≡ decimal n ++ 32 ∷ r → IsCallRead subject r None
     → IsItemRead subject (codes "op " ++ text) None
 no_call subject text n r low e none (item.Op o) ok f =
     let caller : o.caller < 2 ^ 64 = below_32 o.caller (op_caller subject o ok) in
-    let after = append_cancel_left (codes "op ") text (decimal o.caller ++ 32 ∷ call_text o.op.method o.op.args) f in
-    let is = one_before_space n o.caller r (call_text o.op.method o.op.args) low caller (sym e ∙ after) in
+    let after = append_cancel_left (codes "op ") text
+    (decimal o.caller ++ 32 ∷ call_text o.op.method o.op.args) f in
+    let is = one_before_space n o.caller r (call_text o.op.method o.op.args) low caller
+    (sym e ∙ after) in
     none o.op.method o.op.args (op_named subject o ok) (op_padded subject o ok)
-    (below_of _ _ (op_a subject o ok)) (below_of _ _ (op_b subject o ok)) (below_of _ _ (op_c subject o ok)) is.1
-no_call subject text n r low e none (item.Turns t) ok f = absurd (let h : 111 ≡ 116 = ap (λ t. get_or t 0 0) f in omega (arith, h))
+    (below_of _ _ (op_a subject o ok)) (below_of _ _ (op_b subject o ok))
+    (below_of _ _ (op_c subject o ok)) is.1
+no_call subject text n r low e none (item.Turns t) ok f = absurd
+    (let h : 111 ≡ 116 = ap (λ t. get_or t 0 0) f in omega (arith, h))
 
 -- a caller that no count follows is no turns'
-module _ (text : List ℕ) (n : ℕ) (r : List ℕ) (low : n < 2 ^ 64) (e : text ≡ decimal n ++ 32 ∷ r) where
-  after_caller : (subject : Subject) (t : Turn) → is_item_of subject (item.Turns t) ≡ true → codes "turn " ++ text ≡ item_line (item.Turns t) → r ≡ decimal t.count
-  after_caller subject t ok f =
-      let after = append_cancel_left (codes "turn ") text (decimal t.caller ++ 32 ∷ decimal t.count) f in
-      (one_before_space n t.caller r (decimal t.count) low (below_32 t.caller (first_true _ _ ok)) (sym e ∙ after)).1
+module _ (text : List ℕ) (n : ℕ) (r : List ℕ) (low : n < 2 ^ 64) (e : text ≡ decimal n ++ 32 ∷ r)
+  where
+    after_caller : (subject : Subject) (t : Turn) → is_item_of subject (item.Turns t) ≡ true
+        → codes "turn " ++ text ≡ item_line (item.Turns t) → r ≡ decimal t.count
+    after_caller subject t ok f =
+        let after = append_cancel_left (codes "turn ") text
+        (decimal t.caller ++ 32 ∷ decimal t.count)
+        f in
+        (one_before_space n t.caller r (decimal t.count) low (below_32 t.caller (first_true _ _ ok))
+        (sym e ∙ after)).1
 
-  count_fits : (subject : Subject) (t : Turn) → is_item_of subject (item.Turns t) ≡ true → (nat_le 1 t.count && nat_le t.count most_turns) ≡ true
-  count_fits subject t ok = second_true (nat_lt t.caller (2 ^ 32)) _ ok
+    count_fits : (subject : Subject) (t : Turn) → is_item_of subject (item.Turns t) ≡ true
+        → (nat_le 1 t.count && nat_le t.count most_turns) ≡ true
+    count_fits subject t ok = second_true (nat_lt t.caller (2 ^ 32)) _ ok
 
-  pub no_count : ((m : ℕ) → m < 2 ^ 32 → r ≡ decimal m → ⊥) → (subject : Subject) → IsItemRead subject (codes "turn " ++ text) None
-  no_count none subject (item.Op o) ok f = absurd (let h : 116 ≡ 111 = ap (λ t. get_or t 0 0) f in omega (arith, h))
-  no_count none subject (item.Turns t) ok f =
-      none t.count (turn_count_fits t.count (second_true (nat_le 1 t.count) _ (count_fits subject t ok))) (after_caller subject t ok f)
+    pub no_count : ((m : ℕ) → m < 2 ^ 32 → r ≡ decimal m → ⊥) → (subject : Subject)
+        → IsItemRead subject (codes "turn " ++ text) None
+    no_count none subject (item.Op o) ok f = absurd
+        (let h : 116 ≡ 111 = ap (λ t. get_or t 0 0) f in omega (arith, h))
+    no_count none subject (item.Turns t) ok f =
+        none t.count
+        (turn_count_fits t.count (second_true (nat_le 1 t.count) _ (count_fits subject t ok)))
+        (after_caller subject t ok f)
 
-  pub bad_count : (m : ℕ) → m < 2 ^ 64 → r ≡ decimal m → (nat_le 1 m && nat_le m most_turns) ≡ false → (subject : Subject) → IsItemRead subject (codes "turn " ++ text) None
-  bad_count m small g bad subject (item.Op o) ok f = absurd (let h : 116 ≡ 111 = ap (λ t. get_or t 0 0) f in omega (arith, h))
-  bad_count m small g bad subject (item.Turns t) ok f =
-      let few : t.count < 2 ^ 64 = few_turns t.count (second_true (nat_le 1 t.count) _ (count_fits subject t ok)) in
-      let same : m ≡ t.count = decimal_injective m t.count small few (sym g ∙ after_caller subject t ok f) in
-      let both : true ≡ false = sym (count_fits subject t ok) ∙ (λ i. nat_le 1 (sym same i) && nat_le (sym same i) most_turns) ∙ bad in
-      cc
+    pub bad_count : (m : ℕ) → m < 2 ^ 64 → r ≡ decimal m → (nat_le 1 m && nat_le m most_turns)
+        ≡ false
+        → (subject : Subject) → IsItemRead subject (codes "turn " ++ text) None
+    bad_count m small g bad subject (item.Op o) ok f = absurd
+        (let h : 116 ≡ 111 = ap (λ t. get_or t 0 0) f in omega (arith, h))
+    bad_count m small g bad subject (item.Turns t) ok f =
+        let few : t.count < 2 ^ 64 = few_turns t.count
+        (second_true (nat_le 1 t.count) _ (count_fits subject t ok)) in
+        let same : m ≡ t.count = decimal_injective m t.count small few
+        (sym g ∙ after_caller subject t ok f) in
+        let both : true ≡ false = sym (count_fits subject t ok)
+        ∙ (λ i. nat_le 1 (sym same i) && nat_le (sym same i) most_turns) ∙ bad in
+        cc

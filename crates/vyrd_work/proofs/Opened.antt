@@ -1,4 +1,5 @@
--- Names whose unfolding opens the definitions of a workload, so that a written-out text or a small number computes.
+-- Names whose unfolding opens the definitions of a workload, so that a written-out text or a small
+-- number computes.
 use Rattle.std.specs.Prelude.{ℕ}
 use Rattle.std.specs.Fmt.{digits}
 use Rattle.vyrd_work.specs.WorkLines.{begun_in, item_in}

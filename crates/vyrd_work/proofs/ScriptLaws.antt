@@ -1,5 +1,6 @@
 -- The operations of a caller: one more of the list, and that they may be called.
-use Rattle.std.proofs.Common.{◌≡◌, ℕ, suc, ◌+◌, ◌<◌, ◌≤◌, Bool, true, false, cond, ◌&&◌, List, [], ◌∷◌, ◌++◌, length, take, Option, Some, None, refl, ap, arith}
+use Rattle.std.proofs.Common.{◌≡◌, ℕ, suc, ◌+◌, ◌<◌, ◌≤◌, Bool, true, false, cond, ◌&&◌, List, []}
+use Rattle.std.proofs.Common.{◌∷◌, ◌++◌, length, take, Option, Some, None, refl, ap, arith}
 use Rattle.std.specs.Prelude.{◌==◌, ◌≢◌, nat_lt, get_or}
 use Rattle.std.proofs.lemmas.Bool.Decides.{nat_tests}
 use Rattle.std.specs.List.{AllByRecursion, cons_option}
@@ -17,41 +18,52 @@ use Rattle.vyrd_work.specs.WorkLimits.{KeepsLimits, is_op_of}
 use Rattle.vyrd_work.specs.WorkScripts.{op_by, ops_of}
 
 pub ops_more : (c : ℕ) (ops : List WorkOp) (i : ℕ) (d : WorkOp) → i < length ops
-    → ops_of c (take (i + 1) ops) ≡ ops_of c (take i ops) ++ cons_option (op_by c (get_or ops i d)) []
+    → ops_of c (take (i + 1) ops) ≡ ops_of c (take i ops) ++ cons_option (op_by c (get_or ops i d))
+    []
 ops_more c ops i d low = filter_map_more (op_by c) ops i d low
 
 few : (c : ℕ) (ops : List WorkOp) → length (ops_of c ops) ≤ length ops
 few c [] = omega arith
 few c (o ∷ ops) = by_owner (op_by c o) (few c ops)
   where
-    by_owner : (x : Option Op) → length (ops_of c ops) ≤ length ops → length (cons_option x (ops_of c ops)) ≤ suc (length ops)
+    by_owner : (x : Option Op) → length (ops_of c ops) ≤ length ops
+        → length (cons_option x (ops_of c ops)) ≤ suc (length ops)
     by_owner None rest = omega (arith, rest)
     by_owner (Some op) rest = omega (arith, rest)
 
-callable : (h : Header) (o : WorkOp) → is_op_of h o ≡ true → are_small o.op.args ≡ true → is_callable h o.op ≡ true
+callable : (h : Header) (o : WorkOp) → is_op_of h o ≡ true → are_small o.op.args ≡ true
+    → is_callable h o.op ≡ true
 callable h o fits small =
-    both_true (same_subject (subject_of o.op.method) h.subject && are_args h.size o.op.method o.op.args) (are_small o.op.args)
-    (second_true (nat_lt o.caller h.callers) (same_subject (subject_of o.op.method) h.subject && are_args h.size o.op.method o.op.args) fits) small
+    both_true (same_subject (subject_of o.op.method) h.subject
+    && are_args h.size o.op.method o.op.args) (are_small o.op.args)
+    (second_true (nat_lt o.caller h.callers) (same_subject (subject_of o.op.method) h.subject
+    && are_args h.size o.op.method o.op.args) fits) small
 
-all_callable : (h : Header) (c : ℕ) (ops : List WorkOp) → AllByRecursion (λ o. is_op_of h o ≡ true) ops
+all_callable : (h : Header) (c : ℕ) (ops : List WorkOp)
+    → AllByRecursion (λ o. is_op_of h o ≡ true) ops
     → AllByRecursion (λ o. are_small o.op.args ≡ true) ops → are_callable h (ops_of c ops) ≡ true
 all_callable h c [] fit small = refl
 all_callable h c (o ∷ ops) fit small = by_owner (o.caller == c) (all_callable h c ops fit.1 small.1)
   where
-    by_owner : (b : Bool) → are_callable h (ops_of c ops) ≡ true → are_callable h (cons_option (cond b (Some o.op) None) (ops_of c ops)) ≡ true
+    by_owner : (b : Bool) → are_callable h (ops_of c ops) ≡ true
+        → are_callable h (cons_option (cond b (Some o.op) None) (ops_of c ops)) ≡ true
     by_owner false rest = rest
-    by_owner true rest = both_true (is_callable h o.op) (are_callable h (ops_of c ops)) (callable h o fit.0 small.0) rest
+    by_owner true rest = both_true (is_callable h o.op) (are_callable h (ops_of c ops))
+        (callable h o fit.0 small.0) rest
 
 -- a caller's operations are no more than all, and may be called
 pub ops_are_few : (w : Workload) (c : ℕ) → KeepsLimits w → length (ops_of c w.ops) ≤ most_ops
 ops_are_few w c limits = omega (arith, few c w.ops, limits.op_count)
 
-pub ops_are_callable : (w : Workload) (c : ℕ) → KeepsLimits w → are_callable w.header (ops_of c w.ops) ≡ true
+pub ops_are_callable : (w : Workload) (c : ℕ) → KeepsLimits w
+    → are_callable w.header (ops_of c w.ops) ≡ true
 ops_are_callable w c limits = all_callable w.header c w.ops limits.ops limits.args
 
 -- an operation of the caller, and one of another
 pub own_op : (c : ℕ) (o : WorkOp) → o.caller ≡ c → op_by c o ≡ Some o.op
-own_op c o same = let e : (o.caller == c) ≡ true = grind (arith, nat_tests) in ap (λ b. cond b (Some o.op) None) e
+own_op c o same = let e : (o.caller == c) ≡ true = grind (arith, nat_tests) in
+    ap (λ b. cond b (Some o.op) None) e
 
 pub other_op : (c : ℕ) (o : WorkOp) → o.caller ≢ c → op_by c o ≡ None
-other_op c o apart = let e : (o.caller == c) ≡ false = grind (arith, nat_tests) in ap (λ b. cond b (Some o.op) None) e
+other_op c o apart = let e : (o.caller == c) ≡ false = grind (arith, nat_tests) in
+    ap (λ b. cond b (Some o.op) None) e

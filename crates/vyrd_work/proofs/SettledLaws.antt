@@ -1,7 +1,9 @@
 -- The bytes of the longest input settle what they say: the lines that are taken in are short and
 -- few, so reading ends at a line that begins in them.
-use Rattle.std.proofs.Common.{◌≡◌, ℕ, ◌+◌, ◌*◌, ◌<◌, ◌≤◌, Bool, true, false, cond, List, [], ◌∷◌, ◌++◌, length}
-use Rattle.std.proofs.Common.{Option, Some, None, Result, Ok, Err, refl, ap, subst, sym, ◌∙◌, arith, length-append}
+use Rattle.std.proofs.Common.{◌≡◌, ℕ, ◌+◌, ◌*◌, ◌<◌, ◌≤◌, Bool, true, false, cond, List, [], ◌∷◌}
+use Rattle.std.proofs.Common.{◌++◌, length}
+use Rattle.std.proofs.Common.{Option, Some, None, Result, Ok, Err, refl, ap, subst, sym, ◌∙◌, arith}
+use Rattle.std.proofs.Common.{length-append}
 use Rattle.std.specs.Prelude.{◌==◌}
 use Rattle.std.specs.List.{onto_first, join_with_byte}
 use Rattle.std.specs.Str.{bytes_eq}
@@ -17,10 +19,12 @@ use Rattle.vyrd_text.proofs.AheadLaws.{parts_of}
 use Rattle.vyrd_work.specs.declared.line.Item.{Item}
 use Rattle.vyrd_work.specs.declared.line.Item.TheVariants as item
 use Rattle.vyrd_work.specs.declared.fault.WorkRule.{WorkRule}
-use Rattle.vyrd_work.specs.declared.fault.WorkRule.TheVariants.{AfterEnd, BadHeader, BadLine, NoLineFeed, NoEnd}
+use Rattle.vyrd_work.specs.declared.fault.WorkRule.TheVariants.{AfterEnd, BadHeader, BadLine}
+use Rattle.vyrd_work.specs.declared.fault.WorkRule.TheVariants.{NoLineFeed, NoEnd}
 use Rattle.vyrd_work.specs.Workloads.{Workload, item_line}
 use Rattle.vyrd_work.specs.WorkLines.{begun_in, is_item_of, item_in}
-use Rattle.vyrd_work.specs.WorkReading.{Refusal, refused, broken_by, with_item, unless_broken, item_read, line_read, begun_or_bad}
+use Rattle.vyrd_work.specs.WorkReading.{Refusal, refused, broken_by, with_item, unless_broken}
+use Rattle.vyrd_work.specs.WorkReading.{item_read, line_read, begun_or_bad}
 use Rattle.vyrd_work.specs.WorkReading.{unfinished_rule, ended, lines_read, text_read, work_reading}
 use Rattle.vyrd_work.specs.WorkLimits.{KeepsLimits}
 use Rattle.vyrd_work.specs.LongInputs.{longest_input}
@@ -31,7 +35,8 @@ use Rattle.vyrd_work.proofs.LimitLaws.{limits_more}
 use Rattle.vyrd_work.proofs.ShortLines.{short_op, short_turns, short_first}
 use Rattle.vyrd_work.proofs.TextLaws.{begun_keeps}
 
--- the lines of two texts in a row: the last line of the first, `p` where no others follow it, goes on with the first of the
+-- the lines of two texts in a row: the last line of the first, `p` where no others follow it, goes
+-- on with the first of the
 -- second
 abbrev joined_first : List ℕ → List (List ℕ) → List ℕ → List ℕ
 joined_first p [] q = p ++ q
@@ -45,28 +50,35 @@ abbrev joined : List (List ℕ) → List ℕ → List (List ℕ) → List (List 
 joined [] q qs = q ∷ qs
 joined (p ∷ ps) q qs = joined_first p ps q ∷ joined_rest ps q qs
 
-cut_joined : (xs ys q : List ℕ) (qs : List (List ℕ)) → cut ys ≡ q ∷ qs → cut (xs ++ ys) ≡ joined (cut xs) q qs
+cut_joined : (xs ys q : List ℕ) (qs : List (List ℕ)) → cut ys ≡ q ∷ qs → cut (xs ++ ys)
+    ≡ joined (cut xs) q qs
 cut_joined [] ys q qs e = e
 cut_joined (x ∷ xs) ys q qs e = by_byte (cut_joined xs ys q qs e) (x == 10)
   where
     p : (next : List ℕ) × (lines : List (List ℕ)) × (cut xs ≡ next ∷ lines)
     p = parts_of xs
 
-    onto : (first : List ℕ) (ps : List (List ℕ)) → onto_first x (joined (first ∷ ps) q qs) ≡ joined (onto_first x (first ∷ ps)) q qs
+    onto : (first : List ℕ) (ps : List (List ℕ)) → onto_first x (joined (first ∷ ps) q qs)
+        ≡ joined (onto_first x (first ∷ ps)) q qs
     onto first [] = refl
     onto first (r ∷ rs) = refl
 
     by_byte : cut (xs ++ ys) ≡ joined (cut xs) q qs → (b : Bool)
-        → cond b ([] ∷ cut (xs ++ ys)) (onto_first x (cut (xs ++ ys))) ≡ joined (cond b ([] ∷ cut xs) (onto_first x (cut xs))) q qs
-    by_byte on true = ap (λ ls. [] ∷ ls) on ∙ ap (λ ls. [] ∷ joined ls q qs) p.2 ∙ ap (λ ls. joined ([] ∷ ls) q qs) (sym p.2)
+        → cond b ([] ∷ cut (xs ++ ys)) (onto_first x (cut (xs ++ ys)))
+        ≡ joined (cond b ([] ∷ cut xs) (onto_first x (cut xs))) q qs
+    by_byte on true = ap (λ ls. [] ∷ ls) on ∙ ap (λ ls. [] ∷ joined ls q qs) p.2
+        ∙ ap (λ ls. joined ([] ∷ ls) q qs) (sym p.2)
     by_byte on false =
-        ap (onto_first x) on ∙ ap (λ ls. onto_first x (joined ls q qs)) p.2 ∙ onto p.0 p.1 ∙ ap (λ ls. joined (onto_first x ls) q qs) (sym p.2)
+        ap (onto_first x) on ∙ ap (λ ls. onto_first x (joined ls q qs)) p.2 ∙ onto p.0 p.1
+        ∙ ap (λ ls. joined (onto_first x ls) q qs) (sym p.2)
 
 -- a line of more than 64 bytes says nothing
 long_rest : (bad : WorkRule) (rest : List ℕ) → 64 < length rest → unfinished_rule bad rest ≡ bad
-long_rest bad rest long = ap (λ b. cond b bad (cond (has_any rest) NoLineFeed NoEnd)) (is_below 64 (length rest) long)
+long_rest bad rest long = ap (λ b. cond b bad (cond (has_any rest) NoLineFeed NoEnd))
+    (is_below 64 (length rest) long)
 
-short_item : (subject : Subject) (x : Item) → is_item_of subject x ≡ true → length (item_line x) ≤ 64
+short_item : (subject : Subject) (x : Item) → is_item_of subject x ≡ true → length (item_line x)
+    ≤ 64
 short_item subject (item.Op o) is = short_op subject o is
 short_item subject (item.Turns t) is = short_turns subject t is
 
@@ -91,28 +103,39 @@ long_first line long = by_answer (begun_in line) refl
         let same = ap length (begun_in_sound line w e).line_is in
         absurd (omega (arith, long, short, same))
 
-long_line : (w : Workload) (n : ℕ) (line : List ℕ) (lines : List (List ℕ)) → 64 < length line → lines_read w n (line ∷ lines) ≡ refused n BadLine
+long_line : (w : Workload) (n : ℕ) (line : List ℕ) (lines : List (List ℕ)) → 64 < length line
+    → lines_read w n (line ∷ lines) ≡ refused n BadLine
 long_line w n line [] long = ap (refused n) (long_rest BadLine line long)
 long_line w n line (next ∷ lines) long =
-    ap (λ b. cond b (ended w (n + 1) (next ∷ lines)) (then_lines n (next ∷ lines) (line_read w line))) (long_isnt_end line long)
+    ap (λ b. cond b (ended w (n + 1) (next ∷ lines))
+    (then_lines n (next ∷ lines) (line_read w line))) (long_isnt_end line long)
     ∙ ap (λ o. then_lines n (next ∷ lines) (item_read w o)) (long_item w.header.subject line long)
 
 -- what is read after the first line
 abbrev after_first : List ℕ → List (List ℕ) → Result Workload WorkRule → Result Workload Refusal
-after_first next lines r = elim r as (λ _. Result Workload Refusal) [ Ok w ↦ lines_read w 2 (next ∷ lines) | Err rule ↦ refused 1 rule ]
+after_first next lines r =
+    elim r as (λ _. Result Workload Refusal) [
+      | Ok w ↦ lines_read w 2 (next ∷ lines)
+      | Err rule ↦
+          refused 1 rule
+    ]
 
-long_text : (line : List ℕ) (lines : List (List ℕ)) → 64 < length line → text_read (line ∷ lines) ≡ refused 1 BadHeader
+long_text : (line : List ℕ) (lines : List (List ℕ)) → 64 < length line → text_read (line ∷ lines)
+    ≡ refused 1 BadHeader
 long_text line [] long = ap (refused 1) (long_rest BadHeader line long)
-long_text line (next ∷ lines) long = ap (λ o. after_first next lines (begun_or_bad o)) (long_first line long)
+long_text line (next ∷ lines) long = ap (λ o. after_first next lines (begun_or_bad o))
+    (long_first line long)
 
 -- anything after `end` is too much
-too_much : (w : Workload) (n : ℕ) (line : List ℕ) (lines : List (List ℕ)) → 0 < length (join_with_byte 10 (line ∷ lines))
+too_much : (w : Workload) (n : ℕ) (line : List ℕ) (lines : List (List ℕ))
+    → 0 < length (join_with_byte 10 (line ∷ lines))
     → ended w n (line ∷ lines) ≡ refused n AfterEnd
 too_much w n [] [] some = absurd (omega (arith, some))
 too_much w n [] (next ∷ lines) some = refl
 too_much w n (b ∷ bs) lines some = refl
 
-more_too_much : (w : Workload) (n : ℕ) (line : List ℕ) (lines : List (List ℕ)) (q : List ℕ) (qs : List (List ℕ))
+more_too_much : (w : Workload) (n : ℕ) (line : List ℕ) (lines : List (List ℕ)) (q : List ℕ)
+    (qs : List (List ℕ))
     → 0 < length (join_with_byte 10 (line ∷ lines))
     → ended w n (joined (line ∷ lines) q qs) ≡ refused n AfterEnd
 more_too_much w n [] [] q qs some = absurd (omega (arith, some))
@@ -129,53 +152,65 @@ one_line_more w (item.Op o) = omega (arith, length-append w.ops (o ∷ []))
 one_line_more w (item.Turns t) = omega (arith, length-append w.turns (t ∷ []))
 
 length_lines : (line next : List ℕ) (lines : List (List ℕ))
-    → length (join_with_byte 10 (line ∷ next ∷ lines)) ≡ length line + 1 + length (join_with_byte 10 (next ∷ lines))
-length_lines line next lines = omega (arith, length-append line (10 ∷ join_with_byte 10 (next ∷ lines)))
+    → length (join_with_byte 10 (line ∷ next ∷ lines)) ≡ length line + 1
+    + length (join_with_byte 10 (next ∷ lines))
+length_lines line next lines =
+    omega (arith, length-append line (10 ∷ join_with_byte 10 (next ∷ lines)))
 
 -- how many bytes the lines to come have, with 65 for each line that was taken in
 abbrev Enough : Workload → List (List ℕ) → Type 0
 Enough w lines = longest_input ≤ 65 * (1 + lines_in w) + length (join_with_byte 10 lines)
 
-lines_settled : (w : Workload) (n : ℕ) (line : List ℕ) (lines : List (List ℕ)) (q : List ℕ) (qs : List (List ℕ)) → KeepsLimits w
+lines_settled : (w : Workload) (n : ℕ) (line : List ℕ) (lines : List (List ℕ)) (q : List ℕ)
+    (qs : List (List ℕ)) → KeepsLimits w
     → Enough w (line ∷ lines)
     → lines_read w n (joined (line ∷ lines) q qs) ≡ lines_read w n (line ∷ lines)
 lines_settled w n line [] q qs keeps enough =
     let long : 64 < length line = omega (arith, enough, keeps.op_count, keeps.turn_count) in
     long_line w n (line ++ q) qs (longer line q long) ∙ sym (long_line w n line [] long)
-lines_settled w n line (next ∷ lines) q qs keeps enough = by_end (λ u k f. lines_settled u (n + 1) next lines q qs k f) (bytes_eq line end_line) refl
+lines_settled w n line (next ∷ lines) q qs keeps enough = by_end
+    (λ u k f. lines_settled u (n + 1) next lines q qs k f) (bytes_eq line end_line) refl
   where
-    whole : length (join_with_byte 10 (line ∷ next ∷ lines)) ≡ length line + 1 + length (join_with_byte 10 (next ∷ lines))
+    whole : length (join_with_byte 10 (line ∷ next ∷ lines)) ≡ length line + 1
+        + length (join_with_byte 10 (next ∷ lines))
     whole = length_lines line next lines
 
     Rest : Type 0
     Rest = (u : Workload) → KeepsLimits u → Enough u (next ∷ lines)
         → lines_read u (n + 1) (joined (next ∷ lines) q qs) ≡ lines_read u (n + 1) (next ∷ lines)
 
-    by_rule : Rest → (x : Item) → item_in w.header.subject line ≡ Some x → (o : Option WorkRule) → broken_by w x ≡ o
-        → then_lines n (joined (next ∷ lines) q qs) (unless_broken w x o) ≡ then_lines n (next ∷ lines) (unless_broken w x o)
+    by_rule : Rest → (x : Item) → item_in w.header.subject line ≡ Some x → (o : Option WorkRule)
+        → broken_by w x ≡ o
+        → then_lines n (joined (next ∷ lines) q qs) (unless_broken w x o)
+        ≡ then_lines n (next ∷ lines) (unless_broken w x o)
     by_rule rest x is (Some rule) none = refl
     by_rule rest x is None none =
         let spelled = item_in_sound w.header.subject line x is in
         let short = short_item w.header.subject x spelled.1 in
         let same = ap length spelled.0 in
         let one = one_line_more w x in
-        rest (with_item w x) (limits_more w x keeps spelled.1 none) (omega (arith, enough, whole, short, same, one))
+        rest (with_item w x) (limits_more w x keeps spelled.1 none)
+        (omega (arith, enough, whole, short, same, one))
 
     by_item : Rest → (o : Option Item) → item_in w.header.subject line ≡ o
-        → then_lines n (joined (next ∷ lines) q qs) (item_read w o) ≡ then_lines n (next ∷ lines) (item_read w o)
+        → then_lines n (joined (next ∷ lines) q qs) (item_read w o) ≡ then_lines n (next ∷ lines)
+        (item_read w o)
     by_item rest None is = refl
     by_item rest (Some x) is = by_rule rest x is (broken_by w x) refl
 
     by_end : Rest → (b : Bool) → bytes_eq line end_line ≡ b
-        → cond b (ended w (n + 1) (joined (next ∷ lines) q qs)) (then_lines n (joined (next ∷ lines) q qs) (line_read w line))
+        → cond b (ended w (n + 1) (joined (next ∷ lines) q qs))
+        (then_lines n (joined (next ∷ lines) q qs) (line_read w line))
         ≡ cond b (ended w (n + 1) (next ∷ lines)) (then_lines n (next ∷ lines) (line_read w line))
     by_end rest true is =
         let same = ap length ((bytes_eq-Decides line end_line).0 is) in
-        let some : 0 < length (join_with_byte 10 (next ∷ lines)) = omega (arith, enough, whole, same, keeps.op_count, keeps.turn_count) in
+        let some : 0 < length (join_with_byte 10 (next ∷ lines)) =
+        omega (arith, enough, whole, same, keeps.op_count, keeps.turn_count) in
         more_too_much w (n + 1) next lines q qs some ∙ sym (too_much w (n + 1) next lines some)
     by_end rest false is = by_item rest (item_in w.header.subject line) refl
 
-text_settled : (line : List ℕ) (lines : List (List ℕ)) (q : List ℕ) (qs : List (List ℕ)) → longest_input ≤ length (join_with_byte 10 (line ∷ lines))
+text_settled : (line : List ℕ) (lines : List (List ℕ)) (q : List ℕ) (qs : List (List ℕ))
+    → longest_input ≤ length (join_with_byte 10 (line ∷ lines))
     → text_read (joined (line ∷ lines) q qs) ≡ text_read (line ∷ lines)
 text_settled line [] q qs enough =
     let long : 64 < length line = omega (arith, enough) in
@@ -183,26 +218,30 @@ text_settled line [] q qs enough =
 text_settled line (next ∷ lines) q qs enough = by_begun (begun_in line) refl
   where
     From : Result Workload WorkRule → Type 0
-    From r = after_first (joined_first next lines q) (joined_rest lines q qs) r ≡ after_first next lines r
+    From r = after_first (joined_first next lines q) (joined_rest lines q qs) r
+        ≡ after_first next lines r
 
     found : (w : Workload) → IsBegun line w → From (Ok w)
     found w is =
         let short = short_first w.header w.variant in
         let same = ap length is.line_is in
         let none = ap lines_in is.empty in
-        lines_settled w 2 next lines q qs (subst KeepsLimits (sym is.empty) (begun_keeps w.header w.variant is.version))
+        lines_settled w 2 next lines q qs
+        (subst KeepsLimits (sym is.empty) (begun_keeps w.header w.variant is.version))
         (omega (arith, enough, length_lines line next lines, short, same, none))
 
     by_begun : (o : Option Workload) → begun_in line ≡ o → From (begun_or_bad o)
     by_begun None e = refl
     by_begun (Some w) e = found w (begun_in_sound line w e)
 
-pub reading_settled : (bytes more : List ℕ) → longest_input ≤ length bytes → work_reading (bytes ++ more) ≡ work_reading bytes
+pub reading_settled : (bytes more : List ℕ) → longest_input ≤ length bytes
+    → work_reading (bytes ++ more) ≡ work_reading bytes
 unfolding work_reading
 reading_settled bytes more enough =
     let p = parts_of bytes in
     let q = parts_of more in
-    let joins = ap length (ap (join_with_byte 10) (sym p.2) ∙ join_with_byte-slice_split 10 bytes) in
+    let joins = ap length (ap (join_with_byte 10) (sym p.2)
+    ∙ join_with_byte-slice_split 10 bytes) in
     ap text_read (cut_joined bytes more q.0 q.1 q.2)
     ∙ ap (λ ls. text_read (joined ls q.0 q.1)) p.2
     ∙ text_settled p.0 p.1 q.0 q.1 (omega (arith, enough, joins))

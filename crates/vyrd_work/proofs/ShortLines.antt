@@ -1,5 +1,6 @@
 -- No line of a workload has more than 64 bytes.
-use Rattle.std.proofs.Common.{◌≡◌, ◌≤◌, ◌^◌, true, List, [], ◌∷◌, ◌++◌, map, length, arith, length-append}
+use Rattle.std.proofs.Common.{◌≡◌, ◌≤◌, ◌^◌, true, List, [], ◌∷◌, ◌++◌, map, length, arith}
+use Rattle.std.proofs.Common.{length-append}
 use Rattle.std.specs.Prelude.{codes, decimal, nat_lt, nat_le}
 use Rattle.std.specs.List.{AllByRecursion}
 use Rattle.vyrd_base.specs.declared.header.Header.{Header}
@@ -25,9 +26,11 @@ use Rattle.vyrd_work.proofs.BuiltIn.{work_built_in}
 use Rattle.vyrd_work.proofs.LimitLaws.{op_is_item, turns_are_item}
 
 -- an operation's line is shorter than that of the call in a log
-pub short_op : (subject : Subject) (o : WorkOp) → is_item_of subject (item.Op o) ≡ true → length (item_line (item.Op o)) ≤ 64
+pub short_op : (subject : Subject) (o : WorkOp) → is_item_of subject (item.Op o) ≡ true
+    → length (item_line (item.Op o)) ≤ 64
 short_op subject o is =
-    let entry = short_entry subject (call_of o) (both_true _ _ (op_caller subject o is) (op_call subject o is)) in
+    let entry = short_entry subject (call_of o)
+    (both_true _ _ (op_caller subject o is) (op_call subject o is)) in
     omega (
       arith,
       entry,
@@ -36,17 +39,21 @@ short_op subject o is =
           (32 ∷ (codes "call " ++ call_text o.op.method o.op.args)),
     )
 
-pub short_turns : (subject : Subject) (t : Turn) → is_item_of subject (item.Turns t) ≡ true → length (item_line (item.Turns t)) ≤ 64
+pub short_turns : (subject : Subject) (t : Turn) → is_item_of subject (item.Turns t) ≡ true
+    → length (item_line (item.Turns t)) ≤ 64
 short_turns subject t is =
     let caller = short_number t.caller (below_of _ _ (first_true _ _ is)) in
-    let count = short_number t.count (turn_count_fits t.count (second_true (nat_le 1 t.count) _ (second_true (nat_lt t.caller (2 ^ 32)) _ is))) in
+    let count = short_number t.count
+    (turn_count_fits t.count
+    (second_true (nat_le 1 t.count) _ (second_true (nat_lt t.caller (2 ^ 32)) _ is))) in
     omega (arith, caller, count, length-append (decimal t.caller) (32 ∷ decimal t.count))
 
 short_variant : (variant : Variant) → length (variant_name variant) ≤ 7
 short_variant Correct = omega arith
 short_variant Broken = omega arith
 
-pub short_first : (h : Header) (variant : Variant) → length (work_header_line h.subject h.size h.callers variant) ≤ 64
+pub short_first : (h : Header) (variant : Variant)
+    → length (work_header_line h.subject h.size h.callers variant) ≤ 64
 short_first h variant =
     let size = short_number h.size (size_in_32_bits h) in
     let callers = short_number h.callers (callers_in_32_bits h) in
@@ -56,18 +63,34 @@ short_first h variant =
       callers,
       short_subject h.subject,
       short_variant variant,
-      length-append (subject_name h.subject) (32 ∷ (decimal h.size ++ 32 ∷ (decimal h.callers ++ 32 ∷ variant_name variant))),
+      length-append (subject_name h.subject)
+          (32 ∷ (decimal h.size ++ 32 ∷ (decimal h.callers ++ 32 ∷ variant_name variant))),
       length-append (decimal h.size) (32 ∷ (decimal h.callers ++ 32 ∷ variant_name variant)),
       length-append (decimal h.callers) (32 ∷ variant_name variant),
     )
 
-short_later : (h : Header) → is_built_in h.subject ≡ true → (ops : List WorkOp) (turns : List Turn) → AllByRecursion (λ o. is_op_of h o ≡ true) ops
+short_later : (h : Header) → is_built_in h.subject ≡ true → (ops : List WorkOp) (turns : List Turn)
+    → AllByRecursion (λ o. is_op_of h o ≡ true) ops
     → AllByRecursion (λ o. are_small o.op.args ≡ true) ops
     → AllByRecursion (λ t. is_turn_of h t ≡ true) turns
-    → AllByRecursion (λ line. length line ≤ 64) (map item_line (map item.Op ops ++ map item.Turns turns) ++ end_line ∷ [])
+    → AllByRecursion (λ line. length line ≤ 64)
+    (map item_line (map item.Op ops ++ map item.Turns turns) ++ end_line ∷ [])
 short_later h built [] [] all small rest = (omega arith, tt)
-short_later h built [] (t ∷ turns) all small rest = (short_turns h.subject t (turns_are_item h t rest.0), short_later h built [] turns all small rest.1)
-short_later h built (o ∷ ops) turns all small rest = (short_op h.subject o (op_is_item h o built all.0 small.0), short_later h built ops turns all.1 small.1 rest)
+short_later h built [] (t ∷ turns) all small rest = (
+  short_turns h.subject t (turns_are_item h t rest.0),
+  short_later h built
+      [] turns all small rest.1,
+)
+short_later h built (o ∷ ops) turns all small rest = (
+  short_op h.subject o (op_is_item h o built all.0 small.0),
+  short_later h built ops turns all.1
+      small.1 rest,
+)
 
-pub short_lines : (w : Workload) → KeepsLimits w → AllByRecursion (λ line. length line ≤ 64) (lines_of w)
-short_lines w keeps = (short_first w.header w.variant, short_later w.header (work_built_in w keeps) w.ops w.turns keeps.ops keeps.args keeps.turns)
+pub short_lines : (w : Workload) → KeepsLimits w → AllByRecursion (λ line. length line ≤ 64)
+    (lines_of w)
+short_lines w keeps = (
+  short_first w.header w.variant,
+  short_later w.header (work_built_in w keeps) w.ops w.turns
+      keeps.ops keeps.args keeps.turns,
+)

@@ -1,15 +1,18 @@
 -- The scripts of a workload that keeps its limits are sound.
-use Rattle.std.proofs.Common.{◌≡◌, ℕ, true, zero, suc, ◌+◌, ◌<◌, map, length, refl, ap, ◌∙◌, sym, subst, arith}
+use Rattle.std.proofs.Common.{◌≡◌, ℕ, true, zero, suc, ◌+◌, ◌<◌, map, length, refl, ap, ◌∙◌, sym}
+use Rattle.std.proofs.Common.{subst, arith}
 use Rattle.std.specs.Prelude.{slice_index_or}
 use Rattle.vyrd_base.specs.declared.header.Header.{Header}
 use Rattle.vyrd_base.specs.declared.subject.Subject.{Subject}
-use Rattle.vyrd_base.specs.declared.subject.Subject.TheVariants.{Multiset, Cache, Tree, Buffers, Own}
+use Rattle.vyrd_base.specs.declared.subject.Subject.TheVariants.{Multiset, Cache, Tree, Buffers}
+use Rattle.vyrd_base.specs.declared.subject.Subject.TheVariants.{Own}
 use Rattle.vyrd_base.specs.Places.{numbers_from}
 use Rattle.vyrd_base.specs.Subjects.{is_built_in}
 use Rattle.vyrd_memory.specs.declared.op.Variant.{Variant}
 use Rattle.vyrd_memory.specs.Scripts.{Script, stop}
 use Rattle.vyrd_memory.specs.Soundness.{IsSound, at_rest}
-use Rattle.vyrd_memory.specs.Laws.Player.{AreSound, operations-sound, callable_method, callable_args, callable_small}
+use Rattle.vyrd_memory.specs.Laws.Player.{AreSound, operations-sound, callable_method}
+use Rattle.vyrd_memory.specs.Laws.Player.{callable_args, callable_small}
 use Rattle.vyrd_memory.specs.Runs.{AreSoundScripts}
 use Rattle.vyrd_multiset.specs.Laws.{multiset_is_sound}
 use Rattle.vyrd_cache.specs.Laws.{cache_is_sound}
@@ -21,25 +24,32 @@ use Rattle.vyrd_work.specs.WorkScripts.{procedure_in, ops_of, work_script, work_
 use Rattle.vyrd_work.proofs.BuiltIn.{work_built_in}
 use Rattle.vyrd_work.proofs.ScriptLaws.{ops_are_callable}
 
-pub script_at : (f : ℕ → Script) (k n i : ℕ) → i < n → slice_index_or (map f (numbers_from k n)) i stop ≡ f (k + i)
+pub script_at : (f : ℕ → Script) (k n i : ℕ) → i < n
+    → slice_index_or (map f (numbers_from k n)) i stop ≡ f (k + i)
 script_at f k zero i low = absurd (omega (arith, low))
 script_at f k (suc n) zero low = let e : k ≡ k + 0 = omega arith in ap f e
-script_at f k (suc n) (suc i) low = let e : k + 1 + i ≡ k + suc i = omega arith in script_at f (k + 1) n i (omega arith) ∙ ap f e
+script_at f k (suc n) (suc i) low = let e : k + 1 + i ≡ k + suc i = omega arith in script_at f
+    (k + 1) n i (omega arith) ∙ ap f e
 
 how_many : (f : ℕ → Script) (k n : ℕ) → length (map f (numbers_from k n)) ≡ n
 how_many f k zero = refl
 how_many f k (suc n) = ap suc (how_many f (k + 1) n)
 
 -- each structure's procedures are sound
-procedures_sound : (subject : Subject) (h : Header) (variant : Variant) → is_built_in subject ≡ true → h.subject ≡ subject → AreSound h (procedure_in subject h variant)
+procedures_sound : (subject : Subject) (h : Header) (variant : Variant) → is_built_in subject ≡ true
+    → h.subject ≡ subject → AreSound h (procedure_in subject h variant)
 procedures_sound Multiset h variant built is = λ op callable.
-    multiset_is_sound h variant op is (callable_method h op callable ∙ is) (callable_args h op callable) (callable_small h op callable)
+    multiset_is_sound h variant op is (callable_method h op callable ∙ is)
+    (callable_args h op callable) (callable_small h op callable)
 procedures_sound Cache h variant built is = λ op callable.
-    cache_is_sound h variant op is (callable_method h op callable ∙ is) (callable_args h op callable) (callable_small h op callable)
+    cache_is_sound h variant op is (callable_method h op callable ∙ is)
+    (callable_args h op callable) (callable_small h op callable)
 procedures_sound Tree h variant built is = λ op callable.
-    tree_is_sound h variant op is (callable_method h op callable ∙ is) (callable_args h op callable) (callable_small h op callable)
+    tree_is_sound h variant op is (callable_method h op callable ∙ is) (callable_args h op callable)
+    (callable_small h op callable)
 procedures_sound Buffers h variant built is = λ op callable.
-    buffers_are_sound h variant op is (callable_method h op callable ∙ is) (callable_args h op callable) (callable_small h op callable)
+    buffers_are_sound h variant op is (callable_method h op callable ∙ is)
+    (callable_args h op callable) (callable_small h op callable)
 procedures_sound Own h variant built is = cc
 
 pub scripts_sound : (w : Workload) → KeepsLimits w → AreSoundScripts w.header (work_scripts w)
@@ -47,7 +57,9 @@ scripts_sound w limits = record {
   count = how_many (work_script w) 0 w.header.callers;
   sound = λ c low.
       let e : 0 + c ≡ c = omega arith in
-      subst (IsSound w.header at_rest) (sym (script_at (work_script w) 0 w.header.callers c low ∙ ap (work_script w) e))
+      subst (IsSound w.header at_rest)
+      (sym (script_at (work_script w) 0 w.header.callers c low ∙ ap (work_script w) e))
       (operations-sound w.header (procedure_in w.header.subject w.header w.variant) (ops_of c w.ops)
-      (procedures_sound w.header.subject w.header w.variant (work_built_in w limits) refl) (ops_are_callable w c limits));
+      (procedures_sound w.header.subject w.header w.variant (work_built_in w limits) refl)
+      (ops_are_callable w c limits));
 }

@@ -21,26 +21,38 @@ use Rattle.vyrd_tree.proofs.Steps.Entry.{take_4}
 
 -- the block of a split
 abbrev parting : Header → Full → ℕ → List (ℕ × ℕ) → List (ℕ × ℕ) → ℕ → ℕ → Kind → Script → Script
-parting h full new upper lower key word close later = perform (Mark BlockOpen) (write_node new full.level full.bound full.right upper
+parting h full new upper lower key word close later = perform (Mark BlockOpen)
+    (write_node new full.level full.bound full.right upper
     (write_entries full.node.number full.place (drop full.place lower)
     (perform (Store (count_cell full.node.number) 3)
-    (perform (Store (bound_cell full.node.number) key) (perform (Store (right_cell full.node.number) word)
+    (perform (Store (bound_cell full.node.number) key)
+    (perform (Store (right_cell full.node.number) word)
     (perform (Mark close) (unlock_node h full.node.number later)))))))
 
-pub parted : (h : Header) (task : Task) (full : Full) (new : ℕ) (upper lower : List (ℕ × ℕ)) (key word : ℕ) (close : Kind) (later : Script)
-    → take 2 upper ≡ drop 3 full.five → lower ≡ take 4 full.five → key ≡ first_key (drop 3 full.five) → word ≡ new → close ≡ close_for full.errand
+pub parted : (h : Header) (task : Task) (full : Full) (new : ℕ) (upper lower : List (ℕ × ℕ))
+    (key word : ℕ) (close : Kind) (later : Script)
+    → take 2 upper ≡ drop 3 full.five → lower ≡ take 4 full.five
+    → key ≡ first_key (drop 3 full.five) → word ≡ new → close ≡ close_for full.errand
     → later ≡ after_split h task full.errand key new
-    → parting h full new (take 2 upper) (take 3 lower) key word close later ≡ found_for h task (need.Split full) new
-parted h task full new upper lower key word close later is_upper is_lower is_key is_word closes follows =
+    → parting h full new (take 2 upper) (take 3 lower) key word close later ≡ found_for h task
+    (need.Split full) new
+parted h task full new upper lower key word close later is_upper is_lower is_key is_word closes
+    follows =
     ap (λ es. parting h full new es (take 3 lower) key word close later) is_upper
-    ∙ ap (λ es. parting h full new (drop 3 full.five) es key word close later) (ap (take 3) is_lower ∙ take_4 3 full.five (omega arith))
+    ∙ ap (λ es. parting h full new (drop 3 full.five) es key word close later)
+    (ap (take 3) is_lower ∙ take_4 3 full.five (omega arith))
     ∙ ap (λ n. parting h full new (drop 3 full.five) (take 3 full.five) key n close later) is_word
     ∙ ap (λ k. parting h full new (drop 3 full.five) (take 3 full.five) key new k later) closes
-    ∙ ap (λ s. parting h full new (drop 3 full.five) (take 3 full.five) key new (close_for full.errand) s) follows
-    ∙ ap (λ k. parting h full new (drop 3 full.five) (take 3 full.five) k new (close_for full.errand) (after_split h task full.errand k new)) is_key
+    ∙ ap (λ s. parting h full new (drop 3 full.five) (take 3 full.five) key new
+    (close_for full.errand) s) follows
+    ∙ ap (λ k. parting h full new (drop 3 full.five) (take 3 full.five) k new
+    (close_for full.errand) (after_split h task full.errand k new)) is_key
 
-pub next_up : (h : Header) (task : Task) (e : Errand) (a : Ascent) (key : ℕ) (new : Node) → e ≡ errand.Ascent a → a.level < 15
-    → round h task (record { level = a.level + 1; key = key; node = new }) ≡ after_split h task e key new.number
+pub next_up : (h : Header) (task : Task) (e : Errand) (a : Ascent) (key : ℕ) (new : Node)
+    → e ≡ errand.Ascent a → a.level < 15
+    → round h task (record { level = a.level + 1; key = key; node = new })
+    ≡ after_split h task e key new.number
 next_up h task e a key new is low =
     let left : 15 - a.level ≡ suc (15 - (a.level + 1)) = omega arith in
-    ap (λ n. ascend h task.variant n (a.level + 1) key new.number (returns 1)) (sym left) ∙ ap (λ x. after_split h task x key new.number) (sym is)
+    ap (λ n. ascend h task.variant n (a.level + 1) key new.number (returns 1)) (sym left)
+    ∙ ap (λ x. after_split h task x key new.number) (sym is)

@@ -9,13 +9,16 @@ use Rattle.vyrd_tree.specs.Procedures.Split.{write_entries}
 use Rattle.vyrd_tree.specs.Rests.Stores.{entries_from, key_from}
 
 -- from a slot on, its entry comes first
-pub from_slot : (w : Written) (slot : Slot) (place : ℕ) (later : Script) → length w.entries ≡ 4 → slot.place ≡ place → slot.of ≡ w.count
+pub from_slot : (w : Written) (slot : Slot) (place : ℕ) (later : Script) → length w.entries ≡ 4
+    → slot.place ≡ place → slot.of ≡ w.count
     → key_from w slot later ≡ entries_from w place later
 from_slot w slot place later long at of =
-    ap (λ entries. write_entries w.node.number slot.place entries later) (sym first) ∙ ap (λ p. entries_from w p later) at
+    ap (λ entries. write_entries w.node.number slot.place entries later) (sym first)
+    ∙ ap (λ p. entries_from w p later) at
   where
     first : drop slot.place (take w.count w.entries)
-        ≡ slice_index_or w.entries slot.place (0, 0) ∷ drop (slot.place + 1) (take w.count w.entries)
+        ≡ slice_index_or w.entries slot.place (0, 0) ∷ drop (slot.place + 1)
+        (take w.count w.entries)
     first =
         let few : w.count ≤ 4 = w.few in
         let low : slot.place < w.count = omega (arith, slot.within, of) in

@@ -14,20 +14,25 @@ use Rattle.vyrd_tree.specs.Rests.Visits.{visiting_rest}
 
 -- the visit of a node, with this errand and this many visits left after it
 abbrev visit_of : Header → Task → Errand → ℕ → ℕ → Script
-visit_of h task e left number = visit_node h task.variant (key_for task e) (toward e) number (lost_for task e)
+visit_of h task e left number = visit_node h task.variant (key_for task e) (toward e) number
+    (lost_for task e)
     (walk_on h task e left) (arrived_for h task e)
 
-pub comes_in : (h : Header) (task : Task) (e : Errand) (left number : ℕ) (v : Visit) → v.errand ≡ e → v.left ≡ left - 1 → v.node.number ≡ number
+pub comes_in : (h : Header) (task : Task) (e : Errand) (left number : ℕ) (v : Visit) → v.errand ≡ e
+    → v.left ≡ left - 1 → v.node.number ≡ number
     → number < h.size → left ≢ 0 → visiting_rest h task v Lock ≡ walk_on h task e left number
 comes_in h task e zero number v is_errand is_left is_number low some = absurd (some refl)
 comes_in h task e (suc l) number v is_errand is_left is_number low some =
     let fewer : v.left ≡ l = omega (arith, is_left) in
-    ap (λ x. visit_of h task x v.left v.node.number) is_errand ∙ ap (λ n. visit_of h task e n v.node.number) fewer
+    ap (λ x. visit_of h task x v.left v.node.number) is_errand
+    ∙ ap (λ n. visit_of h task e n v.node.number) fewer
     ∙ ap (visit_of h task e l) is_number
-    ∙ ap (λ b. cond b (visit_of h task e l number) (lost_for task e)) (sym (is_below number h.size low))
+    ∙ ap (λ b. cond b (visit_of h task e l number) (lost_for task e))
+    (sym (is_below number h.size low))
 
 -- there is no such node, or no visit is left
-pub is_lost : (h : Header) (task : Task) (e : Errand) (left number : ℕ) → h.size ≤ number → walk_on h task e left number ≡ lost_for task e
+pub is_lost : (h : Header) (task : Task) (e : Errand) (left number : ℕ) → h.size ≤ number
+    → walk_on h task e left number ≡ lost_for task e
 is_lost h task e zero number high = refl
 is_lost h task e (suc l) number high =
     ap (λ b. cond b (visit_of h task e l number) (lost_for task e)) (isnt_below number h.size high)

@@ -1,6 +1,7 @@
 use Rattle.std.proofs.Common.{◌≡◌, ℕ, ◌≤◌, ◌<◌, true, sym, ap, ◌∙◌, subst}
 use Rattle.vyrd_base.specs.Buffers.{text_of, text_length, are_characters}
-use Rattle.vyrd_base.proofs.TextLaws.{length_of_text, joined_characters, cut_characters, same_characters}
+use Rattle.vyrd_base.proofs.TextLaws.{length_of_text, joined_characters, cut_characters}
+use Rattle.vyrd_base.proofs.TextLaws.{same_characters}
 use Rattle.vyrd_base.proofs.laws.text_stands_for_its_characters.Goals as goal
 
 pub returns-clause-length : goal.returns-clause-length
@@ -12,7 +13,8 @@ returns-clause-joined c = λ f n m few fs. joined_characters f n m few fs
 pub returns-clause-cut : goal.returns-clause-cut
 returns-clause-cut c = λ f n k few fs. cut_characters f n k few fs
 
-told : (f g : ℕ → ℕ) (n m : ℕ) → n ≤ 7 → m ≤ 7 → are_characters f n ≡ true → are_characters g m ≡ true
+told : (f g : ℕ → ℕ) (n m : ℕ) → n ≤ 7 → m ≤ 7 → are_characters f n ≡ true → are_characters g m
+    ≡ true
     → text_of f n ≡ text_of g m → (n ≡ m) × ((i : ℕ) → i < n → f i ≡ g i)
 told f g n m few_f few_g fs gs same = (length, same_characters f g n fs gs_too same_too)
   where

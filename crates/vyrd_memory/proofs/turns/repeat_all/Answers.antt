@@ -15,8 +15,10 @@ pub loop-turn-preserved : goal.loop-turn-preserved
 loop-turn-preserved g c =
     let here = get_or c.args.turns.now c.loop-turn.turn-index past in
     record {
-      shown = shown_more c.args.header.now g.M.Machine.header_of g.M.Machine.script g.S.EventSink.has_taken
-          (turns_of (take c.loop-turn.turn-index c.args.turns.now)) (replicate here.count here.caller)
+      shown = shown_more c.args.header.now g.M.Machine.header_of g.M.Machine.script
+          g.S.EventSink.has_taken
+          (turns_of (take c.loop-turn.turn-index c.args.turns.now))
+          (replicate here.count here.caller)
           (turns_of (take (c.loop-turn.turn-index + 1) c.args.turns.now))
           (stage c.args.machines.now c.args.words.now.items c.args.sink.now)
           (stage c.loop-turn.machines c.loop-turn.words.items c.loop-turn.sink)

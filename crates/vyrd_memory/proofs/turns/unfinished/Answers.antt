@@ -1,4 +1,5 @@
-use Rattle.std.proofs.Common.{◌≡◌, ◌∙◌, ℕ, not, Some, [], ◌∷◌, ◌++◌, length, slice_get, arith, ap, sym, subst}
+use Rattle.std.proofs.Common.{◌≡◌, ◌∙◌, ℕ, not, Some, [], ◌∷◌, ◌++◌, length, slice_get, arith, ap}
+use Rattle.std.proofs.Common.{sym, subst}
 use Rattle.std.specs.List.{filter}
 use Rattle.vyrd_base.specs.Places.{numbers_below}
 use Rattle.vyrd_base.proofs.ListLaws.{slice_get-is}
@@ -13,20 +14,27 @@ loop-caller-preserved g c =
     let caller = c.loop-caller.caller in
     let keep = λ (x : ℕ). is_unfinished g.M.Machine.script (slice_get machines x) in
     let here : slice_get machines caller ≡ Some c.index-machines-caller.result =
-    slice_get-is machines caller c.index-machines-caller.result c.loop-caller-test.true c.index-machines-caller.is in
-    let kept : keep caller ≡ not c.is_done.result = ap (is_unfinished g.M.Machine.script) here ∙ ap not (sym c.is_done.ensures) in
-    let before : c.loop-caller.callers.items ≡ filter keep (numbers_below caller) = c.loop-caller.invariant in
+    slice_get-is machines caller c.index-machines-caller.result c.loop-caller-test.true
+    c.index-machines-caller.is in
+    let kept : keep caller ≡ not c.is_done.result = ap (is_unfinished g.M.Machine.script) here
+    ∙ ap not (sym c.is_done.ensures) in
+    let before : c.loop-caller.callers.items ≡ filter keep (numbers_below caller) =
+    c.loop-caller.invariant in
     elim c.if-not-is_done.branch [
       | then-not-is_done+in_ok-push w ↦
-          ap (λ v. v.items) w.callers-is ∙ w.in_ok-push.ensures.items ∙ ap (λ cs. cs ++ caller ∷ []) before
+          ap (λ v. v.items) w.callers-is ∙ w.in_ok-push.ensures.items
+          ∙ ap (λ cs. cs ++ caller ∷ []) before
           ∙ sym (one_more_kept keep caller (kept ∙ ap not w.if-not-is_done.true))
       | else-not-is_done w ↦
-          ap (λ v. v.items) w.callers-is ∙ before ∙ sym (one_more_left keep caller (kept ∙ ap not w.if-not-is_done.false))
+          ap (λ v. v.items) w.callers-is ∙ before
+          ∙ sym (one_more_left keep caller (kept ∙ ap not w.if-not-is_done.false))
     ]
 
 pub returns : goal.returns
 returns g c =
     let all : c.loop-caller.caller ≡ length c.args.machines.now = omega arith in
     unfinished_are g.M.Machine.script c.args.machines.now c.loop-caller.callers.items
-    (subst (λ n. c.loop-caller.callers.items ≡ filter (λ m. is_unfinished g.M.Machine.script (slice_get c.args.machines.now m)) (numbers_below n)) all
+    (subst (λ n. c.loop-caller.callers.items
+    ≡ filter (λ m. is_unfinished g.M.Machine.script (slice_get c.args.machines.now m))
+    (numbers_below n)) all
     c.loop-caller.invariant)

@@ -20,7 +20,8 @@ take-requires c =
       legal = record {
         history = take i history;
         taken = c.loop-event.invariant.taken;
-        next = subst (λ h. IsNext h (take i history) (get_or history i some_event)) (sym c.loop-event.invariant.header) next;
+        next = subst (λ h. IsNext h (take i history) (get_or history i some_event))
+            (sym c.loop-event.invariant.header) next;
       };
     }
 
@@ -28,7 +29,8 @@ pub loop-event-preserved : goal.loop-event-preserved
 loop-event-preserved c =
     let history = c.args.history.now in
     let i = c.loop-event.event-index in
-    let next = subst (λ h. IsNext h (take i history) (get_or history i some_event)) (sym c.loop-event.invariant.header)
+    let next = subst (λ h. IsNext h (take i history) (get_or history i some_event))
+    (sym c.loop-event.invariant.header)
     (next_in c.args.header history i some_event c.requires c.loop-event-test.true) in
     record {
       header = c.take.ensures.header ∙ c.loop-event.invariant.header;

@@ -7,10 +7,14 @@ pub returns-in-Some : goal.returns-in-Some
 unfolding event_in
 returns-in-Some c =
     c.mark_of.ensures
-    ∙ ap (λ o. mark_or c.args.number o (act_from c.args.subject c.args.line.now c.args.number (fields_of c.args.line.now))) c.in-Some.ensures
+    ∙ ap (λ o. mark_or c.args.number o
+    (act_from c.args.subject c.args.line.now c.args.number (fields_of c.args.line.now)))
+    c.in-Some.ensures
 
 pub returns-in-None : goal.returns-in-None
 unfolding event_in
 returns-in-None c =
     c.read_act.ensures
-    ∙ ap (λ o. mark_or c.args.number o (act_from c.args.subject c.args.line.now c.args.number (fields_of c.args.line.now))) c.in-None.ensures
+    ∙ ap (λ o. mark_or c.args.number o
+    (act_from c.args.subject c.args.line.now c.args.number (fields_of c.args.line.now)))
+    c.in-None.ensures

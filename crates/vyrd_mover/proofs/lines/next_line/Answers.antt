@@ -2,12 +2,14 @@ use Rattle.std.proofs.Common.{◌≡◌, ◌∙◌, sym, true, false, arith}
 use Rattle.std.proofs.lemmas.Result.{err_from_is_err_and}
 use Rattle.vyrd_base.proofs.SplitLaws.{cut}
 use Rattle.vyrd_mover.proofs.WalkLaws.{refusal_at}
-use Rattle.vyrd_mover.proofs.LinesLaws.{rest_too_many, rest_after_end, rest_ends, rest_line, rest_goes_on}
+use Rattle.vyrd_mover.proofs.LinesLaws.{rest_too_many, rest_after_end, rest_ends, rest_line}
+use Rattle.vyrd_mover.proofs.LinesLaws.{rest_goes_on}
 use Rattle.vyrd_mover.proofs.lines.next_line.Goals as goal
 
 pub returns-then-number-gt-MOST_LINES-clause-err : goal.returns-then-number-gt-MOST_LINES-clause-err
 returns-then-number-gt-MOST_LINES-clause-err c = λ r have rest.
-    rest_too_many r c.args.number c.args.ended c.args.line.now rest c.requires.one_line (omega arith)
+    rest_too_many r c.args.number c.args.ended c.args.line.now rest c.requires.one_line
+    (omega arith)
 
 pub returns-then-ended-clause-err : goal.returns-then-ended-clause-err
 returns-then-ended-clause-err c = λ r have rest.
@@ -15,17 +17,21 @@ returns-then-ended-clause-err c = λ r have rest.
 
 pub returns-then-is_word-clause-ok : goal.returns-then-is_word-clause-ok
 returns-then-is_word-clause-ok c = λ r have.
-    rest_ends c.args.events.now r c.args.number c.args.ended c.args.line.now have c.if-ended.false c.requires.one_line (omega arith) (c.is_word.ensures.0 c.if-is_word.true)
+    rest_ends c.args.events.now r c.args.number c.args.ended c.args.line.now have c.if-ended.false
+    c.requires.one_line (omega arith) (c.is_word.ensures.0 c.if-is_word.true)
 
 pub returns-in_err-take_line-clause-err : goal.returns-in_err-take_line-clause-err
 returns-in_err-take_line-clause-err c = λ r have.
     let p = err_from_is_err_and c.from_residual.result c.from_residual.ensures.1 in
     rw p.1 (rw p.2 (λ rest. refusal_at c.args.number c.in_err-take_line.field-0.0 _ (cut rest) _
-    (rest_line r c.args.number c.args.ended c.args.line.now rest c.if-ended.false c.requires.one_line (omega arith)
+    (rest_line r c.args.number c.args.ended c.args.line.now rest c.if-ended.false
+    c.requires.one_line (omega arith)
     (λ e. let x : false ≡ true = sym c.if-is_word.false ∙ c.is_word.ensures.1 e in cc))
     (c.in_err-take_line.ensures.err r have)))
 
 pub returns-clause-ok : goal.returns-clause-ok
 returns-clause-ok c = λ r have.
-    rest_goes_on c.take_line.new.self r c.args.number c.args.ended c.args.line.now c.if-ended.false c.requires.one_line (omega arith)
-    (λ e. let x : false ≡ true = sym c.if-is_word.false ∙ c.is_word.ensures.1 e in cc) (c.in_ok-take_line.ensures.ok r have)
+    rest_goes_on c.take_line.new.self r c.args.number c.args.ended c.args.line.now c.if-ended.false
+    c.requires.one_line (omega arith)
+    (λ e. let x : false ≡ true = sym c.if-is_word.false ∙ c.is_word.ensures.1 e in cc)
+    (c.in_ok-take_line.ensures.ok r have)

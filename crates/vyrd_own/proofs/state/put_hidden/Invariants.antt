@@ -3,4 +3,5 @@ use Rattle.vyrd_base.specs.Own.Steps.{hidden_with}
 use Rattle.vyrd_own.proofs.state.put_hidden.Given as goal
 
 abbrev pub invariant-loop-key : goal.invariant-loop-key
-invariant-loop-key l = hidden_with l.hidden (drop l.key-index l.pairs) ≡ hidden_with l.fn.hidden l.pairs
+invariant-loop-key l = hidden_with l.hidden (drop l.key-index l.pairs)
+    ≡ hidden_with l.fn.hidden l.pairs

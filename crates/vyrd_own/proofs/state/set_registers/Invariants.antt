@@ -3,4 +3,5 @@ use Rattle.vyrd_own.specs.Apart.{registers_after}
 use Rattle.vyrd_own.proofs.state.set_registers.Given as goal
 
 abbrev pub invariant-loop-effect : goal.invariant-loop-effect
-invariant-loop-effect l = registers_after l.registers.items (drop l.effect-index l.effects) ≡ registers_after l.fn.registers.items l.effects
+invariant-loop-effect l = registers_after l.registers.items (drop l.effect-index l.effects)
+    ≡ registers_after l.fn.registers.items l.effects

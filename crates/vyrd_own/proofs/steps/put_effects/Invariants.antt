@@ -6,4 +6,5 @@ use Rattle.vyrd_own.proofs.steps.put_effects.Given as goal
 
 abbrev pub invariant-loop-change : goal.invariant-loop-change
 invariant-loop-change l =
-    l.effects.items ≡ map (effect_of l.state l.values) (map change_of (take l.change-index l.changes))
+    l.effects.items ≡ map (effect_of l.state l.values)
+    (map change_of (take l.change-index l.changes))

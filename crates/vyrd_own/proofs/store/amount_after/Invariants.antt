@@ -3,4 +3,5 @@ use Rattle.vyrd_own.specs.Sets.{amount_after}
 use Rattle.vyrd_own.proofs.store.amount_after.Given as goal
 
 abbrev pub invariant-loop-k : goal.invariant-loop-k
-invariant-loop-k l = amount_after (drop l.k-index l.pairs) l.key l.amount ≡ amount_after l.pairs l.key l.before
+invariant-loop-k l = amount_after (drop l.k-index l.pairs) l.key l.amount
+    ≡ amount_after l.pairs l.key l.before

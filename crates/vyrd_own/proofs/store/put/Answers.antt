@@ -7,13 +7,17 @@ use Rattle.vyrd_own.proofs.store.put.Goals as goal
 
 pub returns : goal.returns
 returns g c = λ before added is a.
-    ap (λ (ps : List (ℕ × ℕ)). hidden_with (g.S.Store.amounts c.loop-key.store) (finals c.args.pairs.now ps))
+    ap (λ (ps : List (ℕ × ℕ)). hidden_with (g.S.Store.amounts c.loop-key.store)
+    (finals c.args.pairs.now ps))
     (sym (drop_of_length-le c.args.pairs.now c.loop-key-test.false))
     ∙ c.loop-key.invariant.0
     ∙ all_set before (g.S.Store.amounts c.args.store.now) added c.args.pairs.now is a
 
 pub loop-key-preserved : goal.loop-key-preserved
 loop-key-preserved g c =
-    set_step (g.S.Store.amounts c.loop-key.store) (g.S.Store.amounts c.put_one.new.store) c.args.pairs.now c.loop-key.key-index _
+    set_step (g.S.Store.amounts c.loop-key.store) (g.S.Store.amounts c.put_one.new.store)
+    c.args.pairs.now c.loop-key.key-index _
     c.loop-key-test.true c.loop-key.invariant
-    (c.put_one.ensures ∙ ap (with_amount (g.S.Store.amounts c.loop-key.store) (key_at c.args.pairs.now c.loop-key.key-index)) c.amount_after-amount.ensures)
+    (c.put_one.ensures
+    ∙ ap (with_amount (g.S.Store.amounts c.loop-key.store)
+    (key_at c.args.pairs.now c.loop-key.key-index)) c.amount_after-amount.ensures)

@@ -6,6 +6,7 @@ use Rattle.vyrd_own.proofs.store.take_back.Goals as goal
 
 pub returns : goal.returns
 returns g c = λ before pairs is added.
-    ap (λ (ks : List ℕ). hidden_with (g.S.Store.amounts c.loop-key.store) (zeros ks)) (sym (drop_of_length-le c.args.added.now c.loop-key-test.false))
+    ap (λ (ks : List ℕ). hidden_with (g.S.Store.amounts c.loop-key.store) (zeros ks))
+    (sym (drop_of_length-le c.args.added.now c.loop-key-test.false))
     ∙ c.loop-key.invariant
     ∙ all_back before (g.S.Store.amounts c.args.store.now) c.args.added.now pairs is added

@@ -5,4 +5,5 @@ use Rattle.vyrd_own.proofs.store.take_back.Given as goal
 
 abbrev pub invariant-loop-key : goal.invariant-loop-key
 invariant-loop-key g l =
-    hidden_with (g.S.Store.amounts l.store) (zeros (drop l.key-index l.added)) ≡ hidden_with (g.S.Store.amounts l.fn.store) (zeros l.added)
+    hidden_with (g.S.Store.amounts l.store) (zeros (drop l.key-index l.added))
+    ≡ hidden_with (g.S.Store.amounts l.fn.store) (zeros l.added)

@@ -15,7 +15,8 @@ pub returns-in_err-kind : goal.returns-in_err-kind
 returns-in_err-kind c =
     let w = written c.args.program.now in
     let all : AllCallable w = second_true (nat_le (length w.methods) 64) _ c.requires in
-    rw c.from_residual-in_err-kind.ensures (no_kind w c.args.line.now all c.in_ok-caller.caller c.in_ok-caller.rest.now
+    rw c.from_residual-in_err-kind.ensures
+    (no_kind w c.args.line.now all c.in_ok-caller.caller c.in_ok-caller.rest.now
     (omega (arith, c.in_ok-caller.ensures.0)) c.in_ok-caller.ensures.1 c.in_err-kind.ensures)
 
 pub returns : goal.returns

@@ -7,7 +7,8 @@ pub returns-in-Some : goal.returns-in-Some
 returns-in-Some c =
     let found = c.in-Some.ensures in record {
       parts = parted_at 32 c.args.text.now c.in-Some.at found.0.high found.1;
-      one_word = front_lacks 32 c.in-Some.at c.args.text.now (omega (arith, found.0.high)) (λ i l. found.0.before i (omega arith) l);
+      one_word = front_lacks 32 c.in-Some.at c.args.text.now (omega (arith, found.0.high))
+          (λ i l. found.0.before i (omega arith) l);
     }
 
 pub returns-in-None : goal.returns-in-None

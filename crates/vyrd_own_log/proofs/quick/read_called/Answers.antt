@@ -14,7 +14,8 @@ read_own_args-requires c =
     let all : AllCallable w = second_true (nat_le (length w.methods) 64) _ c.requires in
     let front = c.in_ok-method.ensures in
     let is : named_from 0 w.methods front.name ≡ Some c.in_ok-method.method =
-    ap (λ ms. named_from 0 (map method_of ms) front.name) (sym c.deref.ensures.value) ∙ front.found in
+    ap (λ ms. named_from 0 (map method_of ms) front.name) (sym c.deref.ensures.value)
+    ∙ front.found in
     (named_is 0 w.methods front.name c.in_ok-method.method all is).few
 
 pub returns : goal.returns
@@ -23,6 +24,11 @@ returns c =
     let all : AllCallable w = second_true (nat_le (length w.methods) 64) _ c.requires in
     let front = c.in_ok-method.ensures in
     let is : named_from 0 w.methods front.name ≡ Some c.in_ok-method.method =
-    ap (λ ms. named_from 0 (map method_of ms) front.name) (sym c.deref.ensures.value) ∙ front.found in
-    rw c.own.ensures (rw c.in_ok-rest.ensures (called_kind w all c.in_ok-rest.rest.now front.name c.in_ok-method.rest.now c.in_ok-args.rest.now c.in_ok-method.method
-    c.in_ok-args.args is front.parted c.in_ok-args.ensures (search rules) (search rules) (search rules)))
+    ap (λ ms. named_from 0 (map method_of ms) front.name) (sym c.deref.ensures.value)
+    ∙ front.found in
+    rw c.own.ensures
+    (rw c.in_ok-rest.ensures
+    (called_kind w all c.in_ok-rest.rest.now front.name c.in_ok-method.rest.now
+    c.in_ok-args.rest.now c.in_ok-method.method
+    c.in_ok-args.args is front.parted c.in_ok-args.ensures (search rules) (search rules)
+    (search rules)))

@@ -10,5 +10,6 @@ pub returns : goal.returns
 returns c =
     let w = written c.args.program.now in
     let all : AllCallable w = second_true (nat_le (length w.methods) 64) _ c.requires in
-    entry_at_front w all c.args.text.now c.in_ok-caller.rest.now c.in_ok-kind.rest.now c.in_ok-caller.caller c.in_ok-kind.kind (search rules)
+    entry_at_front w all c.args.text.now c.in_ok-caller.rest.now c.in_ok-kind.rest.now
+    c.in_ok-caller.caller c.in_ok-kind.kind (search rules)
     c.in_ok-caller.ensures c.in_ok-kind.ensures

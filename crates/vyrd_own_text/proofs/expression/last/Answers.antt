@@ -5,4 +5,5 @@ use Rattle.vyrd_own_text.proofs.expression.last.Goals as goal
 
 pub returns-clause-number : goal.returns-clause-number
 returns-clause-number c =
-    ap (earlier (exprs_of c.args.nodes.now.items)) (omega arith) ∙ expr_of-last c.args.nodes.now.items
+    ap (earlier (exprs_of c.args.nodes.now.items)) (omega arith)
+    ∙ expr_of-last c.args.nodes.now.items

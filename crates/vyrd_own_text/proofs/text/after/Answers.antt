@@ -4,7 +4,8 @@ use Rattle.vyrd_base.specs.Own.Reading.{after}
 use Rattle.vyrd_own_text.proofs.TextLaws.{after_is, after_none}
 use Rattle.vyrd_own_text.proofs.text.after.Goals as goal
 
-found : (word text : List ℕ) (r : Option (Bor (List ℕ))) → MatchOption r ((rest : List ℕ) → text ≡ word ++ rest → ⊥) (λ rest. text ≡ word ++ rest.now)
+found : (word text : List ℕ) (r : Option (Bor (List ℕ)))
+    → MatchOption r ((rest : List ℕ) → text ≡ word ++ rest → ⊥) (λ rest. text ≡ word ++ rest.now)
     → option_map (λ (rest : Bor (List ℕ)). rest.now) r ≡ after word text
 found word text None isnt = sym (after_none word text isnt)
 found word text (Some rest) is = sym (after_is word rest.now text is)

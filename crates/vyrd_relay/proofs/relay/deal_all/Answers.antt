@@ -12,4 +12,5 @@ another-theirs-requires-clause-rule g c =
     let pass = c.loop.pass.id in
     let n = g.J.Number.senders in
     subst (λ (k : Known). Forks Relayed pass k (dealer n k) (dealt n k)) (sym i.receives)
-    (deals n pass (new_received _ (vec_len c.loop.ends)) (omega arith) (λ l. i.fixed l ∙ sym c.requires.senders.0))
+    (deals n pass (new_received _ (vec_len c.loop.ends)) (omega arith)
+    (λ l. i.fixed l ∙ sym c.requires.senders.0))

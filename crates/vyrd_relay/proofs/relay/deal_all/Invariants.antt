@@ -8,7 +8,8 @@ use Rattle.vyrd_relay.proofs.relay.deal_all.Given as goal
 abbrev pub invariant-loop : goal.invariant-loop
 invariant-loop g l = record {
   same : IsSamePass l.initial.pass l.pass;
-  receives : view l.pass ≡ Receives (new_received (received_in (view l.pass)).senders (vec_len l.ends));
+  receives : view l.pass
+      ≡ Receives (new_received (received_in (view l.pass)).senders (vec_len l.ends));
   fixed : 0 < vec_len l.ends → (received_in (view l.pass)).senders ≡ l.senders;
   count : vec_len l.ends ≡ l.counter;
   room : vec_capacity l.ends ≡ vec_capacity l.initial.ends;

@@ -8,7 +8,8 @@ abbrev pub invariant-loop-word : goal.invariant-loop-word
 invariant-loop-word g l = record {
   left : with_writes l.words (drop l.word-index l.writes) ≡ with_writes l.initial.words l.writes;
   in_range : AreInRange (length l.words) (drop l.word-index l.writes);
-  words : l.changed.items ++ keys_of (drop l.word-index l.writes) ≡ l.initial.changed.items ++ keys_of l.writes;
+  words : l.changed.items ++ keys_of (drop l.word-index l.writes) ≡ l.initial.changed.items
+      ++ keys_of l.writes;
   room : vec_len l.changed + length l.writes ≤ vec_capacity l.changed + l.word-index;
   within : l.word-index ≤ length l.writes;
   capacity : vec_capacity l.changed ≡ vec_capacity l.initial.changed;

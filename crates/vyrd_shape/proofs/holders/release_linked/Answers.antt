@@ -1,5 +1,6 @@
 use Rattle.std.proofs.Common.{◌≡◌, ◌-◌, ◌∙◌, refl, sym, subst, set, arith}
-use Rattle.vyrd_shape.proofs.ChainLaws.{head_of, linked_ends, linked_none, holder_falls, released_set}
+use Rattle.vyrd_shape.proofs.ChainLaws.{head_of, linked_ends, linked_none, holder_falls}
+use Rattle.vyrd_shape.proofs.ChainLaws.{released_set}
 use Rattle.vyrd_shape.proofs.CostLaws.{held_less}
 use Rattle.vyrd_shape.proofs.StampLaws.{IsRaising, raising_none, raising_more, raising_all}
 use Rattle.vyrd_shape.proofs.holders.release_linked.Goals as goal
@@ -18,13 +19,15 @@ bounds-by_word-word g c = (head_of c.args.holder c.loop-first.by_word c.args.lin
 
 pub bounds-links-word : goal.bounds-links-word
 bounds-links-word g c =
-    let head = head_of c.args.holder c.loop-first.by_word c.args.links.now c.loop-first.first c.requires.some
+    let head = head_of c.args.holder c.loop-first.by_word c.args.links.now c.loop-first.first
+    c.requires.some
     (omega arith) c.loop-first.invariant.linked in
     omega (arith, head.within)
 
 pub loop-first-smaller : goal.loop-first-smaller
 loop-first-smaller g c =
-    let head = head_of c.args.holder c.loop-first.by_word c.args.links.now c.loop-first.first c.requires.some
+    let head = head_of c.args.holder c.loop-first.by_word c.args.links.now c.loop-first.first
+    c.requires.some
     (omega arith) c.loop-first.invariant.linked in
     holder_falls c.loop-first.by_word _ c.args.holder head.held c.requires.some head.within
 
@@ -43,7 +46,8 @@ loop-first-preserved g c =
           (raising_more a.holder a.stamp a.by_word.now a.stamps.now l.by_word l.stamps (l.first - 1)
           c.requires.some head.within head.held l.invariant.raising);
       steps =
-          let less = held_less l.by_word (l.first - 1) a.holder head.within head.held c.requires.some in
+          let less = held_less l.by_word (l.first - 1) a.holder head.within head.held
+          c.requires.some in
           omega (arith, less, l.invariant.steps, c.tick.ensures);
     }
 

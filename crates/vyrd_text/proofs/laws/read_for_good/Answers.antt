@@ -20,7 +20,9 @@ pub returns-clause-fault : goal.returns-clause-fault
 returns-clause-fault c = λ r bytes more f low e. growing.fault_lasts r bytes more low f e
 
 pub returns-clause-whole_fault : goal.returns-clause-whole_fault
-returns-clause-whole_fault c = λ r bytes more f low e. growing.fault_lasts_whole r bytes more low f e
+returns-clause-whole_fault c = λ r bytes more f low e. growing.fault_lasts_whole r bytes more low f
+    e
 
 pub returns-clause-still_read : goal.returns-clause-still_read
-returns-clause-still_read c = λ r bytes more f low e has. growing.still_read r bytes more low f e has
+returns-clause-still_read c = λ r bytes more f low e has. growing.still_read r bytes more low f e
+    has

@@ -1,4 +1,5 @@
-use Rattle.std.proofs.Common.{◌≡◌, ◌⊎◌, inl, inr, ℕ, List, ◌∷◌, ◌++◌, ◌<◌, ◌+◌, Some, arith, ap, ◌∙◌, sym}
+use Rattle.std.proofs.Common.{◌≡◌, ◌⊎◌, inl, inr, ℕ, List, ◌∷◌, ◌++◌, ◌<◌, ◌+◌, Some, arith, ap}
+use Rattle.std.proofs.Common.{◌∙◌, sym}
 use Rattle.std.specs.Prelude.{slice_get}
 use Rattle.std.proofs.Math.Nat.{eq-or-lt_of_le}
 use Rattle.std.proofs.lemmas.Option.{get_or_from_slice_get, slice_get_within, slice_get-get_or}
@@ -12,7 +13,9 @@ loop-method-init c = λ i method rest low here e. absurd (omega (arith, low))
 pub loop-method-preserved : goal.loop-method-preserved
 loop-method-preserved c = λ i method rest low here e. elim (eq-or-lt_of_le (omega (arith, low))) [
   | inl last ↦ c.in_default.ensures rest
-      (e ∙ ap (λ m. method_name m ++ 32 ∷ rest) (sym (get_or_from_slice_get c.methods-method-items.result.now c.loop-method.method-index method _
+      (e ∙ ap (λ m. method_name m ++ 32 ∷ rest)
+      (sym (get_or_from_slice_get c.methods-method-items.result.now c.loop-method.method-index
+      method _
       (ap (slice_get c.methods-method-items.result.now) (sym last) ∙ here)))
       ∙ ap (λ name. name ++ 32 ∷ rest) (sym c.name.ensures.text))
   | inr before ↦ c.loop-method.invariant i method rest before here e
@@ -20,6 +23,12 @@ loop-method-preserved c = λ i method rest low here e. elim (eq-or-lt_of_le (ome
 
 pub returns : goal.returns
 returns c = λ method rest same e.
-    let listed = ap (λ items. slice_get items (place_of method)) c.methods-method-items.ensures ∙ method_listed c.args.subject method same in
+    let listed = ap (λ items. slice_get items (place_of method)) c.methods-method-items.ensures
+    ∙ method_listed c.args.subject method same in
     c.loop-method.invariant (place_of method) method rest
-    (omega (arith, slice_get_within c.methods-method-items.result.now (place_of method) method listed, c.loop-method-test.false)) listed e
+    (omega (
+      arith,
+      slice_get_within c.methods-method-items.result.now (place_of method) method
+          listed,
+      c.loop-method-test.false,
+    )) listed e

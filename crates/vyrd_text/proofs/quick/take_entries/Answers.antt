@@ -7,8 +7,10 @@ use Rattle.vyrd_text.proofs.quick.take_entries.Goals as goal
 
 pub loop-count-preserved : goal.loop-count-preserved
 loop-count-preserved c = (
-  one_more c.args.subject c.args.text.now c.args.out.now.items c.loop-count.out.items c.push_reserved.new.self.items c.loop-count.rest.now
-      c.in-Some.after.now c.loop-count.count c.in-Some.entry c.loop-count.invariant.0 c.in-Some.ensures c.push_reserved.ensures.items,
+  one_more c.args.subject c.args.text.now c.args.out.now.items c.loop-count.out.items
+      c.push_reserved.new.self.items c.loop-count.rest.now
+      c.in-Some.after.now c.loop-count.count c.in-Some.entry c.loop-count.invariant.0
+      c.in-Some.ensures c.push_reserved.ensures.items,
   omega arith,
   omega (
     arith,

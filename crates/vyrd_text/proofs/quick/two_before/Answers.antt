@@ -5,6 +5,9 @@ use Rattle.vyrd_text.proofs.quick.two_before.Goals as goal
 pub returns : goal.returns
 returns c =
     let text = c.args.text.now in
-    let one = digit_after text 0 0 c.from.result (no_digits text) (omega arith) c.if-not-is_ascii_digit.ensures.bound (omega (arith, c.from.ensures)) in
-    let two = digit_after text c.from.result 1 c.then_digit.result one (omega arith) c.if-not-is_ascii_digit-2.ensures.bound c.then_digit.ensures in
-    digits_front text c.then_digit.result 2 c.args.byte two (omega arith) (omega arith) (omega arith) c.if-a-eq48.false (omega arith)
+    let one = digit_after text 0 0 c.from.result (no_digits text)
+    (omega arith) c.if-not-is_ascii_digit.ensures.bound (omega (arith, c.from.ensures)) in
+    let two = digit_after text c.from.result 1 c.then_digit.result one
+    (omega arith) c.if-not-is_ascii_digit-2.ensures.bound c.then_digit.ensures in
+    digits_front text c.then_digit.result 2 c.args.byte two (omega arith) (omega arith)
+    (omega arith) c.if-a-eq48.false (omega arith)

@@ -8,7 +8,8 @@ pub loop-line-preserved : goal.loop-line-preserved
 loop-line-preserved c =
     let line = c.in-Some.line.now in
     let after = c.in-Some.after.now in
-    let one = front_step line after c.in-Some.ensures.0 ∙ ap (λ b. cond b (1 + front_starts (cut after)) 0) (sym c.if-not-begins_start.ensures) in
+    let one = front_step line after c.in-Some.ensures.0
+    ∙ ap (λ b. cond b (1 + front_starts (cut after)) 0) (sym c.if-not-begins_start.ensures) in
     let whole = ap (λ t. front_starts (cut t)) c.in-Some.ensures.1 in
     let len = ap length c.in-Some.ensures.1 in
     record {

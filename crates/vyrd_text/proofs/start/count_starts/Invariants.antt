@@ -6,7 +6,8 @@ use Rattle.vyrd_text.proofs.start.count_starts.Given as goal
 
 abbrev pub invariant-loop-line : goal.invariant-loop-line
 invariant-loop-line l = record {
-  counted : l.count + front_starts (slice_split (λ b. b == 10) l.rest) ≡ front_starts (slice_split (λ b. b == 10) l.text);
+  counted : l.count + front_starts (slice_split (λ b. b == 10) l.rest)
+      ≡ front_starts (slice_split (λ b. b == 10) l.text);
   few : l.count + length l.rest ≤ length l.text;
 }
 

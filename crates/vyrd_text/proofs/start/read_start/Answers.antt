@@ -11,10 +11,12 @@ returns-in_err-word c = rw c.from_residual-in_err-word.ensures
 
 pub returns-in_err-value : goal.returns-in_err-value
 returns-in_err-value c = rw c.from_residual-in_err-value.ensures
-    (no_start_value c.args.line.now c.in_ok-rest.rest.now c.in_ok-word.word c.in_ok-word.rest.now c.in_ok-rest.ensures
+    (no_start_value c.args.line.now c.in_ok-rest.rest.now c.in_ok-word.word c.in_ok-word.rest.now
+    c.in_ok-rest.ensures
     c.in_ok-word.ensures.0 c.in_ok-word.ensures.1 c.in_err-value.ensures)
 
 pub returns : goal.returns
 returns c =
-    start_made c.args.line.now c.in_ok-rest.rest.now c.in_ok-word.word c.in_ok-word.rest.now c.in_ok-value.value c.in_ok-rest.ensures
+    start_made c.args.line.now c.in_ok-rest.rest.now c.in_ok-word.word c.in_ok-word.rest.now
+    c.in_ok-value.value c.in_ok-rest.ensures
     c.in_ok-word.ensures.0 c.in_ok-word.ensures.1 (omega arith) c.in_ok-value.ensures

@@ -4,4 +4,5 @@ use Rattle.vyrd_base.specs.Spelling.{start_line, ended_line}
 use Rattle.vyrd_text.proofs.writer.append_start.Given as goal
 
 abbrev pub invariant-loop-word : goal.invariant-loop-word
-invariant-loop-word l = l.out.items ≡ l.initial.out.items ++ flat_map (λ s. ended_line (start_line s)) (take l.word-index l.start)
+invariant-loop-word l = l.out.items ≡ l.initial.out.items
+    ++ flat_map (λ s. ended_line (start_line s)) (take l.word-index l.start)

@@ -9,7 +9,8 @@ pub returns-clause-text : goal.returns-clause-text
 returns-clause-text c =
     let old = c.args.line.now in
     let args = c.args.args in
-    let after : ℕ → List ℕ = λ n. flat_map (λ x. 32 ∷ decimal x) (take n (args.a ∷ args.b ∷ args.c ∷ [])) in
+    let after : ℕ → List ℕ = λ n. flat_map (λ x. 32 ∷ decimal x)
+    (take n (args.a ∷ args.b ∷ args.c ∷ [])) in
     c.push_args.ensures.text
     ∙ ap (λ t. t ++ after c.arity.result) c.push.ensures.bytes
     ∙ append_assoc old c.name.result.now (after c.arity.result)

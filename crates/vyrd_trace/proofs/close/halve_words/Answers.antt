@@ -1,4 +1,5 @@
-use Rattle.std.proofs.Common.{◌≡◌, ℕ, zero, suc, ◌+◌, ◌/◌, ◌<◌, List, [], ◌∷◌, ◌++◌, length, sym, ap, ◌∙◌, arith, subst}
+use Rattle.std.proofs.Common.{◌≡◌, ℕ, zero, suc, ◌+◌, ◌/◌, ◌<◌, List, [], ◌∷◌, ◌++◌, length, sym}
+use Rattle.std.proofs.Common.{ap, ◌∙◌, arith, subst}
 use Rattle.std.specs.Prelude.{slice_index}
 use Rattle.std.specs.Slots.{slots_items}
 use Rattle.std.proofs.lemmas.List.{get_or_append_left, get_or_push}
@@ -18,16 +19,20 @@ more : (ws all : List ℕ) (k x : ℕ) → length ws ≡ k → x ≡ slice_index
     → (j : ℕ) → j < k + 1 → slice_index (ws ++ x ∷ []) j ≡ slice_index all (j + 1) / 2
 more ws all k x len is so_far j l = dite (dec_lt j k)
     (λ below. get_or_append_left ws (x ∷ []) 0 j (omega arith) ∙ so_far j below)
-    (λ no. let same : k ≡ j = omega arith in get_or_push ws x 0 j (len ∙ same) ∙ is ∙ ap (λ (q : ℕ). slice_index all (q + 1) / 2) same)
+    (λ no. let same : k ≡ j = omega arith in get_or_push ws x 0 j (len ∙ same) ∙ is
+    ∙ ap (λ (q : ℕ). slice_index all (q + 1) / 2) same)
 
 pub loop-k-preserved : goal.loop-k-preserved
 loop-k-preserved c =
     let inv = c.loop-k.invariant in
     let all = slots_items c.args.closed.now.words in
     let p = c.push_reserved.ensures in
-    let x = ap (λ (q : ℕ). q / 2) (sym (read all (c.loop-k.k + 1) c.word.result c.word.ensures)) in record {
+    let x = ap (λ (q : ℕ). q / 2) (sym (read all (c.loop-k.k + 1) c.word.result c.word.ensures)) in
+    record {
       count = p.len ∙ ap (λ (q : ℕ). q + 1) inv.count;
       room = p.capacity ∙ inv.room;
-      halves = subst (λ (ws : List ℕ). (j : ℕ) → j < c.loop-k.k + 1 → slice_index ws j ≡ slice_index all (j + 1) / 2) (sym p.items)
-          (more c.loop-k.words.items all c.loop-k.k (c.word.result / 2) (sym c.loop-k.words.ok.0 ∙ inv.count) x inv.halves);
+      halves = subst (λ (ws : List ℕ). (j : ℕ) → j < c.loop-k.k + 1 → slice_index ws j
+          ≡ slice_index all (j + 1) / 2) (sym p.items)
+          (more c.loop-k.words.items all c.loop-k.k (c.word.result / 2)
+          (sym c.loop-k.words.ok.0 ∙ inv.count) x inv.halves);
     }

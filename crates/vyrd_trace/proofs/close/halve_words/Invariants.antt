@@ -7,5 +7,6 @@ abbrev pub invariant-loop-k : goal.invariant-loop-k
 invariant-loop-k l = record {
   count : vec_len l.words ≡ l.k;
   room : vec_capacity l.words ≡ vec_capacity l.initial.words;
-  halves : (j : ℕ) → j < l.k → slice_index l.words.items j ≡ slice_index (slots_items l.closed.words) (j + 1) / 2;
+  halves : (j : ℕ) → j < l.k → slice_index l.words.items j
+      ≡ slice_index (slots_items l.closed.words) (j + 1) / 2;
 }

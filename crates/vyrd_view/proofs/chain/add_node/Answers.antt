@@ -22,11 +22,15 @@ add_entry-requires c = record {
 
 pub loop-j-preserved : goal.loop-j-preserved
 loop-j-preserved c =
-    added-push (place_parts c.args.words.now c.args.node) c.loop-j.j c.args.sums.now c.loop-j.sums c.add_entry.new.sums c.loop-j.invariant
-    (c.in_ok-add_entry.ensures ∙ ap (added c.loop-j.sums) (place_is c.args.words.now c.args.node c.loop-j.j))
+    added-push (place_parts c.args.words.now c.args.node) c.loop-j.j c.args.sums.now c.loop-j.sums
+    c.add_entry.new.sums c.loop-j.invariant
+    (c.in_ok-add_entry.ensures ∙ ap (added c.loop-j.sums)
+    (place_is c.args.words.now c.args.node c.loop-j.j))
 
 pub returns : goal.returns
 returns c =
     let all : c.loop-j.j ≡ min (count_of c.args.words.now c.args.node) 4 = omega arith in
-    c.loop-j.invariant ∙ ap (λ m. added c.args.sums.now (flat_map (place_parts c.args.words.now c.args.node) (numbers_below m))) all
+    c.loop-j.invariant
+    ∙ ap (λ m. added c.args.sums.now
+    (flat_map (place_parts c.args.words.now c.args.node) (numbers_below m))) all
     ∙ sym (ap (added c.args.sums.now) (node_parts-places c.args.words.now c.args.node))

@@ -11,7 +11,8 @@ loop-place-preserved g c =
     let decoder = c.args.decoder.now in
     let pairs : List (ℕ × ℕ) = c.loop-place.parts.pairs in
     let m : ℕ = c.args.part * d.places decoder + c.loop-place.place in
-    let f : ℕ → ℕ × ℕ = pair_at (d.width decoder) (d.places decoder) (d.gives decoder) c.args.words.now in
+    let f : ℕ → ℕ × ℕ = pair_at (d.width decoder) (d.places decoder)
+    (d.gives decoder) c.args.words.now in
     let at : c.args.part * c.places.result + c.loop-place.place ≡ m =
     ap (λ p. c.args.part * p + c.loop-place.place) c.places.ensures in
     let pair : ℕ × ℕ = get_or c.counted_part-pairs.result c.loop-place.place (0, 0) in

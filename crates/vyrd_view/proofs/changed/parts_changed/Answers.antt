@@ -12,7 +12,8 @@ part_changed-requires-clause-places g c =
     let d = g.D.Decode in
     let decoder = c.args.decoder.now in
     let word = get_or c.args.changed.now c.loop-word.word-index 0 in
-    let part : word / c.width.result ≡ word / d.width decoder = ap (λ w. word / w) c.width.ensures in
+    let part : word / c.width.result ≡ word / d.width decoder =
+    ap (λ w. word / w) c.width.ensures in
     let low : word < c.args.held * d.width decoder =
     All-get_or (λ w. w < c.args.held * d.width decoder) c.args.changed.now c.loop-word.word-index 0
     c.loop-word-test.true c.requires.within in
@@ -29,9 +30,11 @@ pub loop-word-preserved : goal.loop-word-preserved
 loop-word-preserved g c =
     let d = g.D.Decode in
     let decoder = c.args.decoder.now in
-    let f : ℕ → ℕ × ℕ = pair_at (d.width decoder) (d.places decoder) (d.gives decoder) c.args.words.now in
+    let f : ℕ → ℕ × ℕ = pair_at (d.width decoder) (d.places decoder)
+    (d.gives decoder) c.args.words.now in
     let word = get_or c.args.changed.now c.loop-word.word-index 0 in
-    let part : word / c.width.result ≡ word / (d.width decoder) = ap (λ w. word / w) c.width.ensures in
+    let part : word / c.width.result ≡ word / (d.width decoder) =
+    ap (λ w. word / w) c.width.ensures in
     let ok = c.in_ok-part_changed.ensures in
     record {
       sound = ok.sound;
@@ -40,9 +43,11 @@ loop-word-preserved g c =
       others = parts_fresh_more (d.width decoder) (d.places decoder) f c.loop-word.parts.pairs
           c.part_changed.new.parts.pairs c.args.changed.now c.loop-word.word-index
           c.loop-word-test.true ok.places
-          (part_places f c.part_changed.new.parts.pairs (d.places decoder) (word / (d.width decoder))
+          (part_places f c.part_changed.new.parts.pairs (d.places decoder)
+          (word / (d.width decoder))
           (subst (λ p. (j : ℕ) → j < d.places decoder
-          → get_or c.part_changed.new.parts.pairs (p * d.places decoder + j) (0, 0) ≡ f (p * d.places decoder + j))
+          → get_or c.part_changed.new.parts.pairs (p * d.places decoder + j) (0, 0)
+          ≡ f (p * d.places decoder + j))
           part ok.inside) (c.loop-word.parts.pairs) ((g.met.D.Decode.narrow decoder).2))
           (λ m other. ok.outside m (λ same. other (same ∙ part)))
           c.loop-word.invariant.others;
@@ -54,7 +59,8 @@ returns-clause-ok g c =
     let d = g.D.Decode in
     let decoder = c.args.decoder.now in
     let pairs = c.loop-word.parts.pairs in
-    let f : ℕ → ℕ × ℕ = pair_at (d.width decoder) (d.places decoder) (d.gives decoder) c.args.words.now in
+    let f : ℕ → ℕ × ℕ = pair_at (d.width decoder) (d.places decoder)
+    (d.gives decoder) c.args.words.now in
     let all : ℕ = c.args.held * d.places decoder in
     all_kept c.loop-word.parts
     (pairs_by (d.width decoder) (d.places decoder) c.args.held (d.gives decoder) c.args.words.now)
@@ -62,6 +68,7 @@ returns-clause-ok g c =
     (mapped f pairs all (c.loop-word.invariant.places ∙ c.requires.places)
     (λ m low. c.loop-word.invariant.others m
     (omega (arith, low, c.loop-word.invariant.places, c.requires.places))
-    (untouched_end (d.width decoder) (m / (d.places decoder)) c.args.changed.now c.loop-word.word-index
+    (untouched_end (d.width decoder) (m / (d.places decoder)) c.args.changed.now
+    c.loop-word.word-index
     (omega arith))))
     c.loop-word.invariant.specified (c.loop-word.invariant.sound ∙ sym c.requires.sound)

@@ -9,8 +9,10 @@ invariant-loop-word g l = record {
   specified : l.parts.specified ≡ l.initial.parts.specified;
   places : length l.parts.pairs ≡ length l.initial.parts.pairs;
   others : (m : ℕ) → m < length l.parts.pairs
-      → is_touched (g.D.Decode.width l.decoder) (m / (g.D.Decode.places l.decoder)) (drop l.word-index l.changed) ≡ false
+      → is_touched (g.D.Decode.width l.decoder) (m / (g.D.Decode.places l.decoder))
+      (drop l.word-index l.changed) ≡ false
       → get_or l.parts.pairs m (0, 0)
-      ≡ pair_at (g.D.Decode.width l.decoder) (g.D.Decode.places l.decoder) (g.D.Decode.gives l.decoder) l.words m;
+      ≡ pair_at (g.D.Decode.width l.decoder) (g.D.Decode.places l.decoder)
+      (g.D.Decode.gives l.decoder) l.words m;
   counted : l.steps ≤ l.initial.steps + l.word-index * (1 + 2 * g.D.Decode.places l.decoder);
 }

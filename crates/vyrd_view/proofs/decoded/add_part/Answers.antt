@@ -13,20 +13,23 @@ add-requires g c =
     let d = g.D.Decode in
     let decoder = c.args.decoder.now in
     let m = c.args.part * d.places decoder + c.loop-place.place in
-    let f : ℕ → ℕ × ℕ = pair_at (d.width decoder) (d.places decoder) (d.gives decoder) c.args.words.now in
+    let f : ℕ → ℕ × ℕ = pair_at (d.width decoder) (d.places decoder)
+    (d.gives decoder) c.args.words.now in
     let pair : ℕ × ℕ = get_or c.decoded_part-pairs.result c.loop-place.place (0, 0) in
     let low : c.loop-place.place < d.places decoder =
     omega (arith, c.loop-place-test.true, c.places-place-end.ensures) in
     let is : pair ≡ f m = c.decoded_part-pairs.ensures c.loop-place.place low in
     let inside : m < d.parts decoder * d.places decoder =
-    place_within c.args.part (d.parts decoder) (d.places decoder) c.loop-place.place c.requires.part low in
+    place_within c.args.part (d.parts decoder) (d.places decoder) c.loop-place.place c.requires.part
+    low in
     omega (
       arith,
       ap (λ s. amount_of s pair.0) c.loop-place.invariant,
       amount_of-collected (map f (numbers_below m)) pair.0,
       ap (λ (p : ℕ × ℕ). given p.0 (map f (numbers_below m))) is,
       ap (λ (p : ℕ × ℕ). p.1) is,
-      place_fits (d.width decoder) (d.places decoder) (d.parts decoder) (d.gives decoder) c.args.words.now m (2 ^ 64)
+      place_fits (d.width decoder) (d.places decoder) (d.parts decoder)
+          (d.gives decoder) c.args.words.now m (2 ^ 64)
           inside (c.requires.fits (f m).0),
     )
 
@@ -36,7 +39,8 @@ loop-place-preserved g c =
     let decoder = c.args.decoder.now in
     let m = c.args.part * d.places decoder + c.loop-place.place in
     let n = c.args.part * d.places decoder + (c.loop-place.place + 1) in
-    let f : ℕ → ℕ × ℕ = pair_at (d.width decoder) (d.places decoder) (d.gives decoder) c.args.words.now in
+    let f : ℕ → ℕ × ℕ = pair_at (d.width decoder) (d.places decoder)
+    (d.gives decoder) c.args.words.now in
     let pair : ℕ × ℕ = get_or c.decoded_part-pairs.result c.loop-place.place (0, 0) in
     let low : c.loop-place.place < d.places decoder =
     omega (arith, c.loop-place-test.true, c.places-place-end.ensures) in

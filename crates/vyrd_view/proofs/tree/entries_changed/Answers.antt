@@ -32,7 +32,8 @@ loop-word-preserved g c =
           let put = w.in_ok-put_node.ensures in
           let more : left ≡ word ∷ rest =
           one_differs before words changed index c.loop-word-test.true w.if-words-word.true in
-          let marked : get_or marks node false ≡ true = sym w.is_marked.ensures ∙ w.if-is_marked.true in
+          let marked : get_or marks node false ≡ true = sym w.is_marked.ensures
+          ∙ w.if-is_marked.true in
           let within : node < size = omega (arith, marked_within marks node marked) in
           let fresh : AreNodesFresh size words marks now.pairs rest =
           fresh_marked size words marks pairs now.pairs word rest marked put.below
@@ -62,7 +63,8 @@ loop-word-preserved g c =
           elim w.else-words-word.branch [
             | else-words-word-via-then-words-word+else-is_marked w' ↦
                 let more : left ≡ word ∷ rest =
-                one_differs before words changed index c.loop-word-test.true w'.if-words-word.true in (
+                one_differs before words changed index c.loop-word-test.true
+                w'.if-words-word.true in (
                   fresh_unmarked size words marks pairs word rest
                       (sym w'.is_marked.ensures ∙ w'.if-is_marked.false)
                       (subst (AreNodesFresh size words marks pairs) more

@@ -8,6 +8,7 @@ invariant-loop-node g l = record {
   specified : l.parts.specified ≡ l.initial.parts.specified;
   places : length l.parts.pairs ≡ length l.initial.parts.pairs;
   marks : (n : ℕ) → n < l.node → get_or l.marks n false ≡ get_or l.next n false;
-  nodes : (m : ℕ) → m < 4 * length l.marks → get_or l.parts.pairs m (0, 0) ≡ node_pair l.words l.marks m;
+  nodes : (m : ℕ) → m < 4 * length l.marks → get_or l.parts.pairs m (0, 0)
+      ≡ node_pair l.words l.marks m;
   counted : l.steps ≤ l.initial.steps + 9 * l.node;
 }

@@ -15,4 +15,5 @@ returns-clause-work c = λ i. record {
 }
 
 pub returns-clause-limits : goal.returns-clause-limits
-returns-clause-limits c = subst KeepsLimits (sym (returns-clause-work c)) (generated_keeps c.args.n c.requires.high)
+returns-clause-limits c = subst KeepsLimits (sym (returns-clause-work c))
+    (generated_keeps c.args.n c.requires.high)

@@ -9,5 +9,6 @@ returns-in_err-count c = rw c.from_residual-in_err-count.ensures
 
 pub returns-then-not-is_count : goal.returns-then-not-is_count
 returns-then-not-is_count c =
-    bad_count c.args.text.now c.in_ok-caller.caller c.in_ok-caller.rest.now (omega (arith, c.in_ok-caller.ensures.0)) c.in_ok-caller.ensures.1
+    bad_count c.args.text.now c.in_ok-caller.caller c.in_ok-caller.rest.now
+    (omega (arith, c.in_ok-caller.ensures.0)) c.in_ok-caller.ensures.1
     c.in_ok-count.count (omega arith) c.in_ok-count.ensures (sym c.if-not-is_count.ensures)

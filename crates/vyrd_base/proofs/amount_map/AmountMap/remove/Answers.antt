@@ -7,10 +7,12 @@ use Rattle.vyrd_base.proofs.amount_map.AmountMap.remove.Goals as goal
 pub invariant_of-self : goal.invariant_of-self
 invariant_of-self c =
     let es = c.self.inside.pairs.entries in
-    let left = c.remove.ensures.entries ∙ remove-with_amount es c.args.key c.self.invariant.rising in
+    let left = c.remove.ensures.entries
+    ∙ remove-with_amount es c.args.key c.self.invariant.rising in
     subst IsAmounts (sym left) (IsAmounts-with_amount es c.args.key 0 c.self.invariant)
 
 pub returns : goal.returns
 returns c =
-    c.remove.ensures.entries ∙ remove-with_amount c.self.inside.pairs.entries c.args.key c.self.invariant.rising
+    c.remove.ensures.entries ∙ remove-with_amount c.self.inside.pairs.entries c.args.key
+    c.self.invariant.rising
     ∙ ap (λ es. with_amount es c.args.key 0) c.self.view_is

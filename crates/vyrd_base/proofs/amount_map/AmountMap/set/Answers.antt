@@ -16,10 +16,12 @@ returns-in_err-insert-clause-absent c =
 pub invariant_of-self : goal.invariant_of-self
 invariant_of-self c =
     let es = c.self.inside.pairs.entries in
-    let left = c.in_ok-insert.ensures.entries ∙ insert-with_amount es c.args.key c.args.amount c.if-amount-eq0.false in
+    let left = c.in_ok-insert.ensures.entries ∙ insert-with_amount es c.args.key c.args.amount
+    c.if-amount-eq0.false in
     subst IsAmounts (sym left) (IsAmounts-with_amount es c.args.key c.args.amount c.self.invariant)
 
 pub returns-in_ok-insert-clause-ok : goal.returns-in_ok-insert-clause-ok
 returns-in_ok-insert-clause-ok c =
-    c.in_ok-insert.ensures.entries ∙ insert-with_amount c.self.inside.pairs.entries c.args.key c.args.amount c.if-amount-eq0.false
+    c.in_ok-insert.ensures.entries ∙ insert-with_amount c.self.inside.pairs.entries c.args.key
+    c.args.amount c.if-amount-eq0.false
     ∙ ap (λ es. with_amount es c.args.key c.args.amount) c.self.view_is

@@ -9,9 +9,11 @@ overflow_add-before c =
     let t = c.self.inside in
     let places = t.places.items in
     let found : IsFoundAt t.shift places c.args.key (Some c.in-Some.place) =
-    subst (λ ps. IsFoundAt t.shift ps c.args.key (Some c.in-Some.place)) c.deref.ensures.value c.in-Some.ensures in
+    subst (λ ps. IsFoundAt t.shift ps c.args.key (Some c.in-Some.place)) c.deref.ensures.value
+    c.in-Some.ensures in
     let amount : c.index.result.now.1 ≡ amount_of c.args.self.now c.args.key =
-    read_amount t.shift places t.rest c.in-Some.place c.args.key c.index.result.now c.self.invariant found c.index.ensures
+    read_amount t.shift places t.rest c.in-Some.place c.args.key c.index.result.now c.self.invariant
+    found c.index.ensures
     ∙ ap (λ s. amount_of s c.args.key) c.self.view_is in
     omega (arith, amount, c.requires)
 
@@ -20,19 +22,25 @@ returns-in-Some-clause-ok c =
     let t = c.self.inside in
     let places = t.places.items in
     let found : IsFoundAt t.shift places c.args.key (Some c.in-Some.place) =
-    subst (λ ps. IsFoundAt t.shift ps c.args.key (Some c.in-Some.place)) c.deref.ensures.value c.in-Some.ensures in
+    subst (λ ps. IsFoundAt t.shift ps c.args.key (Some c.in-Some.place)) c.deref.ensures.value
+    c.in-Some.ensures in
     let amount : c.index.result.now.1 ≡ amount_of c.args.self.now c.args.key =
-    read_amount t.shift places t.rest c.in-Some.place c.args.key c.index.result.now c.self.invariant found c.index.ensures
+    read_amount t.shift places t.rest c.in-Some.place c.args.key c.index.result.now c.self.invariant
+    found c.index.ensures
     ∙ ap (λ s. amount_of s c.args.key) c.self.view_is in
-    found_amounts t.shift places t.rest c.in-Some.place c.args.key (c.index.result.now.1 + c.args.more) c.self.invariant found
+    found_amounts t.shift places t.rest c.in-Some.place c.args.key
+    (c.index.result.now.1 + c.args.more) c.self.invariant found
     ∙ ap (λ s. with_amount s c.args.key (c.index.result.now.1 + c.args.more)) c.self.view_is
     ∙ ap (λ n. with_amount c.args.self.now c.args.key (n + c.args.more)) amount
 
 pub returns-in-Some-clause-formed : goal.returns-in-Some-clause-formed
-returns-in-Some-clause-formed c = subst IsAmounts c.self.view_is (amounts_formed c.self.inside.places.items c.self.inside.rest c.self.invariant.formed)
+returns-in-Some-clause-formed c = subst IsAmounts c.self.view_is
+    (amounts_formed c.self.inside.places.items c.self.inside.rest c.self.invariant.formed)
 
 pub returns-then-self-eq0-clause-formed : goal.returns-then-self-eq0-clause-formed
-returns-then-self-eq0-clause-formed c = subst IsAmounts c.self.view_is (amounts_formed c.self.inside.places.items c.self.inside.rest c.self.invariant.formed)
+returns-then-self-eq0-clause-formed c = subst IsAmounts c.self.view_is
+    (amounts_formed c.self.inside.places.items c.self.inside.rest c.self.invariant.formed)
 
 pub returns-else-self-eq0-clause-formed : goal.returns-else-self-eq0-clause-formed
-returns-else-self-eq0-clause-formed c = subst IsAmounts c.self.view_is (amounts_formed c.self.inside.places.items c.self.inside.rest c.self.invariant.formed)
+returns-else-self-eq0-clause-formed c = subst IsAmounts c.self.view_is
+    (amounts_formed c.self.inside.places.items c.self.inside.rest c.self.invariant.formed)

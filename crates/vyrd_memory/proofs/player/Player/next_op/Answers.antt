@@ -1,4 +1,5 @@
-use Rattle.std.proofs.Common.{◌≡◌, ℕ, ◌+◌, true, List, [], ◌∷◌, length, drop, Option, Some, None, ap, sym, ◌∙◌, subst, Bor}
+use Rattle.std.proofs.Common.{◌≡◌, ℕ, ◌+◌, true, List, [], ◌∷◌, length, drop, Option, Some, None}
+use Rattle.std.proofs.Common.{ap, sym, ◌∙◌, subst, Bor}
 use Rattle.std.specs.Prelude.{get_or, is_some, nat_lt, MatchOption, IfSome}
 use Rattle.std.specs.List.{list_all}
 use Rattle.std.specs.Option.{option_copied}
@@ -11,19 +12,24 @@ use Rattle.vyrd_memory.specs.Players.{are_callable, is_callable}
 use Rattle.vyrd_memory.proofs.player.Player.next_op.Goals as goal
 
 -- what stands at a place of the operations, if something does
-at_place : (h : Header) (ops : List Op) (n : ℕ) (r : Option (Bor Op)) → is_some r ≡ nat_lt n (length ops)
+at_place : (h : Header) (ops : List Op) (n : ℕ) (r : Option (Bor Op)) → is_some r
+    ≡ nat_lt n (length ops)
     → IfSome r (λ x. x.now ≡ get_or ops n x.now) → are_callable h (drop n ops) ≡ true
     → MatchOption (option_copied r) (drop n ops ≡ [])
     (λ op. (drop n ops ≡ op ∷ drop (n + 1) ops) × (is_callable h op ≡ true))
 at_place h ops n None some is all = drop_of_length-le ops (not_below_of n (length ops) (sym some))
 at_place h ops n (Some x) some is all =
-    let rest = drop_more ops n x.now (below_of n (length ops) (sym some)) ∙ ap (λ op. op ∷ drop (n + 1) ops) (sym is) in
+    let rest = drop_more ops n x.now (below_of n (length ops) (sym some))
+    ∙ ap (λ op. op ∷ drop (n + 1) ops) (sym is) in
     (rest, first_true (is_callable h x.now) _ (ap (list_all (is_callable h)) (sym rest) ∙ all))
 
 pub returns : goal.returns
 returns g c =
     rw (c.copied.ensures)
-    (at_place c.args.self.now.underway.header c.args.self.now.ops.items c.args.self.now.begun c.get.result
-    (c.get.ensures.lookup.0 ∙ ap (λ xs. nat_lt c.args.self.now.begun (length xs)) c.deref.ensures.value)
-    (subst (λ xs. IfSome c.get.result (λ x. x.now ≡ get_or xs c.args.self.now.begun x.now)) c.deref.ensures.value c.get.ensures.lookup.1)
+    (at_place c.args.self.now.underway.header c.args.self.now.ops.items c.args.self.now.begun
+    c.get.result
+    (c.get.ensures.lookup.0 ∙ ap (λ xs. nat_lt c.args.self.now.begun (length xs))
+    c.deref.ensures.value)
+    (subst (λ xs. IfSome c.get.result (λ x. x.now ≡ get_or xs c.args.self.now.begun x.now))
+    c.deref.ensures.value c.get.ensures.lookup.1)
     c.args.self.now.callable)

@@ -11,5 +11,7 @@ pub returns : goal.returns
 returns g c =
     let m = c.args.self.now in
     flipped c.is_none.result (is_some m.underway.progress) (sym c.is_none.ensures)
-    ∙ sym (player_between m.underway.header m.underway.left (g.P.Progress.rest m.underway.header) m.underway.progress
-    (g.P.Progress.procedure m.underway.header m.variant) (drop m.begun m.ops.items) m.underway.goes_on)
+    ∙ sym (player_between m.underway.header m.underway.left (g.P.Progress.rest m.underway.header)
+    m.underway.progress
+    (g.P.Progress.procedure m.underway.header m.variant) (drop m.begun m.ops.items)
+    m.underway.goes_on)

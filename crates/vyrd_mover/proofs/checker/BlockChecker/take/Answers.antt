@@ -14,9 +14,19 @@ returns-clause-taken c = λ history taken next.
     let code = c.code.ensures ∙ ap code_of c.of.ensures in
     let codes : c.push_reserved.new.self.items ≡ before.codes.items ++ code_of (step_of e) ∷ [] =
     c.push_reserved.ensures.items ∙ (λ i. c.reserve.ensures.items i ++ code i ∷ []) in
-    subst (λ uses. HasTaken (record { header = before.header; uses = uses; steps = map step_coded c.push_reserved.new.self.items }) (history ++ e ∷ []))
+    subst (λ uses. HasTaken
+    (record {
+      header = before.header;
+      uses = uses;
+      steps = map step_coded c.push_reserved.new.self.items;
+    }) (history ++ e ∷ []))
     (sym c.in_ok-follow.ensures.ok)
-    (subst (λ cs. HasTaken (record { header = before.header; uses = kept_after before.uses e.caller e.did; steps = map step_coded cs }) (history ++ e ∷ []))
+    (subst (λ cs. HasTaken
+    (record {
+      header = before.header;
+      uses = kept_after before.uses e.caller e.did;
+      steps = map step_coded cs;
+    }) (history ++ e ∷ []))
     (sym codes) (taken_more before.header before.uses before.codes.items history e had legal))
 
 pub invariant_of-self-2 : goal.invariant_of-self-2
@@ -31,8 +41,20 @@ invariant_of-self-2 c =
     c.push_reserved.ensures.items ∙ (λ i. c.reserve.ensures.items i ++ code i ∷ []) in
     record {
       history = history ++ e ∷ [];
-      taken = subst (λ uses. HasTaken (record { header = before.header; uses = uses; steps = map step_coded c.push_reserved.new.self.items }) (history ++ e ∷ []))
+      taken = subst
+          (λ uses. HasTaken
+          (record {
+            header = before.header;
+            uses = uses;
+            steps = map step_coded c.push_reserved.new.self.items;
+          }) (history ++ e ∷ []))
           (sym c.in_ok-follow.ensures.ok)
-          (subst (λ cs. HasTaken (record { header = before.header; uses = kept_after before.uses e.caller e.did; steps = map step_coded cs }) (history ++ e ∷ []))
-          (sym codes) (taken_more before.header before.uses before.codes.items history e had legal));
+          (subst (λ cs. HasTaken
+          (record {
+            header = before.header;
+            uses = kept_after before.uses e.caller e.did;
+            steps = map step_coded cs;
+          }) (history ++ e ∷ []))
+          (sym codes) (taken_more before.header before.uses before.codes.items history e had
+          legal));
     }

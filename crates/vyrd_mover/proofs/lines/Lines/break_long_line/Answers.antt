@@ -4,7 +4,9 @@ use Rattle.vyrd_mover.specs.declared.fault.HistoryRule.TheVariants.{AfterEnd, Ba
 use Rattle.vyrd_mover.specs.HistoryReading.{refused, unless_too_many}
 use Rattle.vyrd_mover.proofs.LinesLaws.{value_of, long_first, long_later}
 use Rattle.vyrd_mover.proofs.lines.Lines.break_long_line.Goals as goal
-use Rattle.vyrd_mover.proofs.lines.Lines.break_long_line.Goals.{then-is_none, else-is_none+then-self, else-is_none+else-self}
+use Rattle.vyrd_mover.proofs.lines.Lines.break_long_line.Goals.{then-is_none}
+use Rattle.vyrd_mover.proofs.lines.Lines.break_long_line.Goals.{else-is_none+then-self}
+use Rattle.vyrd_mover.proofs.lines.Lines.break_long_line.Goals.{else-is_none+else-self}
 
 pub returns : goal.returns
 returns c = λ bytes more at lack long rest.
@@ -18,11 +20,13 @@ returns c = λ bytes more at lack long rest.
       | else-is_none+then-self w ↦
           let later = value_of l.events w.if-is_none.ensures in
           long_later l later.value bytes more rest fine later.is at lack long
-          ∙ ap (λ d. refused l.line (unless_too_many l.line (cond d AfterEnd BadLine))) w.if-self.true
+          ∙ ap (λ d. refused l.line (unless_too_many l.line (cond d AfterEnd BadLine)))
+          w.if-self.true
           ∙ ap (λ r. refused l.line (unless_too_many l.line r)) (sym w.rule-is) ∙ rule
       | else-is_none+else-self w ↦
           let later = value_of l.events w.if-is_none.ensures in
           long_later l later.value bytes more rest fine later.is at lack long
-          ∙ ap (λ d. refused l.line (unless_too_many l.line (cond d AfterEnd BadLine))) w.if-self.false
+          ∙ ap (λ d. refused l.line (unless_too_many l.line (cond d AfterEnd BadLine)))
+          w.if-self.false
           ∙ ap (λ r. refused l.line (unless_too_many l.line r)) (sym w.rule-is) ∙ rule
     ]

@@ -1,5 +1,6 @@
 use Rattle.std.proofs.Common.{sym}
-use Rattle.vyrd_mover.proofs.FrontLaws.{at_events, nothing_taken, events_taken, events_refused, goes_shorter}
+use Rattle.vyrd_mover.proofs.FrontLaws.{at_events, nothing_taken, events_taken, events_refused}
+use Rattle.vyrd_mover.proofs.FrontLaws.{goes_shorter}
 use Rattle.vyrd_mover.proofs.lines.Lines.take_events.Goals as goal
 
 pub returns-then-is_some-clause-taken : goal.returns-then-is_some-clause-taken

@@ -1,4 +1,5 @@
-use Rattle.std.proofs.Common.{◌≡◌, ◌<◌, ◌≤◌, ◌+◌, ◌∙◌, bit_and, get_or, set, length, arith, ap, sym, subst}
+use Rattle.std.proofs.Common.{◌≡◌, ◌<◌, ◌≤◌, ◌+◌, ◌∙◌, bit_and, get_or, set, length, arith, ap, sym}
+use Rattle.std.proofs.Common.{subst}
 use Rattle.std.proofs.lemmas.Grind.{get_or_default_zero}
 use Rattle.vyrd_mover.specs.LockSets.{in_both}
 use Rattle.vyrd_mover.proofs.LockLaws.{IsMet, met_none, met_more, met_all}
@@ -15,12 +16,15 @@ loop-place-preserved c =
     let before = c.loop-place.invariant in
     let low : place < length words = omega arith in
     let within : place < length items = omega (arith, before.size) in
-    let old : c.index_mut.result.now ≡ get_or items place 0 = c.index_mut.ensures.value ∙ get_or_default_zero items place c.index_mut.result.now within in
-    subst (λ word. IsMet words c.args.other.now (set items place word) (place + 1)) (λ i. bit_and (sym old i) (sym c.word.ensures i))
+    let old : c.index_mut.result.now ≡ get_or items place 0 = c.index_mut.ensures.value
+    ∙ get_or_default_zero items place c.index_mut.result.now within in
+    subst (λ word. IsMet words c.args.other.now (set items place word) (place + 1))
+    (λ i. bit_and (sym old i) (sym c.word.ensures i))
     (met_more words c.args.other.now items place before low)
 
 pub returns : goal.returns
 returns c =
     let all : length c.self.inside.words.items ≤ c.loop-place.place = omega arith in
-    met_all c.self.inside.words.items c.args.other.now c.loop-place.self-inside.words.items c.loop-place.place c.loop-place.invariant all
+    met_all c.self.inside.words.items c.args.other.now c.loop-place.self-inside.words.items
+    c.loop-place.place c.loop-place.invariant all
     ∙ ap (λ words. in_both words c.args.other.now) c.self.view_is

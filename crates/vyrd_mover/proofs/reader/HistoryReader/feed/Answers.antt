@@ -11,9 +11,11 @@ returns-then-is_at_fault c = λ before read.
     let piece = c.args.piece.now in
     let s : ReaderState = record { lines = here.lines; unfinished = here.unfinished } in
     let had : HasRead s before = subst (λ t. HasRead t before) (sym c.self.view_is) read in
-    subst (λ xs. HasRead (record { lines = here.lines; unfinished = xs }) (before ++ piece)) (sym c.clear.ensures)
+    subst (λ xs. HasRead (record { lines = here.lines; unfinished = xs }) (before ++ piece))
+    (sym c.clear.ensures)
     (nothing_unfinished here.lines s before piece had
-    (still_at_fault here.lines had.whole (here.unfinished ++ piece) (sym c.is_at_fault.ensures ∙ c.if-is_at_fault.true) had.at))
+    (still_at_fault here.lines had.whole (here.unfinished ++ piece)
+    (sym c.is_at_fault.ensures ∙ c.if-is_at_fault.true) had.at))
 
 pub loop-line-init : goal.loop-line-init
 loop-line-init c = λ bytes read. c.take_events-rest.ensures.fed bytes read
@@ -31,4 +33,5 @@ loop-line-preserved c = λ bytes read.
 pub returns : goal.returns
 returns c = λ bytes read.
     let fed = c.loop-line.invariant bytes read in
-    fed_all c.loop-line.self c.put.new.self bytes c.args.piece.now c.loop-line.rest.now fed (c.put.ensures _ fed.read)
+    fed_all c.loop-line.self c.put.new.self bytes c.args.piece.now c.loop-line.rest.now fed
+    (c.put.ensures _ fed.read)

@@ -11,5 +11,8 @@ pub returns-clause-gathered : goal.returns-clause-gathered
 returns-clause-gathered c = λ bytes r n read is e.
     let had = subst (λ s. HasRead s bytes) (sym c.self.view_is) read in
     let all = sym (had.parted ∙ ap (λ xs. had.whole ++ xs) (sym c.as_slice.ensures.bytes)) in
-    let are = subst (λ found. IfOk found (AreBlocksOf (history_reading (had.whole ++ c.as_slice.result.now)))) e (c.finish.ensures.said had.whole had.at) in
-    gathered_of bytes r n is (subst (λ text. AreBlocksOf (history_reading text) (Reducible n)) all are)
+    let are = subst
+    (λ found. IfOk found (AreBlocksOf (history_reading (had.whole ++ c.as_slice.result.now)))) e
+    (c.finish.ensures.said had.whole had.at) in
+    gathered_of bytes r n is
+    (subst (λ text. AreBlocksOf (history_reading text) (Reducible n)) all are)

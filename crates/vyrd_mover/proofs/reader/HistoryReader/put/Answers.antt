@@ -10,9 +10,11 @@ returns-then-is_at_fault c = λ before read.
     let here = c.self.inside in
     let s : ReaderState = record { lines = here.lines; unfinished = here.unfinished } in
     let had : HasRead s before = subst (λ t. HasRead t before) (sym c.self.view_is) read in
-    subst (λ xs. HasRead (record { lines = here.lines; unfinished = xs }) (before ++ c.args.bytes.now)) (sym c.clear.ensures)
+    subst (λ xs. HasRead (record { lines = here.lines; unfinished = xs })
+    (before ++ c.args.bytes.now)) (sym c.clear.ensures)
     (nothing_unfinished here.lines s before c.args.bytes.now had
-    (still_at_fault here.lines had.whole (here.unfinished ++ c.args.bytes.now) (sym c.is_at_fault.ensures ∙ c.if-is_at_fault.true) had.at))
+    (still_at_fault here.lines had.whole (here.unfinished ++ c.args.bytes.now)
+    (sym c.is_at_fault.ensures ∙ c.if-is_at_fault.true) had.at))
 
 pub returns-then-len-bytes-gt-LONGEST : goal.returns-then-len-bytes-gt-LONGEST
 returns-then-len-bytes-gt-LONGEST c = λ before read.
@@ -21,18 +23,28 @@ returns-then-len-bytes-gt-LONGEST c = λ before read.
     let s : ReaderState = record { lines = here.lines; unfinished = here.unfinished } in
     let had : HasRead s before = subst (λ t. HasRead t before) (sym c.self.view_is) read in
     let long : 64 < length (here.unfinished ++ more) =
-    omega (arith, c.if-len-bytes-gt-LONGEST.true, c.len.ensures.len, length-append here.unfinished more) in
-    subst (λ xs. HasRead (record { lines = c.break_long_line.new.self; unfinished = xs }) (before ++ more)) (sym c.clear-then-len-bytes-gt-LONGEST.ensures)
+    omega (
+      arith,
+      c.if-len-bytes-gt-LONGEST.true,
+      c.len.ensures.len,
+      length-append here.unfinished
+          more,
+    ) in
+    subst (λ xs. HasRead (record { lines = c.break_long_line.new.self; unfinished = xs })
+    (before ++ more)) (sym c.clear-then-len-bytes-gt-LONGEST.ensures)
     (nothing_unfinished c.break_long_line.new.self s before more had
-    (c.break_long_line.ensures had.whole (here.unfinished ++ more) had.at (lacks-append 10 here.unfinished more had.one_line c.requires) long))
+    (c.break_long_line.ensures had.whole (here.unfinished ++ more) had.at
+    (lacks-append 10 here.unfinished more had.one_line c.requires) long))
 
 pub returns : goal.returns
 returns c = λ before read.
     let here = c.self.inside in
     let s : ReaderState = record { lines = here.lines; unfinished = here.unfinished } in
     let had : HasRead s before = subst (λ t. HasRead t before) (sym c.self.view_is) read in
-    let short : length c.push.new.self ≤ 64 = omega (arith, c.if-len-bytes-gt-LONGEST.false, c.len.ensures.len, c.push.ensures.len) in
-    more_unfinished s c.push.new.self before c.args.bytes.now had c.push.ensures.bytes c.requires short
+    let short : length c.push.new.self
+    ≤ 64 = omega (arith, c.if-len-bytes-gt-LONGEST.false, c.len.ensures.len, c.push.ensures.len) in
+    more_unfinished s c.push.new.self before c.args.bytes.now had c.push.ensures.bytes c.requires
+    short
 
 pub invariant_of-self-then-len-bytes-gt-LONGEST : goal.invariant_of-self-then-len-bytes-gt-LONGEST
 invariant_of-self-then-len-bytes-gt-LONGEST c =
@@ -41,21 +53,31 @@ invariant_of-self-then-len-bytes-gt-LONGEST c =
     let s : ReaderState = record { lines = here.lines; unfinished = here.unfinished } in
     let had : HasRead s c.self.invariant.bytes = c.self.invariant.read in
     let long : 64 < length (here.unfinished ++ more) =
-    omega (arith, c.if-len-bytes-gt-LONGEST.true, c.len.ensures.len, length-append here.unfinished more) in
+    omega (
+      arith,
+      c.if-len-bytes-gt-LONGEST.true,
+      c.len.ensures.len,
+      length-append here.unfinished
+          more,
+    ) in
     record {
       bytes = c.self.invariant.bytes ++ more;
-      read = subst (λ xs. HasRead (record { lines = c.break_long_line.new.self; unfinished = xs }) (c.self.invariant.bytes ++ more))
+      read = subst (λ xs. HasRead (record { lines = c.break_long_line.new.self; unfinished = xs })
+          (c.self.invariant.bytes ++ more))
           (sym c.clear-then-len-bytes-gt-LONGEST.ensures)
           (nothing_unfinished c.break_long_line.new.self s c.self.invariant.bytes more had
-          (c.break_long_line.ensures had.whole (here.unfinished ++ more) had.at (lacks-append 10 here.unfinished more had.one_line c.requires) long));
+          (c.break_long_line.ensures had.whole (here.unfinished ++ more) had.at
+          (lacks-append 10 here.unfinished more had.one_line c.requires) long));
     }
 
 pub invariant_of-self-2 : goal.invariant_of-self-2
 invariant_of-self-2 c =
     let here = c.self.inside in
     let s : ReaderState = record { lines = here.lines; unfinished = here.unfinished } in
-    let short : length c.push.new.self ≤ 64 = omega (arith, c.if-len-bytes-gt-LONGEST.false, c.len.ensures.len, c.push.ensures.len) in
+    let short : length c.push.new.self
+    ≤ 64 = omega (arith, c.if-len-bytes-gt-LONGEST.false, c.len.ensures.len, c.push.ensures.len) in
     record {
       bytes = c.self.invariant.bytes ++ c.args.bytes.now;
-      read = more_unfinished s c.push.new.self c.self.invariant.bytes c.args.bytes.now c.self.invariant.read c.push.ensures.bytes c.requires short;
+      read = more_unfinished s c.push.new.self c.self.invariant.bytes c.args.bytes.now
+          c.self.invariant.read c.push.ensures.bytes c.requires short;
     }

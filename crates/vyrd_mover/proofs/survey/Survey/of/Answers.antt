@@ -1,4 +1,5 @@
-use Rattle.std.proofs.Common.{◌≡◌, ℕ, suc, ◌+◌, ◌-◌, ◌<◌, List, [], ◌∷◌, ◌∙◌, map, arith, ap, sym, subst, get_or, take, drop, length, drop-cons, length-drop}
+use Rattle.std.proofs.Common.{◌≡◌, ℕ, suc, ◌+◌, ◌-◌, ◌<◌, List, [], ◌∷◌, ◌∙◌, map, arith, ap, sym}
+use Rattle.std.proofs.Common.{subst, get_or, take, drop, length, drop-cons, length-drop}
 use Rattle.std.proofs.Math.Seq.{drop-length}
 use Rattle.vyrd_base.specs.declared.header.Header.{Header}
 use Rattle.vyrd_base.specs.declared.history.Did.TheVariants.{Read}
@@ -22,7 +23,8 @@ abbrev some_event : Stamped
 some_event = record { number = 0; caller = 0; did = Read 0 0 }
 
 -- what the step at a place is
-record Here (h : Header) (uses : Kept) (codes : List ℕ) (history : List Stamped) (i : ℕ) (step : Step) : Type 0 where
+record Here (h : Header) (uses : Kept) (codes : List ℕ) (history : List Stamped) (i : ℕ)
+    (step : Step) : Type 0 where
   low : i < length history
   come : MayCome (cells_of h) (newest_first (take i history)) i (get_or history i some_event)
   is : step ≡ step_of (get_or history i some_event)
@@ -30,7 +32,8 @@ record Here (h : Header) (uses : Kept) (codes : List ℕ) (history : List Stampe
   within : IsWithin (length uses.cells) step.role
 
 here : (h : Header) (uses : Kept) (codes : List ℕ) (history : List Stamped) (i : ℕ) (step : Step)
-    → HasTaken (record { header = h; uses = uses; steps = map step_coded codes }) history → i < length codes → step ≡ step_coded (get_or codes i 0)
+    → HasTaken (record { header = h; uses = uses; steps = map step_coded codes }) history
+    → i < length codes → step ≡ step_coded (get_or codes i 0)
     → Here h uses codes history i step
 here h uses codes history i step taken low coded =
     let count = codes_count codes history taken.steps_are in
@@ -43,7 +46,8 @@ here h uses codes history i step taken low coded =
       come = come;
       is = is;
       caller = subst (λ s. s.caller < h.callers) (sym is) come.caller;
-      within = subst (λ n. IsWithin n step.role) (sym taken.seen.all_cells) (subst (λ s. IsWithin (cells_of h).plain s.role) (sym is)
+      within = subst (λ n. IsWithin n step.role) (sym taken.seen.all_cells)
+          (subst (λ s. IsWithin (cells_of h).plain s.role) (sym is)
           (role_within (cells_of h).plain ((cells_of h).plain + (cells_of h).locks) e.did
           (in_range (cells_of h) (newest_first (take i history)) e.caller e.did come.may)));
     }
@@ -51,22 +55,26 @@ here h uses codes history i step taken low coded =
 pub loop-place-init : goal.loop-place-init
 loop-place-init c = λ history taken.
     let free = is_race_free (cells_of c.args.header) history in
-    let none = ap (λ n. drop n history) (codes_count c.args.codes.now history taken.steps_are) ∙ drop-length history in
+    let none = ap (λ n. drop n history) (codes_count c.args.codes.now history taken.steps_are)
+    ∙ drop-length history in
     let first = survey_begins free c.callers.result in
     subst (λ later. IsSurvey free c.args.header.callers later c.in_ok-survey.survey) (sym none)
-    (subst (λ n. IsSurvey free n [] c.in_ok-survey.survey) c.callers.ensures (subst (IsSurvey free c.callers.result []) (sym c.in_ok-survey.ensures) first))
+    (subst (λ n. IsSurvey free n [] c.in_ok-survey.survey) c.callers.ensures
+    (subst (IsSurvey free c.callers.result []) (sym c.in_ok-survey.ensures) first))
 
 pub precede-requires-clause-caller : goal.precede-requires-clause-caller
 precede-requires-clause-caller c =
     let i = c.loop-place.place - 1 in
-    let at = here c.args.header c.args.uses.now c.args.codes.now c.requires.history i c.coded.result c.requires.taken (omega arith) c.coded.ensures in
+    let at = here c.args.header c.args.uses.now c.args.codes.now c.requires.history i c.coded.result
+    c.requires.taken (omega arith) c.coded.ensures in
     let survey = c.loop-place.invariant c.requires.history c.requires.taken in
     omega (arith, at.caller, survey.callers_are)
 
 pub precede-requires-clause-within : goal.precede-requires-clause-within
 precede-requires-clause-within c =
     let i = c.loop-place.place - 1 in
-    let at = here c.args.header c.args.uses.now c.args.codes.now c.requires.history i c.coded.result c.requires.taken (omega arith) c.coded.ensures in
+    let at = here c.args.header c.args.uses.now c.args.codes.now c.requires.history i c.coded.result
+    c.requires.taken (omega arith) c.coded.ensures in
     at.within
 
 pub precede-requires-clause-few : goal.precede-requires-clause-few
@@ -82,19 +90,24 @@ loop-place-preserved c = λ history taken.
     let h = c.args.header in
     let free = is_race_free (cells_of h) history in
     let i = c.loop-place.place - 1 in
-    let at = here h c.args.uses.now c.args.codes.now history i c.coded.result taken (omega arith) c.coded.ensures in
+    let at = here h c.args.uses.now c.args.codes.now history i c.coded.result taken
+    (omega arith) c.coded.ensures in
     let e = get_or history i some_event in
     let later = drop c.loop-place.place history in
     let next : suc i ≡ c.loop-place.place = omega arith in
-    let front : drop i history ≡ e ∷ later = drop-cons history i some_event at.low ∙ ap (λ n. e ∷ drop n history) next in
+    let front : drop i history ≡ e ∷ later = drop-cons history i some_event at.low
+    ∙ ap (λ n. e ∷ drop n history) next in
     let line : i + 2 ≡ line_of e = ap (λ n. n + 2) (sym at.come.numbered) in
-    let more = survey_goes_on free h.callers e later c.loop-place.survey (c.loop-place.invariant history taken) at.come.caller in
+    let more = survey_goes_on free h.callers e later c.loop-place.survey
+    (c.loop-place.invariant history taken) at.come.caller in
     let on = c.precede.ensures (cells_of h) history taken.seen (omega (arith, some_callers h))
     ∙ λ j. preceded_by free c.loop-place.survey (line j) (at.is j).caller (at.is j).role in
-    subst (λ es. IsSurvey free h.callers es c.precede.new.self) (sym front) (subst (IsSurvey free h.callers (e ∷ later)) (sym on) more)
+    subst (λ es. IsSurvey free h.callers es c.precede.new.self) (sym front)
+    (subst (IsSurvey free h.callers (e ∷ later)) (sym on) more)
 
 pub returns : goal.returns
 returns c = λ history taken.
     let all : c.loop-place.place ≡ 0 = omega arith in
-    subst (λ n. HasSurveyed (is_race_free (cells_of c.args.header) history) (drop n history) c.loop-place.survey) all
+    subst (λ n. HasSurveyed (is_race_free (cells_of c.args.header) history)
+    (drop n history) c.loop-place.survey) all
     ((c.loop-place.invariant history taken).surveyed)

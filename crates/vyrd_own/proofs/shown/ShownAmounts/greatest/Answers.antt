@@ -7,4 +7,5 @@ use Rattle.vyrd_own.proofs.shown.ShownAmounts.greatest.Goals as goal
 pub returns : goal.returns
 returns c =
     c.greatest.ensures ∙ ap (greatest_to c.args.key) c.self.invariant.0
-    ∙ ap (λ ks. slice_index_or (reverse (filter (λ k. nat_le k c.args.key) ks)) 0 most) (keys_of-marked c.self.inside.table) ∙ ap (greatest_to c.args.key) c.self.view_is
+    ∙ ap (λ ks. slice_index_or (reverse (filter (λ k. nat_le k c.args.key) ks)) 0 most)
+    (keys_of-marked c.self.inside.table) ∙ ap (greatest_to c.args.key) c.self.view_is

@@ -23,10 +23,12 @@ invariant_of-self-2 c = (
 
 pub returns-clause-ok : goal.returns-clause-ok
 returns-clause-ok c =
-    each_part _ c.args.effects.now c.in_ok-clears.clears c.gather.new.self.shown.items c.gather.new.self.hidden.items
+    each_part _ c.args.effects.now c.in_ok-clears.clears c.gather.new.self.shown.items
+    c.gather.new.self.hidden.items
     c.put_amounts.new.shown c.put_amounts.new.hidden c.set_registers.new.registers.items _
     c.in_ok-clears.ensures.clears c.in_ok-clears.ensures.shown c.in_ok-clears.ensures.hidden
     c.in_ok-put_amounts.ensures.shown c.in_ok-put_amounts.ensures.hidden
     c.set_registers.ensures
-    (c.change_lists.ensures ∙ ap (λ ls. lists_after ls c.args.effects.now) c.in_ok-reserve.ensures.items)
+    (c.change_lists.ensures ∙ ap (λ ls. lists_after ls c.args.effects.now)
+    c.in_ok-reserve.ensures.items)
     ∙ ap (λ s. with_effects s c.args.effects.now) c.self.view_is

@@ -7,6 +7,7 @@ use Rattle.vyrd_own.proofs.updates.Updates.gather.Given as goal
 
 abbrev pub invariant-loop-effect : goal.invariant-loop-effect
 invariant-loop-effect l =
-    ((l.clears || list_any is_clearing (drop l.effect-index l.effects)) ≡ list_any is_clearing l.effects)
+    ((l.clears || list_any is_clearing (drop l.effect-index l.effects))
+    ≡ list_any is_clearing l.effects)
     × (shown_after l.self.shown.items (drop l.effect-index l.effects) ≡ shown_after [] l.effects)
     × (hidden_after l.self.hidden.items (drop l.effect-index l.effects) ≡ hidden_after [] l.effects)

@@ -8,7 +8,8 @@ abbrev pub invariant-loop-line : goal.invariant-loop-line
 invariant-loop-line l = record {
   counted : l.line ≤ l.self.lines.max_lines + 1;
   shorter : length l.rest ≤ length l.piece;
-  fed : IsSound (kept_of l.self) → IsFedFront (kept_of l.self) l.piece l.rest l.initial.out.items l.out.items
+  fed : IsSound (kept_of l.self) → IsFedFront (kept_of l.self) l.piece l.rest l.initial.out.items
+      l.out.items
       l.initial.numbers.items l.numbers.items (at_line (kept_of l.self) l.line);
 }
 

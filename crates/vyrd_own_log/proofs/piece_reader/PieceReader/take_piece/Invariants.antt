@@ -7,7 +7,8 @@ abbrev pub invariant-loop-line : goal.invariant-loop-line
 invariant-loop-line l = record {
   safe : IsSafe (kept_of l.self);
   limit : l.self.lines.max_lines ≡ l.fn.self.lines.max_lines;
-  fed : IsSound (kept_of l.fn.self) → IsFedFront (kept_of l.fn.self) l.piece l.rest l.fn.out.items l.out.items
+  fed : IsSound (kept_of l.fn.self) → IsFedFront (kept_of l.fn.self) l.piece l.rest l.fn.out.items
+      l.out.items
       l.fn.numbers.items l.numbers.items (kept_of l.self);
 }
 

@@ -13,13 +13,17 @@ pub pop_as-requires-clause-rule : goal.pop_as-requires-clause-rule
 pop_as-requires-clause-rule g c =
     let pass = c.receiver.inside.pass.id in
     let i = c.receiver.invariant in
-    subst (λ (k : Known). Pops Relayed pass k (Popped k) × Learns Relayed pass k (Learned k)) (sym i.0)
+    subst (λ (k : Known). Pops Relayed pass k (Popped k) × Learns Relayed pass k (Learned k))
+    (sym i.0)
     (gets pass _ i.1, receiver_learns pass _ i.1)
 
-told : (r : Option (List Stamped)) (k after : Known) (none : Type 0) → MatchOption r none (λ e. Popped k e after)
+told : (r : Option (List Stamped)) (k after : Known) (none : Type 0)
+    → MatchOption r none (λ e. Popped k e after)
     → IfSome r (λ _. All (HasBeginning (received_in after).had) (received_in after).settled)
 told None k after none p = tt
-told (Some e) k after none p = subst (λ (w : Known). All (HasBeginning (received_in w).had) (received_in w).settled) (sym p.had) p.beginnings
+told (Some e) k after none p =
+    subst (λ (w : Known). All (HasBeginning (received_in w).had) (received_in w).settled)
+    (sym p.had) p.beginnings
 
 pub returns-clause-beginnings : goal.returns-clause-beginnings
 returns-clause-beginnings g c = told c.pop_as.result _ _ _ c.pop_as.ensures.rule

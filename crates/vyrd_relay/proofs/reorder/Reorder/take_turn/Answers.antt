@@ -5,11 +5,23 @@ use Rattle.vyrd_relay.proofs.reorder.Reorder.take_turn.Goals as goal
 
 pub invariant_of-self : goal.invariant_of-self
 invariant_of-self c =
-    let k : Kept = record { next = c.self.inside.next; near = c.self.inside.near.items; far = c.self.inside.far.entries } in
-    let after : Kept = record { next = c.args.number + 1; near = c.pop_front.new.self.items; far = c.self.inside.far.entries } in
+    let k : Kept = record {
+      next = c.self.inside.next;
+      near = c.self.inside.near.items;
+      far = c.self.inside.far.entries;
+    } in
+    let after : Kept = record {
+      next = c.args.number + 1;
+      near = c.pop_front.new.self.items;
+      far = c.self.inside.far.entries;
+    } in
     let turn : c.self.inside.next ≡ c.args.number = omega arith in (
-      numbered_after k after (omega arith) (held_after k after (omega arith) c.pop_front.ensures.rest (λ n l. refl)) c.self.invariant.0,
+      numbered_after k after (omega arith)
+          (held_after k after (omega arith) c.pop_front.ensures.rest (λ n l. refl))
+          c.self.invariant.0,
       omega arith,
-      come_after k after (omega arith) (far_free k c.self.inside.next (ap (λ (v : Kept). has v c.self.inside.next) c.self.view_is ∙ ap (has c.args.self.now) turn ∙ c.requires.new))
+      come_after k after (omega arith)
+          (far_free k c.self.inside.next (ap (λ (v : Kept). has v c.self.inside.next) c.self.view_is
+          ∙ ap (has c.args.self.now) turn ∙ c.requires.new))
           (λ n l. refl) c.self.invariant.2,
     )

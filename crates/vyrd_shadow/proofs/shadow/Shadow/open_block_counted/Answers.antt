@@ -21,4 +21,5 @@ returns-clause-followed g c = λ starting earlier followed keeps. let s = c.self
       blocks = s.blocks;
       changed = s.changed.items;
     }) starting earlier c.args.caller (omega (arith, low, c.self.invariant.all_blocks)) inside
-    (subst (λ (k : Kept). broken_rule k.header earlier (entry c.args.caller BlockOpen) ≡ None) (sym c.self.view_is) keeps))
+    (subst (λ (k : Kept). broken_rule k.header earlier (entry c.args.caller BlockOpen) ≡ None)
+    (sym c.self.view_is) keeps))

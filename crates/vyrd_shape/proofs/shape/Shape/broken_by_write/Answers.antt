@@ -3,7 +3,8 @@ use Rattle.std.specs.Prelude.{is_none}
 use Rattle.vyrd_base.specs.Shape.{is_raced}
 use Rattle.vyrd_shape.proofs.ShapeLaws.{raced_rule, clear_rule, first_rule}
 use Rattle.vyrd_shape.proofs.shape.Shape.broken_by_write.Goals as goal
-use Rattle.vyrd_shape.proofs.shape.Shape.broken_by_write.Goals.{else-is_none-via-then-is_none+else-is_raced, else-is_none-via-else-is_none}
+use Rattle.vyrd_shape.proofs.shape.Shape.broken_by_write.Goals.{else-is_none-via-then-is_none+else-is_raced}
+use Rattle.vyrd_shape.proofs.shape.Shape.broken_by_write.Goals.{else-is_none-via-else-is_none}
 
 pub returns-then-is_raced-clause-rule : goal.returns-then-is_raced-clause-rule
 returns-then-is_raced-clause-rule c = λ earlier followed is.

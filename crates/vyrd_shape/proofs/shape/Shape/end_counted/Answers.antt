@@ -12,7 +12,8 @@ returns-then-is_any_open-clause-end g c = λ earlier followed. let s = c.self.in
     let inside : HasFollowed now earlier = rw c.self.view_is followed in
     let is : is_call_open s.header earlier
     ≡ true = sym (call_open_is now earlier c.self.invariant.enough_phases inside)
-    ∙ ap (λ phases. list_any (λ phase. is_some phase.open_method) phases) (sym c.deref.ensures.value) ∙ sym c.is_any_open.ensures.any
+    ∙ ap (λ phases. list_any (λ phase. is_some phase.open_method) phases)
+    (sym c.deref.ensures.value) ∙ sym c.is_any_open.ensures.any
     ∙ c.if-is_any_open.true in
     (rw (← c.self.view_is) is, refl)
 
@@ -22,6 +23,7 @@ returns-else-is_any_open-clause-end g c = λ earlier followed. let s = c.self.in
     let inside : HasFollowed now earlier = rw c.self.view_is followed in
     let is : is_call_open s.header earlier
     ≡ false = sym (call_open_is now earlier c.self.invariant.enough_phases inside)
-    ∙ ap (λ phases. list_any (λ phase. is_some phase.open_method) phases) (sym c.deref.ensures.value) ∙ sym c.is_any_open.ensures.any
+    ∙ ap (λ phases. list_any (λ phase. is_some phase.open_method) phases)
+    (sym c.deref.ensures.value) ∙ sym c.is_any_open.ensures.any
     ∙ c.if-is_any_open.false in
     rw (← c.self.view_is) is

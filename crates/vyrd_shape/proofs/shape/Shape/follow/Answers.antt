@@ -1,4 +1,5 @@
-use Rattle.std.proofs.Common.{◌≡◌, ◌<◌, ◌≤◌, ◌+◌, ◌&&◌, ℕ, true, false, List, ◌∷◌, ◌∙◌, ap, sym, subst, set, None, arith}
+use Rattle.std.proofs.Common.{◌≡◌, ◌<◌, ◌≤◌, ◌+◌, ◌&&◌, ℕ, true, false, List, ◌∷◌, ◌∙◌, ap, sym}
+use Rattle.std.proofs.Common.{subst, set, None, arith}
 use Rattle.vyrd_base.specs.Callers.{has_block, has_inner_commit}
 use Rattle.vyrd_base.specs.Shape.{broken_rule}
 use Rattle.vyrd_base.specs.Words.{is_lone_commit}
@@ -20,7 +21,8 @@ returns-clause-followed g c = λ earlier followed rules.
     let low : e.caller < s.header.callers = rw (← c.self.view_is) at c.requires.in_range.caller in
     let inside : HasFollowed now earlier = rw c.self.view_is followed in
     let kept : broken_rule s.header earlier e ≡ None
-    = subst (λ (kept : Kept). broken_rule kept.header earlier e ≡ None) (sym c.self.view_is) rules in
+    = subst (λ (kept : Kept). broken_rule kept.header earlier e ≡ None) (sym c.self.view_is)
+    rules in
     let is = phase_is s.phases.items e.caller c.index-phase.result.now (phase_of e.caller earlier)
     c.index-phase.ensures (inside.phases e.caller low) in
     let stamp : c.effect_stamp-stamp.result
@@ -30,7 +32,8 @@ returns-clause-followed g c = λ earlier followed rules.
     (sym c.self.view_is)
     ∙ ap (λ phase. effect_stamp s.commits phase.inner e.caller) is in
     let effect = takes_effect s.holders.by_word (has_block e.caller earlier) e.caller e.kind in
-    let raised : AreRaised effect (effect_stamp s.commits (has_inner_commit e.caller earlier) e.caller)
+    let raised : AreRaised effect
+    (effect_stamp s.commits (has_inner_commit e.caller earlier) e.caller)
     s.stamps c.follow.new.stamps = rw (is, stamp) at c.follow.ensures.stamps in
     let held : AreHeld s.header s.holders.by_word e.caller earlier
     = λ w plain. inside.holders e.caller w low plain in

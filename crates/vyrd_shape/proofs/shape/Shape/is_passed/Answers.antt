@@ -16,9 +16,11 @@ returns-then-phase c = λ earlier followed is. let s = c.self.inside in
     = ap (λ phase. phase.inner) (sym is) ∙ c.if-phase.true in
     c.is_later.ensures
     ∙ ap (λ k. nat_lt k (get_or s.stamps c.args.word 0)) c.of.ensures.stamp
-    ∙ ap (λ b. b && nat_lt (get_or s.commits.by_caller c.args.caller 0) (get_or s.stamps c.args.word 0))
+    ∙ ap (λ b. b && nat_lt (get_or s.commits.by_caller c.args.caller 0)
+    (get_or s.stamps c.args.word 0))
     (sym inner)
-    ∙ sym (passed_is now earlier c.args.caller c.args.word c.self.invariant.enough_stamps low_c low inside)
+    ∙ sym (passed_is now earlier c.args.caller c.args.word c.self.invariant.enough_stamps low_c low
+    inside)
 
 pub returns-else-phase : goal.returns-else-phase
 returns-else-phase c = λ earlier followed is. let s = c.self.inside in
@@ -29,6 +31,8 @@ returns-else-phase c = λ earlier followed is. let s = c.self.inside in
     let none : has_inner_commit c.args.caller earlier ≡ false
     = ap (λ phase. phase.inner) (sym is) ∙ c.if-phase.false in
     c.if-phase.false
-    ∙ ap (λ b. b && nat_lt (get_or s.commits.by_caller c.args.caller 0) (get_or s.stamps c.args.word 0))
+    ∙ ap (λ b. b && nat_lt (get_or s.commits.by_caller c.args.caller 0)
+    (get_or s.stamps c.args.word 0))
     (sym none)
-    ∙ sym (passed_is now earlier c.args.caller c.args.word c.self.invariant.enough_stamps low_c low inside)
+    ∙ sym (passed_is now earlier c.args.caller c.args.word c.self.invariant.enough_stamps low_c low
+    inside)

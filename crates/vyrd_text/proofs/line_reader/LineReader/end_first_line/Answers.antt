@@ -9,7 +9,8 @@ returns-in-Ok c =
     let no_header = rw (← c.self.view_is) at c.requires.first in
     let first = c.self.invariant.first no_header in
     rw (c.next_line.ensures, c.version.ensures, ← c.self.view_is)
-    (first_good (state_of c.self.inside) c.args.line.now c.requires.line fine c.self.invariant.low no_header first.0 first.1 first.2
+    (first_good (state_of c.self.inside) c.args.line.now c.requires.line fine c.self.invariant.low
+    no_header first.0 first.1 first.2
     c.in-Ok.header (sym c.in-Ok.ensures))
 
 pub returns-in-Err : goal.returns-in-Err
@@ -18,4 +19,5 @@ returns-in-Err c =
     let no_header = rw (← c.self-in-Err.view_is) at c.requires.first in
     let first = c.self-in-Err.invariant.first no_header in
     rw (← c.self-in-Err.view_is)
-    (first_bad (state_of c.self-in-Err.inside) c.args.line.now c.requires.line fine c.self-in-Err.invariant.low no_header first.0 first.1 c.in-Err.rule (sym c.in-Err.ensures))
+    (first_bad (state_of c.self-in-Err.inside) c.args.line.now c.requires.line fine
+    c.self-in-Err.invariant.low no_header first.0 first.1 c.in-Err.rule (sym c.in-Err.ensures))

@@ -12,8 +12,10 @@ returns-in-Some c =
     let going = rw (← c.self.view_is) at c.requires.going in
     let starting = rw (← c.self.view_is) at c.requires.starting in
     rw (c.break_rule.ensures, ← c.self.view_is)
-    (bad_start (state_of c.self.inside) c.args.line.now c.requires.line fine c.self.invariant.low c.args.header has
-    (isnt_below c.self.inside.max_lines c.self.inside.line within) going starting c.args.word c.requires.word c.in-Some.rule
+    (bad_start (state_of c.self.inside) c.args.line.now c.requires.line fine c.self.invariant.low
+    c.args.header has
+    (isnt_below c.self.inside.max_lines c.self.inside.line within) going starting c.args.word
+    c.requires.word c.in-Some.rule
     (sym c.rule_of_start.ensures ∙ c.in-Some.is))
 
 pub returns-in-None : goal.returns-in-None
@@ -24,6 +26,8 @@ returns-in-None c =
     let going = rw (← c.self.view_is) at c.requires.going in
     let starting = rw (← c.self.view_is) at c.requires.starting in
     rw (c.next_line.ensures, ← c.self.view_is)
-    (start_read (state_of c.self.inside) c.args.line.now c.requires.line fine c.self.invariant.low c.args.header has
-    (isnt_below c.self.inside.max_lines c.self.inside.line within) going starting c.args.word c.requires.word
+    (start_read (state_of c.self.inside) c.args.line.now c.requires.line fine c.self.invariant.low
+    c.args.header has
+    (isnt_below c.self.inside.max_lines c.self.inside.line within) going starting c.args.word
+    c.requires.word
     (sym c.rule_of_start.ensures ∙ c.in-None.is))

@@ -9,5 +9,6 @@ invariant_of-self c = rw c.clear.ensures (record {
   counted = let h = rw (← c.self.view_is) at c.requires.room in omega (arith, h);
   short = omega arith;
   one_line = refl;
-  first = λ none. let h = rw (← c.self.view_is) at c.requires.later in absurd (no_none c.self.inside.header h none);
+  first = λ none. let h = rw (← c.self.view_is) at c.requires.later in absurd
+      (no_none c.self.inside.header h none);
 })

@@ -7,14 +7,18 @@ use Rattle.vyrd_text.proofs.line_reader.LineReader.take_line.Goals as goal
 
 pub returns-then-is_empty : goal.returns-then-is_empty
 returns-then-is_empty c =
-    line_at_once c.args.self.now c.end_line.new.self c.args.line.now (starts_of c.end_line.result) (entries_of c.end_line.result)
-    (ap (λ (s : LineState). s.unfinished) (sym c.self.view_is) ∙ c.if-is_empty.ensures.0 refl) c.end_line.ensures
+    line_at_once c.args.self.now c.end_line.new.self c.args.line.now (starts_of c.end_line.result)
+    (entries_of c.end_line.result)
+    (ap (λ (s : LineState). s.unfinished) (sym c.self.view_is) ∙ c.if-is_empty.ensures.0 refl)
+    c.end_line.ensures
 
 pub returns : goal.returns
 returns c =
     let same = c.as_slice.ensures.bytes ∙ c.replace-whole.ensures.value in
     line_then c.args.self.now (state_of c.self-2.inside) c.end_line-2.new.self c.args.line.now
     (starts_of c.end_line-2.result) (entries_of c.end_line-2.result)
-    (subst (λ (s : LineState). IsTaken c.args.self.now c.args.line.now [] [] s) (sym c.self-2.view_is) c.take_unfinished.ensures)
-    (subst (λ t. IsLineTaken (with_line (state_of c.self-2.inside) t) (starts_of c.end_line-2.result)
+    (subst (λ (s : LineState). IsTaken c.args.self.now c.args.line.now [] [] s)
+    (sym c.self-2.view_is) c.take_unfinished.ensures)
+    (subst (λ t. IsLineTaken (with_line (state_of c.self-2.inside) t)
+    (starts_of c.end_line-2.result)
     (entries_of c.end_line-2.result) c.end_line-2.new.self) same c.end_line-2.ensures)

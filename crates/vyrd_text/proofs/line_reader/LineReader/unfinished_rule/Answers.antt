@@ -1,10 +1,12 @@
 use Rattle.std.proofs.Common.{arith, subst, Some, None}
-use Rattle.vyrd_base.specs.declared.verdict.Rule.TheVariants.{TooManyLines, AfterEnd, BadHeader, BadEntry}
+use Rattle.vyrd_base.specs.declared.verdict.Rule.TheVariants.{TooManyLines, AfterEnd, BadHeader}
+use Rattle.vyrd_base.specs.declared.verdict.Rule.TheVariants.{BadEntry}
 use Rattle.vyrd_text.specs.Readers.{LineState}
 use Rattle.vyrd_text.specs.Steps.{IsRuleOfRest}
 use Rattle.vyrd_text.specs.ReaderView.{state_of}
 use Rattle.vyrd_text.proofs.ReaderLaws.{none_of, some_of}
-use Rattle.vyrd_text.proofs.RestSteps.{first_long, first_short, rest_past, rest_after_end, rest_long, rest_short}
+use Rattle.vyrd_text.proofs.RestSteps.{first_long, first_short, rest_past, rest_after_end}
+use Rattle.vyrd_text.proofs.RestSteps.{rest_long, rest_short}
 use Rattle.vyrd_text.proofs.line_reader.LineReader.unfinished_rule.Goals as goal
 
 pub returns-then-is_long-clause-rule : goal.returns-then-is_long-clause-rule
@@ -12,8 +14,10 @@ returns-then-is_long-clause-rule c =
     let fine = rw (← c.self.view_is) at c.requires.fine in
     let none = none_of c.self.inside.header c.if-is_none.ensures in
     let first = c.self.invariant.first none in
-    subst (λ (s : LineState). IsRuleOfRest s c.args.more (Some BadHeader)) c.self.view_is (λ bytes len lack.
-    first_long (state_of c.self.inside) fine c.self.invariant.low c.self.invariant.one_line bytes lack
+    subst (λ (s : LineState). IsRuleOfRest s c.args.more (Some BadHeader)) c.self.view_is
+    (λ bytes len lack.
+    first_long (state_of c.self.inside) fine c.self.invariant.low c.self.invariant.one_line bytes
+    lack
     (omega (arith, len, c.requires.some)) none first.0 first.1
     (omega (arith, len, c.if-is_long.true, c.len.ensures.len, c.self.invariant.short)))
 
@@ -23,7 +27,8 @@ returns-else-is_long-clause-rule c =
     let none = none_of c.self.inside.header c.if-is_none.ensures in
     let first = c.self.invariant.first none in
     subst (λ (s : LineState). IsRuleOfRest s c.args.more None) c.self.view_is (λ bytes len lack.
-    first_short (state_of c.self.inside) fine c.self.invariant.low c.self.invariant.one_line bytes lack
+    first_short (state_of c.self.inside) fine c.self.invariant.low c.self.invariant.one_line bytes
+    lack
     (omega (arith, len, c.requires.some)) none first.0 first.1
     (omega (arith, len, c.if-is_long.false, c.len.ensures.len, c.self.invariant.short)))
 
@@ -31,24 +36,30 @@ pub returns-then-self-clause-rule : goal.returns-then-self-clause-rule
 returns-then-self-clause-rule c =
     let fine = rw (← c.self.view_is) at c.requires.fine in
     let header = some_of c.self.inside.header c.if-is_none.ensures in
-    subst (λ (s : LineState). IsRuleOfRest s c.args.more (Some TooManyLines)) c.self.view_is (λ bytes len lack.
-    rest_past (state_of c.self.inside) fine c.self.invariant.low c.self.invariant.one_line bytes lack
+    subst (λ (s : LineState). IsRuleOfRest s c.args.more (Some TooManyLines)) c.self.view_is
+    (λ bytes len lack.
+    rest_past (state_of c.self.inside) fine c.self.invariant.low c.self.invariant.one_line bytes
+    lack
     (omega (arith, len, c.requires.some)) header.0 header.1 c.if-self.true)
 
 pub returns-then-self-2-clause-rule : goal.returns-then-self-2-clause-rule
 returns-then-self-2-clause-rule c =
     let fine = rw (← c.self.view_is) at c.requires.fine in
     let header = some_of c.self.inside.header c.if-is_none.ensures in
-    subst (λ (s : LineState). IsRuleOfRest s c.args.more (Some AfterEnd)) c.self.view_is (λ bytes len lack.
-    rest_after_end (state_of c.self.inside) fine c.self.invariant.low c.self.invariant.one_line bytes lack
+    subst (λ (s : LineState). IsRuleOfRest s c.args.more (Some AfterEnd)) c.self.view_is
+    (λ bytes len lack.
+    rest_after_end (state_of c.self.inside) fine c.self.invariant.low c.self.invariant.one_line
+    bytes lack
     (omega (arith, len, c.requires.some)) header.0 header.1 c.if-self.false c.if-self-2.true)
 
 pub returns-then-is_long-2-clause-rule : goal.returns-then-is_long-2-clause-rule
 returns-then-is_long-2-clause-rule c =
     let fine = rw (← c.self.view_is) at c.requires.fine in
     let header = some_of c.self.inside.header c.if-is_none.ensures in
-    subst (λ (s : LineState). IsRuleOfRest s c.args.more (Some BadEntry)) c.self.view_is (λ bytes len lack.
-    rest_long (state_of c.self.inside) fine c.self.invariant.low c.self.invariant.one_line bytes lack
+    subst (λ (s : LineState). IsRuleOfRest s c.args.more (Some BadEntry)) c.self.view_is
+    (λ bytes len lack.
+    rest_long (state_of c.self.inside) fine c.self.invariant.low c.self.invariant.one_line bytes
+    lack
     (omega (arith, len, c.requires.some)) header.0 header.1 c.if-self.false c.if-self-2.false
     (omega (arith, len, c.if-is_long-2.true, c.len.ensures.len, c.self.invariant.short)))
 
@@ -57,6 +68,7 @@ returns-else-is_long-2-clause-rule c =
     let fine = rw (← c.self.view_is) at c.requires.fine in
     let header = some_of c.self.inside.header c.if-is_none.ensures in
     subst (λ (s : LineState). IsRuleOfRest s c.args.more None) c.self.view_is (λ bytes len lack.
-    rest_short (state_of c.self.inside) fine c.self.invariant.low c.self.invariant.one_line bytes lack
+    rest_short (state_of c.self.inside) fine c.self.invariant.low c.self.invariant.one_line bytes
+    lack
     (omega (arith, len, c.requires.some)) header.0 header.1 c.if-self.false c.if-self-2.false
     (omega (arith, len, c.if-is_long-2.false, c.len.ensures.len, c.self.invariant.short)))

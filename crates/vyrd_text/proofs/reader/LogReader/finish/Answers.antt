@@ -9,7 +9,8 @@ use Rattle.vyrd_text.proofs.reader.LogReader.finish.Goals as goal
 
 pub returns-clause-answer : goal.returns-clause-answer
 returns-clause-answer c =
-    subst (λ (s : ReaderState). (bytes : List ℕ) → HasRead s bytes → IsAnswer c.finish.result (reading (whole s) bytes).fault) c.self.view_is
+    subst (λ (s : ReaderState). (bytes : List ℕ) → HasRead s bytes → IsAnswer c.finish.result
+    (reading (whole s) bytes).fault) c.self.view_is
     (λ bytes has.
     let r : ReaderState = reader_of c.self.inside in
     subst (λ o. IsAnswer c.finish.result o) (sym (ap (λ read. read.fault) (whole_read r bytes has)))
@@ -17,8 +18,10 @@ returns-clause-answer c =
 
 pub returns-clause-ended : goal.returns-clause-ended
 returns-clause-ended c =
-    subst (λ (s : ReaderState). (bytes : List ℕ) → HasRead s bytes → OnOk c.finish.result ((reading (whole s) bytes).ended ≡ true)) c.self.view_is
+    subst (λ (s : ReaderState). (bytes : List ℕ) → HasRead s bytes
+    → OnOk c.finish.result ((reading (whole s) bytes).ended ≡ true)) c.self.view_is
     (λ bytes has.
     let r : ReaderState = reader_of c.self.inside in
-    subst (λ b. OnOk c.finish.result (b ≡ true)) (sym (ap (λ read. read.ended) (whole_read r bytes has)))
+    subst (λ b. OnOk c.finish.result (b ≡ true))
+    (sym (ap (λ read. read.ended) (whole_read r bytes has)))
     (c.finish.ensures.ended (noticed_of r bytes has)))

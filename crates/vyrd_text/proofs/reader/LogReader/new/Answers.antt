@@ -6,5 +6,7 @@ use Rattle.vyrd_text.proofs.reader.LogReader.new.Goals as goal
 
 pub returns-clause-read : goal.returns-clause-read
 returns-clause-read c =
-    rw c.new.ensures (subst (λ (start : List StartWord). HasRead (reader_with (fresh c.args.max_lines) start) []) (sym c.new-2.ensures.items)
+    rw c.new.ensures
+    (subst (λ (start : List StartWord). HasRead (reader_with (fresh c.args.max_lines) start) [])
+    (sym c.new-2.ensures.items)
     (fresh_has_read c.args.max_lines))

@@ -9,6 +9,7 @@ compare_exchange-requires c =
     let q = c.requires in (
       q.table,
       omega arith,
-      claims_cell c.args.self.now.table.shared.key look_again _ _ _ c.args.cell c.args.old _ q.live (omega arith) q.rest q.even
+      claims_cell c.args.self.now.table.shared.key look_again _ _ _ c.args.cell c.args.old _ q.live
+          (omega arith) q.rest q.even
           (λ l. absurd (omega arith)) refl,
     )

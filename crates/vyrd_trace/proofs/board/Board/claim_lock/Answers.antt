@@ -9,5 +9,6 @@ compare_exchange-requires c =
     let q = c.requires in (
       q.table,
       omega arith,
-      claims_cell c.args.self.now.table.shared.key look_first _ _ _ c.args.cell 0 1 q.live q.cell q.rest refl (λ l. refl) refl,
+      claims_cell c.args.self.now.table.shared.key look_first _ _ _ c.args.cell 0 1 q.live q.cell
+          q.rest refl (λ l. refl) refl,
     )

@@ -17,5 +17,7 @@ returns-clause-history c =
     let cells : c.word_count-cells.result - 1 ≡ p.plain + p.locks = omega arith in
     let long = sym c.halve_words.new.words.ok.0 ∙ w.0 ∙ cells in
     subst (λ (x : Plan). HasHistory x hands c.halve_words.new.words.items) plan
-    (has_history p _ c.halve_words.new.words.items _ _ _ hands c.close_with-closed.ensures.values.2 seat.same.1 seat.same.2 seat.lanes
-    (c.requires.0 ∙ sym (ap (λ (x : Plan). x.callers) plan)) (λ i d l. (c.requires.1 i d l).1) long (λ k l. w.1 k (omega arith)))
+    (has_history p _ c.halve_words.new.words.items _ _ _ hands c.close_with-closed.ensures.values.2
+    seat.same.1 seat.same.2 seat.lanes
+    (c.requires.0 ∙ sym (ap (λ (x : Plan). x.callers) plan)) (λ i d l. (c.requires.1 i d l).1) long
+    (λ k l. w.1 k (omega arith)))

@@ -6,10 +6,12 @@ pub returns-in-Some-clause-rest : goal.returns-in-Some-clause-rest
 returns-in-Some-clause-rest c = λ h task.
     let v = c.args.self.now in
     let len : length v.entries.slots ≡ 4 = search rules in
-    value_comes h task v c.in-Some.slot c.args.place c.args.count c.in-Some.ensures.0 c.in-Some.ensures.1 (omega (arith, len, c.requires.count))
+    value_comes h task v c.in-Some.slot c.args.place c.args.count c.in-Some.ensures.0
+    c.in-Some.ensures.1 (omega (arith, len, c.requires.count))
 
 pub returns-in-None-clause-rest : goal.returns-in-None-clause-rest
 returns-in-None-clause-rest c = λ h task.
     let v = c.args.self.now in
     let len : length v.entries.slots ≡ 4 = search rules in
-    values_came h task v c.args.place c.args.count c.requires.place c.in-None.ensures (omega (arith, len, c.requires.count))
+    values_came h task v c.args.place c.args.count c.requires.place c.in-None.ensures
+    (omega (arith, len, c.requires.count))

@@ -16,7 +16,8 @@ module _ (g : given.Over) (c : goal.In_ok-grow g) where
       let decoder = c.args.decoder in
       subst (λ ws. HaveRoom (d.width decoder) (d.places decoder) (d.parts decoder) 0
       (d.gives decoder) ws c.in_ok-parts.parts.pairs) (sym bare)
-      (subst (HaveRoom (d.width decoder) (d.places decoder) (d.parts decoder) 0 (d.gives decoder) [])
+      (subst (HaveRoom (d.width decoder) (d.places decoder) (d.parts decoder) 0 (d.gives decoder)
+      [])
       (sym (ap (λ k. k.pairs) c.in_ok-parts.ensures ∙ c.in_ok-pairs.ensures.items))
       (no_room (d.width decoder) (d.places decoder) (d.parts decoder) (d.gives decoder)
       ((g.met.D.Decode.narrow decoder).2)))

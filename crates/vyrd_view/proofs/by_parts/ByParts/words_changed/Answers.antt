@@ -178,7 +178,8 @@ returns-clause-ok g c =
     } in
     let whole : padded (parts * width) (take c.make_room.new.words.len (c.copy_changed.new.before
     ++ drop (length c.copy_changed.new.before) words)) ≡ c.args.words.now =
-    ap (padded (parts * width)) back ∙ room_whole width places parts held (d.gives decoder) words c.args.words.now c.args.changed.now
+    ap (padded (parts * width)) back ∙ room_whole width places parts held (d.gives decoder) words
+    c.args.words.now c.args.changed.now
     pairs grown.1 all elsewhere ok.room in
     on_ok_weaker {P = c.parts_changed.new.parts ≡ after} c.parts_changed.result
     (λ now i. record {

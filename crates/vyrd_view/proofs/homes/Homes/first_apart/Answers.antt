@@ -9,11 +9,13 @@ loop-home-preserved c = elim c.if-is_apart.branch [
       let places = c.deref-home-items.result.now in
       let n = c.loop-home.home-index in
       subst (LeastSoFar places (n + 1)) (sym w.least-is)
-      (least_moves places n w.lesser.result c.loop-home.least (sym c.is_apart.ensures ∙ w.if-is_apart.true)
+      (least_moves places n w.lesser.result c.loop-home.least
+      (sym c.is_apart.ensures ∙ w.if-is_apart.true)
       w.lesser.ensures.none w.lesser.ensures.some w.lesser.ensures.one c.loop-home.invariant)
   | else-is_apart w ↦
       let places = c.deref-home-items.result.now in
       let n = c.loop-home.home-index in
       subst (LeastSoFar places (n + 1)) (sym w.least-is)
-      (least_stays places n c.loop-home.least (sym c.is_apart.ensures ∙ w.if-is_apart.false) c.loop-home.invariant)
+      (least_stays places n c.loop-home.least (sym c.is_apart.ensures ∙ w.if-is_apart.false)
+      c.loop-home.invariant)
 ]

@@ -7,9 +7,14 @@ both_same : (x y : ℕ × ℕ) → x.0 ≡ y.0 → x.1 ≡ y.1 → x ≡ y
 both_same x y key amount = λ i. (key i, amount i)
 
 -- the same pair again
-same_pair : (kept : Kept) (pairs : List (ℕ × ℕ)) (place : ℕ) (before pair : ℕ × ℕ) → pairs ≡ kept.pairs → before ≡ get_or pairs place before
+same_pair : (kept : Kept) (pairs : List (ℕ × ℕ)) (place : ℕ) (before pair : ℕ × ℕ)
+    → pairs ≡ kept.pairs → before ≡ get_or pairs place before
     → before.0 ≡ pair.0 → before.1 ≡ pair.1
-    → kept ≡ record { pairs = set kept.pairs place pair; specified = kept.specified; refused = kept.refused }
+    → kept ≡ record {
+      pairs = set kept.pairs place pair;
+      specified = kept.specified;
+      refused = kept.refused;
+    }
 same_pair kept pairs place before pair are is key amount =
     let same : before ≡ pair = both_same before pair key amount in
     let stays : kept.pairs ≡ set kept.pairs place pair =
@@ -19,5 +24,7 @@ same_pair kept pairs place before pair are is key amount =
 
 pub returns-then-before-pair-2-clause-ok : goal.returns-then-before-pair-2-clause-ok
 returns-then-before-pair-2-clause-ok g c =
-    same_pair c.args.self.now c.self.inside.pairs.items c.args.place c.index-before.result.now c.args.pair
-    (ap (λ k. k.pairs) c.self.view_is) c.index-before.ensures c.if-before-pair.true c.if-before-pair-2.true
+    same_pair c.args.self.now c.self.inside.pairs.items c.args.place c.index-before.result.now
+    c.args.pair
+    (ap (λ k. k.pairs) c.self.view_is) c.index-before.ensures c.if-before-pair.true
+    c.if-before-pair-2.true

@@ -1,4 +1,5 @@
-use Rattle.std.proofs.Common.{◌≡◌, ℕ, ◌-◌, ◌*◌, ◌^◌, ◌<◌, ◌≤◌, false, ap, sym, ◌∙◌, arith, get_or, set, length, length-set}
+use Rattle.std.proofs.Common.{◌≡◌, ℕ, ◌-◌, ◌*◌, ◌^◌, ◌<◌, ◌≤◌, false, ap, sym, ◌∙◌, arith, get_or}
+use Rattle.std.proofs.Common.{set, length, length-set}
 use Rattle.vyrd_base.specs.Amounts.{given, part_given}
 use Rattle.vyrd_base.proofs.SumLaws.{given-set, own_part}
 use Rattle.vyrd_view.specs.Laws.Sums.{each_bounds}
@@ -10,11 +11,19 @@ pub change-requires-clause-enough : goal.change-requires-clause-enough
 change-requires-clause-enough g c =
     let pairs = c.self.inside.pairs.items in
     let before = c.index-before.result.now in
-    let sound : c.self.inside.refused ≡ false = ap (λ k. k.refused) c.self.view_is ∙ c.requires.sound in
-    let low : c.args.place < length pairs = omega (arith, ap (λ k. length k.pairs) c.self.view_is, c.requires.place) in
+    let sound : c.self.inside.refused ≡ false = ap (λ k. k.refused) c.self.view_is
+    ∙ c.requires.sound in
+    let low : c.args.place < length pairs =
+    omega (arith, ap (λ k. length k.pairs) c.self.view_is, c.requires.place) in
     let is : part_given before.0 (get_or pairs c.args.place before) ≡ before.1 =
     ap (part_given before.0) (sym c.index-before.ensures) ∙ own_part before.0 before.1 in
-    omega (arith, (c.self.invariant sound).1 before.0, part-le-given before.0 pairs c.args.place before low, is)
+    omega (
+      arith,
+      (c.self.invariant sound).1 before.0,
+      part-le-given before.0 pairs c.args.place
+          before low,
+      is,
+    )
 
 -- the pairs give less than 2^128 to a key, with the new one
 pub change-requires-clause-fits : goal.change-requires-clause-fits
@@ -22,12 +31,17 @@ change-requires-clause-fits g c =
     let pairs = c.self.inside.pairs.items in
     let before = c.index-before.result.now in
     let pair : ℕ × ℕ = (c.args.key, c.args.amount) in
-    let sound : c.self.inside.refused ≡ false = ap (λ k. k.refused) c.self.view_is ∙ c.requires.sound in
-    let low : c.args.place < length pairs = omega (arith, ap (λ k. length k.pairs) c.self.view_is, c.requires.place) in
-    let is : part_given pair.0 (get_or pairs c.args.place before) ≡ part_given pair.0 before = ap (part_given pair.0) (sym c.index-before.ensures) in
-    let most : given pair.0 (set pairs c.args.place pair) ≤ length (set pairs c.args.place pair) * (2 ^ 64 - 1) =
+    let sound : c.self.inside.refused ≡ false = ap (λ k. k.refused) c.self.view_is
+    ∙ c.requires.sound in
+    let low : c.args.place < length pairs =
+    omega (arith, ap (λ k. length k.pairs) c.self.view_is, c.requires.place) in
+    let is : part_given pair.0 (get_or pairs c.args.place before) ≡ part_given pair.0 before =
+    ap (part_given pair.0) (sym c.index-before.ensures) in
+    let most : given pair.0 (set pairs c.args.place pair) ≤ length (set pairs c.args.place pair)
+    * (2 ^ 64 - 1) =
     each_bounds (2 ^ 64 - 1) pair.0 (set pairs c.args.place pair)
-    (λ i inner. each-set (2 ^ 64 - 1) pairs c.args.place pair low (omega (arith, c.ranges.amount.fits)) ((c.self.invariant sound).2) i) in
+    (λ i inner. each-set (2 ^ 64 - 1) pairs c.args.place pair low
+    (omega (arith, c.ranges.amount.fits)) ((c.self.invariant sound).2) i) in
     omega (
       arith,
       (c.self.invariant sound).1 pair.0,
@@ -45,10 +59,20 @@ invariant_of-self g c = λ sound. (
   λ q.
       let pairs = c.self.inside.pairs.items in
       let before = c.index-before.result.now in
-      let low : c.args.place < length pairs = omega (arith, ap (λ k. length k.pairs) c.self.view_is, c.requires.place) in
-      let is : part_given q (get_or pairs c.args.place before) ≡ part_given q before = ap (part_given q) (sym c.index-before.ensures) in
-      omega (arith, c.in-Ok.ensures.shown q, (c.self.invariant sound).1 q, given-set q pairs c.args.place (c.args.key, c.args.amount) before low, is),
+      let low : c.args.place < length pairs =
+      omega (arith, ap (λ k. length k.pairs) c.self.view_is, c.requires.place) in
+      let is : part_given q (get_or pairs c.args.place before) ≡ part_given q before =
+      ap (part_given q) (sym c.index-before.ensures) in
+      omega (
+        arith,
+        c.in-Ok.ensures.shown q,
+        (c.self.invariant sound).1 q,
+        given-set q pairs
+            c.args.place (c.args.key, c.args.amount) before low,
+        is,
+      ),
   each-set (2 ^ 64 - 1) c.self.inside.pairs.items c.args.place (c.args.key, c.args.amount)
-      (omega (arith, ap (λ k. length k.pairs) c.self.view_is, c.requires.place)) (omega (arith, c.ranges.amount.fits))
+      (omega (arith, ap (λ k. length k.pairs) c.self.view_is, c.requires.place))
+      (omega (arith, c.ranges.amount.fits))
       ((c.self.invariant (ap (λ k. k.refused) c.self.view_is ∙ c.requires.sound)).2),
 )

@@ -6,7 +6,8 @@ use Rattle.vyrd_view.specs.Rests as rests
 use Rattle.vyrd_view.specs.Sided.{IsSettled, shown_at, specified_of}
 use Rattle.vyrd_view.proofs.OutcomeLaws.{from_three}
 use Rattle.vyrd_view.proofs.HomeLaws.{nowhere_of}
-use Rattle.vyrd_view.proofs.SidedLaws.{settled_of, is_settled, place_settles, place_shows, place_specifies, rest_settles, rest_shows, rest_specifies}
+use Rattle.vyrd_view.proofs.SidedLaws.{settled_of, is_settled, place_settles, place_shows}
+use Rattle.vyrd_view.proofs.SidedLaws.{place_specifies, rest_settles, rest_shows, rest_specifies}
 use Rattle.vyrd_view.proofs.sides.Sides.put_anew.Goals as goal
 
 pub free_place-requires-clause-shift : goal.free_place-requires-clause-shift
@@ -32,11 +33,14 @@ returns-in-Some-clause-settled c =
     let s = c.args.self.now in
     let settled = settled_of s c.requires.settled in
     let now : Sides = record { homes = c.put.new.self; rest = s.rest } in
-    is_settled now (place_settles s now c.in-Some.place c.args.key c.home_of.result settled (omega (arith, settled.homes.room c.args.key, c.in-Some.ensures.to))
+    is_settled now (place_settles s now c.in-Some.place c.args.key c.home_of.result settled
+    (omega (arith, settled.homes.room c.args.key, c.in-Some.ensures.to))
     c.home_of.ensures.key c.in-Some.ensures.from c.in-Some.ensures.to
     (λ j high low. c.requires.nowhere j (high, omega (arith, low, c.in-Some.ensures.to)))
-    (λ j other taken. nowhere_of s.homes.shift s.homes.places.items c.args.key settled.homes c.requires.nowhere j taken)
-    (λ taken. cc (c.in-Some.ensures.free)) (c.has_none.ensures.shown c.if-has_none.true) (c.has_none.ensures.specified c.if-has_none.true)
+    (λ j other taken. nowhere_of s.homes.shift s.homes.places.items c.args.key settled.homes
+    c.requires.nowhere j taken)
+    (λ taken. cc (c.in-Some.ensures.free)) (c.has_none.ensures.shown c.if-has_none.true)
+    (c.has_none.ensures.specified c.if-has_none.true)
     c.put.ensures.places c.put.ensures.shift c.put.ensures.counted refl)
 
 pub returns-in-Some-clause-shown : goal.returns-in-Some-clause-shown
@@ -44,11 +48,14 @@ returns-in-Some-clause-shown c = λ r.
     let s = c.args.self.now in
     let settled = settled_of s c.requires.settled in
     let now : Sides = record { homes = c.put.new.self; rest = s.rest } in
-    place_shows s now c.in-Some.place c.args.key c.home_of.result settled (omega (arith, settled.homes.room c.args.key, c.in-Some.ensures.to))
+    place_shows s now c.in-Some.place c.args.key c.home_of.result settled
+    (omega (arith, settled.homes.room c.args.key, c.in-Some.ensures.to))
     c.home_of.ensures.key c.in-Some.ensures.from c.in-Some.ensures.to
     (λ j high low. c.requires.nowhere j (high, omega (arith, low, c.in-Some.ensures.to)))
-    (λ j other taken. nowhere_of s.homes.shift s.homes.places.items c.args.key settled.homes c.requires.nowhere j taken)
-    (λ taken. cc (c.in-Some.ensures.free)) (c.has_none.ensures.shown c.if-has_none.true) (c.has_none.ensures.specified c.if-has_none.true)
+    (λ j other taken. nowhere_of s.homes.shift s.homes.places.items c.args.key settled.homes
+    c.requires.nowhere j taken)
+    (λ taken. cc (c.in-Some.ensures.free)) (c.has_none.ensures.shown c.if-has_none.true)
+    (c.has_none.ensures.specified c.if-has_none.true)
     c.put.ensures.places c.put.ensures.shift c.put.ensures.counted refl r
     ∙ ap (λ a. cond (r == c.args.key) a (shown_at s r)) c.home_of.ensures.shown
 
@@ -57,11 +64,14 @@ returns-in-Some-clause-specified c =
     let s = c.args.self.now in
     let settled = settled_of s c.requires.settled in
     let now : Sides = record { homes = c.put.new.self; rest = s.rest } in
-    place_specifies s now c.in-Some.place c.args.key c.home_of.result settled (omega (arith, settled.homes.room c.args.key, c.in-Some.ensures.to))
+    place_specifies s now c.in-Some.place c.args.key c.home_of.result settled
+    (omega (arith, settled.homes.room c.args.key, c.in-Some.ensures.to))
     c.home_of.ensures.key c.in-Some.ensures.from c.in-Some.ensures.to
     (λ j high low. c.requires.nowhere j (high, omega (arith, low, c.in-Some.ensures.to)))
-    (λ j other taken. nowhere_of s.homes.shift s.homes.places.items c.args.key settled.homes c.requires.nowhere j taken)
-    (λ taken. cc (c.in-Some.ensures.free)) (c.has_none.ensures.shown c.if-has_none.true) (c.has_none.ensures.specified c.if-has_none.true)
+    (λ j other taken. nowhere_of s.homes.shift s.homes.places.items c.args.key settled.homes
+    c.requires.nowhere j taken)
+    (λ taken. cc (c.in-Some.ensures.free)) (c.has_none.ensures.shown c.if-has_none.true)
+    (c.has_none.ensures.specified c.if-has_none.true)
     c.put.ensures.places c.put.ensures.shift c.put.ensures.counted refl
     ∙ ap (with_amount (specified_of s) c.args.key) c.home_of.ensures.specified
 
@@ -75,9 +85,12 @@ returns-in_default-clause-settled c =
     (rest.specified ≡ with_amount s.rest.specified c.args.key c.args.both.specified)
     (rests.IsSettled rest)
     (IsSettled now)
-    (λ shown specified settled. is_settled now (rest_settles s now c.args.key c.args.both.shown c.args.both.specified (settled_of s c.requires.settled)
+    (λ shown specified settled. is_settled now
+    (rest_settles s now c.args.key c.args.both.shown c.args.both.specified
+    (settled_of s c.requires.settled)
     c.requires.nowhere refl shown specified settled))
-    c.put-in_default.ensures.shown c.put-in_default.ensures.specified c.put-in_default.ensures.settled
+    c.put-in_default.ensures.shown c.put-in_default.ensures.specified
+    c.put-in_default.ensures.settled
 
 pub returns-in_default-clause-shown : goal.returns-in_default-clause-shown
 returns-in_default-clause-shown c =
@@ -89,9 +102,11 @@ returns-in_default-clause-shown c =
     (rest.specified ≡ with_amount s.rest.specified c.args.key c.args.both.specified)
     (rests.IsSettled rest)
     ((r : ℕ) → shown_at now r ≡ cond (r == c.args.key) c.args.both.shown (shown_at s r))
-    (λ shown specified settled. rest_shows s now c.args.key c.args.both.shown c.args.both.specified (settled_of s c.requires.settled)
+    (λ shown specified settled. rest_shows s now c.args.key c.args.both.shown c.args.both.specified
+    (settled_of s c.requires.settled)
     c.requires.nowhere refl shown specified settled)
-    c.put-in_default.ensures.shown c.put-in_default.ensures.specified c.put-in_default.ensures.settled
+    c.put-in_default.ensures.shown c.put-in_default.ensures.specified
+    c.put-in_default.ensures.settled
 
 pub returns-in_default-clause-specified : goal.returns-in_default-clause-specified
 returns-in_default-clause-specified c =
@@ -103,6 +118,8 @@ returns-in_default-clause-specified c =
     (rest.specified ≡ with_amount s.rest.specified c.args.key c.args.both.specified)
     (rests.IsSettled rest)
     (specified_of now ≡ with_amount (specified_of s) c.args.key c.args.both.specified)
-    (λ shown specified settled. rest_specifies s now c.args.key c.args.both.shown c.args.both.specified (settled_of s c.requires.settled)
+    (λ shown specified settled. rest_specifies s now c.args.key c.args.both.shown
+    c.args.both.specified (settled_of s c.requires.settled)
     c.requires.nowhere refl shown specified settled)
-    c.put-in_default.ensures.shown c.put-in_default.ensures.specified c.put-in_default.ensures.settled
+    c.put-in_default.ensures.shown c.put-in_default.ensures.specified
+    c.put-in_default.ensures.settled

@@ -68,7 +68,8 @@ returns-clause-shown g c =
     c.put-2.result
     (λ now. sum_carries s sides carries k sum
     (c.in_ok-put.ensures.shown
-    ∙ ap (with_amount s.carries.shown k) (c.exchanged-sum.ensures.carries ∙ ap (λ n. n / 2 ^ 64) whole))
+    ∙ ap (with_amount s.carries.shown k)
+    (c.exchanged-sum.ensures.carries ∙ ap (λ n. n / 2 ^ 64) whole))
     (λ q. now q ∙ ap (λ n. if q == k then n else shown_at s.sides q)
     (c.exchanged-sum.ensures.left ∙ ap (λ n. n % 2 ^ 64) whole)))
     c.put-2.ensures.shown

@@ -34,7 +34,12 @@ returns-clause-shown g c =
     ≡ (if q == k then sum_at s k - c.args.less + c.args.more else sum_at s q)}
     c.put.result
     (sum_moves s now k c.args.less c.args.more low
-    (omega (arith, c.stays_below.ensures.enough c.if-not-stays_below.false, c.at-found.ensures.shown))
+    (omega (
+      arith,
+      c.stays_below.ensures.enough
+          c.if-not-stays_below.false,
+      c.at-found.ensures.shown,
+    ))
     (ap (λ n. n - c.args.less + c.args.more) c.at-found.ensures.shown))
     c.put.ensures.shown
 

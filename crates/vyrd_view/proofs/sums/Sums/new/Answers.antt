@@ -10,5 +10,6 @@ returns-clause-settled c =
     })
 
 pub returns-clause-shown : goal.returns-clause-shown
-returns-clause-shown c = fresh_sum (record { sides = c.in_ok-new.field-0; carries = c.new-2.result })
+returns-clause-shown c = fresh_sum
+    (record { sides = c.in_ok-new.field-0; carries = c.new-2.result })
     c.in_ok-new.ensures.shown c.new-2.ensures.shown

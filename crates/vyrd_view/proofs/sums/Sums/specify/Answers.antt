@@ -20,5 +20,6 @@ pub returns-clause-shown : goal.returns-clause-shown
 returns-clause-shown g c =
     let s = c.args.self.now in
     on_ok_weaker {P = (q : ℕ) → shown_at c.specify.new.self q ≡ shown_at s.sides q}
-    {Q = (q : ℕ) → sum_at (record { sides = c.specify.new.self; carries = s.carries }) q ≡ sum_at s q}
+    {Q = (q : ℕ) → sum_at (record { sides = c.specify.new.self; carries = s.carries }) q
+    ≡ sum_at s q}
     c.specify.result (sum_stays s c.specify.new.self) c.specify.ensures.shown
