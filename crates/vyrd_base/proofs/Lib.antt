@@ -26,7 +26,6 @@ pub mod ReadingGrows
 pub mod ReadingSound
 pub mod TextLasts
 pub mod AmountMaps
-pub mod TableLaws
 pub mod KeyLaws
 pub mod DifferenceLaws
 pub mod StopLaws

@@ -1,11 +1,16 @@
 -- What parts give to a key, whose amount is the sum of it.
 use Rattle.std.proofs.Common.{◌≡◌, ◌≢◌, ℕ, zero, suc, ◌+◌, ◌*◌, ◌<◌, ◌≤◌, Bool, true, false, cond}
 use Rattle.std.proofs.Common.{List, [], ◌∷◌, ◌++◌, length, get_or, set, refl, ap, ◌∙◌, sym, arith}
-use Rattle.std.specs.Prelude.{◌==◌, flat_map}
+use Rattle.std.proofs.Common.{T}
+use Rattle.std.specs.Prelude.{◌==◌, flat_map, Some, unwrap_or}
+use Rattle.std.specs.Ordering.{nat_cmp, is_lt}
+use Rattle.std.specs.FinMap.Entries.{find, below_all}
+use Rattle.std.specs.Cmp.{unsigned_tied}
 use Rattle.vyrd_base.specs.Places.{numbers_from}
 use Rattle.vyrd_base.specs.Amounts.{Amounts, IsAmounts, amount_of, plus_amount, collected}
 use Rattle.vyrd_base.specs.Amounts.{part_given, given}
-use Rattle.vyrd_base.proofs.AmountLaws.{amount_of-with_amount, IsAmounts-with_amount}
+use Rattle.vyrd_base.proofs.AmountLaws.{amount_of-with_amount, IsAmounts-with_amount, apart_from}
+use Rattle.vyrd_base.proofs.AmountLaws.{first_of_and, second_of_and}
 use Rattle.vyrd_base.proofs.TestLaws.{same_of, same_number, isnt_same}
 
 pub amount_of-plus : (s : Amounts) (k a q : ℕ) → amount_of (plus_amount s k a) q ≡ amount_of s q
@@ -116,3 +121,34 @@ only_gives q (p ∷ pairs) (suc i) nothing =
       only_gives q pairs i
           (λ j other. nothing (suc j) (λ e. other (omega (arith, e)))),
     )
+
+-- ---- keys that rise
+
+-- amounts of greater keys give a key nothing
+none_below : (q k : ℕ) (s : Amounts) → q ≤ k → T (below_all nat_cmp k s) → given q s ≡ 0
+none_below q k [] le below = refl
+none_below q k (e ∷ s) le below =
+    omega (
+      arith,
+      ap (λ b. cond b e.1 0) (apart_from k q e.0 le (first_of_and _ _ below)),
+      none_below q k s le (second_of_and (is_lt (nat_cmp k e.0)) _ below),
+    )
+
+-- amounts give each key what it has
+pub given_amount : (s : Amounts) → IsAmounts s → (q : ℕ) → given q s ≡ amount_of s q
+given_amount [] is q = refl
+given_amount (e ∷ s) is q =
+    let rest : IsAmounts s =
+    record { rising = second_of_and (below_all nat_cmp e.0 s) _ is.rising; some = is.some.1 } in
+    by_key (q == e.0) refl (given_amount s rest q)
+    ∙ sym (ap (λ b. unwrap_or (cond b (Some e.1) (find nat_cmp q s)) 0) (unsigned_tied q e.0))
+  where
+    by_key : (b : Bool) → (q == e.0) ≡ b → given q s ≡ amount_of s q → cond b e.1 0 + given q s
+        ≡ unwrap_or (cond b (Some e.1) (find nat_cmp q s)) 0
+    by_key true f same =
+        omega (
+          arith,
+          none_below q e.0 s (let e : q ≤ e.0 = omega (arith, same_of q e.0 f) in e)
+              (first_of_and _ _ is.rising),
+        )
+    by_key false f same = (let e : 0 + given q s ≡ given q s = omega arith in e) ∙ same

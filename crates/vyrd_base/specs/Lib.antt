@@ -16,7 +16,6 @@ pub mod Words
 pub mod Shape
 pub mod Front
 pub mod Formed
-pub mod Tables
 pub mod Views
 pub mod Specification
 pub mod Commits

@@ -15,9 +15,8 @@
 //! - `Entry`, `Kind`, `StartWord`: the lines of a log; `Stamped`, `Did`: the events of a run, of
 //!   which a log shows a part;
 //! - `Verdict`, `Rule`, `Why`, `Stop`: the answer, and how a text stops;
-//! - `View`: what a state or the words show, as amounts by key, to be read; `AmountMap` and
-//!   `AmountTable`: such amounts, to be looked up and changed, in an ordered map or in a flat
-//!   table;
+//! - `View`: what a state or the words show, as amounts by key, to be read; `AmountMap`: such
+//!   amounts, to be looked up and changed;
 //! - `Op`, `Effect`, `Last`, `SpecificationLine`, `SpecificationRule`: what the definitions of a
 //!   user's own specification name;
 //! - `Steps`: how many steps a call took, for contracts alone;
@@ -29,14 +28,14 @@
 //! `Cache`, `Tree`, `Buffers`), and to which of them a subject and a method belong (`Subjects`),
 //! the places of a list (`Places`), what a caller is in the middle of (`Callers`), the rules of
 //! shape and the well-formed front (`Shape`, `Front`), the words (`Words`), what they show
-//! (`Views`, `Amounts`), amounts in a table (`Tables`), the specification of the structures
-//! (`Specification`), rules, which are a specification as a value, and those of a header (`Rules`),
-//! the words and the state at the start (`Starts`), commit order and its states (`Commits`), the
-//! faults (`Faults`), the verdict (`Verdicts`), the verdict as it was while version 1 was the only
-//! one (`FirstVersion`), the text of a log and what its bytes say (`Spelling`, `Lines`, `Reading`),
-//! the verdict about bytes and its line (`TextVerdicts`, `VerdictText`), histories (`Histories`),
-//! words that represent a state (`Represented`), and devices (`Devices`). Shape, words, states,
-//! faults and the verdict are those of any rules, and name no structure.
+//! (`Views`, `Amounts`), the specification of the structures (`Specification`), rules, which are a
+//! specification as a value, and those of a header (`Rules`), the words and the state at the start
+//! (`Starts`), commit order and its states (`Commits`), the faults (`Faults`), the verdict
+//! (`Verdicts`), the verdict as it was while version 1 was the only one (`FirstVersion`), the text
+//! of a log and what its bytes say (`Spelling`, `Lines`, `Reading`), the verdict about bytes and
+//! its line (`TextVerdicts`, `VerdictText`), histories (`Histories`), words that represent a state
+//! (`Represented`), and devices (`Devices`). Shape, words, states, faults and the verdict are those
+//! of any rules, and name no structure.
 //!
 //! The language in which a user writes a specification of their own has its definitions here too,
 //! in the folder `Own`: what a text spells, what that says of calls, states and words, and so the
@@ -51,7 +50,6 @@
 #![tactic(auto)]
 
 mod amount_map;
-mod amount_table;
 mod buffers;
 mod cache;
 mod calls;
@@ -77,7 +75,6 @@ pub mod worked_second;
 pub mod worked_text;
 
 pub use amount_map::AmountMap;
-pub use amount_table::AmountTable;
 pub use buffers::{BUFFER_WORDS, BuffersMethod, MOST_CHARACTERS, TEXT_BASE, buffer_text};
 pub use cache::CacheMethod;
 pub use device::{Failed, Gate, OpenGate, Sink, Source};

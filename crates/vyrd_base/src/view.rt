@@ -33,6 +33,14 @@ impl View {
         }
     }
 
+    /// The view of these pairs, whose keys rise and of whose amounts none is 0.
+    pub fn of(pairs: Vec<(u64, u64)>) -> View
+        requires { IsAmounts pairs.items }
+        ensures { result ≡ pairs.items }
+    {
+        View { pairs }
+    }
+
     /// Puts a key with its amount at the end: the key is above all others, and the amount isn't 0.
     /// If memory runs out, the view is as it was. It takes constant time, and memory now and then.
     pub fn push(&mut self, key: u64, amount: u64) -> Result<(), AllocError>

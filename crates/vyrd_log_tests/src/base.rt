@@ -8,7 +8,7 @@ use std::io;
 use std::io::Cursor;
 use std::test::Fail;
 use vyrd_base::{
-    AmountMap, AmountTable, Args, BuffersMethod, CacheMethod, Failed, Gate, Header, MemorySink,
+    AmountMap, Args, BuffersMethod, CacheMethod, Failed, Gate, Header, MemorySink,
     MemorySource, Method, MultisetMethod, OpenGate, Sink, Source, StdSink, StdSource, Subject,
     TreeMethod, View,
 };
@@ -75,49 +75,6 @@ fn says_its_parts(header: Header, subject: Subject) -> bool {
         && header.size() == 3
         && header.callers() == 2
         && header.subject() == subject
-}
-
-#[test]
-fn keys_of_a_small_table(rt: HostRuntime) -> Result<(), Fail> {
-    let mut table = filled(rt.alloc(), 1, 40)?;
-    change(&mut table)?;
-    assert!(rt; table.amount(0) == 0 && table.amount(7) == 108 && table.amount(39) == 0);
-    assert!(rt; table.view(rt.alloc())?.pairs() == [(1, 2), (7, 108)].as_slice());
-    Ok(())
-}
-
-#[test]
-fn keys_of_a_table_that_grows(rt: HostRuntime) -> Result<(), Fail> {
-    let table = filled(rt.alloc(), 3000, 3000)?;
-    assert!(rt; table.amount(0) == 1 && table.amount(2999) == 3000 && table.amount(3000) == 0);
-    assert!(rt; table.view(rt.alloc())?.pairs().len() == 3000);
-    Ok(())
-}
-
-/// A table, made for so many keys, of the keys below another number, each with its successor as
-/// its amount.
-fn filled(alloc: Global, made_for: usize, keys: u64) -> Result<AmountTable, AllocError> {
-    let mut table = AmountTable::new(alloc, made_for)?;
-    for key in 0..keys {
-        table.set(key, key + 1)?;
-    }
-    Ok(table)
-}
-
-/// Adds to key 7, takes one of key 0, and removes all others but 1.
-fn change(table: &mut AmountTable) -> Result<(), AllocError> {
-    if table.amount(7) == 8 {
-        table.add(7, 100)?;
-    }
-    if table.amount(0) == 1 {
-        table.take_one(0);
-    }
-    for key in 2..40 {
-        if key != 7 {
-            table.remove(key);
-        }
-    }
-    Ok(())
 }
 
 /// A subject, a call with its arguments, and whether it fits a header of size 3.

@@ -2,7 +2,7 @@
 
 use std::alloc::{AllocError, Global};
 use std::test::Fail;
-use vyrd_table::Table;
+use vyrd_table::{AmountTable, Table};
 
 /// The inverse, modulo 2^64, of the number that spreads keys over the places. Multiples of it by
 /// small numbers all belong to the first places, so that most of them find none.
@@ -95,4 +95,47 @@ fn has_all(table: &Table<u64>, factor: u64, count: u64, at_last: bool) -> bool {
 /// Whether the keys rise, and are so many.
 fn are_those(pairs: &[(u64, u64)], count: usize) -> bool {
     pairs.len() == count && pairs.is_sorted_by(|one, other| one.0 < other.0)
+}
+
+#[test]
+fn amounts_come_change_and_go(rt: HostRuntime) -> Result<(), Fail> {
+    let mut table = successors(rt.alloc(), 1, 40)?;
+    change_amounts(&mut table)?;
+    assert!(rt; table.amount(0) == 0 && table.amount(7) == 108 && table.amount(39) == 0);
+    assert!(rt; table.view(rt.alloc())?.pairs() == [(1, 2), (7, 108)].as_slice());
+    Ok(())
+}
+
+#[test]
+fn amounts_of_many_keys(rt: HostRuntime) -> Result<(), Fail> {
+    let table = successors(rt.alloc(), 3000, 3000)?;
+    assert!(rt; table.amount(0) == 1 && table.amount(2999) == 3000 && table.amount(3000) == 0);
+    assert!(rt; table.view(rt.alloc())?.pairs().len() == 3000);
+    Ok(())
+}
+
+/// A table, made for so many keys, of the keys below another number, each with its successor as
+/// its amount.
+fn successors(alloc: Global, made_for: usize, keys: u64) -> Result<AmountTable, AllocError> {
+    let mut table = AmountTable::new(alloc, made_for)?;
+    for key in 0..keys {
+        table.set(key, key + 1)?;
+    }
+    Ok(table)
+}
+
+/// Adds to key 7, takes one of key 0, and removes all others but 1.
+fn change_amounts(table: &mut AmountTable) -> Result<(), AllocError> {
+    if table.amount(7) == 8 {
+        table.add(7, 100)?;
+    }
+    if table.amount(0) == 1 {
+        table.take_one(0);
+    }
+    for key in 2..40 {
+        if key != 7 {
+            table.remove(key);
+        }
+    }
+    Ok(())
 }

@@ -1,5 +1,5 @@
 -- Laws of keys that are marked.
-use Rattle.std.proofs.Common.{◌≡◌, ℕ, ◌<◌, ◌≤◌, Bool, true, false, cond, ◌&&◌, T, [], ◌∷◌, Some}
+use Rattle.std.proofs.Common.{◌≡◌, ℕ, Bool, true, false, cond, ◌&&◌, T, [], ◌∷◌, Some}
 use Rattle.std.proofs.Common.{refl, ap, ◌∙◌, sym, subst, arith, length}
 use Rattle.std.specs.Prelude.{◌≢◌, ◌==◌, unwrap_or, min}
 use Rattle.std.specs.Ordering.{nat_cmp, eq_by_cmp, is_lt}

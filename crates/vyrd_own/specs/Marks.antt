@@ -1,5 +1,5 @@
 -- Which keys have an amount, whatever it is.
-use Rattle.std.specs.Prelude.{ℕ, min, map}
+use Rattle.std.specs.Prelude.{min, map}
 use Rattle.vyrd_base.specs.Amounts.{Amounts}
 
 -- the same keys, each with the amount 1

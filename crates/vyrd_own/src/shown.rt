@@ -7,7 +7,8 @@ ghost use Rattle.vyrd_base.specs.Own.Expressions.{least_from, greatest_to};
 use crate::ordered::OrderedAmounts;
 use std::alloc::{AllocError, Global};
 use std::marker::Model;
-use vyrd_base::{AmountTable, View};
+use vyrd_base::View;
+use vyrd_table::AmountTable;
 
 /// Amounts by key, to be looked up in constant time, and to be asked for the nearest key in
 /// logarithmic time. A change takes logarithmic time where a key comes or goes, and constant time

@@ -16,7 +16,8 @@ use crate::shown::ShownAmounts;
 use crate::updates::Updates;
 use std::alloc::{AllocError, Global};
 use std::marker::Model;
-use vyrd_base::{AmountTable, Effect};
+use vyrd_base::Effect;
+use vyrd_table::AmountTable;
 
 /// A state: what it shows, what it hides, its registers and its lists.
 #[derive(Drop)]

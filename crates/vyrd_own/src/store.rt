@@ -7,7 +7,7 @@ ghost use Rattle.vyrd_own.specs.Sets.{amount_after, AreAdded, HasKeys};
 
 use crate::shown::ShownAmounts;
 use std::alloc::AllocError;
-use vyrd_base::AmountTable;
+use vyrd_table::AmountTable;
 
 /// Amounts by key.
 pub(crate) trait Store: Sized {

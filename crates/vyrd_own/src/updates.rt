@@ -9,7 +9,8 @@ ghost use Rattle.vyrd_own.specs.Sets.{shown_after, hidden_after};
 use crate::shown::ShownAmounts;
 use crate::store::{add_all, put, take_back};
 use std::alloc::{AllocError, Global};
-use vyrd_base::{AmountTable, Effect};
+use vyrd_base::Effect;
+use vyrd_table::AmountTable;
 
 /// The amounts that a step sets, and room for what it does on the way.
 #[derive(Drop)]

@@ -11,8 +11,7 @@ use Rattle.vyrd_base.specs.Amounts.{Amounts, IsAmounts, amount_of, with_amount, 
 use Rattle.vyrd_base.proofs.AmountLaws.{amount_of-with_amount, IsAmounts-with_amount}
 use Rattle.vyrd_base.proofs.AmountLaws.{IsAmounts-push, same_amounts}
 use Rattle.vyrd_base.proofs.PlaceLaws.{numbers_below-push}
-use Rattle.vyrd_base.proofs.SumLaws.{given-append, amount_of-collected}
-use Rattle.vyrd_base.proofs.TableLaws.{given_amount}
+use Rattle.vyrd_base.proofs.SumLaws.{given-append, amount_of-collected, given_amount}
 use Rattle.vyrd_base.proofs.TestLaws.{same_of, apart_of, below_of, not_below_of, is_below}
 use Rattle.vyrd_base.proofs.TestLaws.{isnt_below}
 use Rattle.vyrd_spec.specs.Rows.{row_amounts, row_formed}

@@ -12,7 +12,7 @@ ghost use Rattle.vyrd_spec.specs.Bounds.{AllAmounts};
 
 use crate::nodes::{COUNT, KEYS, MOST_ENTRIES, NODE_WORDS, NUMBER_END, RIGHT, VALUES};
 use std::alloc::{AllocError, Global};
-use vyrd_base::AmountTable;
+use vyrd_table::AmountTable;
 
 /// The amounts of the keys in the leaves, from node 0 on along the right links.
 pub(crate) fn values(alloc: Global, size: usize, words: &[u64]) -> Result<AmountTable, AllocError>

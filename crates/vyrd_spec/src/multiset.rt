@@ -21,7 +21,8 @@ use crate::slot_words::{are_sound, counts};
 use crate::spec::{BuiltIn, Spec};
 use crate::touched::Touched;
 use std::alloc::{AllocError, Global};
-use vyrd_base::{AmountTable, Args, Header, Method, MultisetMethod, View};
+use vyrd_base::{Args, Header, Method, MultisetMethod, View};
+use vyrd_table::AmountTable;
 use vyrd_view::Compared;
 
 /// The specification of the multiset. The amount of a value is its multiplicity.

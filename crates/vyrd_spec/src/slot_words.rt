@@ -11,7 +11,7 @@ ghost use Rattle.vyrd_base.specs.Multiset.{is_sound_slot};
 ghost use Rattle.vyrd_base.specs.Views.{parts_of};
 
 use std::alloc::{AllocError, Global};
-use vyrd_base::AmountTable;
+use vyrd_table::AmountTable;
 
 /// The state of a slot that holds a value of the multiset.
 const VALID: u64 = 2;

@@ -22,7 +22,8 @@ use crate::spec::{BuiltIn, Spec};
 use crate::touched::Touched;
 use crate::tree_words::is_tree;
 use std::alloc::{AllocError, Global};
-use vyrd_base::{AmountTable, Args, Header, Method, TreeMethod, View};
+use vyrd_base::{Args, Header, Method, TreeMethod, View};
+use vyrd_table::AmountTable;
 use vyrd_view::Compared;
 
 /// What is added to a value, so that the amount of a key that is there is never 0.

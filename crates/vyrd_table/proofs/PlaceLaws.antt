@@ -1,5 +1,6 @@
 -- What the places of a table and the rest have of each key, and how that changes with one key.
-use Rattle.std.proofs.Common.{◌≡◌, ◌≢◌, ℕ, zero, suc, ◌+◌, ◌-◌, ◌^◌, ◌<◌, ◌≤◌, Bool, true, false}
+use Rattle.std.proofs.Common.{◌≡◌, ◌≢◌, ℕ, zero, suc, ◌+◌, ◌-◌, ◌*◌, ◌%◌, ◌^◌, ◌<◌, ◌≤◌, Bool, true}
+use Rattle.std.proofs.Common.{false}
 use Rattle.std.proofs.Common.{cond, not, List, [], ◌∷◌, Option, Some, None, length, length-set, set}
 use Rattle.std.proofs.Common.{replicate, refl, ap, ◌∙◌, sym, subst, arith, get_or-set_same}
 use Rattle.std.proofs.Common.{get_or-set_other, slice_index_or}
@@ -10,14 +11,25 @@ use Rattle.std.specs.FinMap.Entries.{find, put, find-put}
 use Rattle.std.specs.Cmp.{unsigned_tied}
 use Rattle.std.proofs.lemmas.Cmp.{nat_cmp_total}
 use Rattle.std.proofs.lemmas.List.{length-replicate, get_or_default}
-use Rattle.vyrd_base.specs.Tables.{first_place, IsWithin}
-use Rattle.vyrd_base.proofs.TableLaws.{places_within}
+use Rattle.std.proofs.lemmas.Nat.{shr_below}
 use Rattle.vyrd_base.proofs.TestLaws.{same_of, apart_of, is_same, isnt_same, below_of, not_below_of}
 use Rattle.vyrd_table.specs.Entries.{IsEntries, value_of, with_value}
-use Rattle.vyrd_table.specs.Places.{is_taken, place_at, IsFoundAt, ArePlaces, entries_in}
+use Rattle.vyrd_table.specs.Places.{first_place, IsWithin, is_taken, place_at, IsFoundAt, ArePlaces}
+use Rattle.vyrd_table.specs.Places.{entries_in}
 use Rattle.vyrd_table.proofs.EntryLaws.{given_value, find-with_value, IsEntries-put}
 use Rattle.vyrd_table.proofs.EntryLaws.{IsEntries-with_value, entries_are, no_entries, not_found}
 use Rattle.vyrd_table.proofs.EntryLaws.{put_more}
+
+-- of 64 - shift bits, a key's first place is one of the places that may be first
+pub places_within : (shift bits q : ℕ) → shift + bits ≡ 64 → first_place shift q < 2 ^ bits
+unfolding first_place
+places_within shift bits q sum =
+    let low : (q * 11400714819323198485) % 18446744073709551616 < 18446744073709551616 =
+    omega arith in
+    let is : 2 ^ (bits + shift) ≡ 18446744073709551616 =
+    ap (λ n. 2 ^ n) (let e : bits + shift ≡ 64 = omega (arith, sum) in e) in
+    shr_below ((q * 11400714819323198485) % 18446744073709551616) bits shift
+    (omega (arith, low, is))
 
 module _ {V : Type 0} (nothing : V) (is_nothing : V → Bool) where
   -- what the first place with a key and a value has of it

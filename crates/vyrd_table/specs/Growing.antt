@@ -8,7 +8,8 @@ use Rattle.vyrd_table.specs.declared.places.Places.{Places}
 -- before that are at most half as many as the places. So it is at first, with no name but that of 0
 -- and room for a quarter; each newcomer brings one name at most, and takes one of the room; and
 -- when that is used up, the places become at least twice as many, and there is room for a quarter.
--- A key that is taken out leaves its name, and that is no newcomer if it comes again.
+-- A key that is taken out leaves its name in its place. As long as that stands there, the key is no
+-- newcomer if it comes again.
 pub record HasRoom (bits names most room : ℕ) : Type 0 where
   pub half : 0 < room → names + room ≤ 2 ^ bits / 2
   pub quarter : 0 < room → room ≤ 2 ^ bits / 4

@@ -1,11 +1,11 @@
 -- A table of places, each with a key and its value, where a key stands in one of four places in a
 -- row. The keys that find no place there are the rest, and have their values elsewhere.
-use Rattle.std.specs.Prelude.{◌≡◌, ◌≢◌, ℕ, Bool, true, cond, ◌+◌, ◌-◌, ◌^◌, ◌<◌, ◌≤◌, ◌==◌, not}
+use Rattle.std.specs.Prelude.{◌≡◌, ◌≢◌, ℕ, Bool, true, cond, ◌+◌, ◌-◌, ◌*◌, ◌/◌, ◌%◌, ◌^◌}
+use Rattle.std.specs.Prelude.{◌<◌, ◌≤◌, ◌==◌, not}
 use Rattle.std.specs.Prelude.{List, [], ◌∷◌, length, slice_index_or, count_by}
 use Rattle.std.specs.Prelude.{Option, Some, None, if◌then◌else◌}
 use Rattle.std.specs.Ordering.{nat_cmp}
 use Rattle.std.specs.FinMap.{find, put}
-use Rattle.vyrd_base.specs.Tables.{first_place, IsWithin}
 use Rattle.vyrd_table.specs.Entries.{IsEntries}
 
 -- so many places in a row a key may stand in
@@ -23,6 +23,15 @@ bits_at_most = 20
 -- the last of these.
 abbrev pub place_count : ℕ → ℕ
 place_count bits = 2 ^ bits + 3
+
+-- the first of the places in which a key may stand: a multiple of the golden ratio's fraction, so
+-- that keys in a row lie apart
+unfoldable pub first_place : ℕ → ℕ → ℕ
+first_place shift key = (key * 11400714819323198485) % 2 ^ 64 / 2 ^ shift
+
+-- whether a place is one of those in which the key may stand
+abbrev pub IsWithin : ℕ → ℕ → ℕ → Type 0
+IsWithin shift key i = (first_place shift key ≤ i) × (i < first_place shift key + reach)
 
 -- whether a key stands in a place: it has a value there
 abbrev pub is_taken : {V : Type 0} → (V → Bool) → ℕ × V → Bool

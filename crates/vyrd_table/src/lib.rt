@@ -20,11 +20,14 @@
 //! All keys with their values are given by `entries`. The least key whose value is [`Marked`] is
 //! found without memory.
 //!
+//! An [`AmountTable`] is a table of amounts, seen as the amounts alone.
+//!
 //! `places` has the places with the rest of the keys, `moved` has all keys come to new places,
 //! `growing` says when they do, and `rest` is the ordered map. `laws` says that entries are a map,
 //! and what a logarithm is; `worked` has small cases.
 #![tactic(auto)]
 
+mod amounts;
 mod growing;
 pub mod laws;
 mod listed;
@@ -37,6 +40,7 @@ mod table;
 mod value;
 pub mod worked;
 
+pub use amounts::AmountTable;
 pub use marked::Marked;
 pub use slot::Slot;
 pub use table::Table;

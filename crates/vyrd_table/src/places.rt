@@ -2,10 +2,9 @@
 
 ghost use Rattle.std.specs.Prelude.{◌≡◌, ◌+◌, ◌-◌, ◌<◌, ◌≤◌, ◌==◌, true, false, length};
 ghost use Rattle.std.specs.Prelude.{replicate, [], OnOk, OnErr, IfOk, IfSome, Some, None};
-ghost use Rattle.vyrd_base.specs.Tables.{first_place};
 ghost use Rattle.vyrd_table.specs.Entries.{value_of, with_value};
-ghost use Rattle.vyrd_table.specs.Places.{reach, bits_at_most, place_count, is_taken, one_name};
-ghost use Rattle.vyrd_table.specs.Places.{place_at, IsFoundAt};
+ghost use Rattle.vyrd_table.specs.Places.{reach, bits_at_most, place_count, first_place, is_taken};
+ghost use Rattle.vyrd_table.specs.Places.{one_name, place_at, IsFoundAt};
 ghost use Rattle.vyrd_table.specs.Prices.{question, newcomer_price};
 
 use crate::rest::Rest;

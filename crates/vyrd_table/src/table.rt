@@ -192,7 +192,8 @@ impl<V: Value> Table<V> {
     /// All keys with their values, the keys rising. It goes through the whole table, and takes time
     /// and memory for each place and each key.
     pub fn entries(&self, alloc: Global) -> Result<Vec<(u64, V)>, AllocError>
-        ensures { IfOk result (λ pairs. pairs.items ≡ self.now.entries) }
+        ensures entries { IfOk result (λ pairs. pairs.items ≡ self.now.entries) }
+        ensures formed { IsEntries V.is_nothing self.now.entries }
     {
         self.places.listed(alloc)
     }

@@ -5,8 +5,8 @@ use Rattle.vyrd_base.proofs.AmountLaws.{no_amounts}
 use Rattle.vyrd_own.proofs.SetLaws.{formed_set}
 use Rattle.vyrd_own.proofs.state.StateOf.new.Goals as goal
 
-pub invariant_of-result-2 : goal.invariant_of-result-2
-invariant_of-result-2 c = (
+pub invariant_of-result : goal.invariant_of-result
+invariant_of-result c = (
   subst IsAmounts (sym c.in_ok-new.ensures) no_amounts,
   subst IsAmounts
       (sym (c.hidden.view_is ∙ c.in_ok-put_hidden.ensures
