@@ -1,6 +1,6 @@
 //! The queue between the senders and the receiver.
 
-ghost use Rattle.std.specs.Prelude.{◌≡◌, ◌+◌, ◌<◌, ◌≤◌, ◌^◌, [], length, IfOk, OnOk, OnErr, IfSome};
+ghost use Rattle.std.specs.Prelude.{◌≡◌, ◌+◌, ◌<◌, ◌≤◌, ◌^◌, true, [], length, IfOk, OnOk, OnErr, IfSome};
 ghost use Rattle.std.specs.Prelude.{IfNone, vec_len, vec_capacity};
 ghost use Rattle.std.specs.List.{All};
 ghost use Rattle.crossbeam_queue.specs.Passes.{view, IsSamePass, IsPassOf};
@@ -108,12 +108,44 @@ impl Relay {
         }
     }
 
-    /// The next events, the oldest in the queue. It is one pop of the queue. It may wait as
-    /// `push_next` may, but never for events to come, and it takes no memory.
+    /// The next events, the oldest in the queue. It is one pop of the queue if that isn't empty. It
+    /// may wait as `push_next` may, but never for events to come, and it takes no memory.
     ///
     /// `None` comes only if the queue was empty at a step of this call. The clause `all` says what
     /// follows for each sender that was taken in: all that it sent was had.
     pub fn pop<R: Wait>(&self, rt: &R, receiver: &mut Receiver) -> Option<Parcel>
+        requires receiver { receiver.old.queue ≡ self.now.queue }
+        ensures events { IfSome result (λ events. receiver.new ≡ with_popped receiver.old events) }
+        ensures sender { IfSome result
+            (λ events. All (λ e. e.caller < receiver.old.senders) events) }
+        ensures beginnings { IfSome result
+            (λ _. All (HasBeginning receiver.new.had) receiver.new.settled) }
+        ensures none { IfNone result (receiver.new ≡ receiver.old) }
+        ensures cause { IfNone result (WasEmpty receiver.old) }
+        ensures all { IfNone result (All (HasAll receiver.old.had) receiver.old.settled) }
+    {
+        // A receiver that waits for events asks often, and a pop makes room for a parcel before it
+        // looks for one.
+        if self.is_empty(receiver) {
+            return None;
+        }
+        self.pop_first(rt, receiver)
+    }
+
+    /// Whether the queue was empty at a step of this call.
+    #[inline(always)]
+    fn is_empty(&self, receiver: &mut Receiver) -> bool
+        requires receiver { receiver.old.queue ≡ self.now.queue }
+        ensures same { receiver.new ≡ receiver.old }
+        ensures cause { result ≡ true → WasEmpty receiver.old }
+        ensures all { result ≡ true → All (HasAll receiver.old.had) receiver.old.settled }
+    {
+        self.queue.is_empty_as::<Pops>(&mut receiver.pass)
+    }
+
+    /// One pop of the queue, of which `pop` says what it is.
+    #[inline(always)]
+    fn pop_first<R: Wait>(&self, rt: &R, receiver: &mut Receiver) -> Option<Parcel>
         requires receiver { receiver.old.queue ≡ self.now.queue }
         ensures events { IfSome result (λ events. receiver.new ≡ with_popped receiver.old events) }
         ensures sender { IfSome result

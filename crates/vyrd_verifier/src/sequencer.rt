@@ -64,6 +64,7 @@ impl<S: EventSink + Drop> Sequencer<S> {
     /// all whose turn has come.
     ///
     /// After out of memory the event wasn't taken in, and each later call answers the same.
+    #[inline(always)]
     pub fn take_in(&mut self, item: Stamped) -> Result<(), AllocError>
         requires number { item.number < 2 ^ 62 }
         requires new { has_number self.old item.number ≡ false }
@@ -90,6 +91,7 @@ impl<S: EventSink + Drop> Sequencer<S> {
     /// Takes in an event if that may be done, and answers whether it was taken in. It wasn't if the
     /// number is 2^62 or more, or was taken in before, and then all is as it was; or if there is no
     /// memory.
+    #[inline(always)]
     pub fn try_take_in(&mut self, item: Stamped) -> bool
         ensures taken { (taken : List Stamped) → HasTakenIn S.has_taken self.old taken
             → result ≡ true
@@ -112,6 +114,7 @@ impl<S: EventSink + Drop> Sequencer<S> {
     }
 
     /// Whether an event with this number was taken in. It takes no memory.
+    #[inline(always)]
     pub fn had(&self, number: u64) -> bool
         ensures value { result ≡ has_number self.now number }
         ensures taken { (taken : List Stamped) → HasTakenIn S.has_taken self.now taken
@@ -151,6 +154,7 @@ impl<S: EventSink + Drop> Sequencer<S> {
 }
 
 /// Puts an event in order, and shows the sink all whose turn has come.
+#[inline(always)]
 fn follow<S: EventSink>(
     sink: &mut S,
     reorder: &mut Reorder,
@@ -175,6 +179,7 @@ fn follow<S: EventSink>(
 }
 
 /// Shows the sink an event whose turn it is, and puts any other in order.
+#[inline(always)]
 fn place<S: EventSink>(sink: &mut S, reorder: &mut Reorder, item: Stamped) -> Result<(), AllocError>
     requires number { item.number < 2 ^ 62 }
     requires new { has reorder.old item.number ≡ false }
@@ -192,6 +197,7 @@ fn place<S: EventSink>(sink: &mut S, reorder: &mut Reorder, item: Stamped) -> Re
 }
 
 /// Shows the sink the event whose turn has come, and answers whether there was one.
+#[inline(always)]
 fn advance<S: EventSink>(sink: &mut S, reorder: &mut Reorder) -> Result<bool, AllocError>
     requires counted { S.count sink.old ≡ reorder.old.next }
     ensures followed { (taken : List Stamped) → IsTaking S.has_taken sink.old reorder.old taken

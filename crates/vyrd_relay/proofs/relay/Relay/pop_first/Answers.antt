@@ -7,7 +7,7 @@ use Rattle.vyrd_relay.specs.declared.known.Known.{Known}
 use Rattle.vyrd_relay.specs.Knowledge.{received_in, HasBeginning, Learned, Popped}
 use Rattle.vyrd_relay.specs.Rule.{Relayed}
 use Rattle.vyrd_relay.proofs.Moves.{gets, receiver_learns}
-use Rattle.vyrd_relay.proofs.relay.Relay.pop.Goals as goal
+use Rattle.vyrd_relay.proofs.relay.Relay.pop_first.Goals as goal
 
 pub pop_as-requires-clause-rule : goal.pop_as-requires-clause-rule
 pop_as-requires-clause-rule g c =
