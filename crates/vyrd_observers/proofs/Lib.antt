@@ -1,5 +1,6 @@
-pub mod SeeingLaws
-pub mod TrailLaws
 pub mod AskerLaws
-pub mod TrailCounts
+pub mod CallersSee
 pub mod CostLaws
+pub mod SeeingLaws
+pub mod TrailCounts
+pub mod TrailLaws

@@ -6,7 +6,8 @@ use Rattle.vyrd_base.proofs.ChangedLists.{written_back}
 use Rattle.vyrd_base.proofs.ListLaws.{slice_get-is, slice_get-set_same, is_none}
 use Rattle.vyrd_observers.specs.Trails.{Asked, AreOn, OthersAreUsed, seen_by, kept_count}
 use Rattle.vyrd_observers.specs.Order.{AreCountedBefore, AreFreeFrom, Closes}
-use Rattle.vyrd_observers.proofs.TrailLaws.{on_set, used_without, stay_all, closed_stays}
+use Rattle.vyrd_observers.proofs.TrailLaws.{on_set, used_without, stay_all}
+use Rattle.vyrd_observers.proofs.CallersSee.{closed_stays}
 use Rattle.vyrd_observers.proofs.AskerLaws.{counted_without, free_closed}
 use Rattle.vyrd_observers.proofs.leaving.close.Goals as goal
 

@@ -6,7 +6,8 @@ use Rattle.vyrd_observers.specs.Trails.{Asked, AreOn, seen_by}
 use Rattle.vyrd_observers.specs.Order.{AreCounted}
 use Rattle.vyrd_observers.proofs.AskerLaws.{counted_moved}
 use Rattle.vyrd_observers.proofs.CostLaws.{kept_dropped}
-use Rattle.vyrd_observers.proofs.TrailLaws.{read_is, seen_moved, on_moved, asking_set}
+use Rattle.vyrd_observers.proofs.TrailLaws.{seen_moved, on_moved, asking_set}
+use Rattle.vyrd_observers.proofs.CallersSee.{read_is}
 use Rattle.vyrd_observers.proofs.TrailLaws.{old_except_set, stay_set}
 use Rattle.vyrd_observers.proofs.leaving.forget.Goals as goal
 

@@ -4,7 +4,7 @@ use Rattle.std.proofs.lemmas.Option.{slice_get-map}
 use Rattle.vyrd_observers.specs.declared.watch.Watch.{Watch}
 use Rattle.vyrd_observers.specs.Trails.{Asked, AreOn, AreUsed, moved}
 use Rattle.vyrd_observers.proofs.TrailLaws.{used_moved, used_still, stay_all, counted_within}
-use Rattle.vyrd_observers.proofs.TrailLaws.{read_is}
+use Rattle.vyrd_observers.proofs.CallersSee.{read_is}
 use Rattle.vyrd_observers.proofs.leaving.forget_some.Goals as goal
 
 pub forget-requires-clause-within : goal.forget-requires-clause-within

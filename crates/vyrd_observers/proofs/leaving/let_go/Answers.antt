@@ -1,7 +1,8 @@
 use Rattle.std.proofs.Common.{◌≡◌, length, set, get_or, ap, ◌∙◌, arith}
 use Rattle.std.proofs.lemmas.List.{length-set}
 use Rattle.vyrd_observers.specs.Trails.{Asked}
-use Rattle.vyrd_observers.proofs.TrailLaws.{read_is, stay_then}
+use Rattle.vyrd_observers.proofs.TrailLaws.{stay_then}
+use Rattle.vyrd_observers.proofs.CallersSee.{read_is}
 use Rattle.vyrd_observers.proofs.CostLaws.{kept_at}
 use Rattle.vyrd_observers.proofs.AskerLaws.{leaves_at, counts_some, used_left, some_left}
 use Rattle.vyrd_observers.proofs.leaving.let_go.Goals as goal

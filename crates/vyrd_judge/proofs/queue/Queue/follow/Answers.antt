@@ -3,9 +3,10 @@ use Rattle.std.proofs.lemmas.Result.{IfOk-weaker}
 use Rattle.vyrd_base.specs.declared.log.Kind.TheVariants.{Commit, BlockCommit}
 use Rattle.vyrd_base.proofs.CommitLaws.{alone, with_block}
 use Rattle.vyrd_words.proofs.WordsLaws.{low_caller, keeps_as}
-use Rattle.vyrd_judge.proofs.QueueLaws.{all_ok, write_up, open_up, close_up, call_up, commit_up}
-use Rattle.vyrd_judge.proofs.QueueLaws.{queue_caller, queue_few, queue_pending, return_up}
-use Rattle.vyrd_judge.proofs.QueueLaws.{committing_called, known_caller, taken_kind}
+use Rattle.vyrd_judge.proofs.QueueLaws.{write_up, open_up, close_up, call_up, commit_up}
+use Rattle.vyrd_judge.proofs.QueueTells.{all_ok}
+use Rattle.vyrd_judge.proofs.QueueTells.{queue_caller, queue_few, queue_pending, return_up}
+use Rattle.vyrd_judge.proofs.QueueTells.{committing_called, known_caller, taken_kind}
 use Rattle.vyrd_judge.proofs.queue.Queue.follow.Goals as goal
 
 pub give_back-requires-clause-pending : goal.give_back-requires-clause-pending

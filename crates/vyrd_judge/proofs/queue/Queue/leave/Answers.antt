@@ -1,5 +1,6 @@
 use Rattle.std.proofs.Common.{refl, sym, ◌∙◌}
-use Rattle.vyrd_judge.proofs.QueueLaws.{queue_left, first_awaits}
+use Rattle.vyrd_judge.proofs.QueueLaws.{queue_left}
+use Rattle.vyrd_judge.proofs.QueueTells.{first_awaits}
 use Rattle.vyrd_judge.proofs.queue.Queue.leave.Goals as goal
 
 pub returns-in_err-x-clause-left : goal.returns-in_err-x-clause-left

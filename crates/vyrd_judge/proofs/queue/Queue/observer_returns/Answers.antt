@@ -1,4 +1,4 @@
-use Rattle.vyrd_judge.proofs.QueueLaws.{observer_is}
+use Rattle.vyrd_judge.proofs.QueueTells.{observer_is}
 use Rattle.vyrd_judge.proofs.queue.Queue.observer_returns.Goals as goal
 
 pub returns-in-Return : goal.returns-in-Return

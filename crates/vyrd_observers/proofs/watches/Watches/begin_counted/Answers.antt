@@ -10,7 +10,8 @@ use Rattle.vyrd_observers.specs.Trails.{Asked, seen_by, with_asker, kept_by}
 use Rattle.vyrd_observers.specs.Costs.{owed}
 use Rattle.vyrd_observers.specs.Order.{AreInOrder}
 use Rattle.vyrd_observers.proofs.CostLaws.{owed_by, owed_closed, answers_set, kept_set}
-use Rattle.vyrd_observers.proofs.TrailLaws.{read_is, begins_seen, seen_recounted, trail_of_seen}
+use Rattle.vyrd_observers.proofs.TrailLaws.{seen_recounted, trail_of_seen}
+use Rattle.vyrd_observers.proofs.CallersSee.{read_is, begins_seen}
 use Rattle.vyrd_observers.proofs.TrailLaws.{trail_stays}
 use Rattle.vyrd_observers.proofs.TrailCounts.{keeps_few, order_closed, order_begun, made_few}
 use Rattle.vyrd_observers.proofs.TrailCounts.{few_begun, few_askers}

@@ -6,7 +6,7 @@ use Rattle.vyrd_observers.specs.Trails.{Asked, seen_from}
 use Rattle.vyrd_observers.specs.Costs.{owed}
 use Rattle.vyrd_observers.specs.Trails.{seen_by}
 use Rattle.vyrd_observers.proofs.CostLaws.{owed_by, owed_ended}
-use Rattle.vyrd_observers.proofs.TrailLaws.{read_is, watch_read, seen_there, closed_stays}
+use Rattle.vyrd_observers.proofs.CallersSee.{read_is, watch_read, seen_there, closed_stays}
 use Rattle.vyrd_observers.proofs.TrailCounts.{keeps_few, order_closed}
 use Rattle.vyrd_observers.proofs.watches.Watches.end_counted.Goals as goal
 use Rattle.std.proofs.lemmas.Option.{same_Some}

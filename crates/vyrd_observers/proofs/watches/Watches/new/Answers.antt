@@ -2,7 +2,7 @@ use Rattle.std.proofs.Common.{ap, ◌∙◌}
 use Rattle.std.specs.Prelude.{replicate}
 use Rattle.vyrd_observers.specs.Watching.{unwatched}
 use Rattle.vyrd_observers.proofs.CostLaws.{nothing_owed}
-use Rattle.vyrd_observers.proofs.TrailLaws.{none_watched}
+use Rattle.vyrd_observers.proofs.CallersSee.{none_watched}
 use Rattle.vyrd_observers.proofs.watches.Watches.new.Goals as goal
 
 pub returns-clause-unwatched : goal.returns-clause-unwatched

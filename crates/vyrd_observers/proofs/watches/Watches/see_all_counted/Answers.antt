@@ -5,7 +5,7 @@ use Rattle.vyrd_observers.specs.Watching.{Watched}
 use Rattle.vyrd_observers.specs.Watching.{AreCurrent, AllSee}
 use Rattle.vyrd_observers.specs.Trails.{AreAsking, after_state, seen_by}
 use Rattle.vyrd_observers.proofs.SeeingLaws.{seen_all, seen_current}
-use Rattle.vyrd_observers.proofs.TrailLaws.{callers_see}
+use Rattle.vyrd_observers.proofs.CallersSee.{callers_see}
 use Rattle.vyrd_observers.proofs.TrailCounts.{keeps_few}
 use Rattle.vyrd_observers.proofs.watches.Watches.see_all_counted.Goals as goal
 

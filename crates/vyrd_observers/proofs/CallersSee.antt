@@ -1,0 +1,237 @@
+-- What each caller sees of a state that comes, and of a call.
+use Rattle.std.proofs.Common.{◌≡◌, ℕ, zero, suc, ◌+◌, ◌-◌, ◌*◌, ◌<◌, ◌≤◌, Bool, true, false, cond}
+use Rattle.std.proofs.Common.{◌&&◌, ◌||◌, ◌≢◌, ◌⊎◌, inl, inr, ⊎_elim, List, [], ◌∷◌, ◌++◌, length}
+use Rattle.std.proofs.Common.{drop, map, set, get_or, Option, Some, None, slice_get, refl, ap}
+use Rattle.std.proofs.Common.{subst, ◌∙◌, sym, arith, length-drop, length-append}
+use Rattle.std.specs.Prelude.{◌==◌, option_map, unwrap_or, replicate}
+use Rattle.std.specs.List.{list_any}
+use Rattle.std.proofs.lemmas.List.{drop-append-le, drop-drop, length-map, map-set, set-get_or}
+use Rattle.std.proofs.lemmas.List.Folds.{list_any-append}
+use Rattle.std.proofs.lemmas.Option.{slice_get_within, slice_get_past, slice_get-map}
+use Rattle.std.proofs.lemmas.Option.{unwrap_or-slice_get, none-some}
+use Rattle.std.proofs.lemmas.Option.{same_Some}
+use Rattle.std.proofs.Math.Seq.{drop-length}
+use Rattle.vyrd_base.specs.declared.header.Header.{Header}
+use Rattle.vyrd_base.specs.declared.subject.Method.{Method}
+use Rattle.vyrd_base.specs.declared.subject.Args.{Args}
+use Rattle.vyrd_base.specs.Subjects.{must_commit}
+use Rattle.vyrd_base.proofs.BlockLaws.{by_same}
+use Rattle.vyrd_base.proofs.TestLaws.{same_number, same_of, apart_of, isnt_same}
+use Rattle.vyrd_observers.specs.declared.watch.Watch.{Watch}
+use Rattle.vyrd_base.specs.Entries.{has_method}
+use Rattle.vyrd_observers.specs.Trails.{Asked, with_answer, after_state, seen_from, seen_by, IsOn}
+use Rattle.vyrd_observers.specs.Trails.{AreOn, AreAsking, KeepsAsked, IsTrailOf, IsUsed, AreUsed}
+use Rattle.vyrd_observers.specs.Trails.{OthersAreUsed, AreOldExcept, StaysOrEnds, StayOrEnd, moved}
+use Rattle.vyrd_observers.specs.Order.{AreCounted, AreFreeFrom, AreInOrder}
+use Rattle.vyrd_observers.specs.Watching.{Seen, unwatched, has_answer, SeesAnswer, SeesState}
+use Rattle.vyrd_base.proofs.ChangedLists.{changed_below}
+use Rattle.vyrd_observers.proofs.SeeingLaws.{SeenBelow, knows_already}
+use Rattle.vyrd_base.proofs.ListLaws.{slice_get-set_same, slice_get-set_other, slice_get-is}
+use Rattle.vyrd_observers.proofs.TrailLaws.{false_true, seen_kept, seen_at_end}
+
+-- what the next state makes of what an observer has seen
+or_last : (a b l : Bool) → (a || (b || (l || false))) ≡ ((l || b) || a)
+or_last true true true = refl
+or_last true true false = refl
+or_last true false true = refl
+or_last true false false = refl
+or_last false true true = refl
+or_last false true false = refl
+or_last false false true = refl
+or_last false false false = refl
+
+sees_answer : (answer since : ℕ) (t : Asked) → since ≤ length t.others
+    → SeesAnswer answer (seen_from since (Some t)) (seen_from since (Some (with_answer answer t)))
+sees_answer answer since t within = by_answer (answer == t.latest) refl
+  where
+    by_answer : (b : Bool) → (answer == t.latest) ≡ b
+        → SeesAnswer answer (seen_from since (Some t))
+        (seen_from since
+        (Some (cond b t (record t { latest = answer; others = t.others ++ t.latest ∷ [] }))))
+    by_answer true e = knows_already answer (seen_from since (Some t))
+        (ap (λ k. has_answer (t.latest ∷ drop since t.others) k) (same_of answer t.latest e)
+        ∙ ap (λ b. b || list_any (λ x. x == t.latest) (drop since t.others)) (same_number t.latest))
+    by_answer false e = record {
+      is_open = refl;
+      method = refl;
+      args = refl;
+      answers = λ reply.
+          ap (λ xs. answer == reply || list_any (λ x. x == reply) xs)
+          (drop-append-le since t.others (t.latest ∷ []) within)
+          ∙ ap (λ b. answer == reply || b)
+          (list_any-append (λ x. x == reply) (drop since t.others) (t.latest ∷ []))
+          ∙ or_last (answer == reply) (list_any (λ x. x == reply) (drop since t.others))
+          (t.latest == reply);
+    }
+
+sees_state : (affects : Method → Args → Bool) (told : Method → Args → ℕ) (since : ℕ) (t : Asked)
+    → t.is_asked ≡ true → since ≤ length t.others
+    → (affects t.method t.args ≡ false → has_answer (t.latest ∷ drop since t.others)
+    (told t.method t.args) ≡ true)
+    → SeesState told (seen_from since (Some t))
+    (seen_from since (Some (after_state affects told t)))
+sees_state affects told since t is_asked within current =
+    subst (λ b. SeesState told (seen_from since (Some t))
+    (seen_from since (Some (cond (b && affects t.method t.args) (with_answer answer t) t))))
+    (sym is_asked)
+    (by_touched (affects t.method t.args) refl)
+  where
+    answer : ℕ
+    answer = told t.method t.args
+
+    one_more_there : (b : Bool)
+        → length (seen_from since (Some (cond b t
+        (record t { latest = answer; others = t.others ++ t.latest ∷ [] })))).answers
+        ≤ suc (suc (length (drop since t.others)))
+    one_more_there true = omega arith
+    one_more_there false = omega (
+      arith,
+      ap length (drop-append-le since t.others (t.latest ∷ []) within),
+      length-append (drop since t.others) (t.latest ∷ []),
+    )
+
+    by_touched : (b : Bool) → affects t.method t.args ≡ b
+        → SeesState told (seen_from since (Some t))
+        (seen_from since (Some (cond b (with_answer answer t) t)))
+    by_touched true e = let sees = sees_answer answer since t within in
+        record {
+          is_open = sees.is_open;
+          method = sees.method;
+          args = sees.args;
+          answers = λ is_open. sees;
+          few = one_more_there (answer == t.latest);
+        }
+    by_touched false e = let sees = knows_already answer (seen_from since (Some t)) (current e) in
+        record {
+          is_open = refl;
+          method = refl;
+          args = refl;
+          answers = λ is_open. sees;
+          few = omega arith;
+        }
+
+-- all callers see the state that all trails have the answer of
+pub callers_see : (affects : Method → Args → Bool) (told : Method → Args → ℕ) (trails : List Asked)
+    (watches : List (Option Watch)) → AreOn trails watches
+    → ((c : ℕ) (seen : Seen) → slice_get (map (seen_by trails) watches) c ≡ Some seen → seen.is_open
+    ≡ true
+    → affects seen.method seen.args ≡ false → has_answer seen.answers (told seen.method seen.args)
+    ≡ true)
+    → SeenBelow told (length watches) (map (seen_by trails) watches)
+    (map (seen_by (map (after_state affects told) trails)) watches)
+callers_see affects told trails watches on current = record {
+  below = λ k seen low here. by_place k seen (slice_get watches k) refl
+      (sym (slice_get-map (seen_by trails) watches k) ∙ here);
+  above = λ k high.
+      slice_get_past (map (seen_by now) watches) k
+      (omega (arith, high, length-map watches (seen_by now)))
+      ∙ sym (slice_get_past (map (seen_by trails) watches) k
+      (omega (arith, high, length-map watches (seen_by trails))));
+}
+  where
+    now : List Asked
+    now = map (after_state affects told) trails
+
+    closed : SeesState told unwatched unwatched
+    closed = record {
+      is_open = refl;
+      method = refl;
+      args = refl;
+      answers = λ is_open. absurd (false_true refl is_open);
+      few = omega arith;
+    }
+
+    by_place : (k : ℕ) (seen : Seen) (o : Option (Option Watch)) → slice_get watches k ≡ o
+        → option_map (seen_by trails) o ≡ Some seen
+        → (next : Seen) × (slice_get (map (seen_by now) watches) k ≡ Some next)
+        × SeesState told seen next
+    by_place k seen None place is = absurd (none-some _ is)
+    by_place k seen (Some None) place is = (
+      unwatched,
+      slice_get-map (seen_by now) watches k ∙ ap (option_map (seen_by now)) place,
+      subst (λ s. SeesState told s unwatched) (same_Some _ _ is) closed,
+    )
+    by_place k seen (Some (Some w)) place is =
+        let was = on k w place in
+        let there : slice_get now w.trail ≡ Some (after_state affects told was.asked) =
+        slice_get-map (after_state affects told) trails w.trail
+        ∙ ap (option_map (after_state affects told)) was.there in
+        let here : slice_get (map (seen_by trails) watches) k
+        ≡ Some (seen_from w.since (Some was.asked)) =
+        slice_get-map (seen_by trails) watches k ∙ ap (option_map (seen_by trails)) place
+        ∙ ap (λ o. Some (seen_from w.since o)) was.there in (
+          seen_from w.since (Some (after_state affects told was.asked)),
+          slice_get-map (seen_by now) watches k ∙ ap (option_map (seen_by now)) place
+              ∙ ap (λ o. Some (seen_from w.since o)) there,
+          subst (λ s. SeesState told s
+              (seen_from w.since (Some (after_state affects told was.asked))))
+              (ap (seen_from w.since) (sym was.there) ∙ same_Some _ _ is)
+              (sees_state affects told w.since was.asked was.is_asked was.within
+              (λ untouched. current k (seen_from w.since (Some was.asked)) here refl untouched)),
+        )
+
+-- what is read at a place
+pub read_is : {A : Type 0} (xs : List A) (i : ℕ) (x d : A) → slice_get xs i ≡ Some x
+    → d ≡ get_or xs i d → x ≡ d
+read_is xs i x d here is = sym (ap (λ o. unwrap_or o d) here) ∙ unwrap_or-slice_get xs i d ∙ sym is
+
+-- the watch that is read of a caller
+pub watch_read : (trails : List Asked) (watches : List (Option Watch)) (seen : List Seen) (c : ℕ)
+    (o p : Option Watch) → map (seen_by trails) watches ≡ seen
+    → c < length seen → o ≡ get_or watches c o → o ≡ p → slice_get watches c ≡ Some p
+watch_read trails watches seen c o p is low read same =
+    let within : c < length watches =
+    omega (arith, low, ap length is, length-map watches (seen_by trails)) in
+    slice_get-is watches c o within read ∙ ap Some same
+
+-- what a caller has seen
+pub seen_there : (trails : List Asked) (watches : List (Option Watch)) (c : ℕ) (o : Option Watch)
+    → slice_get watches c ≡ Some o
+    → slice_get (map (seen_by trails) watches) c ≡ Some (seen_by trails o)
+seen_there trails watches c o here = slice_get-map (seen_by trails) watches c
+    ∙ ap (option_map (seen_by trails)) here
+
+-- an observer begins, on a trail whose latest answer is this
+pub begins_seen : (old new : List Asked) (watches : List (Option Watch)) (c i since : ℕ) (t : Asked)
+    (method : Method) (args : Args) (answer : ℕ)
+    → KeepsAsked old new → AreOn old watches → slice_get new i ≡ Some t → t.method ≡ method
+    → t.args ≡ args → t.latest ≡ answer → since ≡ length t.others
+    → map (seen_by new) (set watches c (Some (record { trail = i; since = since })))
+    ≡ set (map (seen_by old) watches) c
+    (record { is_open = true; method = method; args = args; answers = answer ∷ [] })
+begins_seen old new watches c i since t method args answer keeps on there same_method same_args
+    same_answer at_end =
+    map-set (seen_by new) watches c (Some (record { trail = i; since = since }))
+    ∙ ap (λ seen. set seen c (seen_from since (slice_get new i)))
+    (seen_kept old new watches keeps on)
+    ∙ ap (λ o. set (map (seen_by old) watches) c (seen_from since o)) there
+    ∙ ap (λ k. set (map (seen_by old) watches) c (seen_from k (Some t))) at_end
+    ∙ ap (set (map (seen_by old) watches) c) (seen_at_end t)
+    ∙ (λ j. set (map (seen_by old) watches) c
+    (record {
+      is_open = true;
+      method = same_method j;
+      args = same_args j;
+      answers = same_answer j
+          ∷ [];
+    }))
+
+-- no caller has an open observer
+pub none_watched : (trails : List Asked) (watches : List (Option Watch)) (n : ℕ)
+    → watches ≡ replicate n None → map (seen_by trails) watches ≡ replicate n unwatched
+none_watched trails watches n none = ap (map (seen_by trails)) none ∙ mapped n
+  where
+    mapped : (n : ℕ) → map (seen_by trails) (replicate n None) ≡ replicate n unwatched
+    mapped zero = refl
+    mapped (suc n) = ap (λ seen. unwatched ∷ seen) (mapped n)
+
+-- a caller that has none is as after its return
+pub closed_stays : (trails : List Asked) (watches : List (Option Watch)) (c : ℕ)
+    → slice_get watches c ≡ Some None
+    → map (seen_by trails) watches ≡ set (map (seen_by trails) watches) c unwatched
+closed_stays trails watches c here =
+    let seen = map (seen_by trails) watches in
+    let there : unwatched ≡ get_or seen c unwatched =
+    sym (ap (λ o. unwrap_or o unwatched) (seen_there trails watches c None here))
+    ∙ unwrap_or-slice_get seen c unwatched in
+    sym (set-get_or seen c unwatched) ∙ ap (set seen c) (sym there)
