@@ -1,6 +1,7 @@
 -- Amounts by key: the keys rise and no amount is 0, so a key that isn't there has the amount 0, and
 -- two lists of amounts are equal if each key has the same amount in both.
-use Rattle.std.specs.Prelude.{◌≢◌, ℕ, Bool, ◌+◌, ◌==◌, not, T, min, List, [], ◌∷◌, ◌++◌, map, filter}
+use Rattle.std.specs.Prelude.{◌≢◌, ℕ, Bool, ◌+◌, ◌==◌, not, T, min, List, [], ◌∷◌, ◌++◌, map}
+use Rattle.std.specs.Prelude.{filter}
 use Rattle.std.specs.Prelude.{Option, Some, None, unwrap_or, if◌then◌else◌}
 use Rattle.std.specs.Option.{option_map_or}
 use Rattle.std.specs.Ordering.{nat_cmp}

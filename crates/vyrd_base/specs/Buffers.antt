@@ -1,8 +1,11 @@
--- String buffers, as many as the size, of at most 7 characters each: what they do, what the words of
+-- String buffers, as many as the size, of at most 7 characters each: what they do, what the words
+-- of
 -- one hold, and its text as one number. Character i of a text, from 0 on, counts (character + 1) *
--- 256^i. So to the base 256 the digits of a text are its characters, each plus 1; none of them is 0,
+-- 256^i. So to the base 256 the digits of a text are its characters, each plus 1; none of them is
+-- 0,
 -- and the empty text is 0. The amount of a buffer is its text, so that an empty buffer isn't there.
-use Rattle.std.specs.Prelude.{ℕ, zero, suc, ◌+◌, ◌*◌, ◌^◌, ◌%◌, Bool, true, not, ◌&&◌, nat_le, nat_lt}
+use Rattle.std.specs.Prelude.{ℕ, zero, suc, ◌+◌, ◌*◌, ◌^◌, ◌%◌, Bool, true, not, ◌&&◌, nat_le}
+use Rattle.std.specs.Prelude.{nat_lt}
 use Rattle.std.specs.Prelude.{List, [], ◌∷◌, slice_index, flat_map, codes, Option, Some, None}
 use Rattle.std.specs.Prelude.{if◌then◌else◌}
 use Rattle.std.specs.Bool.{then_some}

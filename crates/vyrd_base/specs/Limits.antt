@@ -1,4 +1,5 @@
--- The limits of a header. That of a built-in subject has version 1 or 2, a size from 1 to 1,024, and
+-- The limits of a header. That of a built-in subject has version 1 or 2, a size from 1 to 1,024,
+-- and
 -- from 1 to 64 callers. That of a subject of the user's own has version 3, up to 65,536 words, and
 -- from 1 to 256 callers. And how long the names of subjects and of methods are.
 use Rattle.std.specs.Prelude.{ℕ, zero, suc, Bool, true, false, ◌&&◌, ◌==◌, nat_le}

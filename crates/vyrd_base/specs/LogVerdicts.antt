@@ -1,5 +1,6 @@
 -- The verdict about the bytes of a log of any version, and what is known of it so far. A log that
--- begins with `vyrd 3 own ` has a specification in front; every other is one of versions 1 and 2, or
+-- begins with `vyrd 3 own ` has a specification in front; every other is one of versions 1 and 2,
+-- or
 -- none at all. `max_lines` is the reader's limit, at least 1.
 use Rattle.std.specs.Prelude.{ℕ, Bool, List, take, codes, Option, if◌then◌else◌}
 use Rattle.std.specs.Str.{bytes_eq}

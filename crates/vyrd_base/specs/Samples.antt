@@ -107,7 +107,8 @@ stray word value = delete 0 5 ∷ write 0 word value ∷ commit 0 ∷ return 0 0
 
 -- a write to the cache outside a block, with a flush in its middle
 abbrev pub torn : List Entry
-torn = by 0 (Call (OfCache CaWrite) (args 0 1 2)) ∷ begin 0 ∷ write 0 1 1 ∷ write 0 2 2 ∷ write 0 0 2
+torn = by 0 (Call (OfCache CaWrite) (args 0 1 2)) ∷ begin 0 ∷ write 0 1 1 ∷ write 0 2 2
+    ∷ write 0 0 2
     ∷ end_commit 0 ∷ return 0 1
     ∷ by 0 (Call (OfCache CaWrite) (args 0 3 4)) ∷ write 0 1 3
     ∷ by 1 (Call (OfCache Flush) (args 0 0 0)) ∷ begin 1 ∷ write 1 3 3 ∷ write 1 4 2 ∷ write 1 0 1

@@ -1,4 +1,5 @@
--- The specification of the built-in structures: which replies a mutator may give in a state and which
+-- The specification of the built-in structures: which replies a mutator may give in a state and
+-- which
 -- state comes next, and what an observer answers. A state is told by the amounts that it shows.
 use Rattle.std.specs.Prelude.{ℕ, [], Option}
 use Rattle.vyrd_base.specs.declared.subject.Method.{Method}

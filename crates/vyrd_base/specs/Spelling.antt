@@ -69,7 +69,8 @@ log_text h starting entries = ended_line (header_line h.version h.subject h.size
     ++ flat_map (λ s. ended_line (start_line s)) starting
     ++ flat_map (λ e. ended_line (entry_line e)) entries ++ ended_line end_line
 
--- whether the numbers of a kind are in the text's ranges, the method is one of the subject, which is
+-- whether the numbers of a kind are in the text's ranges, the method is one of the subject, which
+-- is
 -- built in, and arguments that it doesn't have are 0
 abbrev pub is_kind_of : Subject → Kind → Bool
 is_kind_of subject (Call method args) =

@@ -1,5 +1,7 @@
--- A structure that is built in, as one value: its name and its methods, which calls of them are well
--- formed and which executions commit, the specification, and what its words show. Each has a file of
+-- A structure that is built in, as one value: its name and its methods, which calls of them are
+-- well
+-- formed and which executions commit, the specification, and what its words show. Each has a file
+-- of
 -- its own, in which its tables are written out, method by method.
 use Rattle.std.specs.Prelude.{ℕ, zero, suc, Bool, List, Option, None}
 use Rattle.vyrd_base.specs.declared.subject.Args.{Args}

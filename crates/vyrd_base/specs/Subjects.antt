@@ -1,4 +1,5 @@
--- The structures that are built in, that of the user's own, and their methods. Each subject and each
+-- The structures that are built in, that of the user's own, and their methods. Each subject and
+-- each
 -- method belongs to one structure: whatever is said of it is said by that structure's value.
 use Rattle.std.specs.Prelude.{ℕ, Bool, true, false, ◌&&◌, ◌||◌, ◌==◌, nat_lt, List, [], ◌∷◌}
 use Rattle.std.specs.Prelude.{map, Option, Some, None}

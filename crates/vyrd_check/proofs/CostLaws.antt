@@ -18,7 +18,7 @@ use Rattle.vyrd_words.specs.Costs.{entry_price}
 use Rattle.vyrd_judge.specs.Costs.{each_entry, callers_of, judge_debt, log_cost}
 use Rattle.vyrd_judge.specs.Following.{JudgeView}
 use Rattle.vyrd_check.specs.LogReadings.{read_so_far}
-use Rattle.vyrd_check.specs.Checking.{IsAt, IsJudging, IsReady, IsBegun, Kept, CheckerState}
+use Rattle.vyrd_check.specs.Checking.{IsAt, IsJudging, IsReady, IsBegun, CheckerKept, CheckerState}
 use Rattle.vyrd_check.specs.Costs.{entry_cost, starting_cost, entries_cost, end_cost, reading_cost}
 use Rattle.vyrd_check.specs.Costs.{bytes_cost}
 use Rattle.vyrd_check.specs.Owed.{judge_owes, following_cost, kept_debt, debt_after, checker_debt}
@@ -194,7 +194,7 @@ piece_paid None after old new more done judging g none going ready begun =
         ((r.entries ∙ ap (λ es. es ++ more) judging.0) i) (r.ended i))
 
 -- what is owed once a verdict stands, or none
-pub after_at_most : (o : Option Verdict) (k : Kept) (bytes : List ℕ)
+pub after_at_most : (o : Option Verdict) (k : CheckerKept) (bytes : List ℕ)
     → debt_after o k bytes ≤ kept_debt k bytes
 after_at_most None k bytes = omega arith
 after_at_most (Some v) k bytes = omega arith
@@ -209,7 +209,7 @@ pub unread : (max : ℕ) → bytes_cost max [] ≡ 0
 unfolding reading
 unread max = refl
 
-pub nothing_owed : (k : Kept) → k.judge ≡ None → kept_debt k [] ≡ 0
+pub nothing_owed : (k : CheckerKept) → k.judge ≡ None → kept_debt k [] ≡ 0
 unfolding reading
 nothing_owed k none =
     ap (λ judge. kept_debt (record { reader = k.reader; judge = judge }) []) none
@@ -262,7 +262,8 @@ grown_more : (a b c d e f : ℕ) → a + b + c ≤ d + e + f → (g : ℕ) → g
 grown_more a b c d e f paid g less = omega (arith, paid, less)
 
 -- what a part of a piece has cost is paid, whether a verdict stands or not
-pub part_paid : (c : CheckerState) (k : Kept) (v : Option Verdict) (bytes part : List ℕ) (m n : ℕ)
+pub part_paid : (c : CheckerState) (k : CheckerKept) (v : Option Verdict) (bytes part : List ℕ)
+    (m n : ℕ)
     → c.so_far ≡ None
     → n + kept_debt k (bytes ++ part) + bytes_cost c.kept.reader.max_lines bytes
     ≤ m + kept_debt c.kept bytes + bytes_cost c.kept.reader.max_lines (bytes ++ part)

@@ -25,7 +25,7 @@ use Rattle.vyrd_view.specs.Comparing.{price_by}
 use Rattle.vyrd_judge.specs.Costs.{judge_debt}
 use Rattle.vyrd_judge.specs.Following.{JudgeView, HasFollowed}
 use Rattle.vyrd_check.specs.LogReadings.{read_so_far}
-use Rattle.vyrd_check.specs.Checking.{IsLimit, IsJudging, IsReady, IsBegun, HasRoom, Kept}
+use Rattle.vyrd_check.specs.Checking.{IsLimit, IsJudging, IsReady, IsBegun, HasRoom, CheckerKept}
 use Rattle.vyrd_check.specs.Checking.{IsUndecided, IsSomewhere, wrong_in}
 use Rattle.vyrd_check.specs.Checking.{has_begun}
 use Rattle.vyrd_check.specs.Costs.{starting_cost, bytes_cost}
@@ -37,7 +37,8 @@ use Rattle.vyrd_check.proofs.CostLaws.{piece_paid, bytes_more}
 use Rattle.vyrd_check.proofs.BuiltInLaws.{reading_built_in}
 
 -- a piece was read, and the judge is there if it may be
-pub record Fed (old : Kept) (reader : ReaderState) (begun : Option JudgeView) (piece : List ℕ)
+pub record Fed (old : CheckerKept) (reader : ReaderState) (begun : Option JudgeView)
+    (piece : List ℕ)
     (entries : List Entry) (fault : Option Verdict) : Type 0 where
   pub limit : reader.max_lines ≡ old.reader.max_lines
   pub read : (bytes : List ℕ) → HasRead old.reader bytes → HasRead reader (bytes ++ piece)
@@ -50,7 +51,7 @@ pub record Fed (old : Kept) (reader : ReaderState) (begun : Option JudgeView) (p
   pub judge : IsBegun (has_any entries || reader.ended) reader.header reader.start old.judge begun
 
 -- a log may begin with the starting words that the reader keeps
-pub fed_start : (old : Kept) (reader : ReaderState) (piece : List ℕ)
+pub fed_start : (old : CheckerKept) (reader : ReaderState) (piece : List ℕ)
     → ((bytes : List ℕ) → HasRead old.reader bytes → HasRead reader (bytes ++ piece))
     → IsSomewhere old
     → (h : Header) → reader.header ≡ Some h → may_start h reader.start ≡ true
@@ -61,7 +62,7 @@ fed_start old reader piece reads somewhere h has = ∥∥₁_elim somewhere (Boo
     (sym read.header ∙ has)).may)
 
 -- the header that the reader keeps is that of a built-in subject
-pub fed_built_in : (old : Kept) (reader : ReaderState) (piece : List ℕ)
+pub fed_built_in : (old : CheckerKept) (reader : ReaderState) (piece : List ℕ)
     → ((bytes : List ℕ) → HasRead old.reader bytes → HasRead reader (bytes ++ piece))
     → IsSomewhere old
     → (h : Header) → reader.header ≡ Some h → is_built_in h.subject ≡ true
@@ -82,7 +83,8 @@ read_to reader bytes max limit read =
     (record { header = read.header; start = read.start; ended = read.ended })
 
 -- the judge is ready for the entries of the piece
-pub fed_ready : (old : Kept) (reader : ReaderState) (begun : Option JudgeView) (piece : List ℕ)
+pub fed_ready : (old : CheckerKept) (reader : ReaderState) (begun : Option JudgeView)
+    (piece : List ℕ)
     (entries : List Entry) (fault : Option Verdict) → Fed old reader begun piece entries fault
     → IsLimit old.reader.max_lines → (bytes : List ℕ) → IsUndecided old bytes
     → IsReady begun (read_so_far old.reader.max_lines (bytes ++ piece))
@@ -106,7 +108,8 @@ fed_ready old reader begun piece entries fault fed limit bytes u =
     }
 
 -- there is room for the entries of the piece
-pub fed_room : (old : Kept) (reader : ReaderState) (begun : Option JudgeView) (piece : List ℕ)
+pub fed_room : (old : CheckerKept) (reader : ReaderState) (begun : Option JudgeView)
+    (piece : List ℕ)
     (entries : List Entry) (fault : Option Verdict)
     → Fed old reader begun piece entries fault → IsLimit old.reader.max_lines → IsSomewhere old
     → HasRoom begun entries
@@ -129,7 +132,8 @@ fed_room old reader begun piece entries fault fed limit somewhere = by_judge beg
         is_at_most _ _ (subst (λ o. HasRoom o entries) is (room s.0 s.1))))
 
 -- the answer is the verdict so far
-pub fed_answer : (old : Kept) (reader : ReaderState) (begun : Option JudgeView) (piece : List ℕ)
+pub fed_answer : (old : CheckerKept) (reader : ReaderState) (begun : Option JudgeView)
+    (piece : List ℕ)
     (entries : List Entry) (fault wrong : Option Verdict)
     → Fed old reader begun piece entries fault → (bytes : List ℕ) → HasRead old.reader bytes
     → wrong ≡ wrong_in (read_so_far old.reader.max_lines (bytes ++ piece))
@@ -138,7 +142,7 @@ fed_answer old reader begun piece entries fault wrong fed bytes read wrong_is =
     known_so_far old.reader.max_lines (bytes ++ piece) wrong fault wrong_is (fed.faulty bytes read)
 
 -- without a verdict what is kept goes on
-pub fed_undecided : (old : Kept) (reader : ReaderState) (begun after : Option JudgeView)
+pub fed_undecided : (old : CheckerKept) (reader : ReaderState) (begun after : Option JudgeView)
     (piece : List ℕ) (entries : List Entry) (fault : Option Verdict)
     → Fed old reader begun piece entries fault → (bytes : List ℕ) → HasRead old.reader bytes
     → IsJudging after (read_so_far old.reader.max_lines (bytes ++ piece))
@@ -157,7 +161,7 @@ paid_then owes begun moves before was now after n m later same paid taken =
     omega (arith, same, paid, taken)
 
 -- what a piece that was read and judged has cost is paid
-pub fed_paid : (old : Kept) (reader : ReaderState) (begun after : Option JudgeView)
+pub fed_paid : (old : CheckerKept) (reader : ReaderState) (begun after : Option JudgeView)
     (piece : List ℕ) (entries : List Entry) (fault : Option Verdict)
     → Fed old reader begun piece entries fault → IsLimit old.reader.max_lines
     → old.reader.ended ≡ false → (bytes : List ℕ) → IsUndecided old bytes → (m n : ℕ)
@@ -198,7 +202,7 @@ never : {A : Type 0} → false ≡ true → A
 never e = cc
 
 -- after `end` nothing more is read
-after_end : (old : Kept) (bytes piece : List ℕ) → IsLimit old.reader.max_lines
+after_end : (old : CheckerKept) (bytes piece : List ℕ) → IsLimit old.reader.max_lines
     → IsUndecided old bytes → old.reader.ended ≡ true
     → IsSameLog (read_so_far old.reader.max_lines bytes)
     (read_so_far old.reader.max_lines (bytes ++ piece))
@@ -256,7 +260,7 @@ same_owes None old new s = λ i. starting_cost (s.header i) (s.starting i)
 same_owes (Some j) old new s = ap (judge_debt price_by (λ charter. 2) j) s.entries
 
 -- the answer after `end` is the fault of text
-pub ended_answer : (old : Kept) (bytes piece : List ℕ) (fault : Option Verdict)
+pub ended_answer : (old : CheckerKept) (bytes piece : List ℕ) (fault : Option Verdict)
     → IsLimit old.reader.max_lines → IsUndecided old bytes → old.reader.ended ≡ true
     → fault ≡ option_map (λ fault. Malformed fault.line fault.rule)
     (read_so_far old.reader.max_lines (bytes ++ piece)).fault
@@ -268,7 +272,7 @@ ended_answer old bytes piece fault limit u ended is =
     (after_end old bytes piece limit u ended) ∙ entries_right max bytes u.nothing)) is
 
 -- without a fault what is kept goes on
-pub ended_undecided : (old : Kept) (reader : ReaderState) (bytes piece : List ℕ)
+pub ended_undecided : (old : CheckerKept) (reader : ReaderState) (bytes piece : List ℕ)
     → IsLimit old.reader.max_lines → IsUndecided old bytes → old.reader.ended ≡ true
     → reader.max_lines ≡ old.reader.max_lines → HasRead reader (bytes ++ piece)
     → text_verdict_so_far old.reader.max_lines (bytes ++ piece) ≡ None
@@ -288,7 +292,7 @@ still_paid : (n later owed was now : ℕ) → later ≡ owed → was ≤ now
 still_paid n later owed was now same more = omega (arith, same, more)
 
 -- and nothing was paid
-pub ended_paid : (old : Kept) (reader : ReaderState) (bytes piece : List ℕ) (n : ℕ)
+pub ended_paid : (old : CheckerKept) (reader : ReaderState) (bytes piece : List ℕ) (n : ℕ)
     → IsLimit old.reader.max_lines → IsUndecided old bytes → old.reader.ended ≡ true
     → reader.max_lines ≡ old.reader.max_lines
     → n + kept_debt (record { reader = reader; judge = old.judge }) (bytes ++ piece)

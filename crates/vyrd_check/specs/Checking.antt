@@ -92,28 +92,28 @@ IsBegun true None starting None after = after ≡ None
 IsBegun true (Some h) starting None after = IsMade h starting after
 
 -- what reads the text and judges its entries
-pub record Kept : Type 0 where
+pub record CheckerKept : Type 0 where
   pub reader : ReaderState
   pub judge : Option JudgeView
 
 -- Nothing is wrong with the bytes so far, and what is kept stands for them.
-pub record IsUndecided (k : Kept) (bytes : List ℕ) : Type 0 where
+pub record IsUndecided (k : CheckerKept) (bytes : List ℕ) : Type 0 where
   pub read : HasRead k.reader bytes
   pub judging : IsJudging k.judge (read_so_far k.reader.max_lines bytes)
   pub nothing : text_verdict_so_far k.reader.max_lines bytes ≡ None
 
 -- what is kept stands for some bytes
-abbrev pub IsSomewhere : Kept → Type 0
+abbrev pub IsSomewhere : CheckerKept → Type 0
 IsSomewhere k = ∥ ((bytes : List ℕ) × IsUndecided k bytes) ∥₁
 
 -- what is kept, the verdict that stands, and whether memory was refused
 pub record CheckerState : Type 0 where
-  pub kept : Kept
+  pub kept : CheckerKept
   pub so_far : Option Verdict
   pub has_failed : Bool
 
 -- what is kept stands for the bytes, or a verdict stands
-abbrev pub FollowsBy : Kept → List ℕ → Option Verdict → Type 0
+abbrev pub FollowsBy : CheckerKept → List ℕ → Option Verdict → Type 0
 FollowsBy k bytes None = IsUndecided k bytes
 FollowsBy k bytes (Some v) = text_verdict_so_far k.reader.max_lines bytes ≡ Some v
 

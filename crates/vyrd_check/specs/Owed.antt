@@ -8,7 +8,7 @@ use Rattle.vyrd_view.specs.Comparing.{price_by}
 use Rattle.vyrd_judge.specs.Costs.{log_cost, callers_of, judge_debt}
 use Rattle.vyrd_judge.specs.Following.{JudgeView}
 use Rattle.vyrd_check.specs.LogReadings.{read_so_far}
-use Rattle.vyrd_check.specs.Checking.{Kept, CheckerState}
+use Rattle.vyrd_check.specs.Checking.{CheckerKept, CheckerState}
 use Rattle.vyrd_check.specs.Costs.{starting_cost}
 
 -- What is owed for these entries of what was read: by the judge, and before there is one, for the
@@ -24,12 +24,12 @@ following_cost (Some j) entries ended =
     log_cost price_by (λ charter. 2) j.kept entries + (if ended then callers_of j.kept else 0)
 
 -- what is owed for the bytes by what was kept of them
-abbrev pub kept_debt : Kept → List ℕ → ℕ
+abbrev pub kept_debt : CheckerKept → List ℕ → ℕ
 kept_debt k bytes =
     let read = read_so_far k.reader.max_lines bytes in judge_owes k.judge read read.entries
 
 -- the same once this verdict stands, if there is one: then no byte is looked at any more
-abbrev pub debt_after : Option Verdict → Kept → List ℕ → ℕ
+abbrev pub debt_after : Option Verdict → CheckerKept → List ℕ → ℕ
 debt_after None k bytes = kept_debt k bytes
 debt_after (Some v) k bytes = 0
 

@@ -46,9 +46,9 @@ pub(crate) struct TextJudge {
 }
 
 impl Model for TextJudge {
-    ghost use Rattle.vyrd_check.specs.Checking.{Kept};
+    ghost use Rattle.vyrd_check.specs.Checking.{CheckerKept};
 
-    ghost Value = { Kept };
+    ghost Value = { CheckerKept };
 
     ghost view = { λ t. record { reader = t.reader; judge = t.judge } };
 }

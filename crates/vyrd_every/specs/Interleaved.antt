@@ -80,7 +80,8 @@ opens_block n c = event n c (Marked BlockOpen)
 abbrev commits_block : ℕ → ℕ → Stamped
 commits_block n c = event n c (Marked BlockCommit)
 
--- two inserts of one value: the second looks for a slot while the first, which has one, waits for the
+-- two inserts of one value: the second looks for a slot while the first, which has one, waits for
+-- the
 -- lock to make it valid
 abbrev pub inserts : Workload
 inserts = work (record { version = 1; subject = Multiset; size = 1; callers = 2; within = refl })

@@ -3,7 +3,8 @@
 -- read in two ways: as a log of versions 1 and 2, whose structure is built in, and as one of
 -- version 3, which has a specification in front. No log has a header for both, so one of them has
 -- nothing to say. `max_lines` is the reader's limit, at least 1.
-use Rattle.std.specs.Prelude.{ℕ, ◌+◌, Bool, false, ◌&&◌, List, [], ◌++◌, length, slice_index, is_some}
+use Rattle.std.specs.Prelude.{ℕ, ◌+◌, Bool, false, ◌&&◌, List, [], ◌++◌, length, slice_index}
+use Rattle.std.specs.Prelude.{is_some}
 use Rattle.std.specs.Option.{option_map_or}
 use Rattle.vyrd_base.specs.declared.header.Header.{Header}
 use Rattle.vyrd_base.specs.declared.log.Entry.{Entry}

@@ -1,4 +1,5 @@
--- What is kept of the bytes of a log so that they can be explained, and the bytes that it stands for.
+-- What is kept of the bytes of a log so that they can be explained, and the bytes that it stands
+-- for.
 use Rattle.std.specs.Prelude.{◌≡◌, ◌≤◌, ℕ, Bool, false, List}
 use Rattle.vyrd_base.specs.declared.log.Entry.{Entry}
 use Rattle.vyrd_text.specs.Readers.{ReaderState, HasRead}

@@ -28,7 +28,8 @@ use Rattle.vyrd_judge.specs.declared.waiting.Waiting.{Waiting}
 use Rattle.vyrd_judge.specs.Waiting.{replied, waiting_at}
 use Rattle.vyrd_judge.specs.Queued.{HasQueued, HasTakenUp}
 use Rattle.vyrd_base.specs.declared.verdict.Verdict.{Verdict}
-use Rattle.vyrd_judge.specs.Following.{Kept, JudgeView, HasTakenIn, IsFaultless, IsCatchingUp}
+use Rattle.vyrd_judge.specs.Following.{FollowerKept, JudgeView, HasTakenIn, IsFaultless}
+use Rattle.vyrd_judge.specs.Following.{IsCatchingUp}
 use Rattle.vyrd_judge.specs.Following.{with_first}
 use Rattle.vyrd_judge.specs.Costs.{judging_cost, waiting_price, waiting_cost, callers_of, debt}
 use Rattle.vyrd_judge.specs.Costs.{each_entry, entry_cost, log_cost, start_cost}
@@ -74,7 +75,7 @@ waiting_more callers keys e o old new is = omega (
 )
 
 -- an entry that was handed out is judged, and the next one is handed out if it can be judged
-pub judged_paid : (price : Shows → ℕ → ℕ) (keys : Charter → ℕ) (k m n : Kept) (x : Waiting)
+pub judged_paid : (price : Shows → ℕ → ℕ) (keys : Charter → ℕ) (k m n : FollowerKept) (x : Waiting)
     (next : Option Waiting) (starting : List StartWord) (log : List Entry)
     (before judged after : ℕ)
     → k ≡ m → IsCatchingUp next n starting log → n.charter ≡ k.charter → n.shape ≡ k.shape →
@@ -105,12 +106,12 @@ judged_paid price keys k m n x next starting log before judged after same going 
     ))
 
 -- a log is short enough for the count of the rules of shape
-short : {k : Kept} {starting : List StartWord} {log : List Entry} → k.entries < 2 ^ 62
+short : {k : FollowerKept} {starting : List StartWord} {log : List Entry} → k.entries < 2 ^ 62
     → HasTakenIn k starting log → length (newest_first log) < 2 ^ 63
 short {k} {starting} {log} few t = omega (arith, few, t.entries, length-newest_first_onto [] log)
 
 -- an entry that breaks a rule of shape
-pub broken_paid : (price : Shows → ℕ → ℕ) (keys : Charter → ℕ) (k m : Kept) (e : Entry)
+pub broken_paid : (price : Shows → ℕ → ℕ) (keys : Charter → ℕ) (k m : FollowerKept) (e : Entry)
     (before after held : ℕ) → k ≡ m
     → ((earlier : List Entry) → ShapeFollows k.shape earlier → length earlier < 2 ^ 63
     → after + held ≤ before + shape_owed k.shape + 2)
@@ -123,7 +124,7 @@ broken_paid price keys k m e before after held same shape_paid few starting log 
     (omega (arith, paid))
 
 -- one more entry that keeps the rules, by what each part does
-pub taken_paid : (price : Shows → ℕ → ℕ) (keys : Charter → ℕ) (k m n : Kept)
+pub taken_paid : (price : Shows → ℕ → ℕ) (keys : Charter → ℕ) (k m n : FollowerKept)
     (first : Option Waiting) (e : Entry) (queue_header : Header)
     (before shaped worded queued_up : ℕ)
     → k ≡ m → k.shape.header ≡ (rules_by k.charter).header
@@ -235,7 +236,7 @@ first_paid price keys before j {log} {same} is =
     plain a b is = omega (arith, is)
 
 -- what entries cost goes by the charter and by the name of what the words show
-log_same : (price : Shows → ℕ → ℕ) (keys : Charter → ℕ) (k n : Kept) (es : List Entry)
+log_same : (price : Shows → ℕ → ℕ) (keys : Charter → ℕ) (k n : FollowerKept) (es : List Entry)
     → n.charter ≡ k.charter → n.views.shows ≡ k.views.shows
     → log_cost price keys n es ≡ log_cost price keys k es
 log_same price keys k n es charter shows =
@@ -245,13 +246,14 @@ log_same price keys k n es charter shows =
     + entry_price (price s) e.kind) es) shows
 
 -- the cost of one entry, as that of a list
-pub one_cost : (price : Shows → ℕ → ℕ) (keys : Charter → ℕ) (k : Kept) (e : Entry) (a b : ℕ)
+pub one_cost : (price : Shows → ℕ → ℕ) (keys : Charter → ℕ) (k : FollowerKept) (e : Entry) (a b : ℕ)
     → a ≤ b + entry_cost price keys k e → a ≤ b + log_cost price keys k (e ∷ [])
 one_cost price keys k e a b paid =
     omega (arith, paid, sum_by-cons (entry_cost price keys k) e [])
 
 -- one entry of a history, whose event was a step before it
-pub event_paid : (price : Shows → ℕ → ℕ) (keys : Charter → ℕ) (k : Kept) (e : Entry) {T E : Type 0}
+pub event_paid : (price : Shows → ℕ → ℕ) (keys : Charter → ℕ) (k : FollowerKept)
+    (e : Entry) {T E : Type 0}
     (r : Result T E) (a x b y c : ℕ) → b ≡ c + 1
     → OnOk r (a + x ≤ b + y + entry_cost price keys k e)
     → OnOk r (a + x ≤ c + y + log_cost price keys k (e ∷ []) + 1)
@@ -259,7 +261,7 @@ event_paid price keys k e r a x b y c is paid = on_ok_weaker r (λ cost.
     omega (arith, cost, is, sum_by-cons (entry_cost price keys k) e [])) paid
 
 -- some more of some entries
-pub more_paid : (price : Shows → ℕ → ℕ) (keys : Charter → ℕ) (k n : Kept) (a b c : ℕ)
+pub more_paid : (price : Shows → ℕ → ℕ) (keys : Charter → ℕ) (k n : FollowerKept) (a b c : ℕ)
     (before more upto : List Entry) → n.charter ≡ k.charter → n.views.shows ≡ k.views.shows
     → upto ≡ before ++ more → a ≤ b + log_cost price keys n more
     → b ≤ c + log_cost price keys k before → a ≤ c + log_cost price keys k upto
@@ -273,7 +275,7 @@ more_paid price keys k n a b c before more upto charter shows is one paid = omeg
 )
 
 -- one more of some entries, by what the judge says of the log with it
-pub entry_paid : (price : Shows → ℕ → ℕ) (keys : Charter → ℕ) (k : Kept) (n m : JudgeView)
+pub entry_paid : (price : Shows → ℕ → ℕ) (keys : Charter → ℕ) (k : FollowerKept) (n m : JudgeView)
     (after between start : ℕ) (log before upto : List Entry) (e : Entry)
     → n.kept.charter ≡ k.charter → n.kept.views.shows ≡ k.views.shows → upto ≡ before ++ e ∷ []
     → after + judge_debt price keys m ((log ++ before) ++ e ∷ [])
@@ -287,7 +289,7 @@ entry_paid price keys k n m after between start log before upto e charter shows 
     (append_assoc log before (e ∷ []) ∙ ap (λ xs. log ++ xs) (sym is)) one)) paid
 
 -- a verdict comes to stand with one of some entries
-pub verdict_paid : (price : Shows → ℕ → ℕ) (keys : Charter → ℕ) (k : Kept) (j : JudgeView)
+pub verdict_paid : (price : Shows → ℕ → ℕ) (keys : Charter → ℕ) (k : FollowerKept) (j : JudgeView)
     {v : Verdict} (a c held : ℕ) (upto rest whole more : List Entry) → j.so_far ≡ Some v
     → upto ++ rest ≡ whole → a + held ≤ c + log_cost price keys k upto
     → a + judge_debt price keys j more ≤ c + log_cost price keys k whole
@@ -302,7 +304,7 @@ verdict_paid price keys k j a c held upto rest whole more stands is paid =
     plain owed all none sum = omega (arith, none, sum, paid)
 
 -- the same of the events of a history, each of which is a step
-pub more_events : (price : Shows → ℕ → ℕ) (keys : Charter → ℕ) (k n : Kept) (a b c i : ℕ)
+pub more_events : (price : Shows → ℕ → ℕ) (keys : Charter → ℕ) (k n : FollowerKept) (a b c i : ℕ)
     (before more upto : List Entry) → n.charter ≡ k.charter → n.views.shows ≡ k.views.shows
     → upto ≡ before ++ more → a ≤ b + log_cost price keys n more + 1
     → b ≤ c + log_cost price keys k before + i → a ≤ c + log_cost price keys k upto + (i + 1)
@@ -341,7 +343,7 @@ stands_events price keys j before cost n log more is =
 pub last_events : (a c i n : ℕ) → i ≤ n → a ≤ c + i → a ≤ c + n
 last_events a c i n low paid = omega (arith, low, paid)
 
-pub verdict_events : (price : Shows → ℕ → ℕ) (keys : Charter → ℕ) (k : Kept) (j : JudgeView)
+pub verdict_events : (price : Shows → ℕ → ℕ) (keys : Charter → ℕ) (k : FollowerKept) (j : JudgeView)
     {v : Verdict} (a c held i n : ℕ) (upto rest whole more : List Entry) → j.so_far ≡ Some v
     → upto ++ rest ≡ whole → i < n → a + held ≤ c + log_cost price keys k upto + (i + 1)
     → a + judge_debt price keys j more ≤ c + log_cost price keys k whole + n
@@ -356,7 +358,7 @@ verdict_events price keys k j a c held i n upto rest whole more stands is low pa
     plain owed all none sum = omega (arith, none, sum, low, paid)
 
 -- what a judge owes before the first entry
-pub owed_first : (price : Shows → ℕ → ℕ) (keys : Charter → ℕ) {k : Kept}
+pub owed_first : (price : Shows → ℕ → ℕ) (keys : Charter → ℕ) {k : FollowerKept}
     {starting : List StartWord} (owes : ℕ) → HasTakenIn k starting []
     → shape_owed k.shape ≡ 0
     → k.views.pending ≡ start_cost (price k.views.shows) starting

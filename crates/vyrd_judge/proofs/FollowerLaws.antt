@@ -34,7 +34,7 @@ use Rattle.vyrd_base.proofs.PlaceLaws.{length-newest_first_onto, newest_first-pu
 use Rattle.vyrd_base.proofs.Lasting.{commit_count-cons}
 use Rattle.vyrd_base.proofs.ShadowLaws.{caller_kept, well_formed-first_break}
 use Rattle.vyrd_base.proofs.TestLaws.{below_of, is_below}
-use Rattle.vyrd_shape.specs.Following.{Kept as ShapeKept, HasFollowed as ShapeFollows}
+use Rattle.vyrd_shape.specs.Following.{ShapeKept, HasFollowed as ShapeFollows}
 use Rattle.vyrd_judge.specs.declared.waiting.Waiting.{Waiting}
 use Rattle.vyrd_words.specs.HasWords.{HasWords, HasTaken, Keeps, MayFollow}
 use Rattle.vyrd_base.specs.Entries.{place_of}
@@ -50,7 +50,8 @@ use Rattle.vyrd_judge.specs.Waiting.{replied, event_of, waiting_of, waiting_at}
 use Rattle.vyrd_observers.specs.Watching.{AreCurrent}
 use Rattle.vyrd_judge.specs.Queued.{HasQueued, HasTakenUp, MayQueue, AwaitsReturn}
 use Rattle.vyrd_judge.specs.Judged.{Judged, MayJudge, AreSeenFew}
-use Rattle.vyrd_judge.specs.Following.{Kept, HasTakenIn, IsFaultless, IsSomewhere, with_first}
+use Rattle.vyrd_judge.specs.Following.{FollowerKept, HasTakenIn, IsFaultless, IsSomewhere}
+use Rattle.vyrd_judge.specs.Following.{with_first}
 use Rattle.vyrd_judge.specs.Following.{IsCatchingUp, MayCatchUp}
 use Rattle.vyrd_base.proofs.FrontLaws.{kept-push, front_at_break, break_at_break, nothing_broken}
 use Rattle.vyrd_base.proofs.VerdictParts.{sound_start, so_far_kept, so_far_break, at_end_open}
@@ -98,7 +99,7 @@ judged_nothing r starting state watches first begins words current seen shows = 
     apart e = cc
 
 -- where nothing that waits can be judged there is no fault so far
-awaits_faultless : {k : Kept} {starting : List StartWord} {log : List Entry}
+awaits_faultless : {k : FollowerKept} {starting : List StartWord} {log : List Entry}
     → HasTakenIn k starting log → AwaitsReturn k.waiting
     → first_fault (rules_by k.charter) starting log ≡ None
 awaits_faultless {k} {starting} {log} t awaits = by_first k.waiting t.judged awaits
@@ -111,7 +112,7 @@ awaits_faultless {k} {starting} {log} t awaits = by_first k.waiting t.judged awa
     by_first (x ∷ xs) j a = judged_waits a.2 j
 
 -- all that can be judged is
-pub caught_up : {k : Kept} {starting : List StartWord} {log : List Entry}
+pub caught_up : {k : FollowerKept} {starting : List StartWord} {log : List Entry}
     → IsCatchingUp None k starting log → IsFaultless k starting log
 caught_up going =
     let awaits = going.awaits refl in
@@ -122,11 +123,11 @@ caught_up going =
     }
 
 -- an entry was handed out: it waits first, few are judged, and its position is small
-pub may_judge : {k : Kept} (x : Waiting) → MayCatchUp (Some x) k
+pub may_judge : {k : FollowerKept} (x : Waiting) → MayCatchUp (Some x) k
     → MayJudge (rules_by k.charter) k.state k.made k.watches x k.views.first k.views.since
 may_judge {k} x may = ∥∥₁_map may (λ s. (s.0, s.1, k.waiting, s.2.taken_in.judged, s.3))
 
-pub few_taken : {k : Kept} (x : Waiting) → MayCatchUp (Some x) k → k.taken + 1 < 2 ^ 64
+pub few_taken : {k : FollowerKept} (x : Waiting) → MayCatchUp (Some x) k → k.taken + 1 < 2 ^ 64
 few_taken {k} x may = below_of _ _ (∥∥₁_elim may (Bool-set _ _) (λ s.
     let count : k.taken + length (x ∷ k.waiting) ≤ length (newest_first s.1) =
     s.2.taken_in.queued.count in
@@ -142,7 +143,7 @@ position_is p x is = by_event (event_of p p.here.kind) is
     by_event None e = cc
     by_event (Some event) e = cc
 
-pub few_position : {k : Kept} (x : Waiting) → MayCatchUp (Some x) k → k.started ≤ 2 ^ 32
+pub few_position : {k : FollowerKept} (x : Waiting) → MayCatchUp (Some x) k → k.started ≤ 2 ^ 32
     → k.started + x.position + 2 < 2 ^ 64
 few_position {k} x may short = below_of _ _ (∥∥₁_elim may (Bool-set _ _) (λ s.
     let at = judged_head (rules_by k.charter) s.0 s.1 k.state k.made k.watches x k.waiting
@@ -158,7 +159,8 @@ few_position {k} x may short = below_of _ _ (∥∥₁_elim may (Bool-set _ _) (
     ) in is_below (k.started + x.position + 2) (2 ^ 64) low))
 
 -- an entry that was handed out is judged
-pub taken_on : (k n : Kept) (starting : List StartWord) (log : List Entry) (xs : List Waiting)
+pub taken_on : (k n : FollowerKept) (starting : List StartWord) (log : List Entry)
+    (xs : List Waiting)
     → HasTakenIn k starting log
     → Judged (rules_by k.charter) starting log n.state n.made n.watches xs n.views.first
     n.views.since → HasQueued (rules_by k.charter).header xs n.taken n.callers (newest_first log)
@@ -236,7 +238,7 @@ observers_more earlier (x ∷ xs) e =
     omega (arith, rest, first, whole)
 
 -- one more entry was taken in
-pub taken_more : (k n : Kept) (starting : List StartWord) (log : List Entry) (e : Entry)
+pub taken_more : (k n : FollowerKept) (starting : List StartWord) (log : List Entry) (e : Entry)
     → HasTakenIn k starting log
     → Keeps (rules_by k.charter).header (newest_first log) e
     → ShapeFollows n.shape (e ∷ newest_first log) → n.shape.header ≡ k.shape.header
@@ -333,7 +335,7 @@ taken_more k n starting log e t keeps shape shape_header words shadow_header vie
         (λ c inner. absurd (apart inner))
 
 -- an entry that breaks a rule
-pub broken_so_far : {k : Kept} {starting : List StartWord} {log : List Entry} (e : Entry)
+pub broken_so_far : {k : FollowerKept} {starting : List StartWord} {log : List Entry} (e : Entry)
     (rule : Rule) → IsFaultless k starting log
     → broken_rule k.shape.header (newest_first log) e ≡ Some rule
     → Some (Malformed (k.started + k.entries + 2) rule) ≡ verdict_so_far (rules_by k.charter)
@@ -349,7 +351,7 @@ broken_so_far {k} {starting} {log} e rule f broken =
     (break_at_break (rules_by k.charter).header log [] e rule t.kept here))
 
 -- the verdict so far of a log that keeps all rules
-pub so_far_is : {k : Kept} {starting : List StartWord} {log : List Entry}
+pub so_far_is : {k : FollowerKept} {starting : List StartWord} {log : List Entry}
     → HasTakenIn k starting log
     → verdict_so_far (rules_by k.charter) starting log ≡ first_fault (rules_by k.charter) starting
     log
@@ -369,7 +371,7 @@ pub commits_same : (log : List Entry) → commit_count (newest_first log) ≡ co
 commits_same log = let all = commits_onto [] log in omega (arith, all)
 
 -- what may follow
-pub may_take : {k : Kept} (e : Entry) → IsSomewhere k
+pub may_take : {k : FollowerKept} (e : Entry) → IsSomewhere k
     → ((starting : List StartWord) (log : List Entry) → IsFaultless k starting log
     → Keeps k.shadow.header (newest_first log) e)
     → MayFollow k.shadow k.inner e k.commits
@@ -382,7 +384,7 @@ may_take {k} e somewhere keeps = ∥∥₁_map somewhere (λ s. (
       ∙ sym (commits_same s.1),
 ))
 
-pub may_queue : {k : Kept} (e : Entry) → IsSomewhere k
+pub may_queue : {k : FollowerKept} (e : Entry) → IsSomewhere k
     → ((starting : List StartWord) (log : List Entry) → IsFaultless k starting log
     → Keeps (rules_by k.charter).header (newest_first log) e)
     → MayQueue (rules_by k.charter).header k.waiting k.taken k.callers e k.entries
@@ -409,7 +411,7 @@ length-places : (earlier xs : List Entry) → length (places_after earlier xs) �
 length-places earlier [] = refl
 length-places earlier (x ∷ xs) = ap suc (length-places (x ∷ earlier) xs)
 
-pub few_commits : {k : Kept} → k.entries < 2 ^ 62 → IsSomewhere k → k.commits + 1 < 2 ^ 64
+pub few_commits : {k : FollowerKept} → k.entries < 2 ^ 62 → IsSomewhere k → k.commits + 1 < 2 ^ 64
 few_commits {k} few somewhere = below_of _ _ (∥∥₁_elim somewhere (Bool-set _ _) (λ s.
     let low : k.commits + 1 < 2 ^ 64 =
     omega (
@@ -422,7 +424,7 @@ few_commits {k} few somewhere = below_of _ _ (∥∥₁_elim somewhere (Bool-set
     ) in
     is_below (k.commits + 1) (2 ^ 64) low))
 
-pub low_commits : {k : Kept} → k.entries < 2 ^ 62 → IsSomewhere k → k.commits < 2 ^ 62
+pub low_commits : {k : FollowerKept} → k.entries < 2 ^ 62 → IsSomewhere k → k.commits < 2 ^ 62
 low_commits {k} few somewhere = below_of _ _ (∥∥₁_elim somewhere (Bool-set _ _) (λ s.
     let low : k.commits < 2 ^ 62 =
     omega (
@@ -435,7 +437,8 @@ low_commits {k} few somewhere = below_of _ _ (∥∥₁_elim somewhere (Bool-set
     ) in
     is_below k.commits (2 ^ 62) low))
 
-pub few_observers : {k : Kept} → k.entries < 2 ^ 62 → IsSomewhere k → k.observers + 1 < 2 ^ 64
+pub few_observers : {k : FollowerKept} → k.entries < 2 ^ 62 → IsSomewhere k → k.observers
+    + 1 < 2 ^ 64
 few_observers {k} few somewhere = below_of _ _ (∥∥₁_elim somewhere (Bool-set _ _) (λ s.
     let low : k.observers + 1 < 2 ^ 64 =
     omega (
@@ -449,7 +452,7 @@ few_observers {k} few somewhere = below_of _ _ (∥∥₁_elim somewhere (Bool-s
     ) in
     is_below (k.observers + 1) (2 ^ 64) low))
 
-pub low_caller_of : {k : Kept} (e : Entry) → IsSomewhere k
+pub low_caller_of : {k : FollowerKept} (e : Entry) → IsSomewhere k
     → ((starting : List StartWord) (log : List Entry) → IsFaultless k starting log
     → Keeps (rules_by k.charter).header (newest_first log) e)
     → e.caller < (rules_by k.charter).header.callers
@@ -468,7 +471,8 @@ none_current told (suc n) zero seen here is_open =
 none_current told (suc n) (suc c) seen here is_open = none_current told n c seen here is_open
 
 -- before the first entry all is kept
-pub first_taken_in : (k : Kept) (r : Rules) (starting : List StartWord) → rules_by k.charter ≡ r
+pub first_taken_in : (k : FollowerKept) (r : Rules) (starting : List StartWord) → rules_by k.charter
+    ≡ r
     → k.started ≡ length starting
     → state_at_start r starting ≡ Some k.state → ShapeFollows k.shape [] → k.shape.header ≡ r.header
     → HasWords k.shadow k.inner starting []
@@ -525,13 +529,13 @@ first_taken_in k r starting header started begins shape shape_header words shado
     }
 
 -- what may be judged once one more is
-pub may_catch_up_on : {first next : Option Waiting} {k n : Kept} → MayCatchUp first k
+pub may_catch_up_on : {first next : Option Waiting} {k n : FollowerKept} → MayCatchUp first k
     → ((starting : List StartWord) (log : List Entry) → IsCatchingUp first k starting log
     → IsCatchingUp next n starting log) → MayCatchUp next n
 may_catch_up_on may on = ∥∥₁_map may (λ s. (s.0, s.1, on s.0 s.1 s.2, s.3))
 
 -- the whole of one more entry that keeps the rules, by what each part does
-pub taken_all : (k n : Kept) (first : Option Waiting) (e : Entry) (queue_header : Header)
+pub taken_all : (k n : FollowerKept) (first : Option Waiting) (e : Entry) (queue_header : Header)
     (commits_here observes : Bool)
     → k.shape.header ≡ (rules_by k.charter).header → k.shadow.header ≡ (rules_by k.charter).header
     → queue_header ≡ (rules_by k.charter).header
@@ -594,7 +598,7 @@ taken_all k n first e queue_header commits_here observes shape_is shadow_is queu
     reversed : (es : List Entry) → k.entries ≡ length es → k.entries ≡ length (newest_first es)
     reversed es is = omega (arith, is, length-newest_first_onto [] es)
 
-pub may_catch_up : (k n : Kept) (first : Option Waiting) (e : Entry) → k.entries < 2 ^ 62
+pub may_catch_up : (k n : FollowerKept) (first : Option Waiting) (e : Entry) → k.entries < 2 ^ 62
     → IsSomewhere k
     → ((starting : List StartWord) (log : List Entry) → IsFaultless k starting log
     → IsCatchingUp first n starting (log ++ e ∷ [])) → MayCatchUp first n
@@ -604,7 +608,7 @@ may_catch_up k n first e few somewhere on = ∥∥₁_map somewhere (λ s.
     (s.0, s.1 ++ e ∷ [], on s.0 s.1 s.2, short))
 
 -- an entry that keeps the rules by one name of the header keeps them by another
-pub keeps_by : {k : Kept} {n : ShapeKept} (e : Entry) (h : Header) → k.shape.header
+pub keeps_by : {k : FollowerKept} {n : ShapeKept} (e : Entry) (h : Header) → k.shape.header
     ≡ (rules_by k.charter).header → h ≡ (rules_by k.charter).header
     → ((earlier : List Entry) → ShapeFollows k.shape earlier
     → (broken_rule k.shape.header earlier e ≡ None) × ShapeFollows n (e ∷ earlier))
@@ -616,13 +620,14 @@ keeps_by {k} {n} e h shape_is is shape starting log f = record {
 }
 
 -- the answer with one more entry
-pub answer_with : {k : Kept} {starting : List StartWord} {log : List Entry} (v : Option Verdict)
+pub answer_with : {k : FollowerKept} {starting : List StartWord} {log : List Entry}
+    (v : Option Verdict)
     → HasTakenIn k starting log → v ≡ first_fault (rules_by k.charter) starting log
     → v ≡ verdict_so_far (rules_by k.charter) starting log
 answer_with v t is = is ∙ sym (so_far_is t)
 
 -- the verdict if `end` stands after the entries
-pub end_open : {k : Kept} {starting : List StartWord} {log : List Entry}
+pub end_open : {k : FollowerKept} {starting : List StartWord} {log : List Entry}
     → IsFaultless k starting log
     → is_call_open k.shape.header (newest_first log) ≡ true
     → Malformed (k.started + k.entries + 2) CallOpen ≡ verdict (rules_by k.charter) starting log
@@ -633,7 +638,7 @@ end_open {k} {starting} {log} f is_open =
     (so_far_is f.taken_in ∙ f.faultless)
     (ap (λ h. is_call_open h (newest_first log)) (sym f.taken_in.shape_header) ∙ is_open)
 
-pub end_accepted : {k : Kept} {starting : List StartWord} {log : List Entry}
+pub end_accepted : {k : FollowerKept} {starting : List StartWord} {log : List Entry}
     → IsFaultless k starting log
     → is_call_open k.shape.header (newest_first log) ≡ false
     → Accepted k.entries k.commits k.observers ≡ verdict (rules_by k.charter) starting log
@@ -651,10 +656,11 @@ open_by P (Ok x) ok = sym ok
 open_by P (Err x) fault = sym fault.0
 
 -- the comparison was not refused
-pub sound_of : {k : Kept} → IsSomewhere k → k.views.refused ≡ false
+pub sound_of : {k : FollowerKept} → IsSomewhere k → k.views.refused ≡ false
 sound_of somewhere = ∥∥₁_elim somewhere (Bool-set _ _) (λ s. s.2.taken_in.sound)
 
-pub sound_up : {first : Option Waiting} {k : Kept} → MayCatchUp first k → k.views.refused ≡ false
+pub sound_up : {first : Option Waiting} {k : FollowerKept} → MayCatchUp first k → k.views.refused
+    ≡ false
 sound_up may = ∥∥₁_elim may (Bool-set _ _) (λ s. s.2.taken_in.sound)
 
 -- an entry is its caller and its kind

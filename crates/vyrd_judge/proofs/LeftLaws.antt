@@ -23,7 +23,7 @@ use Rattle.vyrd_base.proofs.ListLaws.{both_none}
 use Rattle.vyrd_base.proofs.PlaceLaws.{length-mapped}
 use Rattle.vyrd_judge.specs.Answers.{answers_left}
 use Rattle.vyrd_judge.specs.Costs.{callers_of}
-use Rattle.vyrd_shadow.specs.Following.{Kept as ShadowKept, kept_writes}
+use Rattle.vyrd_shadow.specs.Following.{ShadowKept, kept_writes}
 use Rattle.vyrd_words.specs.Costs.{kept_back, all_kept_back}
 use Rattle.vyrd_words.specs.Effects.{effect_parts, AllFew, AreFew, HasParts}
 use Rattle.vyrd_words.specs.HasWords.{HasWords}

@@ -11,7 +11,7 @@ use Rattle.vyrd_base.specs.Verdicts.{verdict_so_far, verdict_at, verdict}
 use Rattle.vyrd_base.proofs.VerdictLaws.{verdict_lasts}
 use Rattle.vyrd_judge.specs.declared.waiting.Waiting.{Waiting}
 use Rattle.vyrd_judge.specs.Queued.{AwaitsReturn}
-use Rattle.vyrd_judge.specs.Following.{Kept, JudgeView, FollowsBy, HasFollowed, IsFaultless}
+use Rattle.vyrd_judge.specs.Following.{FollowerKept, JudgeView, FollowsBy, HasFollowed, IsFaultless}
 use Rattle.vyrd_judge.specs.Following.{HasTakenIn}
 use Rattle.vyrd_base.proofs.VerdictParts.{no_first_fault, so_far_kept, verdict_standing}
 
@@ -56,7 +56,7 @@ none_stands {j} {starting} {log} is f =
     ∙ all.faultless
 
 -- before the first entry
-pub faultless_first : {k : Kept} {starting : List StartWord}
+pub faultless_first : {k : FollowerKept} {starting : List StartWord}
     → HasTakenIn k starting [] → IsFaultless k starting []
 faultless_first {k} {starting} t = record {
   taken_in = t;

@@ -6,7 +6,7 @@ use Rattle.vyrd_base.specs.declared.log.Entry.{Entry}
 use Rattle.vyrd_base.specs.Commits.{is_commit, next_reply}
 use Rattle.vyrd_base.specs.Places.{numbers_below}
 use Rattle.vyrd_base.specs.Words.{effects_at}
-use Rattle.vyrd_shadow.specs.Following.{Kept, kept_writes}
+use Rattle.vyrd_shadow.specs.Following.{ShadowKept, kept_writes}
 use Rattle.vyrd_words.specs.Cuts.{Cuts}
 
 -- whether an entry commits, and its execution doesn't return in the entries after it
@@ -52,6 +52,6 @@ abbrev pub writes_kept : Cuts → ℕ
 writes_kept views = views.begun + count_all views.since
 
 -- how many writes the open blocks keep
-abbrev pub blocks_keep : Kept → ℕ
+abbrev pub blocks_keep : ShadowKept → ℕ
 blocks_keep shadow =
     sum_by (λ c. length (kept_writes shadow c)) (numbers_below shadow.header.callers)

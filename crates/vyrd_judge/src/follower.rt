@@ -13,7 +13,7 @@ ghost use Rattle.vyrd_base.specs.Commits.{is_commit};
 ghost use Rattle.vyrd_base.specs.Verdicts.{first_fault, verdict, verdict_so_far};
 ghost use Rattle.vyrd_judge.specs.Costs.{debt, debt_after, debt_by, entry_cost, start_cost};
 ghost use Rattle.vyrd_judge.specs.Costs.{callers_of};
-ghost use Rattle.vyrd_judge.specs.Following.{Kept, HasTakenIn, IsFaultless, IsSomewhere};
+ghost use Rattle.vyrd_judge.specs.Following.{FollowerKept, HasTakenIn, IsFaultless, IsSomewhere};
 ghost use Rattle.vyrd_judge.specs.Following.{IsCatchingUp, MayCatchUp, AdvanceGives, with_first};
 ghost use Rattle.vyrd_judge.specs.Queued.{CanLeave};
 ghost use Rattle.vyrd_shadow.specs.Costs.{owed as shadow_owed};
@@ -53,10 +53,10 @@ pub(crate) struct Follower<S: Spec> {
 impl<S: Spec> Model for Follower<S> {
     ghost use Rattle.std.specs.Prelude.{◌≡◌, ◌≤◌, ◌^◌};
     ghost use Rattle.vyrd_base.specs.Rules.{rules_by};
-    ghost use Rattle.vyrd_judge.specs.Following.{Kept};
+    ghost use Rattle.vyrd_judge.specs.Following.{FollowerKept};
     ghost use Rattle.vyrd_view.specs.Known.{view_by};
 
-    ghost Value = { Kept };
+    ghost Value = { FollowerKept };
 
     ghost view = { λ f. record {
       charter = S.charter f.replay.spec;

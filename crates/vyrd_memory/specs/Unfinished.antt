@@ -1,4 +1,5 @@
--- Callers whose machines aren't done. A round over all callers may leave the others out, since a turn
+-- Callers whose machines aren't done. A round over all callers may leave the others out, since a
+-- turn
 -- of a machine that is done has no event.
 use Rattle.std.specs.Prelude.{◌≡◌, ℕ, Bool, true, false, not, List, length, slice_get}
 use Rattle.std.specs.Prelude.{Option, Some, None}

@@ -23,7 +23,7 @@ use Rattle.vyrd_mover.specs.declared.usage.Users.TheVariants.{Nobody, One, Many}
 use Rattle.vyrd_mover.specs.RaceFree.{is_access_of, is_write_to, is_used_by_alone, is_unwritten}
 use Rattle.vyrd_mover.specs.RaceFree.{is_guarded_at, is_guarded_by, is_race_free}
 use Rattle.vyrd_mover.specs.LockSets.{words_for, has_lock, with_lock, without_lock, in_both}
-use Rattle.vyrd_mover.specs.Usage.{Use, Kept, IsUse, HoldsSo, HaveSeen, may_be_alone, is_used}
+use Rattle.vyrd_mover.specs.Usage.{Use, UsageKept, IsUse, HoldsSo, HaveSeen, may_be_alone, is_used}
 use Rattle.vyrd_mover.specs.Usage.{is_shared, joined, used_by, unused, held_by, with_use, with_held}
 use Rattle.vyrd_mover.specs.Usage.{kept_after}
 use Rattle.vyrd_mover.proofs.LockLaws.{with_same, with_other, length-with_lock, without_same}
@@ -190,7 +190,7 @@ holds_still cells seen e caller held still is = record {
 }
 
 -- the cell of an access, and another cell
-use_here : (cells : Cells) (seen : List Stamped) (all : Kept) (e : Stamped) (other cell : ℕ)
+use_here : (cells : Cells) (seen : List Stamped) (all : UsageKept) (e : Stamped) (other cell : ℕ)
     (is_write : Bool) → HaveSeen cells seen all
     → ((c : ℕ) → is_access_of c e.did ≡ (other == c))
     → ((c : ℕ) → is_write_to c e.did ≡ ((other == c) && is_write))
@@ -223,7 +223,7 @@ use_here cells seen all e other cell is_write have access write low fits inside 
         (write cell ∙ ap (λ b. b && is_write) h) (have.uses cell inside d))
 
 -- an access leaves the locks as they are
-with_access : (cells : Cells) (seen : List Stamped) (all : Kept) (e : Stamped) (other : ℕ)
+with_access : (cells : Cells) (seen : List Stamped) (all : UsageKept) (e : Stamped) (other : ℕ)
     (is_write : Bool) → HaveSeen cells seen all
     → ((c : ℕ) → is_access_of c e.did ≡ (other == c))
     → ((c : ℕ) → is_write_to c e.did ≡ ((other == c) && is_write))
@@ -318,7 +318,7 @@ others_locks cells seen e other value caller held makes before after is =
         (sym (value_kept cells seen e other value (cells.plain + lock) makes h))
 
 -- a change of a lock leaves the cells as they are
-with_locks : (cells : Cells) (seen : List Stamped) (all : Kept) (e : Stamped) (other value : ℕ)
+with_locks : (cells : Cells) (seen : List Stamped) (all : UsageKept) (e : Stamped) (other value : ℕ)
     (changed : List ℕ) → HaveSeen cells seen all
     → ((c : ℕ) → is_access_of c e.did ≡ false) → ((c : ℕ) → is_write_to c e.did ≡ false)
     → Makes cells e other value → e.caller < cells.callers
@@ -365,7 +365,7 @@ none_isnt : (b : ℕ) → (0 == b + 1) ≡ false
 none_isnt b = let apart : 0 ≢ b + 1 = omega arith in isnt_same 0 (b + 1) apart
 
 -- a lock has a place in its caller's set
-has_place : (cells : Cells) (seen : List Stamped) (all : Kept) (caller other : ℕ)
+has_place : (cells : Cells) (seen : List Stamped) (all : UsageKept) (caller other : ℕ)
     → HaveSeen cells seen all → caller < cells.callers
     → cells.plain ≤ other → other < cells.plain + cells.locks → (other - cells.plain) / 64 < length
     (held_by all caller)
@@ -375,7 +375,7 @@ has_place cells seen all caller other have low least most =
     omega arith
 
 -- a lock is taken
-with_taken : (cells : Cells) (seen : List Stamped) (all : Kept) (k c lock : ℕ)
+with_taken : (cells : Cells) (seen : List Stamped) (all : UsageKept) (k c lock : ℕ)
     → HaveSeen cells seen all → c < cells.callers
     → may_do cells (newest_first seen) c (Took lock) ≡ true
     → HaveSeen cells (seen ++ record { number = k; caller = c; did = Took lock } ∷ [])
@@ -401,7 +401,7 @@ with_taken cells seen all k c lock have low may =
     (λ l ne. with_other (held_by all c) (lock - cells.plain) l ne place))
 
 -- a lock is given back
-with_given : (cells : Cells) (seen : List Stamped) (all : Kept) (k c lock : ℕ)
+with_given : (cells : Cells) (seen : List Stamped) (all : UsageKept) (k c lock : ℕ)
     → HaveSeen cells seen all → c < cells.callers
     → may_do cells (newest_first seen) c (Gave lock) ≡ true
     → HaveSeen cells (seen ++ record { number = k; caller = c; did = Gave lock } ∷ [])
@@ -430,7 +430,7 @@ false_and : (b : Bool) → false ≡ (b && false)
 false_and b = sym (and-false b)
 
 -- one more event
-step_by : (cells : Cells) (seen : List Stamped) (all : Kept) (k c : ℕ) (did : Did)
+step_by : (cells : Cells) (seen : List Stamped) (all : UsageKept) (k c : ℕ) (did : Did)
     → HaveSeen cells seen all → c < cells.callers
     → may_do cells (newest_first seen) c did ≡ true
     → HaveSeen cells (seen ++ record { number = k; caller = c; did = did } ∷ [])
@@ -461,7 +461,7 @@ step_by cells seen all k c (Marked kind) have low may =
           (have.uses cell inside d);
     }
 
-pub have_seen_more : (cells : Cells) (seen : List Stamped) (all : Kept) (e : Stamped)
+pub have_seen_more : (cells : Cells) (seen : List Stamped) (all : UsageKept) (e : Stamped)
     → HaveSeen cells seen all → e.caller < cells.callers
     → may_do cells (newest_first seen) e.caller e.did ≡ true → HaveSeen cells (seen ++ e ∷ [])
     (kept_after all e.caller e.did)

@@ -14,7 +14,7 @@ use Rattle.vyrd_base.proofs.PlaceLaws.{length-newest_first}
 use Rattle.vyrd_base.proofs.TestLaws.{first_true, second_true, same_of, below_of}
 use Rattle.vyrd_mover.specs.Steps.{step_of, step_coded, code_of, IsShort, role_of}
 use Rattle.vyrd_mover.specs.LockSets.{words_for}
-use Rattle.vyrd_mover.specs.Usage.{Kept, HaveSeen, IsInRange, IsBehind, HasPlaceIn, held_by}
+use Rattle.vyrd_mover.specs.Usage.{UsageKept, HaveSeen, IsInRange, IsBehind, HasPlaceIn, held_by}
 use Rattle.vyrd_mover.specs.Usage.{kept_after, unused}
 use Rattle.vyrd_mover.specs.Taking.{Taken, HasTaken, IsNext}
 use Rattle.vyrd_mover.proofs.SeenLaws.{have_seen_nothing, have_seen_more}
@@ -22,7 +22,7 @@ use Rattle.vyrd_mover.proofs.LegalPlaces.{MayCome, in_range, behind, wider, has_
 use Rattle.vyrd_mover.proofs.TextLaws.{all_more, all_here, legal_test}
 use Rattle.vyrd_mover.proofs.StepLaws.{steps_more, short_role}
 
-pub taken_nothing : (h : Header) (uses : Kept) → uses.held ≡ replicate h.callers
+pub taken_nothing : (h : Header) (uses : UsageKept) → uses.held ≡ replicate h.callers
     (replicate (words_for (lock_words h)) 0) → uses.cells ≡ replicate (plain_words h) unused
     → HasTaken (record { header = h; uses = uses; steps = [] }) []
 unfolding is_legal
@@ -91,7 +91,8 @@ fits t history e taken next =
     }
 
 -- one more event
-pub taken_more : (h : Header) (uses : Kept) (codes : List ℕ) (history : List Stamped) (e : Stamped)
+pub taken_more : (h : Header) (uses : UsageKept) (codes : List ℕ) (history : List Stamped)
+    (e : Stamped)
     → HasTaken (record { header = h; uses = uses; steps = map step_coded codes }) history
     → IsNext h history e
     → HasTaken (record {

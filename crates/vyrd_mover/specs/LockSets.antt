@@ -25,7 +25,8 @@ with_lock words lock =
 -- the set without it
 unfoldable pub without_lock : List ℕ → ℕ → List ℕ
 without_lock words lock =
-    slice_set words (lock / 64) (bit_and (slice_index words (lock / 64)) (bit_not w64 (mask_of lock)))
+    slice_set words (lock / 64)
+    (bit_and (slice_index words (lock / 64)) (bit_not w64 (mask_of lock)))
 
 -- the locks of the first set that are in the second too
 unfoldable pub in_both : List ℕ → List ℕ → List ℕ

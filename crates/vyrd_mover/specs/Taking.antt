@@ -6,12 +6,12 @@ use Rattle.vyrd_base.specs.Histories.{cells_of, is_legal_at, is_legal}
 use Rattle.vyrd_mover.specs.declared.step.Step.{Step}
 use Rattle.vyrd_mover.specs.HistoryReading.{next_place}
 use Rattle.vyrd_mover.specs.Steps.{step_of}
-use Rattle.vyrd_mover.specs.Usage.{Kept, HaveSeen}
+use Rattle.vyrd_mover.specs.Usage.{UsageKept, HaveSeen}
 
 -- the header, how the cells were used, and the events as steps
 pub record Taken : Type 0 where
   pub header : Header
-  pub uses : Kept
+  pub uses : UsageKept
   pub steps : List Step
 
 -- this legal history was taken in

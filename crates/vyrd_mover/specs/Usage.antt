@@ -1,5 +1,6 @@
 -- What is kept of a plain cell while a history is gone through: who has used it, whether it was
--- written, and which locks may guard it. Locks are numbered from 0 here, in the order of their cells.
+-- written, and which locks may guard it. Locks are numbered from 0 here, in the order of their
+-- cells.
 use Rattle.std.specs.Prelude.{◌≡◌, ℕ, ◌+◌, ◌-◌, ◌/◌, ◌<◌, ◌≤◌, Bool, true, false, not, ◌&&◌}
 use Rattle.std.specs.Prelude.{◌||◌, ◌==◌, List, []}
 use Rattle.std.specs.Prelude.{length, slice_index_or, slice_set, nat_lt, if◌then◌else◌}
@@ -56,16 +57,16 @@ abbrev pub unused : Use
 unused = record { users = Nobody; written = false; guards = [] }
 
 -- the locks that each caller holds, and what is kept of each plain cell
-pub record Kept : Type 0 where
+pub record UsageKept : Type 0 where
   pub held : List (List ℕ)
   pub cells : List Use
 
 -- the locks that a caller holds
-abbrev pub held_by : Kept → ℕ → List ℕ
+abbrev pub held_by : UsageKept → ℕ → List ℕ
 held_by all caller = slice_index_or all.held caller []
 
 -- the same after one more use of a cell
-abbrev pub with_use : Kept → ℕ → ℕ → Bool → Kept
+abbrev pub with_use : UsageKept → ℕ → ℕ → Bool → UsageKept
 with_use all cell caller is_write = record {
   held = all.held;
   cells = slice_set all.cells cell
@@ -73,11 +74,11 @@ with_use all cell caller is_write = record {
 }
 
 -- the same where a caller holds other locks
-abbrev pub with_held : Kept → ℕ → List ℕ → Kept
+abbrev pub with_held : UsageKept → ℕ → List ℕ → UsageKept
 with_held all caller locks = record { held = slice_set all.held caller locks; cells = all.cells }
 
 -- the same after an event
-abbrev pub kept_after : Kept → ℕ → Did → Kept
+abbrev pub kept_after : UsageKept → ℕ → Did → UsageKept
 kept_after all caller (Read cell value) = with_use all cell caller false
 kept_after all caller (Wrote cell value) = with_use all cell caller true
 kept_after all caller (Took lock) =
@@ -125,7 +126,7 @@ pub record HoldsSo (cells : Cells) (seen : List Stamped) (caller : ℕ) (held : 
       && value_in (newest_first seen) (cells.plain + lock) == caller + 1)
 
 -- what these events say of the locks and the plain cells
-pub record HaveSeen (cells : Cells) (seen : List Stamped) (all : Kept) : Type 0 where
+pub record HaveSeen (cells : Cells) (seen : List Stamped) (all : UsageKept) : Type 0 where
   pub all_held : length all.held ≡ cells.callers
   pub all_cells : length all.cells ≡ cells.plain
   pub held : (caller : ℕ) → caller < cells.callers → (d : List ℕ)

@@ -26,9 +26,9 @@ pub(crate) struct Uses {
 }
 
 impl Model for Uses {
-    ghost use Rattle.vyrd_mover.specs.Usage.{Kept};
+    ghost use Rattle.vyrd_mover.specs.Usage.{UsageKept};
 
-    ghost Value = { Kept };
+    ghost Value = { UsageKept };
 
     ghost view = { λ s. record { held = s.held.items; cells = s.cells.items } };
 }

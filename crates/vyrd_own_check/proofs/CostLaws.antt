@@ -21,7 +21,8 @@ use Rattle.vyrd_own_spec.specs.Effects.{most_touched}
 use Rattle.vyrd_own_check.specs.LogReadings.{read_so_far}
 use Rattle.vyrd_own_check.specs.Costs.{word_price, entry_cost, starting_cost, headed_cost}
 use Rattle.vyrd_own_check.specs.Costs.{reading_cost, bytes_cost, end_cost}
-use Rattle.vyrd_own_check.specs.Checking.{IsLimit, IsAt, IsJudging, IsReady, IsBegun, Kept}
+use Rattle.vyrd_own_check.specs.Checking.{IsLimit, IsAt, IsJudging, IsReady, IsBegun}
+use Rattle.vyrd_own_check.specs.Checking.{OwnCheckerKept}
 use Rattle.vyrd_own_check.specs.Checking.{CheckerState, limit_of}
 use Rattle.vyrd_own_check.specs.Owed.{price_by, judge_owes, following_cost, kept_debt, debt_after}
 use Rattle.vyrd_own_check.specs.Owed.{checker_debt}
@@ -209,7 +210,7 @@ piece_paid None after old new more done judging g going ready begun =
         (following_is j h.0 new.lines more done h.2) was is
 
 -- what is owed once a verdict stands, or none
-pub after_at_most : (o : Option Verdict) (k : Kept) (bytes : List ℕ)
+pub after_at_most : (o : Option Verdict) (k : OwnCheckerKept) (bytes : List ℕ)
     → debt_after o k bytes ≤ kept_debt k bytes
 after_at_most None k bytes = omega arith
 after_at_most (Some v) k bytes = omega arith
@@ -224,7 +225,7 @@ pub unread : (max : ℕ) → bytes_cost max [] ≡ 0
 unfolding own_reading
 unread max = refl
 
-pub nothing_owed : (k : Kept) (bytes : List ℕ) → k.judge ≡ None → kept_debt k bytes ≡ 0
+pub nothing_owed : (k : OwnCheckerKept) (bytes : List ℕ) → k.judge ≡ None → kept_debt k bytes ≡ 0
 nothing_owed k bytes none = ap (λ o. judge_owes o (read_so_far (limit_of k) bytes).entries) none
 
 more_held : (a b c d : ℕ) → a ≤ b + c → a ≤ b + (c + d)
@@ -274,7 +275,8 @@ grown_more : (a b c d e f : ℕ) → a + b + c ≤ d + e + f → (g : ℕ) → g
 grown_more a b c d e f paid g less = omega (arith, paid, less)
 
 -- what a part of a piece has cost is paid, whether a verdict stands or not
-pub part_paid : (c : CheckerState) (k : Kept) (v : Option Verdict) (bytes part : List ℕ) (m n : ℕ)
+pub part_paid : (c : CheckerState) (k : OwnCheckerKept) (v : Option Verdict) (bytes part : List ℕ)
+    (m n : ℕ)
     → c.so_far ≡ None
     → n + kept_debt k (bytes ++ part) + bytes_cost (limit_of c.kept) bytes
     ≤ m + kept_debt c.kept bytes + bytes_cost (limit_of c.kept) (bytes ++ part)

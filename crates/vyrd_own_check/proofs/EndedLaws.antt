@@ -20,7 +20,7 @@ use Rattle.vyrd_judge.specs.Following.{JudgeView, HasFollowed}
 use Rattle.vyrd_own_check.specs.LogReadings.{read_so_far}
 use Rattle.vyrd_own_check.specs.Costs.{bytes_cost}
 use Rattle.vyrd_own_check.specs.Owed.{judge_owes, kept_debt}
-use Rattle.vyrd_own_check.specs.Checking.{IsLimit, limit_of, IsJudging, Kept, IsUndecided}
+use Rattle.vyrd_own_check.specs.Checking.{IsLimit, limit_of, IsJudging, OwnCheckerKept, IsUndecided}
 use Rattle.vyrd_own_check.specs.Checking.{untold_in}
 use Rattle.vyrd_own_check.proofs.ReadingFacts.{known_so_far, untold_right}
 use Rattle.vyrd_own_check.proofs.CostLaws.{bytes_more}
@@ -59,7 +59,7 @@ still_paid : (n later owed was now : ℕ) → later ≡ owed → was ≤ now
     → n + later + was ≤ n + owed + now
 still_paid n later owed was now same more = omega (arith, same, more)
 
-module _ (old : Kept) (bytes piece : List ℕ) (limit : IsLimit (limit_of old))
+module _ (old : OwnCheckerKept) (bytes piece : List ℕ) (limit : IsLimit (limit_of old))
     (u : IsUndecided old bytes) (ended : has_ended old.reader.kept.lines.stage ≡ true) where
   abbrev was : OwnReading
   was = read_so_far (limit_of old) bytes

@@ -22,7 +22,8 @@ use Rattle.vyrd_own_log.specs.Readers.{ReaderState, HasRead, IsGrownBy}
 use Rattle.vyrd_own_log.proofs.GrownLaws.{reading_grown, reading_formed}
 use Rattle.vyrd_judge.specs.Following.{JudgeView}
 use Rattle.vyrd_own_check.specs.LogReadings.{read_so_far}
-use Rattle.vyrd_own_check.specs.Checking.{IsLimit, IsJudging, IsReady, IsBegun, HasRoom, Kept}
+use Rattle.vyrd_own_check.specs.Checking.{IsLimit, IsJudging, IsReady, IsBegun, HasRoom}
+use Rattle.vyrd_own_check.specs.Checking.{OwnCheckerKept}
 use Rattle.vyrd_own_check.specs.Checking.{limit_of, IsUndecided, IsSomewhere, untold_in}
 use Rattle.vyrd_own_check.specs.Costs.{bytes_cost}
 use Rattle.vyrd_own_check.specs.Owed.{judge_owes, following_cost, kept_debt}
@@ -31,7 +32,8 @@ use Rattle.vyrd_own_check.proofs.PieceLaws.{judge_before, has_room}
 use Rattle.vyrd_own_check.proofs.CostLaws.{piece_paid}
 
 -- a piece was read, and the judge is there if it may be
-pub record Fed (old : Kept) (reader : ReaderState) (begun : Option JudgeView) (piece : List ℕ)
+pub record Fed (old : OwnCheckerKept) (reader : ReaderState) (begun : Option JudgeView)
+    (piece : List ℕ)
     (entries : List Entry) (numbers : List ℕ)
     (fault : Option Verdict) : Type 0 where
   pub limit : reader.kept.lines.max_lines ≡ limit_of old
@@ -56,7 +58,7 @@ grown_on old brought all is grown =
     record { more = grown.more; one = is ∙ ap (λ xs. old ++ xs) grown.one; other = grown.other }
 
 -- there is room for the numbers of lines that the piece brings
-pub numbers_room : (old : Kept) (piece brought : List ℕ) → IsLimit (limit_of old)
+pub numbers_room : (old : OwnCheckerKept) (piece brought : List ℕ) → IsLimit (limit_of old)
     → ((bytes : List ℕ) → HasRead old.reader bytes
     → IsGrownBy [] (read_so_far (limit_of old) bytes).numbers brought
     (read_so_far (limit_of old) (bytes ++ piece)).numbers)
@@ -87,7 +89,8 @@ own_of Tree e = cc
 own_of Buffers e = cc
 own_of Own e = refl
 
-module _ (old : Kept) (reader : ReaderState) (piece : List ℕ) (limit : IsLimit (limit_of old))
+module _ (old : OwnCheckerKept) (reader : ReaderState) (piece : List ℕ)
+    (limit : IsLimit (limit_of old))
     (within : reader.kept.lines.max_lines ≡ limit_of old)
     (reads : (bytes : List ℕ) → HasRead old.reader bytes → HasRead reader (bytes ++ piece))
     (somewhere : IsSomewhere old) where
@@ -129,7 +132,7 @@ paid_then : (owes begun moves before was now n m later : ℕ) → later ≡ owes
 paid_then owes begun moves before was now n m later same paid taken =
     omega (arith, same, paid, taken)
 
-module _ (old : Kept) (reader : ReaderState) (begun : Option JudgeView) (piece : List ℕ)
+module _ (old : OwnCheckerKept) (reader : ReaderState) (begun : Option JudgeView) (piece : List ℕ)
     (entries : List Entry) (numbers : List ℕ)
     (fault : Option Verdict) (fed : Fed old reader begun piece entries numbers fault) where
   -- the judge is ready for the entries of the piece

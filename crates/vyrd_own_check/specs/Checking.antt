@@ -99,34 +99,34 @@ IsBegun true None lines starting None after = after ≡ None
 IsBegun true (Some h) lines starting None after = IsMade h lines starting after
 
 -- what reads the text and judges its entries, and the numbers of lines
-pub record Kept : Type 0 where
+pub record OwnCheckerKept : Type 0 where
   pub reader : ReaderState
   pub judge : Option JudgeView
   pub numbers : List ℕ
 
 -- the reader's limit
-abbrev pub limit_of : Kept → ℕ
+abbrev pub limit_of : OwnCheckerKept → ℕ
 limit_of k = k.reader.kept.lines.max_lines
 
 -- Nothing is wrong with the bytes so far, and what is kept stands for them.
-pub record IsUndecided (k : Kept) (bytes : List ℕ) : Type 0 where
+pub record IsUndecided (k : OwnCheckerKept) (bytes : List ℕ) : Type 0 where
   pub read : HasRead k.reader bytes
   pub judging : IsJudging k.judge (read_so_far (limit_of k) bytes)
   pub numbers : k.numbers ≡ (read_so_far (limit_of k) bytes).numbers
   pub nothing : own_text_verdict_so_far (limit_of k) bytes ≡ None
 
 -- what is kept stands for some bytes
-abbrev pub IsSomewhere : Kept → Type 0
+abbrev pub IsSomewhere : OwnCheckerKept → Type 0
 IsSomewhere k = ∥ ((bytes : List ℕ) × IsUndecided k bytes) ∥₁
 
 -- what is kept, the verdict that stands, and whether memory was refused
 pub record CheckerState : Type 0 where
-  pub kept : Kept
+  pub kept : OwnCheckerKept
   pub so_far : Option Verdict
   pub has_failed : Bool
 
 -- what is kept stands for the bytes, or a verdict stands
-abbrev pub FollowsBy : Kept → List ℕ → Option Verdict → Type 0
+abbrev pub FollowsBy : OwnCheckerKept → List ℕ → Option Verdict → Type 0
 FollowsBy k bytes None = IsUndecided k bytes
 FollowsBy k bytes (Some v) = own_text_verdict_so_far (limit_of k) bytes ≡ Some v
 

@@ -8,7 +8,7 @@ use Rattle.vyrd_judge.specs.Costs.{judge_debt, log_cost, callers_of}
 use Rattle.vyrd_judge.specs.Following.{JudgeView}
 use Rattle.vyrd_own_spec.specs.Effects.{most_touched}
 use Rattle.vyrd_own_check.specs.LogReadings.{read_so_far}
-use Rattle.vyrd_own_check.specs.Checking.{Kept, CheckerState, limit_of}
+use Rattle.vyrd_own_check.specs.Checking.{OwnCheckerKept, CheckerState, limit_of}
 use Rattle.vyrd_own_check.specs.Costs.{word_price}
 
 -- the price of a word, whatever the words show
@@ -27,11 +27,11 @@ following_cost (Some j) entries ended =
     log_cost price_by most_touched j.kept entries + (if ended then callers_of j.kept else 0)
 
 -- what is owed for the bytes by what was kept of them
-abbrev pub kept_debt : Kept → List ℕ → ℕ
+abbrev pub kept_debt : OwnCheckerKept → List ℕ → ℕ
 kept_debt k bytes = judge_owes k.judge (read_so_far (limit_of k) bytes).entries
 
 -- the same once this verdict stands, if there is one: then no byte is looked at any more
-abbrev pub debt_after : Option Verdict → Kept → List ℕ → ℕ
+abbrev pub debt_after : Option Verdict → OwnCheckerKept → List ℕ → ℕ
 debt_after None k bytes = kept_debt k bytes
 debt_after (Some v) k bytes = 0
 

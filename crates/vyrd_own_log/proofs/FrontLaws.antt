@@ -23,7 +23,7 @@ use Rattle.vyrd_own_log.specs.Quick.{IsOwnEntryAtFront}
 use Rattle.vyrd_own_log.specs.States.{LineState}
 use Rattle.vyrd_own_log.specs.Steps.{next, broken, spelled_step, stage_step, own_step}
 use Rattle.vyrd_base.specs.declared.verdict.Rule.TheVariants.{TooManyLines}
-use Rattle.vyrd_own_log.specs.Readers.{Kept, IsSafe, IsSound, IsFed, IsFedFront}
+use Rattle.vyrd_own_log.specs.Readers.{OwnReaderKept, IsSafe, IsSound, IsFed, IsFedFront}
 use Rattle.vyrd_own_log.proofs.EntryLaws.{AllCallable, own_line_is, entry_complete, entry_one_line}
 use Rattle.vyrd_own_log.proofs.EntryLaws.{below_64}
 use Rattle.vyrd_own_log.proofs.ReadLaws.{nothing_fed, fed_then, line_fed, line_kept}
@@ -87,14 +87,15 @@ module _ (r : LineState) (h : Header) (e : entries.Entry) (text rest : List ℕ)
       (entry_complete r.said.specification e all at.ranged at.of at.no_other)
 
 -- a reader whose next line has this number
-abbrev pub at_line : Kept → ℕ → Kept
+abbrev pub at_line : OwnReaderKept → ℕ → OwnReaderKept
 at_line k n = record k { lines = record k.lines { line = n } }
 
-pub all_callable : (k : Kept) → IsSafe k → AllCallable k.lines.said.specification
+pub all_callable : (k : OwnReaderKept) → IsSafe k → AllCallable k.lines.said.specification
 all_callable k safe = second_true _ _ safe.steady.callable
 
 -- one more entry was read where it lies
-pub one_more_fed : (k : Kept) (h : Header) (n : ℕ) (e : entries.Entry) (piece rest after : List ℕ)
+pub one_more_fed : (k : OwnReaderKept) (h : Header) (n : ℕ) (e : entries.Entry)
+    (piece rest after : List ℕ)
     (es fs gs : List entries.Entry) (ms ns os : List ℕ)
     → IsSafe k → k.unfinished ≡ [] → k.lines.fault ≡ None → k.lines.stage ≡ stages.Entries h
     → n ≤ k.lines.max_lines
@@ -130,7 +131,7 @@ one_more_fed k h n e piece rest after es fs gs ms ns os safe empty fine stage wi
     }
 
 -- what stands behind an entry is shorter
-pub behind_shorter : (k : Kept) (e : entries.Entry) (rest after : List ℕ)
+pub behind_shorter : (k : OwnReaderKept) (e : entries.Entry) (rest after : List ℕ)
     → IsOwnEntryAtFront k.lines.said.specification rest e after
     → length after < length rest
 behind_shorter k e rest after at =
@@ -138,13 +139,14 @@ behind_shorter k e rest after at =
     omega (arith, ap length at.spelled, length-append line (10 ∷ after))
 
 -- nothing was read
-pub nothing_front : (k : Kept) (piece : List ℕ) (es : List entries.Entry) (ns : List ℕ) → IsSound k
+pub nothing_front : (k : OwnReaderKept) (piece : List ℕ) (es : List entries.Entry) (ns : List ℕ)
+    → IsSound k
     → IsFedFront k piece piece es es ns ns k
 nothing_front k piece es ns sound =
     record { read = []; parted = refl; fed = nothing_fed k es ns; sound = sound }
 
 -- the front of a piece, and then the front of what stands behind it
-pub front_then : (k m n : Kept) (piece rest after : List ℕ) (es fs gs : List entries.Entry)
+pub front_then : (k m n : OwnReaderKept) (piece rest after : List ℕ) (es fs gs : List entries.Entry)
     (ms ns os : List ℕ)
     → IsFedFront k piece rest es fs ms ns m → IsFedFront m rest after fs gs ns os n
     → IsFedFront k piece after es gs ms os n
@@ -157,7 +159,7 @@ front_then k m n piece rest after es fs gs ms ns os first second = record {
 }
 
 -- a whole line at the front
-pub line_front : (k n : Kept) (line piece after : List ℕ) (es fs : List entries.Entry)
+pub line_front : (k n : OwnReaderKept) (line piece after : List ℕ) (es fs : List entries.Entry)
     (ms ns : List ℕ) → piece ≡ line ++ 10 ∷ after
     → IsFed k (line ++ 10 ∷ []) es fs ms ns n → IsSound n → IsFedFront k piece after es fs ms ns n
 line_front k n line piece after es fs ms ns is fed sound = record {

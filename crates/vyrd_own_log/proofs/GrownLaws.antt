@@ -20,7 +20,8 @@ use Rattle.vyrd_text.proofs.AheadLaws.{parts_of}
 use Rattle.vyrd_own_log.specs.Steps.{broken, own_step, Brought, nothing_brought, brought_then}
 use Rattle.vyrd_own_log.specs.Steps.{brought_by, with_read}
 use Rattle.vyrd_own_log.specs.Rests.{rest_rule}
-use Rattle.vyrd_own_log.specs.Readers.{Kept, fresh_kept, goes_on, HasReached, IsSound, IsTaken}
+use Rattle.vyrd_own_log.specs.Readers.{OwnReaderKept, fresh_kept, goes_on, HasReached, IsSound}
+use Rattle.vyrd_own_log.specs.Readers.{IsTaken}
 use Rattle.vyrd_own_log.specs.Grown.{to_go_on, input_of, has_begun, IsGrown, ends, IsFormed}
 use Rattle.vyrd_own_log.proofs.CountLaws.{IsCounted, is_past, line_counted, same_counted}
 use Rattle.vyrd_own_log.proofs.FollowLaws.{IsBare, entries_bare, reading_follows}
@@ -29,7 +30,7 @@ use Rattle.vyrd_own_log.proofs.ReaderLaws.{line_sound, read_now}
 
 -- bytes were read so far
 record Reached (max : ℕ) (bytes : List ℕ) : Type 0 where
-  kept : Kept
+  kept : OwnReaderKept
   brought : Brought
   sound : IsSound kept
   limit : kept.lines.max_lines ≡ max
@@ -38,7 +39,7 @@ record Reached (max : ℕ) (bytes : List ℕ) : Type 0 where
 
 -- one byte more
 module _ (max : ℕ) (before : List ℕ) (at : Reached max before) where
-  taken_to : (x : ℕ) (b : Brought) (n : Kept) → IsTaken at.kept (x ∷ []) b n → IsSound n
+  taken_to : (x : ℕ) (b : Brought) (n : OwnReaderKept) → IsTaken at.kept (x ∷ []) b n → IsSound n
       → IsCounted n.lines (brought_then at.brought b)
       → Reached max (before ++ x ∷ [])
   taken_to x b n taken sound counted = record {
@@ -143,7 +144,7 @@ record IsOver (read : OwnReading) : Type 0 where
   numbers : read.numbers ≡ []
 
 -- where something past the starting words was read, none of them comes any more
-pub past_of : (k : Kept) (b : Brought) → IsCounted k.lines b
+pub past_of : (k : OwnReaderKept) (b : Brought) → IsCounted k.lines b
     → (has_any b.entries || has_ended k.lines.stage) ≡ true → is_past k.lines.stage ≡ true
 past_of k b counted e = by_stage k.lines.stage refl e
   where
@@ -165,7 +166,7 @@ past_of k b counted e = by_stage k.lines.stage refl e
     by_stage (stages.End h) is f = ap is_past is
 
 -- what is read on keeps the header and the end
-module _ (k : Kept) (w : Bool) (more : List ℕ) where
+module _ (k : OwnReaderKept) (w : Bool) (more : List ℕ) where
   header_stays : (h : Header) → header_at k.lines.stage ≡ Some h
       → (goes_on k.lines k.unfinished w more).header ≡ Some h
   header_stays h e = by_fault k.lines.fault
@@ -278,7 +279,7 @@ reading_grown max w bytes more low high = record {
     at : Reached max bytes
     at = reached_all max bytes low high
 
-    k : Kept
+    k : OwnReaderKept
     k = at.kept
 
     b : Brought
@@ -335,7 +336,7 @@ reading_formed max bytes low high = record {
     at : Reached max bytes
     at = reached_all max bytes low high
 
-    k : Kept
+    k : OwnReaderKept
     k = at.kept
 
     b : Brought

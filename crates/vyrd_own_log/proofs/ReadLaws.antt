@@ -26,7 +26,8 @@ use Rattle.vyrd_own_log.specs.Steps.{broken, own_step, Brought, nothing_brought,
 use Rattle.vyrd_own_log.specs.Steps.{brought_by, lines_of, starts_of, entries_of, numbers_of}
 use Rattle.vyrd_own_log.specs.Steps.{with_read}
 use Rattle.vyrd_own_log.specs.Rests.{rest_if, rest_rule, end_fault, fault_at_end}
-use Rattle.vyrd_own_log.specs.Readers.{Kept, ReaderState, fresh_kept, so_far, whole, HasReached}
+use Rattle.vyrd_own_log.specs.Readers.{OwnReaderKept, ReaderState, fresh_kept, so_far, whole}
+use Rattle.vyrd_own_log.specs.Readers.{HasReached}
 use Rattle.vyrd_own_log.specs.Readers.{brought_in, HasRead, is_one_line, IsSound, IsTaken, IsFed}
 use Rattle.vyrd_own_log.specs.Readers.{IsGrownBy}
 use Rattle.vyrd_own_log.proofs.RestLaws.{rest_whole}
@@ -34,7 +35,7 @@ use Rattle.vyrd_own_log.proofs.ReaderLaws.{and_nothing, taken_then, empty_taken,
 use Rattle.vyrd_own_log.proofs.ReaderLaws.{broken_taken, line_taken, line_sound, read_now}
 
 -- no bytes were fed
-pub nothing_fed : (k : Kept) (es : List Entry) (ns : List ℕ) → IsFed k [] es es ns ns k
+pub nothing_fed : (k : OwnReaderKept) (es : List Entry) (ns : List ℕ) → IsFed k [] es es ns ns k
 nothing_fed k es ns = record {
   brought = nothing_brought;
   taken = empty_taken k k.start;
@@ -45,7 +46,7 @@ nothing_fed k es ns = record {
 }
 
 -- what was fed in turn was fed together
-pub fed_then : (k m n : Kept) (xs ys : List ℕ) (es fs gs : List Entry) (ms ns os : List ℕ)
+pub fed_then : (k m n : OwnReaderKept) (xs ys : List ℕ) (es fs gs : List Entry) (ms ns os : List ℕ)
     → IsFed k xs es fs ms ns m → IsFed m ys fs gs ns os n
     → IsFed k (xs ++ ys) es gs ms os n
 fed_then k m n xs ys es fs gs ms ns os first second = record {
@@ -62,7 +63,7 @@ fed_then k m n xs ys es fs gs ms ns os first second = record {
 }
 
 -- bytes that bring nothing were fed
-pub taken_fed : (k m : Kept) (xs : List ℕ) (es : List Entry) (ns : List ℕ)
+pub taken_fed : (k m : OwnReaderKept) (xs : List ℕ) (es : List Entry) (ns : List ℕ)
     → IsTaken k xs nothing_brought m → m.specified ≡ k.specified
     → m.start ≡ k.start → IsFed k xs es es ns ns m
 taken_fed k m xs es ns taken alike same = record {
@@ -75,7 +76,8 @@ taken_fed k m xs es ns taken alike same = record {
 }
 
 -- a whole line was fed
-pub line_fed : (k n : Kept) (xs : List ℕ) (found : Found) (es fs : List Entry) (ms ns : List ℕ)
+pub line_fed : (k n : OwnReaderKept) (xs : List ℕ) (found : Found) (es fs : List Entry)
+    (ms ns : List ℕ)
     → IsSound k → is_one_line xs ≡ true
     → (n.lines, found) ≡ own_step k.lines (k.unfinished ++ xs) → n.unfinished ≡ []
     → n.specified ≡ k.specified ++ lines_of (k.unfinished ++ xs) found → n.start ≡ k.start
@@ -104,7 +106,8 @@ line_fed k n xs found es fs ms ns sound one step empty specified start grown cou
       counted = counted ∙ ap (λ f. ms ++ numbers_of k.lines.line f) found_is;
     }
 
-pub line_kept : (k n : Kept) (xs : List ℕ) (found : Found) → IsSound k → is_one_line xs ≡ true
+pub line_kept : (k n : OwnReaderKept) (xs : List ℕ) (found : Found) → IsSound k → is_one_line xs
+    ≡ true
     → (n.lines, found) ≡ own_step k.lines (k.unfinished ++ xs) → n.unfinished ≡ [] → IsSound n
 line_kept k n xs found sound one step empty =
     subst IsSound
@@ -158,7 +161,8 @@ ok_of (Ok x) e p = p
 ok_of (Err x) e p = cc
 
 -- a fault that is found before the line is whole
-module _ (k n : Kept) (bytes : List ℕ) (sound : IsSound k) (one_line : is_one_line bytes ≡ true)
+module _ (k n : OwnReaderKept) (bytes : List ℕ) (sound : IsSound k)
+    (one_line : is_one_line bytes ≡ true)
     (fine : k.lines.fault ≡ None) (rule : Rule) (found : Found)
     (bad : rest_rule k.lines (k.unfinished ++ bytes) ≡ Some rule)
     (is : (n.lines, found) ≡ broken k.lines rule) (rest : n.unfinished ≡ k.unfinished) where
@@ -180,7 +184,8 @@ module _ (k n : Kept) (bytes : List ℕ) (sound : IsSound k) (one_line : is_one_
       (ap (λ m. m.lines) same) rest
       (broken_taken k bytes sound one_line fine rule bad)
     where
-      restart : (a : Kept) (xs : List ℕ) (b c : Kept) → c.lines ≡ b.lines → c.unfinished
+      restart : (a : OwnReaderKept) (xs : List ℕ) (b c : OwnReaderKept) → c.lines ≡ b.lines
+          → c.unfinished
           ≡ b.unfinished → IsTaken a xs nothing_brought b
           → IsTaken a xs nothing_brought c
       restart a xs b c lines rest taken = record {
@@ -193,7 +198,7 @@ module _ (k n : Kept) (bytes : List ℕ) (sound : IsSound k) (one_line : is_one_
       }
 
 -- the answers about the text
-pub whole_now : (k : Kept) (b : Brought) (bytes : List ℕ) → IsSound k
+pub whole_now : (k : OwnReaderKept) (b : Brought) (bytes : List ℕ) → IsSound k
     → HasReached k.lines k.unfinished b bytes
     → own_reading (input_to k.lines true) bytes
     ≡ with_read b (known k.lines (fault_at_end k.lines k.unfinished))
@@ -212,7 +217,7 @@ whole_now k b bytes sound has =
     by_fault None is = rest_whole k.lines k.unfinished sound.first (sound.noticed is)
 
 -- what was brought is what the bytes say
-brought_is : (k : Kept) (b : Brought) (bytes : List ℕ) → IsSound k
+brought_is : (k : OwnReaderKept) (b : Brought) (bytes : List ℕ) → IsSound k
     → HasReached k.lines k.unfinished b bytes
     → b ≡ brought_in (own_reading (input_to k.lines false) bytes)
 brought_is k b bytes sound has =
@@ -297,7 +302,8 @@ module _ (old new : ReaderState) (bytes piece : List ℕ) (es fs : List Entry) (
   fed_fault = fed_read.fault ∙ ap (λ input. (own_reading input (bytes ++ piece)).fault) same_input
 
 -- a reader with a fault is fed nothing
-pub faulty_fed : (k : Kept) (f : TextFault) (piece : List ℕ) (es : List Entry) (ns : List ℕ)
+pub faulty_fed : (k : OwnReaderKept) (f : TextFault) (piece : List ℕ) (es : List Entry)
+    (ns : List ℕ)
     → k.lines.fault ≡ Some f → IsFed k piece es es ns ns k
 faulty_fed k f piece es ns is = taken_fed k k piece es ns (faulty_taken k f piece is) refl refl
 

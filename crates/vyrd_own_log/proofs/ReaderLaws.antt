@@ -18,7 +18,7 @@ use Rattle.vyrd_own_log.specs.States.{LineState, input_to, known, unless_faulty,
 use Rattle.vyrd_own_log.specs.Steps.{broken, own_step, Brought, nothing_brought, brought_then}
 use Rattle.vyrd_own_log.specs.Steps.{brought_by, with_read}
 use Rattle.vyrd_own_log.specs.Rests.{rest_rule}
-use Rattle.vyrd_own_log.specs.Readers.{Kept, goes_on, HasReached, IsSound, IsTaken}
+use Rattle.vyrd_own_log.specs.Readers.{OwnReaderKept, goes_on, HasReached, IsSound, IsTaken}
 use Rattle.vyrd_own_log.proofs.EntryLaws.{AllCallable}
 use Rattle.vyrd_own_log.proofs.StepLaws.{step_goes}
 use Rattle.vyrd_own_log.proofs.SteadyLaws.{IsStep, step_is}
@@ -56,7 +56,7 @@ lines_then s [] ys = refl
 lines_then s (line ∷ xs) ys = lines_then (read_next s line).1 xs ys
 
 -- what was taken in turn was taken together
-pub taken_then : (k m n : Kept) (xs ys : List ℕ) (b c : Brought) → IsTaken k xs b m
+pub taken_then : (k m n : OwnReaderKept) (xs ys : List ℕ) (b c : Brought) → IsTaken k xs b m
     → IsTaken m ys c n → IsTaken k (xs ++ ys) (brought_then b c) n
 taken_then k m n xs ys b c first second = record {
   limit = second.limit ∙ first.limit;
@@ -68,7 +68,8 @@ taken_then k m n xs ys b c first second = record {
 }
 
 -- Where bytes bring nothing: the reader goes on with what follows them as the other does.
-nothing_taken : (k n : Kept) (xs : List ℕ) → n.lines.max_lines ≡ k.lines.max_lines → n.lines.said
+nothing_taken : (k n : OwnReaderKept) (xs : List ℕ) → n.lines.max_lines ≡ k.lines.max_lines
+    → n.lines.said
     ≡ k.lines.said
     → ((w : Bool) (more : List ℕ) → goes_on k.lines k.unfinished w (xs ++ more)
     ≡ goes_on n.lines n.unfinished w more)
@@ -88,19 +89,19 @@ nothing_taken k n xs same said on = record {
 }
 
 -- no bytes
-pub empty_taken : (k : Kept) (start : List StartWord) → IsTaken k [] nothing_brought
+pub empty_taken : (k : OwnReaderKept) (start : List StartWord) → IsTaken k [] nothing_brought
     (record k { start = start })
 empty_taken k start = nothing_taken k (record k { start = start }) [] refl refl (λ w more. refl)
 
 -- a line that goes on
-pub longer_taken : (k : Kept) (xs : List ℕ) → IsTaken k xs nothing_brought
+pub longer_taken : (k : OwnReaderKept) (xs : List ℕ) → IsTaken k xs nothing_brought
     (record k { unfinished = k.unfinished ++ xs })
 longer_taken k xs = nothing_taken k (record k { unfinished = k.unfinished ++ xs }) xs refl refl
     (λ w more. ap (λ t. reads_on k.lines (input_to k.lines w) (cut t))
     (sym (append_assoc k.unfinished xs more)))
 
 -- a reader with a fault takes nothing in
-pub faulty_taken : (k : Kept) (f : TextFault) (xs : List ℕ) → k.lines.fault ≡ Some f
+pub faulty_taken : (k : OwnReaderKept) (f : TextFault) (xs : List ℕ) → k.lines.fault ≡ Some f
     → IsTaken k xs nothing_brought k
 faulty_taken k f xs is = nothing_taken k k xs refl refl
     (λ w more. ap (unless_faulty k.lines (input_to k.lines w) (cut (k.unfinished ++ (xs ++ more))))
@@ -124,7 +125,7 @@ front_cut (x ∷ front) more lack =
           ∙ ap (onto_first x) c.whole;
     }
 
-module _ (k : Kept) (xs : List ℕ) (sound : IsSound k) (one_line : lacks 10 xs ≡ true) where
+module _ (k : OwnReaderKept) (xs : List ℕ) (sound : IsSound k) (one_line : lacks 10 xs ≡ true) where
   -- the line so far
   abbrev front : List ℕ
   front = k.unfinished ++ xs
@@ -213,7 +214,7 @@ module _ (k : Kept) (xs : List ℕ) (sound : IsSound k) (one_line : lacks 10 xs 
   }
 
 -- what the bytes so far say
-pub read_now : (k : Kept) (b : Brought) (bytes : List ℕ) → IsSound k
+pub read_now : (k : OwnReaderKept) (b : Brought) (bytes : List ℕ) → IsSound k
     → HasReached k.lines k.unfinished b bytes
     → own_reading (input_to k.lines false) bytes ≡ with_read b (known k.lines k.lines.fault)
 read_now k b bytes sound has =

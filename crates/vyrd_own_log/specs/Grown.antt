@@ -39,7 +39,8 @@ abbrev pub ends : Bool → ℕ
 ends true = 1
 ends false = 0
 
--- Starting words, entries and `end` have their lines, which are no more than there may be, none comes
+-- Starting words, entries and `end` have their lines, which are no more than there may be, none
+-- comes
 -- without a header, and the starting words keep both rules.
 pub record IsFormed (max : ℕ) (read : OwnReading) : Type 0 where
   pub numbered : length read.numbers

@@ -2,9 +2,9 @@
 use Rattle.vyrd_own.specs.Layout.{texts}
 use Rattle.vyrd_own_log.specs.declared.piece_reader.PieceReader.{PieceReader}
 use Rattle.vyrd_own_log.specs.StateView.{state_of}
-use Rattle.vyrd_own_log.specs.Readers.{Kept}
+use Rattle.vyrd_own_log.specs.Readers.{OwnReaderKept}
 
-abbrev pub kept_of : PieceReader → Kept
+abbrev pub kept_of : PieceReader → OwnReaderKept
 kept_of r = record {
   lines = state_of r.lines;
   unfinished = r.unfinished.items;

@@ -14,7 +14,7 @@ use Rattle.vyrd_own_log.specs.Rests.{rest_rule}
 
 -- what is kept: that of the whole lines, the bytes after them, the lines of the specification, and
 -- the starting words
-pub record Kept : Type 0 where
+pub record OwnReaderKept : Type 0 where
   pub lines : LineState
   pub unfinished : List ℕ
   pub specified : List (List ℕ)
@@ -22,11 +22,11 @@ pub record Kept : Type 0 where
 
 -- what a reader keeps, and whether it found no memory
 pub record ReaderState : Type 0 where
-  pub kept : Kept
+  pub kept : OwnReaderKept
   pub has_failed : Bool
 
 -- before the first byte
-abbrev pub fresh_kept : ℕ → Kept
+abbrev pub fresh_kept : ℕ → OwnReaderKept
 fresh_kept max = record { lines = fresh max; unfinished = []; specified = []; start = [] }
 
 -- the reader's limit, for bytes that may go on and for the whole input
@@ -64,13 +64,13 @@ is_one_line bytes = list_all (λ b. not (b == 10)) bytes
 
 -- What is true of all that a reader keeps, also after it found no memory: the unfinished line has
 -- at most 200 bytes.
-pub record IsSafe (k : Kept) : Type 0 where
+pub record IsSafe (k : OwnReaderKept) : Type 0 where
   pub steady : IsSteady k.lines
   pub short : length k.unfinished ≤ 200
 
 -- and as long as it found memory: the unfinished line has no line feed, and if it breaks a rule
 -- already, that is known
-pub record IsSound (k : Kept) : Type 0 where
+pub record IsSound (k : OwnReaderKept) : Type 0 where
   pub steady : IsSteady k.lines
   pub first : IsFirst k.lines.stage k.lines
   pub one_line : is_one_line k.unfinished ≡ true
@@ -92,15 +92,16 @@ pub record HasRead (reader : ReaderState) (bytes : List ℕ) : Type 0 where
       (brought_in (own_reading (so_far reader) bytes)) bytes
 
 -- the bytes brought this, as what was kept became other
-pub record IsTaken (old : Kept) (bytes : List ℕ) (b : Brought) (new : Kept) : Type 0 where
+pub record IsTaken (old : OwnReaderKept) (bytes : List ℕ) (b : Brought) (new : OwnReaderKept) : Type
+    0 where
   pub limit : new.lines.max_lines ≡ old.lines.max_lines
   pub reached : (a : Brought) (before : List ℕ) → HasReached old.lines old.unfinished a before
       → HasReached new.lines new.unfinished (brought_then a b) (before ++ bytes)
 
 -- What the bytes brought was added: lines of the specification and starting words to those that are
 -- kept, and entries and numbers to lists.
-pub record IsFed (old : Kept) (bytes : List ℕ) (entries entries_new : List Entry)
-    (numbers numbers_new : List ℕ) (new : Kept) : Type 0 where
+pub record IsFed (old : OwnReaderKept) (bytes : List ℕ) (entries entries_new : List Entry)
+    (numbers numbers_new : List ℕ) (new : OwnReaderKept) : Type 0 where
   pub brought : Brought
   pub taken : IsTaken old bytes brought new
   pub specified : new.specified ≡ old.specified ++ brought.lines
@@ -115,8 +116,8 @@ pub record IsGrownBy {A : Type 0} (first second first_new second_new : List A) :
   pub other : second_new ≡ second ++ more
 
 -- What the front of a piece brought was added, and the rest of it is still to be taken in.
-pub record IsFedFront (old : Kept) (piece rest : List ℕ) (entries entries_new : List Entry)
-    (numbers numbers_new : List ℕ) (new : Kept) : Type 0 where
+pub record IsFedFront (old : OwnReaderKept) (piece rest : List ℕ) (entries entries_new : List Entry)
+    (numbers numbers_new : List ℕ) (new : OwnReaderKept) : Type 0 where
   pub read : List ℕ
   pub parted : piece ≡ read ++ rest
   pub fed : IsFed old read entries entries_new numbers numbers_new new

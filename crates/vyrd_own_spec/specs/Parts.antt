@@ -1,5 +1,6 @@
 -- How words are decoded, part by part.
-use Rattle.std.specs.Prelude.{◌≡◌, ℕ, ◌*◌, ◌/◌, ◌==◌, ◌≤◌, ◌^◌, List, length, slice_index_or, if◌then◌else◌}
+use Rattle.std.specs.Prelude.{◌≡◌, ℕ, ◌*◌, ◌/◌, ◌==◌, ◌≤◌, ◌^◌, List, length, slice_index_or}
+use Rattle.std.specs.Prelude.{if◌then◌else◌}
 use Rattle.vyrd_base.specs.Own.Programs.{Written}
 use Rattle.vyrd_base.specs.Own.Steps.{part_gives}
 

@@ -1,7 +1,8 @@
 -- What is said of a reply that a specification of the user's own refuses: what the state before the
 -- commit has, as far as the method's cases read it, and which replies that state allows.
 use Rattle.std.specs.Prelude.{ℕ, ◌==◌, ◌&&◌, Bool, not, List, [], ◌∷◌, ◌++◌, map, filter}
-use Rattle.std.specs.Prelude.{filter_map, length, Option, Some, None, is_some, slice_index, if◌then◌else◌}
+use Rattle.std.specs.Prelude.{filter_map, length, Option, Some, None, is_some, slice_index}
+use Rattle.std.specs.Prelude.{if◌then◌else◌}
 use Rattle.std.specs.List.{list_any}
 use Rattle.std.specs.Option.{option_map_or}
 use Rattle.vyrd_base.specs.declared.header.Header.{Header}

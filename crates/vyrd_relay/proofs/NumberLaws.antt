@@ -11,7 +11,7 @@ use Rattle.std.specs.Ordering.{nat_cmp}
 use Rattle.std.specs.Map.{lookup}
 use Rattle.std.specs.BTreeMap.{is_at}
 use Rattle.vyrd_base.specs.declared.history.Stamped.{Stamped}
-use Rattle.vyrd_relay.specs.Numbers.{Kept, or_else, held, has, AreNumbered, AreToCome}
+use Rattle.vyrd_relay.specs.Numbers.{ReorderKept, or_else, held, has, AreNumbered, AreToCome}
 
 -- an empty place at the end of a list is no other than a place past the end
 pub more_places : (near : List (Option Stamped)) (n i : ℕ)
@@ -45,13 +45,13 @@ place_set before near place x room same i = dite (ℕ_discrete i place)
     ∙ sym (ap (λ (b : Bool). cond b x (get_or before i None)) (ne_eqb i place apart)))
 
 -- those before the next number were handed out, and aren't held
-pub none_before : (k : Kept) (n : ℕ) → n < k.next → held k n ≡ None
+pub none_before : (k : ReorderKept) (n : ℕ) → n < k.next → held k n ≡ None
 none_before k n l = let is : ltb n k.next ≡ true = grind (arith, nat_tests) in
     ap (λ (b : Bool). cond b None
     (or_else (slice_index_or k.near (n - k.next) None) (lookup (is_at (nat_cmp n)) k.far))) is
 
 -- the event from the next number on
-pub found_from : (k : Kept) (n : ℕ) → k.next ≤ n
+pub found_from : (k : ReorderKept) (n : ℕ) → k.next ≤ n
     → held k n ≡ or_else (slice_index_or k.near (n - k.next) None)
     (lookup (is_at (nat_cmp n)) k.far)
 found_from k n l = let is : ltb n k.next ≡ false = grind (arith, nat_tests) in
@@ -59,7 +59,7 @@ found_from k n l = let is : ltb n k.next ≡ false = grind (arith, nat_tests) in
     (or_else (slice_index_or k.near (n - k.next) None) (lookup (is_at (nat_cmp n)) k.far))) is
 
 -- the next number has gone by, and the events after it are as they were
-pub held_after : (k after : Kept) → after.next ≡ k.next + 1 → after.near ≡ drop 1 k.near
+pub held_after : (k after : ReorderKept) → after.next ≡ k.next + 1 → after.near ≡ drop 1 k.near
     → ((n : ℕ) → k.next < n → lookup (is_at (nat_cmp n)) after.far
     ≡ lookup (is_at (nat_cmp n)) k.far)
     → (n : ℕ) → k.next < n → held after n ≡ held k n
@@ -74,7 +74,7 @@ held_after k after next near far n l =
     ∙ sym (found_from k n (omega arith))
 
 -- and so each event still has its own number
-pub numbered_after : (k after : Kept) → after.next ≡ k.next + 1
+pub numbered_after : (k after : ReorderKept) → after.next ≡ k.next + 1
     → ((n : ℕ) → k.next < n → held after n ≡ held k n) → AreNumbered k → AreNumbered after
 numbered_after k after next same all n item is = dite (dec_lt k.next n)
     (λ l. all n item (sym (same n l) ∙ is))
@@ -84,7 +84,7 @@ numbered_after k after next same all n item is = dite (dec_lt k.next n)
     none_some item e = cc
 
 -- a number that isn't held and wasn't handed out isn't among the far ones
-pub far_free : (k : Kept) (n : ℕ) → has k n ≡ false → lookup (is_at (nat_cmp n)) k.far ≡ None
+pub far_free : (k : ReorderKept) (n : ℕ) → has k n ≡ false → lookup (is_at (nat_cmp n)) k.far ≡ None
 far_free k n free = by_place (ltb n k.next) (slice_index_or k.near (n - k.next) None)
     (lookup (is_at (nat_cmp n)) k.far) free
   where
@@ -96,7 +96,7 @@ far_free k n free = by_place (ltb n k.next) (slice_index_or k.near (n - k.next) 
     by_place false None None e = refl
 
 -- the next number has gone by, and isn't among the far ones
-pub come_after : (k after : Kept) → after.next ≡ k.next + 1
+pub come_after : (k after : ReorderKept) → after.next ≡ k.next + 1
     → lookup (is_at (nat_cmp k.next)) after.far ≡ None
     → ((n : ℕ) → n < k.next → lookup (is_at (nat_cmp n)) after.far
     ≡ lookup (is_at (nat_cmp n)) k.far) → AreToCome k → AreToCome after

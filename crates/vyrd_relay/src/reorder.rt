@@ -33,9 +33,9 @@ pub struct Reorder {
 
 impl Model for Reorder {
     ghost use Rattle.std.specs.Prelude.{◌≤◌, ◌^◌};
-    ghost use Rattle.vyrd_relay.specs.Numbers.{Kept, AreNumbered, AreToCome};
+    ghost use Rattle.vyrd_relay.specs.Numbers.{ReorderKept, AreNumbered, AreToCome};
 
-    ghost Value = { Kept };
+    ghost Value = { ReorderKept };
 
     ghost view = { λ r. record { next = r.next; near = r.near.items; far = r.far.entries } };
 

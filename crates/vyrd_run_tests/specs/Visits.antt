@@ -33,7 +33,8 @@ rest_of_visit true = visit_on 17 16 6
 
 -- a visit
 abbrev pub visit : Bool → List Act
-visit crosses = Mark (Call (OfMultiset Insert) (record { a = 5; b = 0; c = 0 })) ∷ rest_of_visit crosses
+visit crosses = Mark (Call (OfMultiset Insert) (record { a = 5; b = 0; c = 0 }))
+    ∷ rest_of_visit crosses
 
 -- how many events there are to come at most, after this many
 abbrev pub ahead_after : ℕ → ℕ

@@ -30,7 +30,7 @@ use Rattle.vyrd_base.proofs.BlockLaws.{entry, by_same, other_answer, no_answer, 
 use Rattle.vyrd_base.proofs.BlockLaws.{own_block, own_writes}
 use Rattle.vyrd_base.proofs.ListLaws.{zeros}
 use Rattle.vyrd_shadow.specs.Blocks.{with_writes, with_word, with_kept, first_written}
-use Rattle.vyrd_shadow.specs.Following.{Kept, HasFollowed, is_open, kept_writes, words_of}
+use Rattle.vyrd_shadow.specs.Following.{ShadowKept, HasFollowed, is_open, kept_writes, words_of}
 use Rattle.vyrd_shadow.proofs.KeptWrites.{value_kept, words_kept, AllOnce, once_written}
 use Rattle.vyrd_shadow.proofs.KeptWrites.{length-with_writes, value_with, differs}
 
@@ -43,7 +43,7 @@ pub record Own (c : ℕ) (block : Option (List (ℕ × ℕ))) (entries : List En
       → first_answer (given_to w) (unwrap_or block []) ≡ first_answer (given_to w)
       (block_writes c entries)
 
-own_of : (kept : Kept) (starting : List StartWord) (earlier : List Entry)
+own_of : (kept : ShadowKept) (starting : List StartWord) (earlier : List Entry)
     → HasFollowed kept starting earlier → (c : ℕ) → c < kept.header.callers
     → Own c (get_or kept.blocks c None) earlier
 own_of kept starting earlier followed c low = record {
@@ -53,7 +53,7 @@ own_of kept starting earlier followed c low = record {
 }
 
 -- words and blocks make what is kept
-followed_from : (kept : Kept) (starting : List StartWord) (earlier : List Entry)
+followed_from : (kept : ShadowKept) (starting : List StartWord) (earlier : List Entry)
     → WellFormed kept.header earlier
     → kept.words ≡ words_after kept.header starting earlier
     → ((c : ℕ) → c < kept.header.callers → Own c (get_or kept.blocks c None) earlier)
@@ -117,7 +117,7 @@ block_write d c word value earlier = ap (λ o. unwrap_or o false)
     (no_answer d c open_or_close (Write word value) earlier refl)
 
 -- a write outside a block
-pub followed_through : (kept : Kept) (starting : List StartWord) (earlier : List Entry)
+pub followed_through : (kept : ShadowKept) (starting : List StartWord) (earlier : List Entry)
     (c word value : ℕ) (changed : List ℕ) → c < kept.header.callers
     → word < plain_words kept.header → is_open kept c ≡ false
     → HasFollowed kept starting earlier → broken_rule kept.header earlier
@@ -162,7 +162,7 @@ own_kept c word value block earlier inside own = record {
       ∙ ap (first_answer (given_to w)) (sym (own_writes c (Write word value) earlier));
 }
 
-pub followed_kept : (kept : Kept) (starting : List StartWord) (earlier : List Entry)
+pub followed_kept : (kept : ShadowKept) (starting : List StartWord) (earlier : List Entry)
     (c word value : ℕ) → c < kept.header.callers → c < length kept.blocks → is_open kept c ≡ true
     → HasFollowed kept starting earlier → broken_rule kept.header earlier
     (entry c (Write word value)) ≡ None
@@ -189,7 +189,7 @@ own_open c earlier = record {
   values = λ w e. ap (first_answer (given_to w)) (sym (own_writes c BlockOpen earlier));
 }
 
-pub followed_open : (kept : Kept) (starting : List StartWord) (earlier : List Entry) (c : ℕ)
+pub followed_open : (kept : ShadowKept) (starting : List StartWord) (earlier : List Entry) (c : ℕ)
     → c < length kept.blocks → HasFollowed kept starting earlier
     → broken_rule kept.header earlier (entry c BlockOpen) ≡ None
     → HasFollowed (record {
@@ -261,7 +261,7 @@ words_close h starting earlier e words writes ends rules size is once values =
     ∙ sym (words_settled h starting (e ∷ earlier) rules)
 
 -- a block ends, with a commit or without
-followed_end : (kept : Kept) (starting : List StartWord) (earlier : List Entry) (c : ℕ)
+followed_end : (kept : ShadowKept) (starting : List StartWord) (earlier : List Entry) (c : ℕ)
     (kind : Kind) (changed : List ℕ)
     → old_effects_at earlier c kind ≡ block_writes c earlier → open_or_close kind ≡ Some false
     → c < kept.header.callers → c < length kept.blocks → length kept.words ≡ plain_words kept.header
@@ -288,7 +288,7 @@ followed_end kept starting earlier c kind changed ends edge low low' size opened
     (own_closed c None (entry c kind ∷ earlier) refl out)
     (own_of kept starting earlier followed))
 
-pub followed_close : (kept : Kept) (starting : List StartWord) (earlier : List Entry) (c : ℕ)
+pub followed_close : (kept : ShadowKept) (starting : List StartWord) (earlier : List Entry) (c : ℕ)
     (changed : List ℕ)
     → c < kept.header.callers → c < length kept.blocks → length kept.words ≡ plain_words kept.header
     → is_open kept c ≡ true
@@ -303,7 +303,7 @@ pub followed_close : (kept : Kept) (starting : List StartWord) (earlier : List E
 followed_close kept starting earlier c changed = followed_end kept starting earlier c BlockClose
     changed refl refl
 
-pub followed_commit : (kept : Kept) (starting : List StartWord) (earlier : List Entry) (c : ℕ)
+pub followed_commit : (kept : ShadowKept) (starting : List StartWord) (earlier : List Entry) (c : ℕ)
     (changed : List ℕ)
     → c < kept.header.callers → c < length kept.blocks → length kept.words ≡ plain_words kept.header
     → is_open kept c ≡ true
@@ -319,7 +319,7 @@ followed_commit kept starting earlier c changed = followed_end kept starting ear
     changed refl refl
 
 -- an entry that isn't a write and touches no block
-followed_quiet : (kept : Kept) (starting : List StartWord) (earlier : List Entry) (c : ℕ)
+followed_quiet : (kept : ShadowKept) (starting : List StartWord) (earlier : List Entry) (c : ℕ)
     (kind : Kind) → ends_block kind ≡ false
     → effects_at earlier c kind [] ≡ [] → open_or_close kind ≡ None
     → ((b : Bool) (writes : List (ℕ × ℕ)) → with_write b kind writes ≡ writes)
@@ -334,7 +334,7 @@ followed_quiet kept starting earlier c kind goes_on none edge writes followed ke
     (writes (c == d) (block_writes d earlier))
     (own_of kept starting earlier followed d low))
 
-pub followed_call : (kept : Kept) (starting : List StartWord) (earlier : List Entry) (c : ℕ)
+pub followed_call : (kept : ShadowKept) (starting : List StartWord) (earlier : List Entry) (c : ℕ)
     (method : Method) (args : Args)
     → HasFollowed kept starting earlier → broken_rule kept.header earlier
     (entry c (Call method args)) ≡ None
@@ -346,7 +346,8 @@ followed_call kept starting earlier c method args = followed_quiet kept starting
     by_test true writes = refl
     by_test false writes = refl
 
-pub followed_return : (kept : Kept) (starting : List StartWord) (earlier : List Entry) (c reply : ℕ)
+pub followed_return : (kept : ShadowKept) (starting : List StartWord) (earlier : List Entry)
+    (c reply : ℕ)
     → HasFollowed kept starting earlier → broken_rule kept.header earlier (entry c (Return reply))
     ≡ None
     → HasFollowed kept starting (entry c (Return reply) ∷ earlier)
@@ -359,7 +360,8 @@ followed_return kept starting earlier c reply = followed_quiet kept starting ear
 
 -- a lone commit, in a block too: the writes of the block that take effect there aren't known before
 -- its end
-pub followed_lone_commit : (kept : Kept) (starting : List StartWord) (earlier : List Entry) (c : ℕ)
+pub followed_lone_commit : (kept : ShadowKept) (starting : List StartWord) (earlier : List Entry)
+    (c : ℕ)
     → HasFollowed kept starting earlier → broken_rule kept.header earlier (entry c Commit) ≡ None
     → HasFollowed kept starting (entry c Commit ∷ earlier)
 followed_lone_commit kept starting earlier c =

@@ -20,7 +20,7 @@ use Rattle.vyrd_base.proofs.SettledWords.{is_to, some_to, holds_is}
 use Rattle.vyrd_base.proofs.ShadowLaws.{write_kept}
 use Rattle.vyrd_base.proofs.TestLaws.{first_true, second_true, same_of, same_number}
 use Rattle.vyrd_shadow.specs.Blocks.{with_kept, is_at, kept_by, IsFree, ArePlaced}
-use Rattle.vyrd_shadow.specs.Following.{Kept, HasFollowed}
+use Rattle.vyrd_shadow.specs.Following.{ShadowKept, HasFollowed}
 use Rattle.vyrd_shadow.proofs.KeptWrites.{differs}
 
 -- a place is one of the block's
@@ -338,7 +338,7 @@ opened_at (b ∷ blocks) (suc c) i w at = let rest = opened_at blocks c i w at i
     (omega (arith, rest.0), rest.1)
 
 -- a write that keeps the rules is to a word that no other block keeps
-pub free_by_rules : (kept : Kept) (starting : List StartWord) (earlier : List Entry)
+pub free_by_rules : (kept : ShadowKept) (starting : List StartWord) (earlier : List Entry)
     (c word value : ℕ) → length kept.blocks ≡ kept.header.callers
     → HasFollowed kept starting earlier → broken_rule kept.header earlier
     (entry c (Write word value)) ≡ None → IsFree kept.blocks c word

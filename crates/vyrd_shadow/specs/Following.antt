@@ -13,18 +13,18 @@ use Rattle.vyrd_shadow.specs.Blocks.{first_written}
 -- The header, the plain words, for each caller the writes that its open block keeps back, each word
 -- once in the order of the first writes, or nothing if it has no open block, and the words that
 -- have changed.
-pub record Kept : Type 0 where
+pub record ShadowKept : Type 0 where
   pub header : Header
   pub words : List ℕ
   pub blocks : List (Option (List (ℕ × ℕ)))
   pub changed : List ℕ
 
 -- whether the caller has an open block
-abbrev pub is_open : Kept → ℕ → Bool
+abbrev pub is_open : ShadowKept → ℕ → Bool
 is_open kept c = is_some (slice_index_or kept.blocks c None)
 
 -- the writes that the caller's open block keeps back
-abbrev pub kept_writes : Kept → ℕ → List (ℕ × ℕ)
+abbrev pub kept_writes : ShadowKept → ℕ → List (ℕ × ℕ)
 kept_writes kept c = unwrap_or (slice_index_or kept.blocks c None) []
 
 -- the words of some writes
@@ -35,7 +35,7 @@ words_of writes = map (λ write. write.0) writes
 -- entry keeps the rules. The words are those after all of them. A caller's block is open exactly
 -- when its last open has no close after it, and what an open block keeps has its words, in the
 -- order of their first writes, each with its last value.
-pub record HasFollowed (kept : Kept) (starting : List StartWord)
+pub record HasFollowed (kept : ShadowKept) (starting : List StartWord)
     (earlier : List Entry) : Type 0 where
   pub rules : WellFormed kept.header earlier
   pub words : kept.words ≡ words_after kept.header starting earlier

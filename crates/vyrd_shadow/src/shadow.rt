@@ -13,7 +13,7 @@ ghost use Rattle.vyrd_base.specs.Shape.{broken_rule};
 ghost use Rattle.vyrd_base.specs.Starts.{words_at_start};
 ghost use Rattle.vyrd_shadow.specs.Blocks.{kept_count, with_kept, IsFree};
 ghost use Rattle.vyrd_shadow.specs.Costs.{owed};
-ghost use Rattle.vyrd_shadow.specs.Following.{Kept, HasFollowed, is_open, kept_writes, words_of};
+ghost use Rattle.vyrd_shadow.specs.Following.{ShadowKept, HasFollowed, is_open, kept_writes, words_of};
 
 use crate::blocks::Blocks;
 use std::alloc::{AllocError, Global};
@@ -37,9 +37,9 @@ pub struct Shadow {
 impl Model for Shadow {
     ghost use Rattle.std.specs.Prelude.{vec_capacity};
     ghost use Rattle.vyrd_shadow.specs.Blocks.{IsSound};
-    ghost use Rattle.vyrd_shadow.specs.Following.{Kept};
+    ghost use Rattle.vyrd_shadow.specs.Following.{ShadowKept};
 
-    ghost Value = { Kept };
+    ghost Value = { ShadowKept };
 
     ghost view = { λ s. record {
       header = s.header;

@@ -34,7 +34,7 @@ use Rattle.vyrd_base.proofs.SettledWords.{own_holds}
 use Rattle.vyrd_shape.specs.declared.phase.Phase.{Phase}
 use Rattle.vyrd_shape.specs.Phases.{phase_of}
 use Rattle.vyrd_shape.specs.Holding.{Holding, released, is_held_by_another, holders_after}
-use Rattle.vyrd_shape.specs.Following.{Kept, HasFollowed}
+use Rattle.vyrd_shape.specs.Following.{ShapeKept, HasFollowed}
 use Rattle.vyrd_shape.specs.Stamps.{AreOrdered, CommitStamps, has_write, last_commit, last_effect}
 use Rattle.vyrd_shape.proofs.EffectStamps.{passed_by_stamp}
 use Rattle.vyrd_shape.proofs.OrderLaws.{ordered_none}
@@ -43,7 +43,7 @@ use Rattle.vyrd_shape.proofs.ChainLaws.{released_le, differs}
 use Rattle.vyrd_shape.proofs.RuleLaws.{not_held}
 
 -- what a shape with these fields keeps
-abbrev pub kept_by : Header → List Phase → Holding → CommitStamps → List ℕ → Kept
+abbrev pub kept_by : Header → List Phase → Holding → CommitStamps → List ℕ → ShapeKept
 kept_by header phases holding commits stamps = record {
   header = header;
   phases = phases;
@@ -322,7 +322,7 @@ high_next by_word inside c n (Write word value) low high w =
     ]
 
 -- one more entry that keeps the rules
-pub followed_by : (kept : Kept) (earlier : List Entry) (c : ℕ) (kind : Kind) (next : Phase)
+pub followed_by : (kept : ShapeKept) (earlier : List Entry) (c : ℕ) (kind : Kind) (next : Phase)
     (commits : CommitStamps) (stamps : List ℕ)
     → c < kept.header.callers → length kept.phases ≡ kept.header.callers → length kept.holders
     ≡ plain_words kept.header
@@ -388,7 +388,8 @@ same_any p q k (suc n) same = λ i. same k (omega arith) i || same_any p q (k + 
     (λ d low. same d (omega arith)) i
 
 -- whether another caller holds the word, by the definition and by the holders
-pub raced_is : (kept : Kept) (earlier : List Entry) (holding : Holding) (c w : ℕ) → holding.callers
+pub raced_is : (kept : ShapeKept) (earlier : List Entry) (holding : Holding) (c w : ℕ)
+    → holding.callers
     ≡ kept.header.callers
     → holding.by_word ≡ kept.holders
     → w < plain_words kept.header → HasFollowed kept earlier
@@ -400,7 +401,7 @@ raced_is kept earlier holding c w callers words low followed =
     ∙ (λ i. is_held_by_another (record { callers = sym callers i; by_word = sym words i }) c w)
 
 -- whether the word is passed, by the definition and by the stamps
-pub passed_is : (kept : Kept) (earlier : List Entry) (c w : ℕ)
+pub passed_is : (kept : ShapeKept) (earlier : List Entry) (c w : ℕ)
     → ((kept.header.version == 1) ≡ false → length kept.stamps ≡ plain_words kept.header)
     → c < kept.header.callers → w < plain_words kept.header → HasFollowed kept earlier
     → is_passed c w earlier
@@ -449,7 +450,8 @@ open_is earlier (phase ∷ phases) k all =
     is_some_map None = refl
     is_some_map (Some called) = refl
 
-pub call_open_is : (kept : Kept) (earlier : List Entry) → length kept.phases ≡ kept.header.callers
+pub call_open_is : (kept : ShapeKept) (earlier : List Entry) → length kept.phases
+    ≡ kept.header.callers
     → HasFollowed kept earlier
     → list_any (λ phase. is_some phase.open_method) kept.phases ≡ is_call_open kept.header earlier
 call_open_is kept earlier size followed =

@@ -2,7 +2,7 @@
 use Rattle.std.specs.Prelude.{ℕ, ◌+◌, ◌*◌, ◌^◌, ◌==◌, List, length, if◌then◌else◌}
 use Rattle.std.specs.List.{sum_by}
 use Rattle.vyrd_shape.specs.Stamps.{CommitStamps}
-use Rattle.vyrd_shape.specs.Following.{Kept}
+use Rattle.vyrd_shape.specs.Following.{ShapeKept}
 
 -- how many words are held
 abbrev pub held_count : List ℕ → ℕ
@@ -26,5 +26,5 @@ adding_cost commits stamps =
     if commits.next + 1 == 2 ^ 64 then renumbering_cost commits stamps else 0
 
 -- What is owed for the entries so far: each held word is looked at once more, when its block ends.
-abbrev pub owed : Kept → ℕ
+abbrev pub owed : ShapeKept → ℕ
 owed kept = held_count kept.holders

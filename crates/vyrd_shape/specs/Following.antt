@@ -14,7 +14,7 @@ use Rattle.vyrd_shape.specs.Holding.{Holding, IsWordBelow}
 -- the header, the phase of each caller, the holder of each plain word (a caller's number plus 1, or
 -- 0 for nobody), the stamps of the callers' lone commits, and from version 2 on one of each plain
 -- word
-pub record Kept : Type 0 where
+pub record ShapeKept : Type 0 where
   pub header : Header
   pub phases : List Phase
   pub holders : List ℕ
@@ -25,7 +25,7 @@ pub record Kept : Type 0 where
 -- Each caller's phase is its own, and a caller holds a word exactly when its open block has written
 -- it, which is one caller at most. Stamps stand in the order of the log, and an entry takes one at
 -- most.
-pub record HasFollowed (kept : Kept) (earlier : List Entry) : Type 0 where
+pub record HasFollowed (kept : ShapeKept) (earlier : List Entry) : Type 0 where
   pub rules : WellFormed kept.header earlier
   pub phases : (c : ℕ) → c < kept.header.callers
       → slice_get kept.phases c ≡ Some (phase_of c earlier)

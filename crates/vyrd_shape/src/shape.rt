@@ -56,9 +56,9 @@ pub struct Shape {
 }
 
 impl Model for Shape {
-    ghost use Rattle.vyrd_shape.specs.Following.{Kept, IsComplete};
+    ghost use Rattle.vyrd_shape.specs.Following.{ShapeKept, IsComplete};
 
-    ghost Value = { Kept };
+    ghost Value = { ShapeKept };
 
     ghost view = { λ s. record {
       header = s.header;

@@ -51,11 +51,13 @@ AreLimitsRead text None = (size callers : ℕ) → is_sized size callers ≡ tru
 AreLimitsRead text (Some (size, callers)) =
     (is_sized size callers ≡ true) × (text ≡ decimal size ++ 32 ∷ decimal callers)
 
--- the version below 2^32, the built-in subject, the size and the number of callers within the limits
+-- the version below 2^32, the built-in subject, the size and the number of callers within the
+-- limits
 -- whose text it is
 abbrev pub AreNumbersRead : List ℕ → Option (ℕ × Subject × ℕ × ℕ) → Type 0
 AreNumbersRead text None = (version : ℕ) (subject : Subject) (size callers : ℕ) → version < 2 ^ 32
-    → is_built_in subject ≡ true → is_sized size callers ≡ true → text ≡ header_line version subject size callers → ⊥
+    → is_built_in subject ≡ true → is_sized size callers ≡ true
+    → text ≡ header_line version subject size callers → ⊥
 AreNumbersRead text (Some (version, subject, size, callers)) =
     (version < 2 ^ 32) × (is_built_in subject ≡ true) × (is_sized size callers ≡ true)
     × (text ≡ header_line version subject size callers)

@@ -14,7 +14,7 @@ use Rattle.vyrd_trace.specs.declared.record.Stage.TheVariants.{Rest, Claimed, Dr
 use Rattle.vyrd_base.specs.Parts.{part}
 use Rattle.vyrd_base.proofs.UpdateLaws.{upd, upd_here, upd_else}
 use Rattle.vyrd_trace.specs.Lanes.{last_value}
-use Rattle.vyrd_trace.specs.Rule.{Ghost, IsAt, InHand, FitsCell, Knows, Kept}
+use Rattle.vyrd_trace.specs.Rule.{Ghost, IsAt, InHand, FitsCell, Knows, TraceKept}
 use Rattle.vyrd_trace.proofs.Stays.{St, Same, refit}
 
 -- a cell that fits depends on its claimer's action alone
@@ -30,7 +30,7 @@ pub in_hand : (plain : ℕ) (f : ℕ → Stage) (k w n by : ℕ) (o : Option ℕ
     → FitsCell plain f k w n o → InHand plain by k w n (f by)
 in_hand plain f k w n by o is fits = subst (FitsCell plain f k w n) is fits
 
-module _ (p : Plan) (s : St) (r : Kept p s) (id : ℕ) (v : Record)
+module _ (p : Plan) (s : St) (r : TraceKept p s) (id : ℕ) (v : Record)
     (at : get_elem? s.views id ≡ some v) (live : v.live ≡ true) where
   abbrev pub G : Ghost
   G = r.ghost_state

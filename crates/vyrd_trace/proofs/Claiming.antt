@@ -18,16 +18,16 @@ use Rattle.vyrd_trace.specs.declared.record.Stage.{Stage}
 use Rattle.vyrd_trace.specs.declared.record.Stage.TheVariants.{Rest, Claimed}
 use Rattle.vyrd_trace.specs.Lanes.{last_value}
 use Rattle.vyrd_trace.specs.Records.{look_first, acting}
-use Rattle.vyrd_trace.specs.Rule.{Ghost, IsAt, InHand, FitsCell, Kept}
+use Rattle.vyrd_trace.specs.Rule.{Ghost, IsAt, InHand, FitsCell, TraceKept}
 use Rattle.vyrd_trace.specs.Steps.{Sitting, looked, tried}
 use Rattle.vyrd_trace.proofs.Stays.{St, turned, refit, same_refl}
 use Rattle.vyrd_trace.proofs.CellMoves.{moved, claims_moved, same_moved, free_cell, nowhere_rest}
 
 module _ (p : Plan) where
-  unmoved : (s : St) (r : Kept p s) (id : ℕ) (c : List (ℕ × Unit {0})) (v : Record) (l : Look)
+  unmoved : (s : St) (r : TraceKept p s) (id : ℕ) (c : List (ℕ × Unit {0})) (v : Record) (l : Look)
       → get_elem? s.views id ≡ some v
       → v.live ≡ true → (i : ℕ)
-      → Kept p (stepped s i (slice_index s.words i) id c (acting v v.stage l) keeps)
+      → TraceKept p (stepped s i (slice_index s.words i) id c (acting v v.stage l) keeps)
   unmoved s r id c v l at live i =
       let g = r.ghost_state in
       let mine = r.seats id v at live in
@@ -47,7 +47,7 @@ module _ (p : Plan) where
 
   -- looks: nothing changes but the looks
   pub looks : (slots id : ℕ) (me : Sitting) (k : ℕ) → me.0.live ≡ true
-      → Allows (Kept p) slots id me (k + 1) (λ n. n) (looked (step slots (k + 1) 0 0 none) me)
+      → Allows (TraceKept p) slots id me (k + 1) (λ n. n) (looked (step slots (k + 1) 0 0 none) me)
   looks slots id me k live s r _ at _ =
       let v : Record = me.0 in
       let n : ℕ = slice_index s.words (k + 1) in
@@ -62,12 +62,13 @@ module _ (p : Plan) where
       )
 
   -- a claim that is won: the word is `old`, which is even, and for a lock 0
-  won : (s : St) (r : Kept p s) (id : ℕ) (c : List (ℕ × Unit {0})) (v : Record) (k0 old new : ℕ)
+  won : (s : St) (r : TraceKept p s) (id : ℕ) (c : List (ℕ × Unit {0})) (v : Record)
+      (k0 old new : ℕ)
       (st : Stage) (l : Look)
       → get_elem? s.views id ≡ some v → v.live ≡ true → k0 < p.plain + p.locks → v.stage ≡ Rest
       → old % 2 ≡ 0 → (p.plain ≤ k0 → old ≡ 0) → new ≡ old + 1 → slice_index s.words (k0 + 1) ≡ old
       → st ≡ Claimed k0 (old / 2)
-      → Kept p (stepped s (k0 + 1) new id c (acting v st l) keeps)
+      → TraceKept p (stepped s (k0 + 1) new id c (acting v st l) keeps)
   won s r id c v k0 old new st l at live inside rest even lock up hit is =
       let by : ℕ = v.caller in
       let g = r.ghost_state in
@@ -117,7 +118,7 @@ module _ (p : Plan) where
       → me.0.live ≡ true
       → k0 < p.plain + p.locks → me.0.stage ≡ Rest → old % 2 ≡ 0 → (p.plain ≤ k0 → old ≡ 0)
       → new ≡ old + 1
-      → Allows (Kept p) slots id me (k0 + 1) (λ n. either (eqb n old) new n)
+      → Allows (TraceKept p) slots id me (k0 + 1) (λ n. either (eqb n old) new n)
       (tried next (step slots (k0 + 1) old new none) me)
   claims_cell next slots id me k0 old new live inside rest even lock up s r _ at _ =
       let n : ℕ = slice_index s.words (k0 + 1) in
@@ -128,7 +129,7 @@ module _ (p : Plan) where
         acting me.0 st l,
         keeps,
         tt,
-        subst (λ (b : Bool). Kept p
+        subst (λ (b : Bool). TraceKept p
             (stepped s (k0 + 1) (either b new n) id me.1 (acting me.0 st l) keeps))
             (sym (eq-eqb n old hit))
             (won s r id me.1 me.0 k0 old new st l at live inside rest even lock up hit
@@ -139,7 +140,7 @@ module _ (p : Plan) where
         acting me.0 me.0.stage l,
         keeps,
         tt,
-        subst (λ (b : Bool). Kept p
+        subst (λ (b : Bool). TraceKept p
             (stepped s (k0 + 1) (either b new n) id me.1 (acting me.0 me.0.stage l) keeps))
             (sym (ne_eqb n old miss)) (unmoved s r id me.1 me.0 l at live (k0 + 1)),
         ((λ hit. absurd (miss hit)), (λ _. refl)),

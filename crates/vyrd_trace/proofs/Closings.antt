@@ -19,7 +19,7 @@ use Rattle.vyrd_trace.specs.declared.record.Record.{Record}
 use Rattle.vyrd_trace.specs.declared.plan.Plan.{Plan}
 use Rattle.vyrd_trace.specs.declared.record.Lane.{Lane}
 use Rattle.vyrd_trace.specs.declared.record.Stage.TheVariants.{Rest}
-use Rattle.vyrd_trace.specs.Rule.{Ghost, InHand, FitsCell, HasLane, Knows, Kept}
+use Rattle.vyrd_trace.specs.Rule.{Ghost, InHand, FitsCell, HasLane, Knows, TraceKept}
 use Rattle.vyrd_trace.specs.Records.{own_lane}
 use Rattle.vyrd_trace.specs.Hands.{HandView}
 use Rattle.vyrd_trace.proofs.Parts.{below, below_more, below_none, below_all}
@@ -51,7 +51,7 @@ has_any n g id v rest k zero l e = let same : own_lane v ≡ l = cc in
     subst (HasLane g id) same record { owned = k.owned; whole = k.whole; rests = k.at_stage ∙ rest }
 has_any n g id v rest k (suc i) l e = k.others i l e
 
-module _ (p : Plan) (s : St) (r : Kept p s) (id : ℕ) (v : Record) (hs : List HandView)
+module _ (p : Plan) (s : St) (r : TraceKept p s) (id : ℕ) (v : Record) (hs : List HandView)
     (at : get_elem? s.views id
     ≡ some v) (live : v.live ≡ true) (rest : v.stage ≡ Rest)
     (all : own_lane v ∷ v.gathered ≡ own_lanes hs) (count : length hs ≡ p.callers)
@@ -157,7 +157,7 @@ halved p h words halves twice long half =
 -- last value.
 pub has_history : (p : Plan) (words halves : List ℕ) (slots : List (Unit {0})) (id : ℕ) (v : Record)
     (hs : List HandView)
-    → Final (Seen (Kept p) id v) words slots → v.live ≡ true → v.stage ≡ Rest
+    → Final (Seen (TraceKept p) id v) words slots → v.live ≡ true → v.stage ≡ Rest
     → own_lane v ∷ v.gathered ≡ own_lanes hs
     → length hs ≡ p.callers
     → ((i : ℕ) (d : HandView) → i < length hs → (slice_index_or hs i d).caller ≡ i)

@@ -18,7 +18,7 @@ use Rattle.vyrd_trace.specs.declared.plan.Plan.{Plan}
 use Rattle.vyrd_trace.specs.declared.record.Lane.{Lane}
 use Rattle.vyrd_trace.specs.declared.record.Stage.TheVariants.{Rest}
 use Rattle.vyrd_trace.specs.Records.{first_record, dealer, dealt, own_lane, gathering, spent}
-use Rattle.vyrd_trace.specs.Rule.{Ghost, HasLane, Knows, Kept}
+use Rattle.vyrd_trace.specs.Rule.{Ghost, HasLane, Knows, TraceKept}
 use Rattle.vyrd_trace.proofs.Stays.{apart_from}
 
 no_lane : (i : ℕ) (l : Lane) → slice_get [] i ≡ Some l → ⊥
@@ -31,7 +31,7 @@ none_is_legal z = refl
 
 -- the rule holds of a new table
 pub opens : (p : Plan) → 1 ≤ p.callers
-    → Kept p (opening (replicate (1 + (p.plain + p.locks)) 0) [] first_record)
+    → TraceKept p (opening (replicate (1 + (p.plain + p.locks)) 0) [] first_record)
 opens p some_caller = record {
   ghost_state = record {
     history = [];
@@ -109,7 +109,7 @@ knows_kept n g h j u same stages owns unmade k = record {
 
 -- the record of caller 0 makes one for the next caller
 pub splits : (p : Plan) (id : ℕ) (v : Record) → v.live ≡ true → v.caller ≡ 0 → v.next < p.callers
-    → Splits (Kept p) id v (dealer v) (dealt v)
+    → Splits (TraceKept p) id v (dealer v) (dealt v)
 splits p id v live zeroth room s r at =
     let g = r.ghost_state in
     let mine = r.seats id v at live in
@@ -202,7 +202,7 @@ given_else other id j apart = ap (λ (b : Bool). cond b (Some id) (Some j)) (ne_
 -- a record takes in another's lanes, where that one is at rest
 pub joins : (p : Plan) (id : ℕ) (v : Record) (other : ℕ) (w : Record) → v.live ≡ true
     → w.live ≡ true → w.stage ≡ Rest
-    → Joins (Kept p) id v other w (gathering v w) spent
+    → Joins (TraceKept p) id v other w (gathering v w) spent
 joins p id v other w live alive rest s r at differ there =
     let g = r.ghost_state in
     let mine = r.seats id v at live in

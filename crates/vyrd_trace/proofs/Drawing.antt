@@ -22,7 +22,7 @@ use Rattle.vyrd_trace.specs.declared.record.Stage.{Stage}
 use Rattle.vyrd_trace.specs.declared.record.Stage.TheVariants.{Rest, Claimed, Drawn, Giving}
 use Rattle.vyrd_trace.specs.Lanes.{stamp, last_value, HoldsBy, cells_in}
 use Rattle.vyrd_trace.specs.Records.{before_of, drawn, with_event}
-use Rattle.vyrd_trace.specs.Rule.{Ghost, IsAt, InHand, FitsCell, Kept}
+use Rattle.vyrd_trace.specs.Rule.{Ghost, IsAt, InHand, FitsCell, TraceKept}
 use Rattle.vyrd_trace.specs.Steps.{Sitting, drew, MayDraw}
 use Rattle.vyrd_trace.proofs.HistoryGrows.{value_after, legal-snoc, may_read, may_write, may_take}
 use Rattle.vyrd_trace.proofs.HistoryGrows.{may_give, may_mark}
@@ -34,7 +34,7 @@ use Rattle.vyrd_trace.specs.Hands.{most_events}
 
 module _ (p : Plan) (few : p.callers ≤ 64) (short : p.limit ≤ most_events) where
   -- the next number is far below 2 ^ 64
-  bounded : (s : St) (r : Kept p s) → slice_index s.words 0 + 1 < 2 ^ 64
+  bounded : (s : St) (r : TraceKept p s) → slice_index s.words 0 + 1 < 2 ^ 64
   bounded s r =
       let a = legal_bounded (cells_in p) p.limit r.ghost_state.history r.legal r.short in
       let b = r.counted in
@@ -44,7 +44,8 @@ module _ (p : Plan) (few : p.callers ≤ 64) (short : p.limit ≤ most_events) w
   -- hand afterwards, which
   -- caller has each cell, and that the cells' words, which stay, fit their values in the longer
   -- history.
-  drew_keeps : (s : St) (r : Kept p s) (id : ℕ) (c : List (ℕ × Unit {0})) (v : Record) (did : Did)
+  drew_keeps : (s : St) (r : TraceKept p s) (id : ℕ) (c : List (ℕ × Unit {0})) (v : Record)
+      (did : Did)
       (stage : ℕ
       → Stage) (claimer : ℕ → Option ℕ) (st : Stage)
       → get_elem? s.views id ≡ some v → v.live ≡ true → length v.lane < p.limit
@@ -55,7 +56,7 @@ module _ (p : Plan) (few : p.callers ≤ 64) (short : p.limit ≤ most_events) w
       → FitsCell p.plain stage k (slice_index s.words (k + 1))
       (last_value (r.ghost_state.history ++ stamp (slice_index s.words 0) v.caller did ∷ []) k)
       (claimer k))
-      → Kept p (stepped s 0 ((slice_index s.words 0 + 1) % 2 ^ 64) id c
+      → TraceKept p (stepped s 0 ((slice_index s.words 0 + 1) % 2 ^ 64) id c
       (changed v (v.lane ++ stamp (slice_index s.words 0) v.caller did ∷ []) st v.look) keeps)
   drew_keeps s r id c v did stage claimer st at live room may in_hand_now others claims cells =
       let n : ℕ = slice_index s.words 0 in
@@ -94,7 +95,7 @@ module _ (p : Plan) (few : p.callers ≤ 64) (short : p.limit ≤ most_events) w
   -- a mark changes no action and no cell
   marks : (slots id : ℕ) (me : Sitting) (kind : Kind) → me.0.live ≡ true
       → length me.0.lane < p.limit → is_write kind ≡ false
-      → Allows (Kept p) slots id me 0 (λ n. (n + 1) % 2 ^ 64)
+      → Allows (TraceKept p) slots id me 0 (λ n. (n + 1) % 2 ^ 64)
       (drew (Marked kind) (step slots 0 1 0 none) me)
   marks slots id me kind live room mark s r _ at _ =
       let n : ℕ = slice_index s.words 0 in
@@ -122,7 +123,8 @@ module _ (p : Plan) (few : p.callers ≤ 64) (short : p.limit ≤ most_events) w
       → value_after k0 b me.0.caller did ≡ m → (p.plain ≤ k0 → m ≡ me.0.caller + 1)
       → ((h : List Stamped) → last_value h k0 ≡ b → (p.plain ≤ k0 → b ≡ 0)
       → may_do (cells_in p) (newest_first h) me.0.caller did ≡ true)
-      → Allows (Kept p) slots id me 0 (λ n. (n + 1) % 2 ^ 64) (drew did (step slots 0 1 0 none) me)
+      → Allows (TraceKept p) slots id me 0 (λ n. (n + 1) % 2 ^ 64)
+      (drew did (step slots 0 1 0 none) me)
   acts slots id me did k0 b m live room inside claimed next away here lock follows s r _ at _ =
       let n : ℕ = slice_index s.words 0 in
       let v : Record = me.0 in
@@ -164,7 +166,7 @@ module _ (p : Plan) (few : p.callers ≤ 64) (short : p.limit ≤ most_events) w
   gives : (slots id : ℕ) (me : Sitting) (k0 : ℕ) → me.0.live ≡ true → length me.0.lane < p.limit
       → p.plain ≤ k0
       → k0 < p.plain + p.locks → me.0.stage ≡ Rest → HoldsBy me.0.lane me.0.caller k0
-      → Allows (Kept p) slots id me 0 (λ n. (n + 1) % 2 ^ 64)
+      → Allows (TraceKept p) slots id me 0 (λ n. (n + 1) % 2 ^ 64)
       (drew (Gave k0) (step slots 0 1 0 none) me)
   gives slots id me k0 live room lock inside rest held s r _ at _ =
       let n : ℕ = slice_index s.words 0 in
@@ -205,7 +207,8 @@ module _ (p : Plan) (few : p.callers ≤ 64) (short : p.limit ≤ most_events) w
   -- any event that may come next
   pub draws : (slots id : ℕ) (me : Sitting) (did : Did) → me.0.live ≡ true
       → length me.0.lane < p.limit → MayDraw p me.0 did
-      → Allows (Kept p) slots id me 0 (λ n. (n + 1) % 2 ^ 64) (drew did (step slots 0 1 0 none) me)
+      → Allows (TraceKept p) slots id me 0 (λ n. (n + 1) % 2 ^ 64)
+      (drew did (step slots 0 1 0 none) me)
   draws slots id me (Marked kind) live room may = marks slots id me kind live room may
   draws slots id me (Gave k) live room may = gives slots id me k live room may.0 may.1 may.2 may.3
   draws slots id me (Read k x) live room may = let a = may.0 in

@@ -14,7 +14,7 @@ use Rattle.vyrd_trace.specs.declared.record.Stage.{Stage}
 use Rattle.vyrd_trace.specs.declared.record.Stage.TheVariants.{Rest, Claimed, Drawn, Giving}
 use Rattle.vyrd_trace.specs.Lanes.{last_value}
 use Rattle.vyrd_trace.specs.Records.{acting}
-use Rattle.vyrd_trace.specs.Rule.{Ghost, IsAt, InHand, Kept}
+use Rattle.vyrd_trace.specs.Rule.{Ghost, IsAt, InHand, TraceKept}
 use Rattle.vyrd_trace.specs.Steps.{Sitting, published, Ends}
 use Rattle.vyrd_trace.proofs.Stays.{St, turned}
 use Rattle.vyrd_trace.proofs.CellMoves.{in_hand, moved, claims_moved, same_moved, nowhere_drawn}
@@ -22,13 +22,13 @@ use Rattle.vyrd_trace.proofs.CellMoves.{nowhere_giving}
 
 module _ (p : Plan) where
   -- an action at k0 ends
-  ends : (s : St) (r : Kept p s) (id : ℕ) (c : List (ℕ × Unit {0})) (v : Record) (k0 x : ℕ)
+  ends : (s : St) (r : TraceKept p s) (id : ℕ) (c : List (ℕ × Unit {0})) (v : Record) (k0 x : ℕ)
       (at : get_elem? s.views id
       ≡ some v) (live : v.live ≡ true) → k0 < p.plain + p.locks → r.ghost_state.claimer k0
       ≡ Some v.caller
       → x ≡ 2 * last_value r.ghost_state.history k0
       → ((k w n : ℕ) → k ≢ k0 → InHand p.plain v.caller k w n v.stage → ⊥)
-      → Kept p (stepped s (k0 + 1) x id c (acting v Rest v.look) keeps)
+      → TraceKept p (stepped s (k0 + 1) x id c (acting v Rest v.look) keeps)
   ends s r id c v k0 x at live inside mine_is twice elsewhere =
       let by : ℕ = v.caller in
       let g = r.ghost_state in
@@ -59,7 +59,7 @@ module _ (p : Plan) where
   -- the publish: the action in hand ends
   pub publishes : (slots id : ℕ) (me : Sitting) (k0 b m x : ℕ) → me.0.live ≡ true → k0 < p.plain
       + p.locks → me.0.stage ≡ Drawn k0 b m → x ≡ 2 * m
-      → Allows (Kept p) slots id me (k0 + 1) (λ _. x)
+      → Allows (TraceKept p) slots id me (k0 + 1) (λ _. x)
       (λ _. published (step slots (k0 + 1) x 0 none) me x)
   publishes slots id me k0 b m x live inside drawn_is twice s r _ at _ =
       let v : Record = me.0 in
@@ -84,7 +84,7 @@ module _ (p : Plan) where
 
   pub publishes_give : (slots id : ℕ) (me : Sitting) (k0 x : ℕ) → me.0.live ≡ true → k0 < p.plain
       + p.locks → me.0.stage ≡ Giving k0 → x ≡ 0
-      → Allows (Kept p) slots id me (k0 + 1) (λ _. x)
+      → Allows (TraceKept p) slots id me (k0 + 1) (λ _. x)
       (λ _. published (step slots (k0 + 1) x 0 none) me x)
   publishes_give slots id me k0 x live inside drawn_is twice s r _ at _ =
       let v : Record = me.0 in
@@ -108,12 +108,12 @@ module _ (p : Plan) where
 
   pub stores : (slots id : ℕ) (me : Sitting) (k0 x : ℕ) → me.0.live ≡ true → k0 < p.plain + p.locks
       → Ends me.0.stage k0 x
-      → Allows (Kept p) slots id me (k0 + 1) (λ _. x)
+      → Allows (TraceKept p) slots id me (k0 + 1) (λ _. x)
       (λ _. published (step slots (k0 + 1) x 0 none) me x)
   stores slots id me k0 x live inside e = by_stage me.0.stage refl e
     where
       by_stage : (st : Stage) → me.0.stage ≡ st → Ends st k0 x
-          → Allows (Kept p) slots id me (k0 + 1) (λ _. x)
+          → Allows (TraceKept p) slots id me (k0 + 1) (λ _. x)
           (λ _. published (step slots (k0 + 1) x 0 none) me x)
       by_stage Rest is h = absurd h
       by_stage (Claimed c b) is h = absurd h

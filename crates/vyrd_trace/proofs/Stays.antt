@@ -17,7 +17,7 @@ use Rattle.vyrd_trace.specs.declared.record.Lane.{Lane}
 use Rattle.vyrd_trace.specs.declared.record.Stage.{Stage}
 use Rattle.vyrd_base.specs.Parts.{part}
 use Rattle.vyrd_trace.specs.Lanes.{AreBelow, last_value, cells_in}
-use Rattle.vyrd_trace.specs.Rule.{Ghost, IsAt, FitsCell, HasLane, Knows, Kept}
+use Rattle.vyrd_trace.specs.Rule.{Ghost, IsAt, FitsCell, HasLane, Knows, TraceKept}
 use Rattle.vyrd_trace.proofs.Parts.{part_below}
 
 abbrev pub St : Type 0
@@ -101,12 +101,13 @@ pub record Turn (p : Plan) (words : List ℕ) (g h : Ghost) (v : Record) (lane :
 
 -- A step of one seat keeps the rule where the new ghost state owes nothing. Every step of a single
 -- seat goes through this.
-pub turned : (p : Plan) (s : St) (r : Kept p s) (i n id : ℕ) (c : List (ℕ × Unit {0})) (v : Record)
+pub turned : (p : Plan) (s : St) (r : TraceKept p s) (i n id : ℕ) (c : List (ℕ × Unit {0}))
+    (v : Record)
     (lane : List Stamped)
     (st : Stage) (look : Look) (h : Ghost)
     → get_elem? s.views id ≡ some v → v.live ≡ true
     → Turn p (set s.words i n) r.ghost_state h v lane st
-    → Kept p (stepped s i n id c (changed v lane st look) keeps)
+    → TraceKept p (stepped s i n id c (changed v lane st look) keeps)
 turned p s r i n id c v lane st look h at live t =
     let g = r.ghost_state in
     let mine = r.seats id v at live in record {
@@ -150,7 +151,8 @@ pub same_refl : (g : Ghost) (by : ℕ) → Same g g by
 same_refl g by = record { owners = λ c. refl; parts = λ c _. refl; stages = λ c _. refl }
 
 -- the numbers that a lane has are below the next one
-pub below : (p : Plan) (s : St) (r : Kept p s) (v : Record) → part v.caller r.ghost_state.history
+pub below : (p : Plan) (s : St) (r : TraceKept p s) (v : Record)
+    → part v.caller r.ghost_state.history
     ≡ v.lane → (n : ℕ)
     → n ≡ length r.ghost_state.history → AreBelow n v.lane
 below p s r v whole n is = subst (λ (x : ℕ × List Stamped). AreBelow x.0 x.1)

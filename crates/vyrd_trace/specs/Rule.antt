@@ -68,7 +68,7 @@ pub record Knows (callers : ℕ) (g : Ghost) (seat : ℕ) (v : Record) : Type 0 
 -- The rule: the history is legal, as long as word 0 says, and no caller's part is over the limit;
 -- an action in hand has its cell alone; each cell's word fits; a caller without a record has done
 -- nothing; and each record knows its own.
-pub record Kept (p : Plan) (s : State (Unit {0}) Record) : Type 0 where
+pub record TraceKept (p : Plan) (s : State (Unit {0}) Record) : Type 0 where
   pub ghost_state : Ghost
   pub wide : length s.words ≡ 1 + (p.plain + p.locks)
   pub counted : slice_index s.words 0 ≡ length ghost_state.history

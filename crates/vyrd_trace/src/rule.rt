@@ -9,9 +9,9 @@ pub struct Trace;
 
 impl TableRule<(), Record, Plan> for Trace {
     ghost use Rattle.vyrd_trace.specs.Records.{first_record};
-    ghost use Rattle.vyrd_trace.specs.Rule.{Kept};
+    ghost use Rattle.vyrd_trace.specs.Rule.{TraceKept};
 
-    ghost holds = { Kept };
+    ghost holds = { TraceKept };
 
     ghost first = { λ _. first_record };
 }

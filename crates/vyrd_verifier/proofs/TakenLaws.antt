@@ -8,7 +8,7 @@ use Rattle.std.proofs.lemmas.Bool.Decides.{nat_tests}
 use mathlib.Core.Logic.{dite}
 use native.Mathlib.Decide.{ℕ_discrete, dec_lt}
 use Rattle.vyrd_base.specs.declared.history.Stamped.{Stamped}
-use Rattle.vyrd_relay.specs.Numbers.{Kept, held, has}
+use Rattle.vyrd_relay.specs.Numbers.{ReorderKept, held, has}
 use Rattle.vyrd_verifier.specs.Taken.{numbered, in_order_below, SequencerView, has_failed}
 use Rattle.vyrd_verifier.specs.Taken.{has_number, AreKept, is_in, IsTaking, HasTakenIn}
 
@@ -48,7 +48,8 @@ in_order_more n taken e found = ap (λ (m : ℕ). in_order_below m taken) (one_m
     one_more n = omega arith
 
 -- the event with the next number was handed out
-pub kept_after : (k after : Kept) (taken : List Stamped) (e : Stamped) → held k k.next ≡ Some e
+pub kept_after : (k after : ReorderKept) (taken : List Stamped) (e : Stamped) → held k k.next
+    ≡ Some e
     → after.next ≡ k.next + 1
     → ((n : ℕ) → k.next < n → held after n ≡ held k n) → AreKept k taken → AreKept after taken
 kept_after k after taken e found next same kept = record {
@@ -60,7 +61,7 @@ kept_after k after taken e found next same kept = record {
 }
 
 -- if a number wasn't had, it is from the next one on, and no event has it
-pub new_number : (k : Kept) (taken : List Stamped) (number : ℕ) → has k number ≡ false
+pub new_number : (k : ReorderKept) (taken : List Stamped) (number : ℕ) → has k number ≡ false
     → AreKept k taken
     → (k.next ≤ number) × (numbered number taken ≡ None)
 new_number k taken number not_had kept = dite (dec_lt number k.next)
@@ -81,7 +82,8 @@ new_number k taken number not_had kept = dite (dec_lt number k.next)
     none (Some x) e = absurd (differ (sym e))
 
 -- an event with a new number is put in
-pub kept_with : (k after : Kept) (taken : List Stamped) (e : Stamped) → has k e.number ≡ false
+pub kept_with : (k after : ReorderKept) (taken : List Stamped) (e : Stamped) → has k e.number
+    ≡ false
     → after.next ≡ k.next
     → ((n : ℕ) → held after n ≡ (if n == e.number then Some e else held k n)) → AreKept k taken
     → AreKept after (taken ++ e ∷ [])
@@ -97,7 +99,7 @@ kept_with k after taken e not_had next put kept =
     }
 
 pub taking_after : {S : Type 0} (has_taken : S → List Stamped → Type 0) (sink sink' : S)
-    (k after : Kept) (taken : List Stamped) (e : Stamped)
+    (k after : ReorderKept) (taken : List Stamped) (e : Stamped)
     → held k k.next ≡ Some e → after.next ≡ k.next + 1
     → ((n : ℕ) → k.next < n → held after n ≡ held k n)
     → ((history : List Stamped) → has_taken sink history → has_taken sink' (history ++ e ∷ []))
@@ -111,7 +113,8 @@ taking_after has_taken sink sink' k after taken e found next same shown t =
       shown = subst (has_taken sink') (sym order) (shown _ t.shown);
     }
 
-pub taking_with : {S : Type 0} (has_taken : S → List Stamped → Type 0) (sink : S) (k after : Kept)
+pub taking_with : {S : Type 0} (has_taken : S → List Stamped → Type 0) (sink : S)
+    (k after : ReorderKept)
     (taken : List Stamped) (e : Stamped)
     → has k e.number ≡ false → after.next ≡ k.next
     → ((n : ℕ) → held after n ≡ (if n == e.number then Some e else held k n))
@@ -125,7 +128,7 @@ taking_with has_taken sink k after taken e not_had next put t =
     }
 
 -- nothing was taken in
-pub taking_none : {S : Type 0} (has_taken : S → List Stamped → Type 0) (sink : S) (k : Kept)
+pub taking_none : {S : Type 0} (has_taken : S → List Stamped → Type 0) (sink : S) (k : ReorderKept)
     → k.next ≡ 0 → ((n : ℕ) → held k n ≡ None)
     → has_taken sink [] → IsTaking has_taken sink k []
 taking_none has_taken sink k next none shown = record {
@@ -134,7 +137,8 @@ taking_none has_taken sink k next none shown = record {
 }
 
 -- what is had is what was taken in
-pub knows_all : (k : Kept) (taken : List Stamped) → AreKept k taken → (n : ℕ) → is_in k None n
+pub knows_all : (k : ReorderKept) (taken : List Stamped) → AreKept k taken → (n : ℕ)
+    → is_in k None n
     ≡ is_some (numbered n taken)
 knows_all k taken kept n = dite (dec_lt n k.next)
     (λ less. let b : ltb n k.next ≡ true = grind (arith, nat_tests) in
@@ -199,7 +203,7 @@ taken_same has_taken old new taken number none some not_had same t = record {
     and_yes false = refl
 
 -- what is had changes at the number of the event that is put in alone
-pub has_with : (k after : Kept) (e : Stamped) → after.next ≡ k.next
+pub has_with : (k after : ReorderKept) (e : Stamped) → after.next ≡ k.next
     → ((n : ℕ) → held after n ≡ (if n == e.number then Some e else held k n))
     → (n : ℕ) → n ≢ e.number → has after n ≡ has k n
 has_with k after e next put n apart =
@@ -209,7 +213,7 @@ has_with k after e next put n apart =
 
 -- an event whose turn it is was shown at once
 pub taking_turn : {S : Type 0} (has_taken : S → List Stamped → Type 0) (sink sink' : S)
-    (k after : Kept) (taken : List Stamped) (e : Stamped)
+    (k after : ReorderKept) (taken : List Stamped) (e : Stamped)
     → has k e.number ≡ false → e.number ≡ k.next → after.next ≡ k.next + 1
     → ((n : ℕ) → k.next < n → held after n ≡ held k n)
     → has_taken sink' (in_order_below k.next taken ++ e ∷ [])
@@ -233,7 +237,7 @@ taking_turn has_taken sink sink' k after taken e not_had turn next same shown t 
     }
 
 -- and what is had changes at its number alone
-pub has_passed : (k after : Kept) (number : ℕ) → number ≡ k.next → after.next ≡ k.next + 1
+pub has_passed : (k after : ReorderKept) (number : ℕ) → number ≡ k.next → after.next ≡ k.next + 1
     → ((n : ℕ) → k.next < n → held after n ≡ held k n)
     → (n : ℕ) → n ≢ number → has after n ≡ has k n
 has_passed k after number turn next same n apart = dite (dec_lt n k.next)

@@ -5,7 +5,7 @@ use Rattle.std.specs.Prelude.{Bool, true, false, List, [], ◌∷◌, ◌++◌, 
 use Rattle.std.specs.Prelude.{if◌then◌else◌}
 use Rattle.std.specs.Option.{option_to_list}
 use Rattle.vyrd_base.specs.declared.history.Stamped.{Stamped}
-use Rattle.vyrd_relay.specs.Numbers.{Kept, held, has}
+use Rattle.vyrd_relay.specs.Numbers.{ReorderKept, held, has}
 
 -- the first event with a number
 abbrev pub numbered : ℕ → List Stamped → Option Stamped
@@ -21,7 +21,7 @@ in_order_below (suc n) taken = in_order_below n taken ++ option_to_list (numbere
 -- event that was refused for lack of memory.
 pub record SequencerView (S : Type 0) : Type 0 where
   pub sink : S
-  pub kept : Kept
+  pub kept : ReorderKept
   pub refused : Option ℕ
 
 -- memory was refused
@@ -29,7 +29,7 @@ abbrev pub has_failed : {S : Type 0} → SequencerView S → Bool
 has_failed q = is_some q.refused
 
 -- whether the event with this number was taken in, if the one with the number `refused` wasn't
-abbrev pub is_in : Kept → Option ℕ → ℕ → Bool
+abbrev pub is_in : ReorderKept → Option ℕ → ℕ → Bool
 is_in kept None n = has kept n
 is_in kept (Some r) n = has kept n && not (n == r)
 
@@ -43,12 +43,13 @@ abbrev pub MayRefuse : {S : Type 0} (old new : SequencerView S) → ℕ → Type
 MayRefuse old new n = (2 ^ 62 ≤ n) ⊎ (has_number old n ≡ true) ⊎ (has_failed new ≡ true)
 
 -- Of the events that came so far those before `next` were handed out, and the others are held.
-pub record AreKept (kept : Kept) (taken : List Stamped) : Type 0 where
+pub record AreKept (kept : ReorderKept) (taken : List Stamped) : Type 0 where
   pub gone : (n : ℕ) → n < kept.next → is_some (numbered n taken) ≡ true
   pub later : (n : ℕ) → kept.next ≤ n → held kept n ≡ numbered n taken
 
 -- The sink has taken the events that were handed out.
-pub record IsTaking {S : Type 0} (has_taken : S → List Stamped → Type 0) (sink : S) (kept : Kept)
+pub record IsTaking {S : Type 0} (has_taken : S → List Stamped → Type 0) (sink : S)
+    (kept : ReorderKept)
     (taken : List Stamped) : Type 0 where
   pub in_hand : AreKept kept taken
   pub shown : has_taken sink (in_order_below kept.next taken)

@@ -7,7 +7,7 @@ use Rattle.vyrd_base.proofs.SumLaws.{own_part}
 use Rattle.vyrd_base.proofs.TestLaws.{below_of, not_below_of}
 use Rattle.vyrd_view.specs.Pairs.{EachAtMost}
 use Rattle.vyrd_base.specs.Amounts.{Amounts, given, part_given}
-use Rattle.vyrd_view.specs.Kept.{Kept}
+use Rattle.vyrd_view.specs.Kept.{ComparedKept}
 
 -- each pair gives at most what all give
 pub part-le-given : (q : ℕ) (pairs : List (ℕ × ℕ)) (i : ℕ) (d : ℕ × ℕ) → i < length pairs
@@ -48,7 +48,7 @@ each-push most (p ∷ pairs) pair small each (suc i) =
     each-push most pairs pair small (λ j. each (suc j)) i
 
 -- what is kept, field by field
-pub all_kept : (kept : Kept) (pairs : List (ℕ × ℕ)) (specified : Amounts) (refused : Bool)
+pub all_kept : (kept : ComparedKept) (pairs : List (ℕ × ℕ)) (specified : Amounts) (refused : Bool)
     → kept.pairs ≡ pairs → kept.specified ≡ specified
     → kept.refused ≡ refused
     → kept ≡ record { pairs = pairs; specified = specified; refused = refused }

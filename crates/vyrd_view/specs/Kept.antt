@@ -4,7 +4,7 @@ use Rattle.vyrd_base.specs.Amounts.{Amounts}
 
 -- the pairs of a key and an amount that the parts give, each in its place; the specification's
 -- amounts; and whether memory was refused
-pub record Kept : Type 0 where
+pub record ComparedKept : Type 0 where
   pub pairs : List (ℕ × ℕ)
   pub specified : Amounts
   pub refused : Bool

@@ -28,12 +28,12 @@ pub(crate) struct Parts {
 impl Model for Parts {
     ghost use Rattle.std.specs.Prelude.{◌≡◌, ℕ, ◌-◌, ◌^◌, false};
     ghost use Rattle.vyrd_base.specs.Amounts.{given};
-    ghost use Rattle.vyrd_view.specs.Kept.{Kept};
+    ghost use Rattle.vyrd_view.specs.Kept.{ComparedKept};
     ghost use Rattle.vyrd_view.specs.Pairs.{EachAtMost};
     ghost use Rattle.vyrd_view.specs.Sided.{specified_of};
     ghost use Rattle.vyrd_view.specs.Summed.{IsSettled, sum_at};
 
-    ghost Value = { Kept };
+    ghost Value = { ComparedKept };
 
     ghost view = { λ p. record {
       pairs = p.pairs.items;

@@ -14,7 +14,7 @@ use Rattle.vyrd_base.specs.Callers.{has_block, by_caller, open_or_close}
 use Rattle.vyrd_base.specs.Places.{first_answer, numbers_from}
 use Rattle.vyrd_base.specs.Words.{block_writes, with_write}
 use Rattle.vyrd_base.proofs.TestLaws.{apart_of, same_of, same_number, isnt_same}
-use Rattle.vyrd_shadow.specs.Following.{Kept, kept_writes}
+use Rattle.vyrd_shadow.specs.Following.{ShadowKept, kept_writes}
 use Rattle.vyrd_words.specs.HasWords.{HasWords, Keeps}
 use Rattle.vyrd_words.specs.Costs.{work_held, effect_count, kept_back, all_kept_back, each_entry}
 use Rattle.vyrd_words.specs.Costs.{owed}
@@ -136,7 +136,7 @@ all_kept callers e earlier effects low few =
     (λ x apart. kept_by_other x e earlier apart) (kept_by_caller e earlier effects few)
 
 -- an open block keeps no more than it has written
-block_few : (kept : Kept) (starting : List StartWord) (inner : List ℕ) (earlier : List Entry)
+block_few : (kept : ShadowKept) (starting : List StartWord) (inner : List ℕ) (earlier : List Entry)
     (c : ℕ) → HasWords kept inner starting earlier → c < kept.header.callers
     → has_block c earlier ≡ true → length (kept_writes kept c) ≤ cond (has_block c earlier)
     (length (block_writes c earlier)) 0
@@ -148,7 +148,8 @@ block_few kept starting inner earlier c has low inside =
     omega (arith, long, same, few, here)
 
 -- the effects are those of the caller's own block
-effects_few : (kept : Kept) (starting : List StartWord) (inner : List ℕ) (earlier : List Entry)
+effects_few : (kept : ShadowKept) (starting : List StartWord) (inner : List ℕ)
+    (earlier : List Entry)
     (e : Entry) → HasWords kept inner starting earlier
     → Keeps kept.header earlier e → effect_count kept e.caller e.kind ≤ own_effects e.kind
     (has_block e.caller earlier) (block_writes e.caller earlier)
@@ -169,7 +170,7 @@ effects_few kept starting inner earlier e has keeps = by_kind e.kind refl
         (commits_block at keeps)
 
 -- what an entry costs, with what is owed after it
-pub owed_paid : {T E : Type 0} (r : Result T E) (kept : Kept) (starting : List StartWord)
+pub owed_paid : {T E : Type 0} (r : Result T E) (kept : ShadowKept) (starting : List StartWord)
     (inner : List ℕ) (earlier : List Entry) (e : Entry)
     (s0 s1 : ℕ) → HasWords kept inner starting earlier → Keeps kept.header earlier e
     → OnOk r (s1 + work_held kept.header.callers (e ∷ earlier)
@@ -186,7 +187,8 @@ owed_paid (Ok x) kept starting inner earlier e s0 s1 has keeps paid =
     omega (arith, paid, all)
 
 -- and whatever is owed after it
-pub owed_at_most : (kept : Kept) (starting : List StartWord) (inner : List ℕ) (earlier : List Entry)
+pub owed_at_most : (kept : ShadowKept) (starting : List StartWord) (inner : List ℕ)
+    (earlier : List Entry)
     (e : Entry)
     (s0 s1 : ℕ) → HasWords kept inner starting earlier → Keeps kept.header earlier e
     → s1 ≤ s0 + 5 + work_held kept.header.callers earlier + 4 * effect_count kept e.caller e.kind

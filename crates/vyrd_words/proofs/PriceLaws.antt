@@ -15,7 +15,7 @@ use Rattle.vyrd_base.specs.Places.{first_answer, numbers_below}
 use Rattle.vyrd_base.specs.Words.{block_writes, with_write}
 use Rattle.vyrd_base.proofs.TestLaws.{same_number, isnt_same}
 use Rattle.vyrd_shadow.specs.Blocks.{first_written}
-use Rattle.vyrd_shadow.specs.Following.{Kept, words_of, kept_writes}
+use Rattle.vyrd_shadow.specs.Following.{ShadowKept, words_of, kept_writes}
 use Rattle.vyrd_words.specs.HasWords.{HasWords, Keeps}
 use Rattle.vyrd_words.specs.Costs.{held, kept_back, work_held, effect_count, effect_words}
 use Rattle.vyrd_words.specs.Costs.{each_entry, owed, entry_price, price_back, price_kept}
@@ -98,7 +98,7 @@ first_priced p ((word, value) ∷ writes) = by_test
               (first_written writes) word,
         )
 
-block_priced : (p : ℕ → ℕ) (kept : Kept) (starting : List StartWord) (inner : List ℕ)
+block_priced : (p : ℕ → ℕ) (kept : ShadowKept) (starting : List StartWord) (inner : List ℕ)
     (earlier : List Entry) (c : ℕ) → HasWords kept inner starting earlier
     → c < kept.header.callers → has_block c earlier ≡ true
     → sum_by p (words_of (kept_writes kept c)) ≤ cond (has_block c earlier)
@@ -114,7 +114,7 @@ one_price p true word = omega arith
 one_price p false word = omega (arith, sum_by-cons p word [])
 
 -- the effects are those of the caller's own block
-prices_few : (p : ℕ → ℕ) (kept : Kept) (starting : List StartWord) (inner : List ℕ)
+prices_few : (p : ℕ → ℕ) (kept : ShadowKept) (starting : List StartWord) (inner : List ℕ)
     (earlier : List Entry) (e : Entry) → HasWords kept inner starting earlier
     → Keeps kept.header earlier e
     → sum_by p (effect_words kept e.caller e.kind) ≤ own_prices p e.kind
@@ -138,7 +138,7 @@ prices_few p kept starting inner earlier e has keeps = by_kind e.kind refl
         (low_caller keeps) (commits_block at keeps)
 
 -- what all blocks keep back, after an entry whose effects have these prices
-prices_paid : (p : ℕ → ℕ) (kept : Kept) (starting : List StartWord) (inner : List ℕ)
+prices_paid : (p : ℕ → ℕ) (kept : ShadowKept) (starting : List StartWord) (inner : List ℕ)
     (earlier : List Entry) (e : Entry) → HasWords kept inner starting earlier
     → Keeps kept.header earlier e
     → price_kept p kept.header.callers (e ∷ earlier) + sum_by p (effect_words kept e.caller e.kind)
@@ -151,7 +151,7 @@ prices_paid p kept starting inner earlier e has keeps =
     (prices_few p kept starting inner earlier e has keeps))
 
 -- what an entry costs, with what is owed after it, by the price of what it writes
-pub owed_priced : {T E : Type 0} (r : Result T E) (p : ℕ → ℕ) (kept : Kept)
+pub owed_priced : {T E : Type 0} (r : Result T E) (p : ℕ → ℕ) (kept : ShadowKept)
     (starting : List StartWord) (inner : List ℕ) (earlier : List Entry) (e : Entry)
     (s0 s1 : ℕ) → HasWords kept inner starting earlier → Keeps kept.header earlier e
     → OnOk r (s1 + work_held kept.header.callers (e ∷ earlier)
@@ -172,7 +172,7 @@ owed_priced {T = T} {E = E} (Ok x) p kept starting inner earlier e s0 s1 has kee
     omega (arith, all, each)
 
 -- and whatever is owed after it
-pub priced_at_most : (p : ℕ → ℕ) (kept : Kept) (starting : List StartWord) (inner : List ℕ)
+pub priced_at_most : (p : ℕ → ℕ) (kept : ShadowKept) (starting : List StartWord) (inner : List ℕ)
     (earlier : List Entry) (e : Entry)
     (s0 s1 : ℕ) → HasWords kept inner starting earlier → Keeps kept.header earlier e
     → s1 ≤ s0 + sum_by p (effect_words kept e.caller e.kind) + 5

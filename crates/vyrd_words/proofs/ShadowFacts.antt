@@ -11,29 +11,30 @@ use Rattle.vyrd_base.specs.Words.{words_with}
 use Rattle.vyrd_base.specs.FirstVersion.{old_effects}
 use Rattle.vyrd_base.proofs.BlockLaws.{entry}
 use Rattle.vyrd_base.proofs.SettledWords.{words_settled}
-use Rattle.vyrd_shadow.specs.Following.{Kept, HasFollowed}
+use Rattle.vyrd_shadow.specs.Following.{ShadowKept, HasFollowed}
 use Rattle.vyrd_shadow.proofs.FollowLaws.{followed_call, followed_return, followed_lone_commit}
 
 -- its words are those that blocks leave whose writes take effect at their end
-pub words_old : (k : Kept) (starting : List StartWord) (earlier : List Entry)
+pub words_old : (k : ShadowKept) (starting : List StartWord) (earlier : List Entry)
     → HasFollowed k starting earlier
     → k.words ≡ words_with k.header starting (old_effects earlier)
 words_old k starting earlier f = f.words ∙ words_settled k.header starting earlier f.rules
 
-pub call_followed : (k : Kept) (starting : List StartWord) (earlier : List Entry) (c : ℕ)
+pub call_followed : (k : ShadowKept) (starting : List StartWord) (earlier : List Entry) (c : ℕ)
     (method : Method) (args : Args)
     → broken_rule k.header earlier (entry c (Call method args)) ≡ None
     → HasFollowed k starting earlier → HasFollowed k starting (entry c (Call method args) ∷ earlier)
 call_followed k starting earlier c method args keeps f = followed_call k starting earlier c method
     args f keeps
 
-pub return_followed : (k : Kept) (starting : List StartWord) (earlier : List Entry) (c reply : ℕ)
+pub return_followed : (k : ShadowKept) (starting : List StartWord) (earlier : List Entry)
+    (c reply : ℕ)
     → broken_rule k.header earlier (entry c (Return reply)) ≡ None → HasFollowed k starting earlier
     → HasFollowed k starting (entry c (Return reply) ∷ earlier)
 return_followed k starting earlier c reply keeps f = followed_return k starting earlier c reply f
     keeps
 
-pub commit_followed : (k : Kept) (starting : List StartWord) (earlier : List Entry) (c : ℕ)
+pub commit_followed : (k : ShadowKept) (starting : List StartWord) (earlier : List Entry) (c : ℕ)
     → broken_rule k.header earlier (entry c Commit) ≡ None → HasFollowed k starting earlier
     → HasFollowed k starting (entry c Commit ∷ earlier)
 commit_followed k starting earlier c keeps f = followed_lone_commit k starting earlier c f keeps

@@ -26,7 +26,7 @@ use Rattle.vyrd_base.proofs.BlockLaws.{entry, by_same}
 use Rattle.vyrd_base.proofs.ShadowLaws.{caller_kept, open_kept, close_kept, block_commit_kept}
 use Rattle.vyrd_base.proofs.TestLaws.{below_of, is_below, at_most_of, is_at_most, neither_true}
 use Rattle.vyrd_base.proofs.TestLaws.{same_number, same_of, apart_of}
-use Rattle.vyrd_shadow.specs.Following.{Kept, HasFollowed, is_open, kept_writes, words_of}
+use Rattle.vyrd_shadow.specs.Following.{ShadowKept, HasFollowed, is_open, kept_writes, words_of}
 use Rattle.vyrd_words.specs.Cuts.{Cuts, first_with, with_part, begun_with, written}
 use Rattle.vyrd_words.specs.Effects.{ActAlike, cut_if, number_at, inner_number, parts_behind}
 use Rattle.vyrd_words.specs.Effects.{parts_since}
@@ -39,7 +39,8 @@ use Rattle.vyrd_words.proofs.ShadowFacts.{words_old}
 use Rattle.vyrd_base.proofs.ListLaws.{slice_get-set_same, slice_get-set_other}
 
 -- what the rules say of an entry that may follow
-pub may_caller : {k : Kept} {inner : List ℕ} {e : Entry} {commits : ℕ} → MayFollow k inner e commits
+pub may_caller : {k : ShadowKept} {inner : List ℕ} {e : Entry} {commits : ℕ}
+    → MayFollow k inner e commits
     → e.caller < k.header.callers
 may_caller {k} {inner} {e} may = below_of _ _
     (∥∥₁_elim may (Bool-set _ _) (λ s. is_below _ _ (caller_kept k.header s.1 e s.3.rules)))
@@ -49,32 +50,33 @@ pub keeps_as : {h : Header} {earlier : List Entry} {e : Entry} {kind : Kind} →
     → Keeps h earlier e → Keeps h earlier (entry e.caller kind)
 keeps_as {h} {earlier} {e} is keeps = subst (λ k. Keeps h earlier (entry e.caller k)) is keeps
 
-pub may_word : {k : Kept} {inner : List ℕ} {e : Entry} {commits word value : ℕ}
+pub may_word : {k : ShadowKept} {inner : List ℕ} {e : Entry} {commits word value : ℕ}
     → e.kind ≡ Write word value → MayFollow k inner e commits → word < plain_words k.header
 may_word {k} {inner} {e} {commits} {word} {value} is may = below_of _ _
     (∥∥₁_elim may (Bool-set _ _) (λ s.
     is_below _ _ ((write_kept k.header e.caller word value s.1 (keeps_as is s.3).rules).word_fits)))
 
-pub may_value : {k : Kept} {inner : List ℕ} {e : Entry} {commits word value : ℕ}
+pub may_value : {k : ShadowKept} {inner : List ℕ} {e : Entry} {commits word value : ℕ}
     → e.kind ≡ Write word value → MayFollow k inner e commits → value < 2 ^ 63
 may_value {k} {inner} {e} {commits} {word} {value} is may = below_of _ _
     (∥∥₁_elim may (Bool-set _ _) (λ s.
     is_below value (2 ^ 63)
     ((write_kept k.header e.caller word value s.1 (keeps_as is s.3).rules).value_fits)))
 
-pub may_open : {k : Kept} {inner : List ℕ} {e : Entry} {commits : ℕ} → e.kind ≡ BlockOpen
+pub may_open : {k : ShadowKept} {inner : List ℕ} {e : Entry} {commits : ℕ} → e.kind ≡ BlockOpen
     → MayFollow k inner e commits → is_open k e.caller ≡ false
 may_open {k} {inner} {e} is may = ∥∥₁_elim may (Bool-set _ _) (λ s.
     s.2.followed.blocks e.caller (caller_kept k.header s.1 e s.3.rules)
     ∙ open_kept k.header e.caller s.1 (keeps_as is s.3).rules)
 
-pub may_close : {k : Kept} {inner : List ℕ} {e : Entry} {commits : ℕ} → e.kind ≡ BlockClose
+pub may_close : {k : ShadowKept} {inner : List ℕ} {e : Entry} {commits : ℕ} → e.kind ≡ BlockClose
     → MayFollow k inner e commits → is_open k e.caller ≡ true
 may_close {k} {inner} {e} is may = ∥∥₁_elim may (Bool-set _ _) (λ s.
     s.2.followed.blocks e.caller (caller_kept k.header s.1 e s.3.rules)
     ∙ close_kept k.header e.caller s.1 (keeps_as is s.3).rules)
 
-pub may_block_commit : {k : Kept} {inner : List ℕ} {e : Entry} {commits : ℕ} → e.kind ≡ BlockCommit
+pub may_block_commit : {k : ShadowKept} {inner : List ℕ} {e : Entry} {commits : ℕ}
+    → e.kind ≡ BlockCommit
     → MayFollow k inner e commits → is_open k e.caller ≡ true
 may_block_commit {k} {inner} {e} is may = ∥∥₁_elim may (Bool-set _ _) (λ s.
     s.2.followed.blocks e.caller (caller_kept k.header s.1 e s.3.rules)
@@ -112,7 +114,7 @@ number_low c (e ∷ earlier) =
     by_test true own other count = omega (arith, own, count)
     by_test false own other count = omega (arith, other, count)
 
-pub may_number : {k : Kept} {inner : List ℕ} {e : Entry} {commits : ℕ} (n : ℕ)
+pub may_number : {k : ShadowKept} {inner : List ℕ} {e : Entry} {commits : ℕ} (n : ℕ)
     → slice_get inner e.caller ≡ Some n → MayFollow k inner e commits → n ≤ commits
 may_number {k} {inner} {e} {commits} n here may = at_most_of _ _ (∥∥₁_elim may (Bool-set _ _) (λ s.
     let is : n ≡ inner_number e.caller s.1 = same_Some _ _
@@ -150,7 +152,7 @@ numbers_set n inner c kind earlier number low is has = λ d low_d. by_same c d
     (inner_number d earlier))) (sym other))
 
 -- the same shadow, once no word has changed
-unchanged_follows : (k : Kept) (starting : List StartWord) (earlier : List Entry)
+unchanged_follows : (k : ShadowKept) (starting : List StartWord) (earlier : List Entry)
     → HasFollowed k starting earlier → HasFollowed (record k { changed = [] }) starting earlier
 unchanged_follows k starting earlier f =
     record {
@@ -198,7 +200,8 @@ changed_low n x (w ∷ changed) within e =
 
 -- The changed words, with their values, act as the effects of the entry, where exactly the words of
 -- these effects have changed.
-changed_alike : (l : Kept) (starting : List StartWord) (earlier : List Entry) (c : ℕ) (kind : Kind)
+changed_alike : (l : ShadowKept) (starting : List StartWord) (earlier : List Entry) (c : ℕ)
+    (kind : Kind)
     → HasFollowed l starting (entry c kind ∷ earlier)
     → All (λ w. w < plain_words l.header) l.changed
     → ((x : ℕ) → list_any (λ y. y == x) l.changed ≡ true → (v : ℕ)
@@ -216,7 +219,7 @@ changed_alike l starting earlier c kind f within there beside =
     beside
 
 -- the effects of a block's end are those of the words that it kept back
-block_there : (k l : Kept) (starting : List StartWord) (earlier : List Entry) (c : ℕ)
+block_there : (k l : ShadowKept) (starting : List StartWord) (earlier : List Entry) (c : ℕ)
     → HasFollowed k starting earlier → k.changed ≡ [] → c < k.header.callers
     → has_block c earlier ≡ true → l.changed ≡ k.changed ++ words_of (kept_writes k c) → (x : ℕ)
     → list_any (λ y. y == x) l.changed ≡ true
@@ -227,7 +230,7 @@ block_there k l starting earlier c f unchanged low inside changed x some =
     (sym (changed ∙ ap (λ ws. ws ++ words_of (kept_writes k c)) unchanged)) ∙ some) in
     (given.0, sym (f.values c x low inside) ∙ given.1)
 
-block_beside : (k l : Kept) (starting : List StartWord) (earlier : List Entry) (c : ℕ)
+block_beside : (k l : ShadowKept) (starting : List StartWord) (earlier : List Entry) (c : ℕ)
     → HasFollowed k starting earlier → k.changed ≡ [] → c < k.header.callers
     → has_block c earlier ≡ true → l.changed ≡ k.changed ++ words_of (kept_writes k c) → (x : ℕ)
     → list_any (λ y. y == x) l.changed ≡ false
@@ -239,7 +242,7 @@ block_beside k l starting earlier c f unchanged low inside changed x none =
     (sym (changed ∙ ap (λ ws. ws ++ words_of (kept_writes k c)) unchanged)) ∙ none)
 
 -- a block's end changes no more words than the block has written
-block_few : (k l : Kept) (starting : List StartWord) (earlier : List Entry) (c : ℕ)
+block_few : (k l : ShadowKept) (starting : List StartWord) (earlier : List Entry) (c : ℕ)
     → HasFollowed k starting earlier → k.changed ≡ [] → c < k.header.callers
     → has_block c earlier ≡ true → l.changed ≡ k.changed ++ words_of (kept_writes k c)
     → length l.changed ≤ length (block_writes c earlier)
@@ -250,7 +253,7 @@ block_few k l starting earlier c f unchanged low inside changed =
     omega (arith, same, few)
 
 -- an entry at which nothing takes effect
-nothing_taken : (k : Kept) (inner : List ℕ) (v w : Cuts) (starting : List StartWord)
+nothing_taken : (k : ShadowKept) (inner : List ℕ) (v w : Cuts) (starting : List StartWord)
     (earlier : List Entry) (c : ℕ) (kind : Kind)
     → old_effects_at earlier c kind ≡ [] → HasWords k inner starting (entry c kind ∷ earlier)
     → w.first ≡ v.first → w.since ≡ cut_if (is_commit kind) v.since → w.begun ≡ v.begun
@@ -268,7 +271,7 @@ nothing_taken k inner v w starting earlier c kind nothing has first since begun 
 }
 
 -- a call or a return
-pub quiet_taken : (k : Kept) (inner : List ℕ) (v : Cuts) (starting : List StartWord)
+pub quiet_taken : (k : ShadowKept) (inner : List ℕ) (v : Cuts) (starting : List StartWord)
     (earlier : List Entry) (c : ℕ) (kind : Kind)
     → is_commit kind ≡ false → old_effects_at earlier c kind ≡ []
     → ((commits number : ℕ) → number_at kind commits number ≡ number)
@@ -285,7 +288,7 @@ quiet_taken k inner v starting earlier c kind isnt nothing same has f =
     (ap (λ b. cut_if b v.since) (sym isnt)) refl
 
 -- a block is opened
-pub open_taken : (k l : Kept) (inner : List ℕ) (v : Cuts) (starting : List StartWord)
+pub open_taken : (k l : ShadowKept) (inner : List ℕ) (v : Cuts) (starting : List StartWord)
     (earlier : List Entry) (c : ℕ) → HasWords k inner starting earlier
     → HasFollowed l starting (entry c BlockOpen ∷ earlier) → l.header ≡ k.header → l.changed
     ≡ k.changed → c < length inner
@@ -301,7 +304,7 @@ open_taken k l inner v starting earlier c has f header changed low =
     }) refl refl refl
 
 -- a lone commit
-pub commit_taken : (k : Kept) (inner : List ℕ) (v w : Cuts) (starting : List StartWord)
+pub commit_taken : (k : ShadowKept) (inner : List ℕ) (v w : Cuts) (starting : List StartWord)
     (earlier : List Entry) (c number : ℕ) → HasWords k inner starting earlier
     → HasFollowed k starting (entry c Commit ∷ earlier) → c < length inner
     → number ≡ suc (commit_count earlier)
@@ -316,7 +319,7 @@ commit_taken k inner v w starting earlier c number has f low is first since begu
     }) first since begun
 
 -- an entry whose effects the views were told
-acts_taken : (l m : Kept) (inner : List ℕ) (v w : Cuts) (starting : List StartWord)
+acts_taken : (l m : ShadowKept) (inner : List ℕ) (v w : Cuts) (starting : List StartWord)
     (earlier : List Entry) (c : ℕ) (kind : Kind)
     → HasFollowed l starting (entry c kind ∷ earlier) → m ≡ record l { changed = [] }
     → HasNumbers l.header.callers inner (entry c kind ∷ earlier)
@@ -343,7 +346,8 @@ acts_taken l m inner v w starting earlier c kind f is numbers alike first since 
     })
 
 -- an entry that leaves all numbers as they are
-numbers_kept : (k l : Kept) (inner : List ℕ) (starting : List StartWord) (earlier : List Entry)
+numbers_kept : (k l : ShadowKept) (inner : List ℕ) (starting : List StartWord)
+    (earlier : List Entry)
     (c : ℕ) (kind : Kind)
     → ((commits number : ℕ) → number_at kind commits number ≡ number) → l.header ≡ k.header
     → HasWords k inner starting earlier
@@ -353,7 +357,7 @@ numbers_kept k l inner starting earlier c kind same header has =
     (numbers_same k.header.callers inner c kind earlier same has.numbers)
 
 -- a write
-pub write_taken : (k l m : Kept) (inner : List ℕ) (v w : Cuts) (starting : List StartWord)
+pub write_taken : (k l m : ShadowKept) (inner : List ℕ) (v w : Cuts) (starting : List StartWord)
     (earlier : List Entry) (c word value : ℕ)
     → HasWords k inner starting earlier → c < k.header.callers
     → HasFollowed l starting (entry c (Write word value) ∷ earlier) → l.header ≡ k.header
@@ -403,7 +407,7 @@ write_taken k l m inner v w starting earlier c word value has low f header withi
         (ap (list_any (λ y. y == x)) (sym one) ∙ none))
 
 -- the end of a block
-pub close_taken : (k l m : Kept) (inner : List ℕ) (v w : Cuts) (starting : List StartWord)
+pub close_taken : (k l m : ShadowKept) (inner : List ℕ) (v w : Cuts) (starting : List StartWord)
     (earlier : List Entry) (c behind : ℕ)
     → HasWords k inner starting earlier → c < k.header.callers → has_block c earlier ≡ true
     → HasFollowed l starting (entry c BlockClose ∷ earlier)
@@ -426,7 +430,8 @@ close_taken k l m inner v w starting earlier c behind has low inside f header wi
     (block_few k l starting earlier c has.followed has.unchanged low inside changed)
     (subst (λ n. w.begun ≤ begun_with n (written l.words l.changed) v.begun v.since) parts begun)
 
-pub block_commit_taken : (k l m : Kept) (inner : List ℕ) (v w u : Cuts) (starting : List StartWord)
+pub block_commit_taken : (k l m : ShadowKept) (inner : List ℕ) (v w u : Cuts)
+    (starting : List StartWord)
     (earlier : List Entry) (c : ℕ)
     → HasWords k inner starting earlier → c < k.header.callers → has_block c earlier ≡ true
     → HasFollowed l starting (entry c BlockCommit ∷ earlier)
@@ -490,7 +495,7 @@ pub keeps_opened : {v w : WordsView} {earlier : List Entry} {e : Entry} → w �
 keeps_opened {earlier = earlier} {e = e} is keeps =
     subst (λ (x : WordsView). Keeps x.shadow.header earlier e) (sym is) keeps
 
-pub taken_closed : {v w : WordsView} {k : Kept} {inner : List ℕ} {n : Cuts}
+pub taken_closed : {v w : WordsView} {k : ShadowKept} {inner : List ℕ} {n : Cuts}
     {starting : List StartWord} {e : Entry} {earlier : List Entry} → w ≡ v
     → HasTaken k inner w.views n starting e earlier → HasTaken k inner v.views n starting e earlier
 taken_closed {k = k} {inner} {n} {starting} {e} {earlier} is taken =
@@ -512,7 +517,7 @@ ok_four (Ok x) p q u v f = f p q u v
 ok_four (Err x) p q u v f = tt
 
 -- what was taken in, for the entry by its kind
-pub taken_as : {k : Kept} {inner : List ℕ} {v w : Cuts} {starting : List StartWord}
+pub taken_as : {k : ShadowKept} {inner : List ℕ} {v w : Cuts} {starting : List StartWord}
     {earlier : List Entry} (e : Entry) {kind : Kind} → e.kind ≡ kind
     → HasTaken k inner v w starting (entry e.caller kind) earlier
     → HasTaken k inner v w starting e earlier

@@ -9,7 +9,7 @@ use Rattle.vyrd_base.specs.Callers.{has_block}
 use Rattle.vyrd_base.specs.Commits.{commit_count}
 use Rattle.vyrd_base.specs.Places.{numbers_below}
 use Rattle.vyrd_base.specs.Words.{block_writes}
-use Rattle.vyrd_shadow.specs.Following.{Kept, is_open, kept_writes, words_of}
+use Rattle.vyrd_shadow.specs.Following.{ShadowKept, is_open, kept_writes, words_of}
 use Rattle.vyrd_words.specs.Effects.{inner_number, parts_since}
 
 -- What the changed words and the writes that wait will cost, by the price of each word: for a
@@ -32,14 +32,14 @@ abbrev pub work_held : ℕ → List Entry → ℕ
 work_held callers earlier = sum_by (held earlier) (numbers_below callers)
 
 -- the words that an entry's effects change
-abbrev pub effect_words : Kept → ℕ → Kind → List ℕ
+abbrev pub effect_words : ShadowKept → ℕ → Kind → List ℕ
 effect_words kept c (Write word value) = if is_open kept c then [] else word ∷ []
 effect_words kept c BlockClose = words_of (kept_writes kept c)
 effect_words kept c BlockCommit = words_of (kept_writes kept c)
 effect_words kept c _ = []
 
 -- how many effects an entry has
-abbrev pub effect_count : Kept → ℕ → Kind → ℕ
+abbrev pub effect_count : ShadowKept → ℕ → Kind → ℕ
 effect_count kept c (Write word value) = if is_open kept c then 0 else 1
 effect_count kept c BlockClose = length (kept_writes kept c)
 effect_count kept c BlockCommit = length (kept_writes kept c)

@@ -29,7 +29,8 @@ pub record Cuts : Type 0 where
   pub refused : Bool
   pub pending : ℕ
 
--- the words at the first commit, by what each commit has: how many writes took effect between it and
+-- the words at the first commit, by what each commit has: how many writes took effect between it
+-- and
 -- the one before, and its late writes, which came after these
 abbrev pub first_of : List ℕ → List (ℕ × List (ℕ × ℕ)) → List (ℕ × ℕ) → List ℕ
 first_of words [] writes = with_writes words writes

@@ -23,9 +23,20 @@ upper x = x / 65536
 -- remainder by 8 says which.
 abbrev pub op_for : ℕ → ℕ → ℕ → Op
 op_for kind v w =
-    if nat_lt kind 3 then record { method = OfMultiset Insert; args = record { a = v; b = 0; c = 0 } }
-    else (if kind == 3 then record { method = OfMultiset InsertPair; args = record { a = v; b = w; c = 0 } }
-    else (if nat_lt kind 6 then record { method = OfMultiset Delete; args = record { a = v; b = 0; c = 0 } }
+    if nat_lt kind 3 then record {
+      method = OfMultiset Insert;
+      args = record { a = v; b = 0; c = 0 };
+    }
+    else (if kind == 3 then record {
+      method = OfMultiset InsertPair;
+      args =
+          record { a = v; b = w; c = 0 };
+    }
+    else (if nat_lt kind 6 then record {
+      method = OfMultiset Delete;
+      args =
+          record { a = v; b = 0; c = 0 };
+    }
     else record { method = OfMultiset Lookup; args = record { a = v; b = 0; c = 0 } }))
 
 -- the operation for the upper bits

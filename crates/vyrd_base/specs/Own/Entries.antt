@@ -1,7 +1,9 @@
--- The entries of a log of version 3: a method is called by the name that its specification gives it,
+-- The entries of a log of version 3: a method is called by the name that its specification gives
+-- it,
 -- with as many arguments as it has parameters there.
 use Rattle.std.specs.Prelude.{ℕ, ◌+◌, ◌^◌, Bool, true, false, ◌&&◌, nat_lt, List, [], ◌∷◌, map}
-use Rattle.std.specs.Prelude.{codes, decimal, Option, Some, None, is_some, option_map, option_and_then}
+use Rattle.std.specs.Prelude.{codes, decimal, Option, Some, None, is_some, option_map}
+use Rattle.std.specs.Prelude.{option_and_then}
 use Rattle.std.specs.Prelude.{slice_get, if◌then◌else◌}
 use Rattle.std.specs.Option.{option_map_or}
 use Rattle.std.specs.Str.{bytes_eq}

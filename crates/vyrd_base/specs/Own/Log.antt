@@ -1,6 +1,8 @@
--- What the bytes of a log of version 3 say, and the first fault of their text. Line 1 has to spell a
+-- What the bytes of a log of version 3 say, and the first fault of their text. Line 1 has to spell
+-- a
 -- header of version 3. The lines after it are the specification, up to a line `log`. Then come
--- starting words and entries, up to a line `end`, after which nothing follows. From line 2 on a line
+-- starting words and entries, up to a line `end`, after which nothing follows. From line 2 on a
+-- line
 -- that begins with `#` says nothing. Reading stops at the first line that breaks a rule of text.
 use Rattle.std.specs.Prelude.{ℕ, ◌+◌, ◌==◌, Bool, true, false, not, ◌&&◌, nat_lt, nat_le, List, []}
 use Rattle.std.specs.Prelude.{◌∷◌, length}

@@ -1,4 +1,5 @@
--- The verdict about the bytes of a log of version 3, and what is known of it so far. It is the verdict
+-- The verdict about the bytes of a log of version 3, and what is known of it so far. It is the
+-- verdict
 -- about its starting words and entries by the rules that its specification gives, told by the lines
 -- of the text.
 use Rattle.std.specs.Prelude.{ℕ, ◌-◌, true, false, List, Option, None, option_map, option_and_then}
@@ -11,7 +12,8 @@ use Rattle.vyrd_base.specs.Rules.{own, rules_by}
 use Rattle.vyrd_base.specs.Verdicts.{verdict_so_far, end_verdict, accepted}
 use Rattle.vyrd_base.specs.Own.Log.{OwnReading, own_reading}
 
--- The line of the text, for the line that a starting word, an entry or `end` would have right behind
+-- The line of the text, for the line that a starting word, an entry or `end` would have right
+-- behind
 -- the header.
 abbrev pub line_in_text : List ℕ → ℕ → ℕ
 line_in_text numbers line = slice_index_or numbers (line - 2) line

@@ -46,7 +46,8 @@ own_start w words = record (start_of w) { shown = own_view w words }
 abbrev pub is_whole : Written → ℕ → Bool
 is_whole w n = w.words == 0 || n / w.words * w.words == n
 
--- whether words stand for a state: they are a whole number of parts, and show less than 2^64 of each
+-- whether words stand for a state: they are a whole number of parts, and show less than 2^64 of
+-- each
 -- key
 abbrev pub may_stand : Written → List ℕ → Bool
 may_stand w words =

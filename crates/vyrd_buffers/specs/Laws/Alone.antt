@@ -296,7 +296,8 @@ cut_alone h op c b n memory state is s low says = by_count (nat_le count n) refl
 -- a length
 length_alone : (h : Header) (args : Args) (c : ℕ) (memory : Memory) (state : Amounts)
     → h.subject ≡ Buffers → Represents h memory state → args.a < h.size
-    → MeetsSpecification h (record { method = OfBuffers Length; args = args }) (length_of h args.a) c memory
+    → MeetsSpecification h (record { method = OfBuffers Length; args = args }) (length_of h args.a)
+    c memory
     state
 length_alone h args c memory state is s low =
     answer_alone h (record { method = OfBuffers Length; args = args }) (length_of h args.a) c args.a
@@ -312,7 +313,8 @@ length_alone h args c memory state is s low =
 -- a read
 read_alone : (h : Header) (args : Args) (c : ℕ) (memory : Memory) (state : Amounts)
     → h.subject ≡ Buffers → Represents h memory state → args.a < h.size
-    → MeetsSpecification h (record { method = OfBuffers BuRead; args = args }) (read h args.a) c memory state
+    → MeetsSpecification h (record { method = OfBuffers BuRead; args = args })
+    (read h args.a) c memory state
 read_alone h args c memory state is s low =
     answer_alone h (record { method = OfBuffers BuRead; args = args }) (read h args.a) c args.a
     (text_of (buffer_of now args.a).character (0 + memory (count_cell args.a))) memory state is s
@@ -361,11 +363,13 @@ by_method_right : (h : Header) (method : Method) (args : Args) → h.subject ≡
     → MeetsSpecification h (record { method = method; args = args })
     (procedure_of h Correct method args) c memory state
 by_method_right h (OfBuffers Append) args is of fit c memory state s =
-    append_alone h (record { method = OfBuffers Append; args = args }) c args.a args.b memory state is s
+    append_alone h (record { method = OfBuffers Append; args = args }) c args.a args.b memory state
+    is s
     (first_below h.size args (nat_lt args.b 255) fit)
     (second_below h.size 255 args fit) (λ reply. refl)
 by_method_right h (OfBuffers AppendFrom) args is of fit c memory state s =
-    append_from_alone h (record { method = OfBuffers AppendFrom; args = args }) c args.a args.b memory state
+    append_from_alone h (record { method = OfBuffers AppendFrom; args = args }) c args.a args.b
+    memory state
     is s
     (first_below h.size args (nat_lt args.b h.size) fit) (second_below h.size h.size args fit)
     (λ reply. refl)

@@ -121,10 +121,12 @@ sound_append_at h b x count is low small = either h _ (nat_le 7 count) _ _
     (leave h b (OfBuffers Append) true 0 is low refl))
     (λ room. (
       refl,
-      λ answer none. store_sound h (in_block (lock_of h b ∷ []) (OfBuffers Append)) (character_cell b count) x
+      λ answer none. store_sound h (in_block (lock_of h b ∷ []) (OfBuffers Append))
+          (character_cell b count) x
           (commit_count b (count + 1) (unlock h b (returns 1)))
           (character_plain h b count is low (above_of 7 count room)) (omega (arith, small)) refl
-          (counted h (lock_of h b ∷ []) (OfBuffers Append) b (count + 1) (unlock h b (returns 1)) is refl low
+          (counted h (lock_of h b ∷ []) (OfBuffers Append) b (count + 1) (unlock h b (returns 1)) is
+          refl low
           (omega (arith, above_of 7 count room)) (leave h b (OfBuffers Append) true 1 is low refl)),
     ))
 
@@ -135,7 +137,8 @@ sound_cut_at h b n count is low small = either h _ (nat_le count n) _ _
     (leave h b (OfBuffers Cut) true 1 is low refl))
     (λ long. (
       refl,
-      λ answer none. counted h (lock_of h b ∷ []) (OfBuffers Cut) b n (unlock h b (returns 1)) is refl low
+      λ answer none. counted h (lock_of h b ∷ []) (OfBuffers Cut) b n (unlock h b (returns 1)) is
+          refl low
           (omega (arith, small)) (leave h b (OfBuffers Cut) true 1 is low refl),
     ))
 
@@ -192,14 +195,16 @@ sound_store_from h s (character ∷ characters) b i later is low called few smal
 sound_append_held : (h : Header) (locks : List ℕ) (first second b count more : ℕ) (held : List ℕ)
     → h.subject ≡ Buffers → b < h.size → length held ≡ more → count + more ≤ 7 → are_low held ≡ true
     → IsSound h (holding locks (OfBuffers AppendFrom) true) (unlock_both h first second (returns 1))
-    → IsSound h (holding locks (OfBuffers AppendFrom) false) (append_held h first second b count more held)
+    → IsSound h (holding locks (OfBuffers AppendFrom) false)
+    (append_held h first second b count more held)
 sound_append_held h locks first second b count more held is low long few small sound = (
   refl,
   λ answer none.
       sound_store_from h (in_block locks (OfBuffers AppendFrom)) held b count
       (commit_count b (count + more) (unlock_both h first second (returns 1))) is low refl
       (omega (arith, long, few)) small
-      (counted h locks (OfBuffers AppendFrom) b (count + more) (unlock_both h first second (returns 1)) is
+      (counted h locks (OfBuffers AppendFrom) b (count + more)
+      (unlock_both h first second (returns 1)) is
       refl low (omega (arith, few)) sound),
 )
 
@@ -207,8 +212,10 @@ sound_append_held h locks first second b count more held is low long few small s
 sound_append_all : (h : Header) (locks : List ℕ) (first second b s count more : ℕ)
     → h.subject ≡ Buffers → b < h.size → s < h.size
     → ((reply : ℕ)
-    → IsSound h (holding locks (OfBuffers AppendFrom) true) (unlock_both h first second (returns reply)))
-    → IsSound h (holding locks (OfBuffers AppendFrom) false) (append_all h first second b s count more)
+    → IsSound h (holding locks (OfBuffers AppendFrom) true)
+    (unlock_both h first second (returns reply)))
+    → IsSound h (holding locks (OfBuffers AppendFrom) false)
+    (append_all h first second b s count more)
 sound_append_all h locks first second b s count more is low_b low_s sound =
     either h _ (nat_le (count + more) 7) _ _
     (λ room. sound_load_from h (holding locks (OfBuffers AppendFrom) false) more s 0 []
@@ -216,7 +223,8 @@ sound_append_all h locks first second b s count more is low_b low_s sound =
     (omega (arith, at_most_of (count + more) 7 room)) refl
     (λ all small long. sound_append_held h locks first second b count more all is low_b
     (omega (arith, long)) (at_most_of (count + more) 7 room) small (sound 1)))
-    (λ full. lone_commit h locks (OfBuffers AppendFrom) (unlock_both h first second (returns 0)) refl
+    (λ full. lone_commit h locks (OfBuffers AppendFrom) (unlock_both h first second (returns 0))
+    refl
     (sound 0))
 
 -- both locks are given back
@@ -236,14 +244,16 @@ given_both : (h : Header) (first second reply : ℕ) → h.subject ≡ Buffers �
     → IsSound h (holding (lock_of h second ∷ lock_of h first ∷ []) (OfBuffers AppendFrom) true)
     (unlock_both h first second (returns reply))
 given_both h first second reply is low_first low_second apart =
-    subst (λ b. IsSound h (holding (lock_of h second ∷ lock_of h first ∷ []) (OfBuffers AppendFrom) true)
+    subst (λ b. IsSound h
+    (holding (lock_of h second ∷ lock_of h first ∷ []) (OfBuffers AppendFrom) true)
     (cond b (unlock h first (returns reply))
     (unlock h second (unlock h first (returns reply))))) (sym apart) (
       both_true _ _ (lock_cell h second is low_second)
           (held_first (lock_of h second) (lock_of h first ∷ []) (OfBuffers AppendFrom) true),
       λ answer none.
           subst
-          (λ locks. IsSound h (holding locks (OfBuffers AppendFrom) true) (unlock h first (returns reply)))
+          (λ locks. IsSound h (holding locks (OfBuffers AppendFrom) true)
+          (unlock h first (returns reply)))
           (sym (gone (lock_of h second) (lock_of h first ∷ [])
           ∙ ap (λ b. cond (not b) (lock_of h first ∷ []) [])
           (other_lock (8 * h.size) first second apart)))
@@ -285,7 +295,8 @@ under_both h first second b s is low_first low_second low_b low_s =
 
     counts : (locks : List ℕ)
         → ((reply : ℕ)
-        → IsSound h (holding locks (OfBuffers AppendFrom) true) (unlock_both h first second (returns reply)))
+        → IsSound h (holding locks (OfBuffers AppendFrom) true)
+        (unlock_both h first second (returns reply)))
         → IsSound h (holding locks (OfBuffers AppendFrom) false) both
     counts locks sound = both_counts h locks b s
         (λ count more. append_all h first second b s (min count 7) (min more 7)) is low_b low_s
@@ -317,7 +328,8 @@ sound_append h b x is low small = looked h b (OfBuffers Append) (append_at h b x
 sound_cut : (h : Header) (b n : ℕ) → h.subject ≡ Buffers → b < h.size → n < 2 ^ 32
     → IsSound h (just_called (OfBuffers Cut)) (cut h b n)
 sound_cut h b n is low small =
-    looked h b (OfBuffers Cut) (cut_at h b n) is low (λ count below. sound_cut_at h b n count is low small)
+    looked h b (OfBuffers Cut) (cut_at h b n) is low
+    (λ count below. sound_cut_at h b n count is low small)
 
 sound_length_of : (h : Header) (b : ℕ) → h.subject ≡ Buffers → b < h.size
     → IsSound h (just_called (OfBuffers Length)) (length_of h b)
@@ -327,7 +339,8 @@ sound_length_of h b is low =
 
 sound_read : (h : Header) (b : ℕ) → h.subject ≡ Buffers → b < h.size
     → IsSound h (just_called (OfBuffers Read)) (read h b)
-sound_read h b is low = looked h b (OfBuffers Read) (λ count. read_from h (min count 7) b 0 0) is low
+sound_read h b is low = looked h b (OfBuffers Read) (λ count. read_from h (min count 7) b 0 0) is
+    low
     (λ count below. sound_read_from h (min count 7) b 0 0 is low (omega arith))
 
 -- the arguments name a buffer, and those of append_from another
@@ -357,7 +370,8 @@ first_below size method args of_buffers fit = by_method method of_buffers fit
     by_method (OwnAtMostOnce i) of_buffers fit = cc
     by_method (OwnOnce i) of_buffers fit = cc
 
-second_below : (size : ℕ) (args : Args) → are_args size (OfBuffers AppendFrom) args ≡ true → args.b < size
+second_below : (size : ℕ) (args : Args) → are_args size (OfBuffers AppendFrom) args ≡ true
+    → args.b < size
 second_below size args fit = with_more _ fit
   where
     with_more : (padded : Bool) → (padded && (nat_lt args.a size && nat_lt args.b size)) ≡ true
@@ -376,10 +390,12 @@ procedure_sound h variant method args is of_buffers fit small =
     by_method : (method : Method) → subject_of method ≡ Buffers → are_args h.size method args ≡ true
         → args.a < h.size
         → IsSound h (just_called method) (procedure_of h variant method args)
-    by_method (OfBuffers Append) of_buffers fit low = sound_append h args.a args.b is low (small_b args small)
+    by_method (OfBuffers Append) of_buffers fit low = sound_append h args.a args.b is low
+        (small_b args small)
     by_method (OfBuffers AppendFrom) of_buffers fit low =
         sound_append_from h variant args.a args.b is low (second_below h.size args fit)
-    by_method (OfBuffers Cut) of_buffers fit low = sound_cut h args.a args.b is low (small_b args small)
+    by_method (OfBuffers Cut) of_buffers fit low = sound_cut h args.a args.b is low
+        (small_b args small)
     by_method (OfBuffers Length) of_buffers fit low = sound_length_of h args.a is low
     by_method (OfBuffers Read) of_buffers fit low = sound_read h args.a is low
     by_method (OfMultiset other) of_buffers fit low = cc

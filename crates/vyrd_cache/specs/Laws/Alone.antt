@@ -249,7 +249,8 @@ evict_alone h args is low c memory state e = by_state (memory (5 * args.a) == 2)
         (run_clean other ∙ ap (λ b. alone c (cond b (only_commit h args.a) (forget h args.a))
         (held c (lock_of h args.a) memory)) absent) refl
     by_clean other false there =
-        met h (record { method = OfCache Evict; args = args }) (evict h args.a) c memory new state state 1
+        met h (record { method = OfCache Evict; args = args }) (evict h args.a) c memory new state
+        state 1
         (run_clean other ∙ ap (λ b. alone c (cond b (only_commit h args.a) (forget h args.a))
         (held c (lock_of h args.a) memory)) there)
         (kept h memory new state args.a (with_state 0 (chunk_of memory args.a)) is s low
@@ -265,7 +266,8 @@ evict_alone h args is low c memory state e = by_state (memory (5 * args.a) == 2)
         → MeetsSpecification h (record { method = OfCache Evict; args = args })
         (evict h args.a) c memory state
     by_state true dirty =
-        put_stored_alone h (record { method = OfCache Evict; args = args }) (evict h args.a) c args.a 0
+        put_stored_alone h (record { method = OfCache Evict; args = args })
+        (evict h args.a) c args.a 0
         memory state is s low dirty
         (run ∙ ap (λ b. alone c (cond b (put_stored h args.a 0) (cond (memory (5 * args.a) == 0)
         (only_commit h args.a) (forget h args.a))) (held c (lock_of h args.a) memory)) dirty)
@@ -323,7 +325,8 @@ read_alone h args is low c memory state e = by_state (memory (5 * args.a) == 0) 
         → MeetsSpecification h (record { method = OfCache Read; args = args })
         (read h args.a) c memory state
     by_state true absent =
-        met h (record { method = OfCache Read; args = args }) (read h args.a) c memory fetched state state
+        met h (record { method = OfCache Read; args = args }) (read h args.a) c memory fetched state
+        state
         (joined fetched_low fetched_high)
         (run ∙ ap (λ b. alone c (cond b (fetch h args.a) (answer_cached h args.a))
         (held c (lock_of h args.a) memory)) absent)

@@ -144,7 +144,8 @@ locked h chunk method rest is low sound =
 
 sound_put_cached : (h : Header) (chunk low high : ℕ) → h.subject ≡ Cache → chunk < h.size
     → low < 2 ^ 32 → high < 2 ^ 32
-    → IsSound h (holding (lock_of h chunk) (OfCache Write) false false) (put_cached h chunk low high)
+    → IsSound h (holding (lock_of h chunk) (OfCache Write) false false)
+    (put_cached h chunk low high)
 sound_put_cached h chunk low high is few x y =
     pair_block h chunk (OfCache Write) (cached_low chunk) low (cached_high chunk) high 2 is few refl
     (omega arith) (omega arith)
@@ -152,14 +153,17 @@ sound_put_cached h chunk low high is few x y =
 
 sound_put_cached_bare : (h : Header) (chunk low high : ℕ) → h.subject ≡ Cache → chunk < h.size
     → low < 2 ^ 32 → high < 2 ^ 32
-    → IsSound h (holding (lock_of h chunk) (OfCache Write) false false) (put_cached_bare h chunk low high)
+    → IsSound h (holding (lock_of h chunk) (OfCache Write) false false)
+    (put_cached_bare h chunk low high)
 sound_put_cached_bare h chunk low high is few x y =
     given h chunk (OfCache Write) false (in_order (Store (cached_low chunk) low
     ∷ Store (cached_high chunk) high ∷ Mark Commit ∷ Mark (Return 1) ∷ [])) is few (
-      may_store h (unlocked (OfCache Write) false) (OfCache Write) (cached_low chunk) low is (omega arith)
+      may_store h (unlocked (OfCache Write) false) (OfCache Write) (cached_low chunk) low is
+          (omega arith)
           (omega arith) refl,
       λ _ _. (
-        may_store h (unlocked (OfCache Write) false) (OfCache Write) (cached_high chunk) high is (omega arith)
+        may_store h (unlocked (OfCache Write) false) (OfCache Write) (cached_high chunk) high is
+            (omega arith)
             (omega arith) refl,
         λ _ _.
             (refl, λ _ _. returned h (OfCache Write) true 1 refl),
@@ -190,7 +194,8 @@ sound_forget : (h : Header) (chunk : ℕ) → h.subject ≡ Cache → chunk < h.
 sound_forget h chunk is few = (
   refl,
   λ _ _. (
-    may_store h (holding (lock_of h chunk) (OfCache Evict) false true) (OfCache Evict) (state_cell chunk) 0 is
+    may_store h (holding (lock_of h chunk) (OfCache Evict) false true) (OfCache Evict)
+        (state_cell chunk) 0 is
         (omega arith) (omega arith) refl,
     λ _ _.
         (refl, λ _ _. leave h chunk (OfCache Evict) true 1 is few refl),
@@ -206,13 +211,16 @@ sound_fetch h chunk is few = (
     λ high y. (
       refl,
       λ _ _. (
-        may_store h (holding (lock_of h chunk) (OfCache Read) false true) (OfCache Read) (cached_low chunk) low is
+        may_store h (holding (lock_of h chunk) (OfCache Read) false true) (OfCache Read)
+            (cached_low chunk) low is
             (omega arith) x refl,
         λ _ _. (
-          may_store h (holding (lock_of h chunk) (OfCache Read) false true) (OfCache Read) (cached_high chunk) high
+          may_store h (holding (lock_of h chunk) (OfCache Read) false true) (OfCache Read)
+              (cached_high chunk) high
               is (omega arith) y refl,
           λ _ _. (
-            may_store h (holding (lock_of h chunk) (OfCache Read) false true) (OfCache Read) (state_cell chunk) 1 is
+            may_store h (holding (lock_of h chunk) (OfCache Read) false true) (OfCache Read)
+                (state_cell chunk) 1 is
                 (omega arith) (omega arith) refl,
             λ _ _.
                 (refl, λ _ _. leave h chunk (OfCache Read) false (joined low high) is few refl),
@@ -250,7 +258,8 @@ sound_write : (h : Header) (variant : Variant) (chunk low high : ℕ) → h.subj
 sound_write h Correct chunk low high is few x y =
     locked h chunk (OfCache Write) (put_cached h chunk low high) is few
     (sound_put_cached h chunk low high is few x y)
-sound_write h Broken chunk low high is few x y = looked h chunk (OfCache Write) _ is few (λ state. either h
+sound_write h Broken chunk low high is few x y = looked h chunk (OfCache Write) _ is few
+    (λ state. either h
     _ (state == 2) (put_cached_bare h chunk low high) (put_cached h chunk low high)
     (sound_put_cached_bare h chunk low high is few x y)
     (sound_put_cached h chunk low high is few x y))
@@ -264,7 +273,8 @@ sound_flush h chunk is few =
 
 sound_evict : (h : Header) (chunk : ℕ) → h.subject ≡ Cache → chunk < h.size
     → IsSound h (just_called (OfCache Evict)) (evict h chunk)
-sound_evict h chunk is few = looked h chunk (OfCache Evict) _ is few (λ state. either h _ (state == 2)
+sound_evict h chunk is few = looked h chunk (OfCache Evict) _ is few
+    (λ state. either h _ (state == 2)
     (put_stored h chunk 0) (cond (state == 0) (only_commit h chunk) (forget h chunk))
     (sound_put_stored h chunk 0 (OfCache Evict) is few refl (omega arith))
     (either h _ (state == 0) (only_commit h chunk) (forget h chunk)

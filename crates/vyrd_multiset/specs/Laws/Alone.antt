@@ -70,7 +70,8 @@ by_method_right : (h : Header) (method : Method) (args : Args) → h.subject ≡
     → MeetsSpecification h (record { method = method; args = args })
     (procedure_of h Correct method args) c memory s
 by_method_right h (OfMultiset MsInsert) args is of c memory s m =
-    meets h (record { method = OfMultiset MsInsert; args = args }) (insert h Correct args.a) c memory s is
+    meets h (record { method = OfMultiset MsInsert; args = args }) (insert h Correct args.a) c
+    memory s is
     (InsertDone h memory s args.a)
     (insert_done h is c memory s args.a m) says
   where
@@ -87,7 +88,8 @@ by_method_right h (OfMultiset MsInsert) args is of c memory s m =
       is = d.1;
     }
 by_method_right h (OfMultiset InsertPair) args is of c memory s m =
-    meets h (record { method = OfMultiset InsertPair; args = args }) (insert_pair h Correct args.a args.b) c
+    meets h (record { method = OfMultiset InsertPair; args = args })
+    (insert_pair h Correct args.a args.b) c
     memory s is (PairDone h memory s args.a args.b)
     (pair_done h is c memory s args.a args.b m) says
   where
@@ -139,14 +141,16 @@ by_method_right h (OfMultiset MsLookup) args is of c memory s m =
         → Meets h (record { method = OfMultiset MsLookup; args = args }) s reply after
     says reply after (m', inl d) = record {
       state = s;
-      says = ap (λ r. state_after true (record { method = OfMultiset MsLookup; args = args }) r s) d.0
+      says = ap (λ r. state_after true (record { method = OfMultiset MsLookup; args = args }) r s)
+          d.0
           ∙ ap (λ b. cond (1 == cond b 1 0) (Some s) None)
           (is_there s args.a (let some = d.1 in omega (arith, some)));
       is = m';
     }
     says reply after (m', inr d) = record {
       state = s;
-      says = ap (λ r. state_after true (record { method = OfMultiset MsLookup; args = args }) r s) d.0
+      says = ap (λ r. state_after true (record { method = OfMultiset MsLookup; args = args }) r s)
+          d.0
           ∙ ap (λ b. cond (0 == cond b 1 0) (Some s) None) (isnt_there s args.a d.1);
       is = m';
     }

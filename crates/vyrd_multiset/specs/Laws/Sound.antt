@@ -152,7 +152,8 @@ search_from_sound h s (suc left) slot value ended is fits some none =
       | false ↦ on
     ])
 
-slots_fit : (h : Header) → h.subject ≡ Multiset → (value : ℕ) → first_slot (bucket_of h value) + 4 ≤ 4 * h.size
+slots_fit : (h : Header) → h.subject ≡ Multiset → (value : ℕ) → first_slot (bucket_of h value) + 4
+    ≤ 4 * h.size
 slots_fit h is value = omega (arith, bucket_low h is value)
 
 find_sound : (h : Header) (variant : Variant) (method : Method) (value : ℕ)
@@ -327,9 +328,11 @@ by_method_sound : (h : Header) (variant : Variant) (method : Method) (args : Arg
     → IsSound h (just_called method) (procedure_of h variant method args)
 by_method_sound h variant (OfMultiset Insert) args is of small_x small_y =
     find_sound h variant (OfMultiset Insert) args.a (inserted h args.a) is small_x
-    (inserted_sound h (OfMultiset Insert) args.a is refl) (gives_up_sound h (OfMultiset Insert) refl)
+    (inserted_sound h (OfMultiset Insert) args.a is refl)
+    (gives_up_sound h (OfMultiset Insert) refl)
 by_method_sound h variant (OfMultiset InsertPair) args is of small_x small_y =
-    find_sound h variant (OfMultiset InsertPair) args.a (first_found h variant args.a args.b) is small_x
+    find_sound h variant (OfMultiset InsertPair) args.a (first_found h variant args.a args.b) is
+    small_x
     (first_found_sound h variant (OfMultiset InsertPair) args.a args.b is refl small_y)
     (gives_up_sound h (OfMultiset InsertPair) refl)
 by_method_sound h variant (OfMultiset Delete) args is of small_x small_y =

@@ -93,7 +93,8 @@ by_method_right : (h : Header) (method : Method) (args : Args) → h.subject ≡
     → MeetsSpecification h (record { method = method; args = args })
     (procedure_of h Correct method args) c memory s
 by_method_right h (OfTree TrInsert) args is of small_key small c memory s st =
-    meets h (record { method = OfTree TrInsert; args = args }) (insert_entry h Correct args.a args.b) c
+    meets h (record { method = OfTree TrInsert; args = args })
+    (insert_entry h Correct args.a args.b) c
     memory s is (InsertDone h memory s args.a args.b)
     (insert_alone h c memory s args.a args.b st small_key small) says
   where
@@ -103,7 +104,11 @@ by_method_right h (OfTree TrInsert) args is of small_key small c memory s st =
     says : (reply : ℕ) (after : Memory) → InsertDone h memory s args.a args.b reply after
         → Meets h (says_of (record { method = OfTree TrInsert; args = args }) s) reply after
     says reply after (inl d) =
-        record { state = s; allowed = ap (λ r. next_state (OfTree TrInsert) args r s) d.0; represents = d.2 }
+        record {
+          state = s;
+          allowed = ap (λ r. next_state (OfTree TrInsert) args r s) d.0;
+          represents = d.2;
+        }
     says reply after (inr (inl d)) = record {
       state = next;
       allowed = ap (λ r. next_state (OfTree TrInsert) args r s) d.0
@@ -118,7 +123,8 @@ by_method_right h (OfTree TrInsert) args is of small_key small c memory s st =
       represents = d.2;
     }
 by_method_right h (OfTree TrDelete) args is of small_key small c memory s st =
-    meets h (record { method = OfTree TrDelete; args = args }) (delete h Correct args.a) c memory s is _
+    meets h (record { method = OfTree TrDelete; args = args }) (delete h Correct args.a) c memory s
+    is _
     (delete_alone h c memory s args.a st)
     (λ reply after d. elim d as
     (λ d. Meets h (says_of (record { method = OfTree TrDelete; args = args }) s) reply after) [
@@ -136,13 +142,15 @@ by_method_right h (OfTree TrDelete) args is of small_key small c memory s st =
       }
     ])
 by_method_right h (OfTree TrLookup) args is of small_key small c memory s st =
-    meets h (record { method = OfTree TrLookup; args = args }) (lookup h Correct args.a) c memory s is _
+    meets h (record { method = OfTree TrLookup; args = args }) (lookup h Correct args.a) c memory s
+    is _
     (lookup_alone h c memory s args.a st)
     (λ reply after d. record { state = s; allowed = answered reply d.1; represents = d.0 })
   where
     answers : (reply : ℕ) → reply ≡ answer_in s (OfTree TrLookup) args
         → cond (reply == answer_in s (OfTree TrLookup) args) (Some s) None ≡ Some s
-    answers reply e = ap (λ b. cond b (Some s) None) (is_same reply (answer_in s (OfTree TrLookup) args) e)
+    answers reply e = ap (λ b. cond b (Some s) None)
+        (is_same reply (answer_in s (OfTree TrLookup) args) e)
 
     answered : (reply : ℕ) → Rattle.std.proofs.Common.◌⊎◌ ((amount_of s args.a ≡ 0) × (reply ≡ 0))
         ((value : ℕ) × (amount_of s args.a ≡ 2 ^ 32 + value) × (reply ≡ value + 1))

@@ -424,7 +424,8 @@ by_method_sound h variant (OfTree Insert) args is of k v =
     down_sound h variant (OfTree Insert) args.a gives_up
     (λ at. insert_in h variant args.a args.b at (place_of args.a at.entries)) is
     (gave_up h (OfTree Insert) refl)
-    (λ at loaded. insert_sound h variant (OfTree Insert) args.a args.b at (place_of args.a at.entries)
+    (λ at loaded. insert_sound h variant (OfTree Insert) args.a args.b at
+    (place_of args.a at.entries)
     is refl k v loaded refl)
 by_method_sound h variant (OfTree Delete) args is of k v =
     down_sound h variant (OfTree Delete) args.a gives_up

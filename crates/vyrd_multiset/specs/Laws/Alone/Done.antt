@@ -35,10 +35,12 @@ use Rattle.vyrd_multiset.specs.Laws.Alone.FreeSlots.{free_none, free_some, free_
 use Rattle.vyrd_multiset.specs.Laws.Alone.FreeSlots.{free_one_at_most}
 
 -- the same memory
-kept : (h : Header) → h.subject ≡ Multiset → (before after : Memory) (s : Amounts) → IsMultiset h before s
+kept : (h : Header) → h.subject ≡ Multiset → (before after : Memory) (s : Amounts)
+    → IsMultiset h before s
     → ((cell : ℕ) → after cell ≡ before cell) → IsMultiset h after s
 kept h is before after s m same =
-    changed h before after s s 0 m (omega (arith, some_size h (ap is_built_in is))) (λ cell a b. same cell)
+    changed h before after s s 0 m (omega (arith, some_size h (ap is_built_in is)))
+    (λ cell a b. same cell)
     (λ valid. ap (λ v. v % h.size) (same 1)
     ∙ m.sound 0 (omega (arith, some_size h (ap is_built_in is))) (sym (same 0) ∙ valid)) m.formed
     (λ q. ap (λ n. amount_of s q + n) (ap (λ a. given q (cond (a == 2) ((before 1, 1) ∷ []) []))
@@ -55,7 +57,8 @@ pub record Reserved (before after : Memory) (j value : ℕ) : Type 0 where
 lock_is_high : (h : Header) (b j : ℕ) → j < 4 * h.size → 2 * j + 1 < lock_of h b
 lock_is_high h b j low = omega arith
 
-in_range : (h : Header) → h.subject ≡ Multiset → (value j : ℕ) → 4 * bucket_of h value ≤ j → j < 4 * bucket_of h value + 4
+in_range : (h : Header) → h.subject ≡ Multiset → (value j : ℕ) → 4 * bucket_of h value ≤ j
+    → j < 4 * bucket_of h value + 4
     → (j < 4 * h.size) × (j / 4 ≡ bucket_of h value)
 in_range h is value j from to =
     let low = bucket_low h is value in (omega (arith, low), quarter (bucket_of h value) from to)
@@ -87,7 +90,8 @@ reserved_under before lock c j value free high = record {
 }
 
 -- A slot is found and reserved, or the memory is as it was and no slot of the bucket is free.
-find_played : (h : Header) → h.subject ≡ Multiset → (c : ℕ) (memory : Memory) (Q : ℕ → Memory → Type 0) (value : ℕ)
+find_played : (h : Header) → h.subject ≡ Multiset → (c : ℕ) (memory : Memory)
+    (Q : ℕ → Memory → Type 0) (value : ℕ)
     (found : Option ℕ → Script)
     → memory (lock_of h (bucket_of h value)) ≡ 0
     → ((j : ℕ) (after : Memory) → 4 * bucket_of h value ≤ j → j < 4 * bucket_of h value + 4
@@ -106,7 +110,8 @@ find_played h is c memory Q value found free some none =
     (find_from_played c locked Q 4 (first_slot b) value (λ slot. unlock h b (found slot))
     (λ j from to is_free. some j (with_cell (with_reserved locked j value) held 0) from to
     (sym (untouched j from to) ∙ is_free)
-    (reserved_under memory held c j value free (lock_is_high h b j (in_range h is value j from to).0)))
+    (reserved_under memory held c j value free
+    (lock_is_high h b j (in_range h is value j from to).0)))
     (λ taken. none (with_cell locked held 0) (λ cell.
     given_back memory locked held cell free (λ apart. other_cell memory held (c + 1) cell
     apart)) (λ j from to is_free. taken j from to (untouched j from to ∙ is_free))))
@@ -142,7 +147,8 @@ stored_others memory lock c j state free cell a =
     (λ apart. other_cell (with_cell memory lock (c + 1)) (2 * j) state cell a
     ∙ other_cell memory lock (c + 1) cell apart)
 
-pub insert_done : (h : Header) → h.subject ≡ Multiset → (c : ℕ) (memory : Memory) (s : Amounts) (x : ℕ)
+pub insert_done : (h : Header) → h.subject ≡ Multiset → (c : ℕ) (memory : Memory) (s : Amounts)
+    (x : ℕ)
     → IsMultiset h memory s
     → EndsSo (alone c (insert h Correct x) memory) (InsertDone h memory s x)
 insert_done h is c memory s x m =
@@ -186,7 +192,8 @@ LookupDone h s x reply after = IsMultiset h after s
     × (((reply ≡ 1) × (1 ≤ amount_of s x)) ⊎ ((reply ≡ 0) × (amount_of s x ≡ 0)))
 
 -- a search ends at a slot with the value, or the value isn't there
-search_played : (h : Header) → h.subject ≡ Multiset → (c : ℕ) (memory : Memory) (s : Amounts) (Q : ℕ → Memory → Type 0)
+search_played : (h : Header) → h.subject ≡ Multiset → (c : ℕ) (memory : Memory) (s : Amounts)
+    (Q : ℕ → Memory → Type 0)
     (x : ℕ) (ended : Option ℕ → Script)
     → IsMultiset h memory s
     → ((j : ℕ) → j < 4 * h.size → memory (2 * j) ≡ 2 → memory (2 * j + 1) ≡ x
@@ -200,7 +207,8 @@ search_played h is c memory s Q x ended m some none =
     take_played c held (search_from 4 (first_slot b) x ended) memory (λ o. EndsSo o Q)
     (m.free b (bucket_low h is x))
     (search_from_played c (with_cell memory held (c + 1)) Q 4 (first_slot b) x ended
-    (λ j from to valid has. some j (in_range h is x j from to).0 (sym (untouched j from to).0 ∙ valid)
+    (λ j from to valid has. some j (in_range h is x j from to).0
+    (sym (untouched j from to).0 ∙ valid)
     (sym (untouched j from to).1 ∙ has))
     (λ no_slot. none (isnt_there h memory s x m (λ j from to valid has. no_slot j from to
     ((untouched j from to).0 ∙ valid) ((untouched j from to).1 ∙ has)))))
@@ -221,12 +229,14 @@ unlocked memory lock c free cell =
     given_back memory (with_cell memory lock (c + 1)) lock cell free
     (λ apart. other_cell memory lock (c + 1) cell apart)
 
-pub delete_done : (h : Header) → h.subject ≡ Multiset → (c : ℕ) (memory : Memory) (s : Amounts) (x : ℕ)
+pub delete_done : (h : Header) → h.subject ≡ Multiset → (c : ℕ) (memory : Memory) (s : Amounts)
+    (x : ℕ)
     → IsMultiset h memory s
     → EndsSo (alone c (delete h x) memory) (DeleteDone h s x)
 delete_done h is c memory s x m =
     let held : ℕ = lock_of h (bucket_of h x) in
-    let free : memory (lock_of h (bucket_of h x)) ≡ 0 = m.free (bucket_of h x) (bucket_low h is x) in
+    let free : memory (lock_of h (bucket_of h x)) ≡ 0 = m.free (bucket_of h x)
+    (bucket_low h is x) in
     search_played h is c memory s (DeleteDone h s x) x (deleted h x) m
     (λ j low valid has. inl (
       refl,
@@ -242,12 +252,14 @@ delete_done h is c memory s x m =
       none,
     ))
 
-pub lookup_done : (h : Header) → h.subject ≡ Multiset → (c : ℕ) (memory : Memory) (s : Amounts) (x : ℕ)
+pub lookup_done : (h : Header) → h.subject ≡ Multiset → (c : ℕ) (memory : Memory) (s : Amounts)
+    (x : ℕ)
     → IsMultiset h memory s
     → EndsSo (alone c (lookup h x) memory) (LookupDone h s x)
 lookup_done h is c memory s x m =
     let held : ℕ = lock_of h (bucket_of h x) in
-    let free : memory (lock_of h (bucket_of h x)) ≡ 0 = m.free (bucket_of h x) (bucket_low h is x) in
+    let free : memory (lock_of h (bucket_of h x)) ≡ 0 = m.free (bucket_of h x)
+    (bucket_low h is x) in
     let same : IsMultiset h (with_cell (with_cell memory held (c + 1)) held 0) s =
     kept h is memory (with_cell (with_cell memory held (c + 1)) held 0) s m
     (unlocked memory held c free) in
@@ -424,7 +436,8 @@ commit_both_played h c before Q first second j k free_first free_second low_j lo
         other_cell (with_cell both (2 * j) 2) (2 * k) 2 cell b ∙ other_cell both (2 * j) 2 cell a
         ∙ other_cell held g (c + 1) cell off_g ∙ other_cell before f (c + 1) cell off_f))))
 
-pub pair_done : (h : Header) → h.subject ≡ Multiset → (c : ℕ) (memory : Memory) (s : Amounts) (x y : ℕ)
+pub pair_done : (h : Header) → h.subject ≡ Multiset → (c : ℕ) (memory : Memory) (s : Amounts)
+    (x y : ℕ)
     → IsMultiset h memory s
     → EndsSo (alone c (insert_pair h Correct x y) memory) (PairDone h memory s x y)
 pair_done h is c memory s x y m =

@@ -1,6 +1,6 @@
 use Rattle.std.proofs.Common.{◌≡◌, ◌≢◌, ◌∙◌, ℕ, None, Ok, ap, sym, subst}
 use Rattle.vyrd_judge.proofs.OnlineLaws.{on_error}
-use Rattle.vyrd_relay.specs.Numbers.{Kept, held}
+use Rattle.vyrd_relay.specs.Numbers.{ReorderKept, held}
 use Rattle.vyrd_verifier.proofs.sequencer.follow.Goals as goal
 
 pub loop-more-preserved : goal.loop-more-preserved
@@ -10,7 +10,7 @@ loop-more-preserved g c =
       taking = λ taken t. e.followed taken (inv.taking taken t);
       had = λ n. c.advance.ensures.had n ∙ inv.had n;
       missing = λ p. let m = c.advance.ensures.missing (c.in_ok-more.was ∙ ap Ok p) in
-          subst (λ (k : Kept). held k k.next ≡ None) (sym m.0) m.1;
+          subst (λ (k : ReorderKept). held k k.next ≡ None) (sym m.0) m.1;
       counted = e.counted;
       fixed = e.fixed ∙ inv.fixed;
     }

@@ -2,7 +2,7 @@ use Rattle.std.proofs.Common.{◌≡◌, ℕ, ◌+◌, ◌*◌, ◌/◌, ◌<◌
 use Rattle.std.proofs.Common.{length, drop, get_or, ap, sym, ◌∙◌, subst, arith}
 use Rattle.std.proofs.Math.Bool.{and-false}
 use Rattle.std.proofs.lemmas.List.{drop_all}
-use Rattle.vyrd_view.specs.Kept.{Kept}
+use Rattle.vyrd_view.specs.Kept.{ComparedKept}
 use Rattle.vyrd_view.specs.Chains.{is_stale}
 use Rattle.vyrd_view.specs.Comparing.{differing}
 use Rattle.vyrd_view.proofs.DifferingLaws.{one_differs, one_stays}
@@ -45,9 +45,9 @@ loop-word-preserved g c =
                 ∙ c.loop-word.invariant.specified;
             places = ap (λ k. length k.pairs) w.parts-is ∙ put.places
                 ∙ c.loop-word.invariant.places;
-            others = λ m low none. ap (λ (k : Kept). get_or k.pairs m (0, 0)) w.parts-is
+            others = λ m low none. ap (λ (k : ComparedKept). get_or k.pairs m (0, 0)) w.parts-is
                 ∙ fresh m low none;
-            end = ap (λ (k : Kept). get_or k.pairs (4 * size) (0, 0)) w.parts-is
+            end = ap (λ (k : ComparedKept). get_or k.pairs (4 * size) (0, 0)) w.parts-is
                 ∙ put.above (4 * size) (omega (arith, within)) ∙ c.loop-word.invariant.end;
             counted = omega (
               arith,
@@ -82,9 +82,9 @@ loop-word-preserved g c =
             sound = ap (λ k. k.refused) w.parts-is ∙ c.loop-word.invariant.sound;
             specified = ap (λ k. k.specified) w.parts-is ∙ c.loop-word.invariant.specified;
             places = ap (λ k. length k.pairs) w.parts-is ∙ c.loop-word.invariant.places;
-            others = λ m low none. ap (λ (k : Kept). get_or k.pairs m (0, 0)) w.parts-is
+            others = λ m low none. ap (λ (k : ComparedKept). get_or k.pairs m (0, 0)) w.parts-is
                 ∙ kept.0 m low none;
-            end = ap (λ (k : Kept). get_or k.pairs (4 * size) (0, 0)) w.parts-is
+            end = ap (λ (k : ComparedKept). get_or k.pairs (4 * size) (0, 0)) w.parts-is
                 ∙ c.loop-word.invariant.end;
             counted = omega (arith, c.loop-word.invariant.counted, w.steps-is, kept.1);
           }

@@ -1,7 +1,7 @@
 use Rattle.std.proofs.Common.{◌≡◌, ℕ, ◌+◌, ◌*◌, ◌<◌, false, List, length, length-set, set, ap, sym}
 use Rattle.std.proofs.Common.{◌∙◌, subst, arith, get_or-set_same, get_or-set_other}
 use Rattle.std.proofs.lemmas.Result.{on_ok_weaker}
-use Rattle.vyrd_view.specs.Kept.{Kept}
+use Rattle.vyrd_view.specs.Kept.{ComparedKept}
 use Rattle.vyrd_view.specs.Chained.{IsWalked}
 use Rattle.vyrd_view.specs.Chains.{end_pair, has_link, is_on_chain, is_broken}
 use Rattle.vyrd_view.specs.Comparing.{differing}
@@ -78,5 +78,6 @@ returns-clause-walked g c =
     ∙ ap end_pair (c.walk-broken.ensures.broken ∙ ap (λ k. is_broken k words) next)) in
     on_ok_weaker {P = c.replace.new.self ≡ record c.remark.new.parts { pairs = final }}
     c.replace.result
-    (λ now. subst (λ ps. IsWalked words ps marks) (sym (ap (λ (k : Kept). k.pairs) now)) walked)
+    (λ now. subst (λ ps. IsWalked words ps marks) (sym (ap (λ (k : ComparedKept). k.pairs) now))
+    walked)
     c.replace.ensures.ok

@@ -8,7 +8,7 @@ use Rattle.vyrd_check.specs.LogReadings.{read_so_far}
 use Rattle.vyrd_check.specs.Costs.{finish_cost}
 use Rattle.vyrd_check.proofs.CostLaws.{end_is}
 use Rattle.vyrd_check.proofs.WholeFacts.{whole_same}
-use Rattle.vyrd_check.specs.Checking.{Kept, IsJudging, IsUndecided}
+use Rattle.vyrd_check.specs.Checking.{CheckerKept, IsJudging, IsUndecided}
 use Rattle.vyrd_check.proofs.ReadingFacts.{whole_faulty, whole_accepted, not_ended}
 use Rattle.vyrd_check.proofs.PieceLaws.{header_of_charter}
 use Rattle.vyrd_judge.proofs.EndFacts.{where_same}
@@ -22,7 +22,7 @@ returns-in-Err-Malformed-clause-verdict g c = λ bytes u.
     (c.in-Err-Malformed.ensures.answer bytes before.read) in
     (λ i. Malformed (c.in-Err-Malformed.line-is i) (c.in-Err-Malformed.rule-is i))
     ∙ whole_faulty max bytes c.in-Err-Malformed.line c.in-Err-Malformed.rule before.nothing fault
-    ∙ ap (λ (k : Kept). text_verdict k.reader.max_lines bytes) c.self.view_is
+    ∙ ap (λ (k : CheckerKept). text_verdict k.reader.max_lines bytes) c.self.view_is
 
 pub unreachable-requires : goal.unreachable-requires
 unreachable-requires g c =
@@ -44,7 +44,7 @@ returns-clause-verdict g c = λ bytes u.
     (c.in-Ok.ensures.answer bytes before.read) (c.in-Ok.ensures.ended bytes before.read) h.1 in
     where_same (verdict (rules_by c.in-Some.judge.kept.charter) read.starting read.entries)
     (text_verdict c.args.self.now.reader.max_lines bytes)
-    (whole ∙ ap (λ (k : Kept). text_verdict k.reader.max_lines bytes) c.self.view_is)
+    (whole ∙ ap (λ (k : CheckerKept). text_verdict k.reader.max_lines bytes) c.self.view_is)
     c.finish_counted.result
     (c.finish_counted.ensures.verdict read.starting read.entries has.followed)
 
@@ -55,7 +55,7 @@ returns-clause-steps g c = λ bytes u.
     let read = read_so_far max bytes in
     let has = subst (λ judge. IsJudging judge read) c.in-Some.is before.judging in
     let done = (whole_same max bytes).ended ∙ c.in-Ok.ensures.ended bytes before.read in
-    subst (λ (k : Kept). c.finish_counted.new.steps
+    subst (λ (k : CheckerKept). c.finish_counted.new.steps
     ≤ c.args.steps.now + finish_cost k.reader.max_lines bytes) c.self.view_is
     (subst (λ n. c.finish_counted.new.steps ≤ c.args.steps.now + n)
     (end_is c.in-Some.judge read read.entries has done)

@@ -1,7 +1,7 @@
 use Rattle.std.proofs.Common.{◌+◌, ◌≤◌, ◌++◌, ap, subst, sym, ◌∙◌}
 use Rattle.vyrd_base.specs.TextVerdicts.{text_verdict_so_far}
 use Rattle.vyrd_check.specs.LogReadings.{read_so_far}
-use Rattle.vyrd_check.specs.Checking.{Kept, IsLimit, IsUndecided, IsSomewhere}
+use Rattle.vyrd_check.specs.Checking.{CheckerKept, IsLimit, IsUndecided, IsSomewhere}
 use Rattle.vyrd_check.specs.Costs.{bytes_cost}
 use Rattle.vyrd_check.specs.Owed.{kept_debt, judge_owes, following_cost}
 use Rattle.vyrd_check.proofs.ReadingFacts.{first_none}
@@ -12,7 +12,7 @@ use Rattle.vyrd_check.proofs.text_judge.TextJudge.take_in.Goals as goal
 
 pub begin-requires : goal.begin-requires
 begin-requires g c =
-    let old : Kept = record { reader = c.self.inside.reader; judge = c.self.inside.judge } in
+    let old : CheckerKept = record { reader = c.self.inside.reader; judge = c.self.inside.judge } in
     let somewhere = subst IsSomewhere (sym c.self.view_is) c.requires.somewhere in
     record {
       may_start = fed_start old c.read.new.reader c.args.piece.now c.in_ok-fault.ensures.read
@@ -23,7 +23,7 @@ begin-requires g c =
 
 pub judge_entries-requires : goal.judge_entries-requires
 judge_entries-requires g c =
-    let old : Kept = record { reader = c.self.inside.reader; judge = c.self.inside.judge } in
+    let old : CheckerKept = record { reader = c.self.inside.reader; judge = c.self.inside.judge } in
     let entries = c.deref-2.result.now in
     let fed : Fed old c.read.new.reader c.begin.new.judge c.args.piece.now entries
     c.in_ok-fault.fault = record {
@@ -35,14 +35,14 @@ judge_entries-requires g c =
       judge = rw (c.deref-2.ensures.value, ← c.deref.ensures.value) c.in_ok-begin.ensures;
     } in
     let limit : IsLimit old.reader.max_lines =
-    subst (λ (k : Kept). IsLimit k.reader.max_lines) (sym c.self.view_is) c.requires.limit in
+    subst (λ (k : CheckerKept). IsLimit k.reader.max_lines) (sym c.self.view_is) c.requires.limit in
     fed_room old c.read.new.reader c.begin.new.judge c.args.piece.now entries c.in_ok-fault.fault
     fed
     limit (subst IsSomewhere (sym c.self.view_is) c.requires.somewhere)
 
 pub returns-clause-answer : goal.returns-clause-answer
 returns-clause-answer g c = λ bytes u.
-    let old : Kept = record { reader = c.self.inside.reader; judge = c.self.inside.judge } in
+    let old : CheckerKept = record { reader = c.self.inside.reader; judge = c.self.inside.judge } in
     let entries = c.deref-2.result.now in
     let fed : Fed old c.read.new.reader c.begin.new.judge c.args.piece.now entries
     c.in_ok-fault.fault = record {
@@ -54,7 +54,7 @@ returns-clause-answer g c = λ bytes u.
       judge = rw (c.deref-2.ensures.value, ← c.deref.ensures.value) c.in_ok-begin.ensures;
     } in
     let limit : IsLimit old.reader.max_lines =
-    subst (λ (k : Kept). IsLimit k.reader.max_lines) (sym c.self.view_is) c.requires.limit in
+    subst (λ (k : CheckerKept). IsLimit k.reader.max_lines) (sym c.self.view_is) c.requires.limit in
     let piece = c.args.piece.now in
     let before : IsUndecided old bytes = subst (λ k. IsUndecided k bytes) (sym c.self.view_is) u in
     let ready = fed_ready old c.read.new.reader c.begin.new.judge piece entries
@@ -65,11 +65,12 @@ returns-clause-answer g c = λ bytes u.
     c.or.ensures
     ∙ fed_answer old c.read.new.reader c.begin.new.judge piece entries c.in_ok-fault.fault
     c.in_ok-wrong.wrong fed bytes before.read wrong_is
-    ∙ ap (λ (k : Kept). text_verdict_so_far k.reader.max_lines (bytes ++ piece)) c.self.view_is
+    ∙ ap (λ (k : CheckerKept). text_verdict_so_far k.reader.max_lines (bytes ++ piece))
+    c.self.view_is
 
 pub returns-clause-undecided : goal.returns-clause-undecided
 returns-clause-undecided g c = λ bytes u none.
-    let old : Kept = record { reader = c.self.inside.reader; judge = c.self.inside.judge } in
+    let old : CheckerKept = record { reader = c.self.inside.reader; judge = c.self.inside.judge } in
     let entries = c.deref-2.result.now in
     let fed : Fed old c.read.new.reader c.begin.new.judge c.args.piece.now entries
     c.in_ok-fault.fault = record {
@@ -81,7 +82,7 @@ returns-clause-undecided g c = λ bytes u none.
       judge = rw (c.deref-2.ensures.value, ← c.deref.ensures.value) c.in_ok-begin.ensures;
     } in
     let limit : IsLimit old.reader.max_lines =
-    subst (λ (k : Kept). IsLimit k.reader.max_lines) (sym c.self.view_is) c.requires.limit in
+    subst (λ (k : CheckerKept). IsLimit k.reader.max_lines) (sym c.self.view_is) c.requires.limit in
     let piece = c.args.piece.now in
     let before : IsUndecided old bytes = subst (λ k. IsUndecided k bytes) (sym c.self.view_is) u in
     let ready = fed_ready old c.read.new.reader c.begin.new.judge piece entries
@@ -100,7 +101,7 @@ returns-clause-undecided g c = λ bytes u none.
 
 pub returns-clause-steps : goal.returns-clause-steps
 returns-clause-steps g c = λ bytes u.
-    let old : Kept = record { reader = c.self.inside.reader; judge = c.self.inside.judge } in
+    let old : CheckerKept = record { reader = c.self.inside.reader; judge = c.self.inside.judge } in
     let entries = c.deref-2.result.now in
     let fed : Fed old c.read.new.reader c.begin.new.judge c.args.piece.now entries
     c.in_ok-fault.fault = record {
@@ -112,7 +113,7 @@ returns-clause-steps g c = λ bytes u.
       judge = rw (c.deref-2.ensures.value, ← c.deref.ensures.value) c.in_ok-begin.ensures;
     } in
     let limit : IsLimit old.reader.max_lines =
-    subst (λ (k : Kept). IsLimit k.reader.max_lines) (sym c.self.view_is) c.requires.limit in
+    subst (λ (k : CheckerKept). IsLimit k.reader.max_lines) (sym c.self.view_is) c.requires.limit in
     let piece = c.args.piece.now in
     let before : IsUndecided old bytes = subst (λ k. IsUndecided k bytes) (sym c.self.view_is) u in
     let ready = fed_ready old c.read.new.reader c.begin.new.judge piece entries
@@ -127,7 +128,7 @@ returns-clause-steps g c = λ bytes u.
     (subst (λ b. c.judge_entries.new.steps + judge_owes c.judge_entries.new.judge all all.entries
     ≤ c.args.steps.now + judge_owes c.begin.new.judge all log
     + following_cost c.begin.new.judge entries b) c.ended-ended.ensures.kept taken) in
-    subst (λ (k : Kept). c.judge_entries.new.steps
+    subst (λ (k : CheckerKept). c.judge_entries.new.steps
     + kept_debt (record { reader = c.read.new.reader; judge = c.judge_entries.new.judge })
     (bytes ++ piece)
     + bytes_cost k.reader.max_lines bytes
@@ -136,21 +137,21 @@ returns-clause-steps g c = λ bytes u.
 
 pub returns-then-was_ended-clause-answer : goal.returns-then-was_ended-clause-answer
 returns-then-was_ended-clause-answer g c = λ bytes u.
-    let old : Kept = record { reader = c.self.inside.reader; judge = c.self.inside.judge } in
+    let old : CheckerKept = record { reader = c.self.inside.reader; judge = c.self.inside.judge } in
     let limit : IsLimit old.reader.max_lines =
-    subst (λ (k : Kept). IsLimit k.reader.max_lines) (sym c.self.view_is) c.requires.limit in
+    subst (λ (k : CheckerKept). IsLimit k.reader.max_lines) (sym c.self.view_is) c.requires.limit in
     let before : IsUndecided old bytes = subst (λ k. IsUndecided k bytes) (sym c.self.view_is) u in
     let ended = sym c.ended-was_ended.ensures.kept ∙ c.if-was_ended.true in
     ended_answer old bytes c.args.piece.now c.in_ok-fault.fault limit before ended
     (c.in_ok-fault.ensures.fault bytes before.read)
-    ∙ ap (λ (k : Kept). text_verdict_so_far k.reader.max_lines (bytes ++ c.args.piece.now))
+    ∙ ap (λ (k : CheckerKept). text_verdict_so_far k.reader.max_lines (bytes ++ c.args.piece.now))
     c.self.view_is
 
 pub returns-then-was_ended-clause-undecided : goal.returns-then-was_ended-clause-undecided
 returns-then-was_ended-clause-undecided g c = λ bytes u none.
-    let old : Kept = record { reader = c.self.inside.reader; judge = c.self.inside.judge } in
+    let old : CheckerKept = record { reader = c.self.inside.reader; judge = c.self.inside.judge } in
     let limit : IsLimit old.reader.max_lines =
-    subst (λ (k : Kept). IsLimit k.reader.max_lines) (sym c.self.view_is) c.requires.limit in
+    subst (λ (k : CheckerKept). IsLimit k.reader.max_lines) (sym c.self.view_is) c.requires.limit in
     let before : IsUndecided old bytes = subst (λ k. IsUndecided k bytes) (sym c.self.view_is) u in
     let ended = sym c.ended-was_ended.ensures.kept ∙ c.if-was_ended.true in
     ended_undecided old c.read.new.reader bytes c.args.piece.now limit before ended
@@ -160,12 +161,12 @@ returns-then-was_ended-clause-undecided g c = λ bytes u none.
 
 pub returns-then-was_ended-clause-steps : goal.returns-then-was_ended-clause-steps
 returns-then-was_ended-clause-steps g c = λ bytes u.
-    let old : Kept = record { reader = c.self.inside.reader; judge = c.self.inside.judge } in
+    let old : CheckerKept = record { reader = c.self.inside.reader; judge = c.self.inside.judge } in
     let limit : IsLimit old.reader.max_lines =
-    subst (λ (k : Kept). IsLimit k.reader.max_lines) (sym c.self.view_is) c.requires.limit in
+    subst (λ (k : CheckerKept). IsLimit k.reader.max_lines) (sym c.self.view_is) c.requires.limit in
     let before : IsUndecided old bytes = subst (λ k. IsUndecided k bytes) (sym c.self.view_is) u in
     let ended = sym c.ended-was_ended.ensures.kept ∙ c.if-was_ended.true in
-    subst (λ (k : Kept). c.args.steps.now
+    subst (λ (k : CheckerKept). c.args.steps.now
     + kept_debt (record { reader = c.read.new.reader; judge = c.self.inside.judge })
     (bytes ++ c.args.piece.now)
     + bytes_cost k.reader.max_lines bytes

@@ -2,7 +2,7 @@ use Rattle.std.proofs.Common.{ap, subst, sym, ◌∙◌}
 use Rattle.vyrd_base.specs.Rules.{rules_by}
 use Rattle.vyrd_base.specs.Places.{newest_first}
 use Rattle.vyrd_base.specs.Verdicts.{verdict}
-use Rattle.vyrd_judge.specs.Following.{Kept, IsFaultless}
+use Rattle.vyrd_judge.specs.Following.{FollowerKept, IsFaultless}
 use Rattle.vyrd_judge.proofs.FollowerLaws.{end_open, end_accepted, open_by}
 use Rattle.vyrd_judge.proofs.follower.Follower.end.Goals as goal
 
@@ -12,7 +12,7 @@ returns-then-is_err-clause-verdict g c = λ starting log f.
     let opened = open_by _ c.end_counted.result (c.end_counted.ensures.end (newest_first log)
     was.taken_in.shape) in
     end_open was (sym opened ∙ sym c.is_err.ensures.value ∙ c.if-is_err.true)
-    ∙ ap (λ (k : Kept). verdict (rules_by k.charter) starting log) c.self.view_is
+    ∙ ap (λ (k : FollowerKept). verdict (rules_by k.charter) starting log) c.self.view_is
 
 pub returns-clause-verdict : goal.returns-clause-verdict
 returns-clause-verdict g c = λ starting log f.
@@ -20,4 +20,4 @@ returns-clause-verdict g c = λ starting log f.
     let opened = open_by _ c.end_counted.result (c.end_counted.ensures.end (newest_first log)
     was.taken_in.shape) in
     end_accepted was (sym opened ∙ sym c.is_err.ensures.value ∙ c.if-is_err.false)
-    ∙ ap (λ (k : Kept). verdict (rules_by k.charter) starting log) c.self.view_is
+    ∙ ap (λ (k : FollowerKept). verdict (rules_by k.charter) starting log) c.self.view_is

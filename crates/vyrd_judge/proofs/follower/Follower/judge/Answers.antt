@@ -6,7 +6,7 @@ use Rattle.vyrd_base.specs.Verdicts.{first_fault}
 use Rattle.vyrd_judge.specs.Judged.{HeadGives, KnowsState}
 use Rattle.vyrd_judge.specs.Queued.{HasQueued}
 use Rattle.vyrd_words.specs.Effects.{effect_parts}
-use Rattle.vyrd_judge.specs.Following.{Kept, IsCatchingUp, MayCatchUp}
+use Rattle.vyrd_judge.specs.Following.{FollowerKept, IsCatchingUp, MayCatchUp}
 use Rattle.vyrd_judge.proofs.FollowerLaws.{may_judge, few_taken, few_position, taken_on, sound_up}
 use Rattle.vyrd_judge.proofs.CostLaws.{judged_paid}
 use Rattle.vyrd_judge.proofs.follower.Follower.judge.Goals as goal
@@ -80,7 +80,7 @@ returns-in-Faults-clause-gives g c = λ starting log going.
     let was = subst (λ k. IsCatchingUp (Some c.args.x) k starting log) (sym c.self.view_is) going in
     let gives = c.in_ok-judge.ensures.gives starting log i.queue.waiting.items was.taken_in.judged
     was.taken_in.specified in
-    ap (λ (k : Kept). first_fault (rules_by k.charter) starting log) (sym c.self.view_is)
+    ap (λ (k : FollowerKept). first_fault (rules_by k.charter) starting log) (sym c.self.view_is)
     ∙ subst (HeadGives (rules_by (g.S.Spec.charter i.replay.spec)) starting log
     (g.S.Spec.state c.judge.new.self.spec) (g.S.Spec.made c.judge.new.self.spec)
     c.judge.new.self.watches.by_caller c.args.x i.queue.waiting.items c.judge.new.words.views.first

@@ -2,7 +2,7 @@ use Rattle.std.proofs.Common.{◌≡◌, ◌<◌, ◌^◌, ◌∷◌, ◌++◌, 
 use Rattle.vyrd_base.specs.Rules.{rules_by}
 use Rattle.vyrd_base.specs.Verdicts.{first_fault, verdict_so_far}
 use Rattle.vyrd_judge.specs.Queued.{MayQueue}
-use Rattle.vyrd_judge.specs.Following.{Kept, IsFaultless, IsSomewhere}
+use Rattle.vyrd_judge.specs.Following.{FollowerKept, IsFaultless, IsSomewhere}
 use Rattle.std.proofs.lemmas.Result.{IfOk-weaker}
 use Rattle.vyrd_judge.proofs.FollowerLaws.{broken_so_far, may_take, may_queue, low_commits}
 use Rattle.vyrd_judge.proofs.FollowerLaws.{few_commits, few_observers, low_caller_of, taken_all}
@@ -14,7 +14,8 @@ pub returns-in-Err-clause-answer : goal.returns-in-Err-clause-answer
 returns-in-Err-clause-answer g c = λ starting log f.
     let was = subst (λ k. IsFaultless k starting log) (sym c.self.view_is) f in
     broken_so_far c.args.entry c.in-Err.fault.rule was (c.in-Err.ensures.fault _ was.taken_in.shape)
-    ∙ ap (λ (k : Kept). verdict_so_far (rules_by k.charter) starting (log ++ c.args.entry ∷ []))
+    ∙ ap (λ (k : FollowerKept). verdict_so_far (rules_by k.charter) starting
+    (log ++ c.args.entry ∷ []))
     c.self.view_is
 
 pub observer_returns-observes-requires : goal.observer_returns-observes-requires
@@ -30,7 +31,8 @@ follow_counted-requires-clause-sound g c = sound_of (subst IsSomewhere
 
 pub follow_counted-requires-clause-few : goal.follow_counted-requires-clause-few
 follow_counted-requires-clause-few g c =
-    low_commits (subst (λ (k : Kept). k.entries < 2 ^ 62) (sym c.self.view_is) c.requires.few)
+    low_commits (subst (λ (k : FollowerKept). k.entries < 2 ^ 62) (sym c.self.view_is)
+    c.requires.few)
     (subst IsSomewhere (sym c.self.view_is) c.requires.somewhere)
 
 pub follow_counted-requires-clause-may : goal.follow_counted-requires-clause-may
@@ -51,17 +53,19 @@ follow-requires-clause-may g c =
 pub counted-self-inside-requires : goal.counted-self-inside-requires
 counted-self-inside-requires g c =
     let was = subst IsSomewhere (sym c.self.view_is) c.requires.somewhere in
-    few_commits (subst (λ (k : Kept). k.entries < 2 ^ 62) (sym c.self.view_is) c.requires.few) was
+    few_commits (subst (λ (k : FollowerKept). k.entries < 2 ^ 62) (sym c.self.view_is)
+    c.requires.few) was
 
 pub counted-self-inside-requires-2 : goal.counted-self-inside-requires-2
 counted-self-inside-requires-2 g c =
     let was = subst IsSomewhere (sym c.self.view_is) c.requires.somewhere in
-    few_observers (subst (λ (k : Kept). k.entries < 2 ^ 62) (sym c.self.view_is) c.requires.few) was
+    few_observers
+    (subst (λ (k : FollowerKept). k.entries < 2 ^ 62) (sym c.self.view_is) c.requires.few) was
 
 pub catch_up-requires-clause-may : goal.catch_up-requires-clause-may
 catch_up-requires-clause-may g c =
     may_catch_up _ _ c.in_ok-first.first c.args.entry
-    (subst (λ (k : Kept). k.entries < 2 ^ 62) (sym c.self.view_is) c.requires.few)
+    (subst (λ (k : FollowerKept). k.entries < 2 ^ 62) (sym c.self.view_is) c.requires.few)
     (subst IsSomewhere (sym c.self.view_is) c.requires.somewhere)
     (taken_all _ _ c.in_ok-first.first c.args.entry c.self.inside.queue.header c.is_commit.result
     c.observer_returns-observes.result
@@ -94,7 +98,7 @@ returns-clause-answer g c = λ starting log f.
     IfOk-weaker c.catch_up.result (λ v. v ≡ first_fault r starting more)
     (λ v. v ≡ verdict_so_far (rules_by c.args.self.now.charter) starting more)
     (λ v is. answer_with v going.taken_in is
-    ∙ ap (λ (k : Kept). verdict_so_far (rules_by k.charter) starting more) c.self.view_is)
+    ∙ ap (λ (k : FollowerKept). verdict_so_far (rules_by k.charter) starting more) c.self.view_is)
     (c.catch_up.ensures.answer starting more going)
 
 pub returns-clause-follows : goal.returns-clause-follows
@@ -118,7 +122,8 @@ returns-in-Err-clause-steps g c = λ starting log f.
     broken_paid g.S.Compared.Compare.price g.S.Spec.most_touched _ _ c.args.entry c.args.steps.now
     c.step_counted.new.steps _ c.self.view_is
     c.step_counted.ensures.steps
-    (subst (λ (k : Kept). k.entries < 2 ^ 62) (sym c.self.view_is) c.requires.few) starting log
+    (subst (λ (k : FollowerKept). k.entries < 2 ^ 62) (sym c.self.view_is) c.requires.few) starting
+    log
     (subst (λ k. IsFaultless k starting log) (sym c.self.view_is) f)
 
 pub returns-clause-steps : goal.returns-clause-steps
@@ -143,5 +148,6 @@ returns-clause-steps g c = λ starting log f.
     c.self.invariant.1 c.self.invariant.2 c.in_default.ensures.ok c.step_counted.ensures.steps
     c.in_ok-follow_counted.ensures.steps c.in_ok-first.ensures.taken_up c.follow.ensures.steps
     refl c.follow_counted.ensures.shows refl refl refl (subst (λ
-    (k : Kept). k.entries < 2 ^ 62) (sym c.self.view_is) c.requires.few) starting log was going))
+    (k : FollowerKept). k.entries < 2 ^ 62) (sym c.self.view_is) c.requires.few) starting log was
+    going))
     (c.catch_up.ensures.steps starting more going)

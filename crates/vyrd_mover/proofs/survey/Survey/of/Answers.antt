@@ -12,7 +12,7 @@ use Rattle.vyrd_mover.specs.Blocks.{line_of}
 use Rattle.vyrd_mover.specs.RaceFree.{is_race_free}
 use Rattle.vyrd_mover.specs.Steps.{step_coded, step_of, IsWithin}
 use Rattle.vyrd_mover.specs.Ahead.{preceded_by, HasSurveyed}
-use Rattle.vyrd_mover.specs.Usage.{Kept}
+use Rattle.vyrd_mover.specs.Usage.{UsageKept}
 use Rattle.vyrd_mover.specs.Taking.{HasTaken}
 use Rattle.vyrd_mover.proofs.LegalPlaces.{MayCome, legal_event, in_range}
 use Rattle.vyrd_mover.proofs.StepLaws.{codes_count, code_at, role_within}
@@ -23,7 +23,7 @@ abbrev some_event : Stamped
 some_event = record { number = 0; caller = 0; did = Read 0 0 }
 
 -- what the step at a place is
-record Here (h : Header) (uses : Kept) (codes : List ℕ) (history : List Stamped) (i : ℕ)
+record Here (h : Header) (uses : UsageKept) (codes : List ℕ) (history : List Stamped) (i : ℕ)
     (step : Step) : Type 0 where
   low : i < length history
   come : MayCome (cells_of h) (newest_first (take i history)) i (get_or history i some_event)
@@ -31,7 +31,8 @@ record Here (h : Header) (uses : Kept) (codes : List ℕ) (history : List Stampe
   caller : step.caller < h.callers
   within : IsWithin (length uses.cells) step.role
 
-here : (h : Header) (uses : Kept) (codes : List ℕ) (history : List Stamped) (i : ℕ) (step : Step)
+here : (h : Header) (uses : UsageKept) (codes : List ℕ) (history : List Stamped) (i : ℕ)
+    (step : Step)
     → HasTaken (record { header = h; uses = uses; steps = map step_coded codes }) history
     → i < length codes → step ≡ step_coded (get_or codes i 0)
     → Here h uses codes history i step

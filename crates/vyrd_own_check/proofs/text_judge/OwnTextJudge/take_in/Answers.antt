@@ -4,7 +4,7 @@ use Rattle.vyrd_base.specs.Own.LogVerdicts.{told_in_text}
 use Rattle.vyrd_own_log.specs.ReaderView.{state_in}
 use Rattle.vyrd_own_check.specs.KeptView.{kept_in}
 use Rattle.vyrd_own_check.specs.LogReadings.{read_so_far}
-use Rattle.vyrd_own_check.specs.Checking.{Kept, limit_of}
+use Rattle.vyrd_own_check.specs.Checking.{OwnCheckerKept, limit_of}
 use Rattle.vyrd_own_check.proofs.ReadingFacts.{first_none, none_told}
 use Rattle.vyrd_own_check.proofs.FedLaws.{Fed, grown_on, numbers_room, fed_own, fed_follows}
 use Rattle.vyrd_own_check.proofs.FedLaws.{fed_ready, fed_room, fed_answer, fed_undecided, fed_paid}
@@ -14,14 +14,14 @@ use Rattle.vyrd_own_check.proofs.text_judge.OwnTextJudge.take_in.Goals as goal
 
 pub extend-requires : goal.extend-requires
 extend-requires g c =
-    let old : Kept = kept_in c.args.self.now in
+    let old : OwnCheckerKept = kept_in c.args.self.now in
     numbers_room old c.args.piece.now c.deref.result.now c.requires.limit
     (λ bytes read. rw (c.deref.ensures.value, ← c.clear-2.ensures.items)
     (c.in_ok-fault.ensures.numbers bytes read)) c.requires.somewhere
 
 pub begin-requires : goal.begin-requires
 begin-requires g c =
-    let old : Kept = kept_in c.args.self.now in
+    let old : OwnCheckerKept = kept_in c.args.self.now in
     let reader = state_in c.read.new.reader in
     record {
       own = fed_own old reader c.args.piece.now c.requires.limit c.in_ok-fault.ensures.limit
@@ -32,7 +32,7 @@ begin-requires g c =
 
 pub judge_entries-requires : goal.judge_entries-requires
 judge_entries-requires g c =
-    let old : Kept = kept_in c.args.self.now in
+    let old : OwnCheckerKept = kept_in c.args.self.now in
     let reader = state_in c.read.new.reader in
     let entries = c.deref-3.result.now in
     let numbers = c.extend.new.self in
@@ -53,7 +53,7 @@ judge_entries-requires g c =
 
 pub returns-clause-answer : goal.returns-clause-answer
 returns-clause-answer g c = λ bytes u.
-    let old : Kept = kept_in c.args.self.now in
+    let old : OwnCheckerKept = kept_in c.args.self.now in
     let reader = state_in c.read.new.reader in
     let entries = c.deref-3.result.now in
     let numbers = c.extend.new.self in
@@ -83,7 +83,7 @@ returns-clause-answer g c = λ bytes u.
 
 pub returns-clause-undecided : goal.returns-clause-undecided
 returns-clause-undecided g c = λ bytes u none.
-    let old : Kept = kept_in c.args.self.now in
+    let old : OwnCheckerKept = kept_in c.args.self.now in
     let reader = state_in c.read.new.reader in
     let entries = c.deref-3.result.now in
     let numbers = c.extend.new.self in
@@ -120,7 +120,7 @@ returns-clause-undecided g c = λ bytes u none.
 
 pub returns-clause-steps : goal.returns-clause-steps
 returns-clause-steps g c = λ bytes u.
-    let old : Kept = kept_in c.args.self.now in
+    let old : OwnCheckerKept = kept_in c.args.self.now in
     let reader = state_in c.read.new.reader in
     let entries = c.deref-3.result.now in
     let numbers = c.extend.new.self in
@@ -158,7 +158,7 @@ returns-then-was_ended-clause-answer g c = λ bytes u.
 
 pub returns-then-was_ended-clause-undecided : goal.returns-then-was_ended-clause-undecided
 returns-then-was_ended-clause-undecided g c = λ bytes u none.
-    let old : Kept = kept_in c.args.self.now in
+    let old : OwnCheckerKept = kept_in c.args.self.now in
     let piece = c.args.piece.now in
     let ended = sym c.ended-was_ended.ensures.kept ∙ c.if-was_ended.true in
     ended_undecided old bytes piece c.requires.limit u ended (state_in c.read.new.reader)

@@ -1,16 +1,16 @@
 use Rattle.std.proofs.Common.{◌≡◌, ◌+◌, refl, ap, ◌∙◌, arith}
-use Rattle.vyrd_relay.specs.Numbers.{Kept, has}
+use Rattle.vyrd_relay.specs.Numbers.{ReorderKept, has}
 use Rattle.vyrd_relay.proofs.NumberLaws.{held_after, numbered_after, far_free, come_after}
 use Rattle.vyrd_relay.proofs.reorder.Reorder.take_turn.Goals as goal
 
 pub invariant_of-self : goal.invariant_of-self
 invariant_of-self c =
-    let k : Kept = record {
+    let k : ReorderKept = record {
       next = c.self.inside.next;
       near = c.self.inside.near.items;
       far = c.self.inside.far.entries;
     } in
-    let after : Kept = record {
+    let after : ReorderKept = record {
       next = c.args.number + 1;
       near = c.pop_front.new.self.items;
       far = c.self.inside.far.entries;
@@ -21,7 +21,8 @@ invariant_of-self c =
           c.self.invariant.0,
       omega arith,
       come_after k after (omega arith)
-          (far_free k c.self.inside.next (ap (λ (v : Kept). has v c.self.inside.next) c.self.view_is
+          (far_free k c.self.inside.next
+          (ap (λ (v : ReorderKept). has v c.self.inside.next) c.self.view_is
           ∙ ap (has c.args.self.now) turn ∙ c.requires.new))
           (λ n l. refl) c.self.invariant.2,
     )

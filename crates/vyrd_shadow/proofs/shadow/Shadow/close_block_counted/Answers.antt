@@ -3,7 +3,7 @@ use Rattle.vyrd_base.specs.declared.log.Kind.TheVariants.{BlockClose, BlockCommi
 use Rattle.vyrd_base.specs.Shape.{broken_rule}
 use Rattle.vyrd_base.proofs.BlockLaws.{entry}
 use Rattle.vyrd_shadow.specs.Blocks.{kept_by}
-use Rattle.vyrd_shadow.specs.Following.{Kept, HasFollowed, is_open}
+use Rattle.vyrd_shadow.specs.Following.{ShadowKept, HasFollowed, is_open}
 use Rattle.vyrd_shadow.proofs.SoundLaws.{sound_closed, effect_is}
 use Rattle.vyrd_shadow.proofs.FollowLaws.{followed_close, followed_commit}
 use Rattle.vyrd_shadow.proofs.shadow.Shadow.close_block_counted.Goals as goal
@@ -23,7 +23,7 @@ invariant_of-self g c = let s = c.self.inside in
 
 pub returns-clause-closed : goal.returns-clause-closed
 returns-clause-closed g c = λ starting earlier followed keeps. let s = c.self.inside in
-    let kept : Kept =
+    let kept : ShadowKept =
     record {
       header = s.header;
       words = s.words.items;
@@ -34,7 +34,7 @@ returns-clause-closed g c = λ starting earlier followed keeps. let s = c.self.i
     let low : c.args.caller < s.header.callers = rw (← c.self.view_is) at c.requires.caller in
     let low_here : c.args.caller < length s.blocks =
     omega (arith, low, c.self.invariant.all_blocks) in
-    let opened = subst (λ (k : Kept). is_open k c.args.caller ≡ true) (sym c.self.view_is)
+    let opened = subst (λ (k : ShadowKept). is_open k c.args.caller ≡ true) (sym c.self.view_is)
     c.requires.opened in
     let effect = effect_is s.words.len c.end.new.words c.deref_mut.result.now s.words.items
     (kept_by s.blocks c.args.caller)
@@ -42,12 +42,13 @@ returns-clause-closed g c = λ starting earlier followed keeps. let s = c.self.i
     rw (effect, c.end.ensures.closed)
     (followed_close kept starting earlier c.args.caller c.end.new.changed.items low low_here
     c.self.invariant.all_words opened inside
-    (subst (λ (k : Kept). broken_rule k.header earlier (entry c.args.caller BlockClose) ≡ None)
+    (subst (λ (k : ShadowKept). broken_rule k.header earlier (entry c.args.caller BlockClose)
+    ≡ None)
     (sym c.self.view_is) keeps))
 
 pub returns-clause-committed : goal.returns-clause-committed
 returns-clause-committed g c = λ starting earlier followed keeps. let s = c.self.inside in
-    let kept : Kept =
+    let kept : ShadowKept =
     record {
       header = s.header;
       words = s.words.items;
@@ -58,7 +59,7 @@ returns-clause-committed g c = λ starting earlier followed keeps. let s = c.sel
     let low : c.args.caller < s.header.callers = rw (← c.self.view_is) at c.requires.caller in
     let low_here : c.args.caller < length s.blocks =
     omega (arith, low, c.self.invariant.all_blocks) in
-    let opened = subst (λ (k : Kept). is_open k c.args.caller ≡ true) (sym c.self.view_is)
+    let opened = subst (λ (k : ShadowKept). is_open k c.args.caller ≡ true) (sym c.self.view_is)
     c.requires.opened in
     let effect = effect_is s.words.len c.end.new.words c.deref_mut.result.now s.words.items
     (kept_by s.blocks c.args.caller)
@@ -66,5 +67,6 @@ returns-clause-committed g c = λ starting earlier followed keeps. let s = c.sel
     rw (effect, c.end.ensures.closed)
     (followed_commit kept starting earlier c.args.caller c.end.new.changed.items low low_here
     c.self.invariant.all_words opened inside
-    (subst (λ (k : Kept). broken_rule k.header earlier (entry c.args.caller BlockCommit) ≡ None)
+    (subst (λ (k : ShadowKept). broken_rule k.header earlier (entry c.args.caller BlockCommit)
+    ≡ None)
     (sym c.self.view_is) keeps))

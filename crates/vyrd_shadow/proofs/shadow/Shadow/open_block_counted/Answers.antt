@@ -2,7 +2,7 @@ use Rattle.std.proofs.Common.{◌≡◌, ◌<◌, None, subst, sym, arith}
 use Rattle.vyrd_base.specs.declared.log.Kind.TheVariants.{BlockOpen}
 use Rattle.vyrd_base.specs.Shape.{broken_rule}
 use Rattle.vyrd_base.proofs.BlockLaws.{entry}
-use Rattle.vyrd_shadow.specs.Following.{Kept, HasFollowed}
+use Rattle.vyrd_shadow.specs.Following.{ShadowKept, HasFollowed}
 use Rattle.vyrd_shadow.proofs.FollowLaws.{followed_open}
 use Rattle.vyrd_shadow.proofs.shadow.Shadow.open_block_counted.Goals as goal
 
@@ -21,5 +21,5 @@ returns-clause-followed g c = λ starting earlier followed keeps. let s = c.self
       blocks = s.blocks;
       changed = s.changed.items;
     }) starting earlier c.args.caller (omega (arith, low, c.self.invariant.all_blocks)) inside
-    (subst (λ (k : Kept). broken_rule k.header earlier (entry c.args.caller BlockOpen) ≡ None)
+    (subst (λ (k : ShadowKept). broken_rule k.header earlier (entry c.args.caller BlockOpen) ≡ None)
     (sym c.self.view_is) keeps))

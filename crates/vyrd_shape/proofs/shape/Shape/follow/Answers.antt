@@ -6,7 +6,7 @@ use Rattle.vyrd_base.specs.Words.{is_lone_commit}
 use Rattle.vyrd_shape.specs.Phases.{phase_of}
 use Rattle.vyrd_shape.specs.Holding.{holders_after}
 use Rattle.vyrd_shape.specs.Stamps.{AreOrdered, AreRaised, CommitStamps, effect_stamp, takes_effect}
-use Rattle.vyrd_shape.specs.Following.{Kept, HasFollowed}
+use Rattle.vyrd_shape.specs.Following.{ShapeKept, HasFollowed}
 use Rattle.vyrd_shape.specs.declared.shape.Shape.TheInside.{Inside}
 use Rattle.vyrd_shape.proofs.OrderLaws.{AreHeld, ordered_next, added_inside}
 use Rattle.vyrd_shape.proofs.ShapeLaws.{kept_by, followed_by, phase_is}
@@ -17,18 +17,18 @@ pub returns-clause-followed : goal.returns-clause-followed
 returns-clause-followed g c = λ earlier followed rules.
     let s = c.self.inside in
     let e = c.args.entry.now in
-    let now : Kept = kept_by s.header s.phases.items s.holders s.commits s.stamps in
+    let now : ShapeKept = kept_by s.header s.phases.items s.holders s.commits s.stamps in
     let low : e.caller < s.header.callers = rw (← c.self.view_is) at c.requires.in_range.caller in
     let inside : HasFollowed now earlier = rw c.self.view_is followed in
     let kept : broken_rule s.header earlier e ≡ None
-    = subst (λ (kept : Kept). broken_rule kept.header earlier e ≡ None) (sym c.self.view_is)
+    = subst (λ (kept : ShapeKept). broken_rule kept.header earlier e ≡ None) (sym c.self.view_is)
     rules in
     let is = phase_is s.phases.items e.caller c.index-phase.result.now (phase_of e.caller earlier)
     c.index-phase.ensures (inside.phases e.caller low) in
     let stamp : c.effect_stamp-stamp.result
     ≡ effect_stamp s.commits (has_inner_commit e.caller earlier) e.caller
     = c.effect_stamp-stamp.ensures
-    ∙ ap (λ (kept : Kept). effect_stamp kept.commits c.index-phase.result.now.inner e.caller)
+    ∙ ap (λ (kept : ShapeKept). effect_stamp kept.commits c.index-phase.result.now.inner e.caller)
     (sym c.self.view_is)
     ∙ ap (λ phase. effect_stamp s.commits phase.inner e.caller) is in
     let effect = takes_effect s.holders.by_word (has_block e.caller earlier) e.caller e.kind in

@@ -2,7 +2,7 @@ use Rattle.std.proofs.Common.{ℕ, List, [], sym, ◌∙◌, subst}
 use Rattle.atomic_table.specs.Table.{opening}
 use Rattle.vyrd_trace.specs.declared.plan.Plan.{Plan}
 use Rattle.vyrd_trace.specs.Records.{first_record}
-use Rattle.vyrd_trace.specs.Rule.{Kept}
+use Rattle.vyrd_trace.specs.Rule.{TraceKept}
 use Rattle.vyrd_trace.proofs.Dealing.{opens}
 use Rattle.vyrd_trace.proofs.traced.Traced.new.Goals as goal
 
@@ -15,6 +15,6 @@ of_words-requires c =
       limit = c.args.limit;
     } in
     let zeros = c.in_ok-words.ensures.items_if_clones_equal (λ y h. h) in
-    subst (λ (ws : List ℕ). Kept p (opening {S = Unit {0}} ws [] first_record))
+    subst (λ (ws : List ℕ). TraceKept p (opening {S = Unit {0}} ws [] first_record))
     (sym (c.as_slice.ensures.value ∙ zeros))
     (opens p c.requires.callers.0)

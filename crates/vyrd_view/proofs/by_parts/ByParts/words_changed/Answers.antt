@@ -5,7 +5,7 @@ use Rattle.std.proofs.lemmas.Result.{on_ok_weaker}
 use Rattle.vyrd_base.proofs.PlaceLaws.{length_below}
 use Rattle.vyrd_view.specs.Comparing.{AgreeElsewhere}
 use Rattle.vyrd_view.specs.Decoded.{HaveRoom, padded, pair_at, pairs_by}
-use Rattle.vyrd_view.specs.Kept.{Kept}
+use Rattle.vyrd_view.specs.Kept.{ComparedKept}
 use Rattle.vyrd_view.proofs.OutcomeLaws.{of_sound}
 use Rattle.vyrd_view.proofs.RoomLaws.{more_room, room_agrees, room_others, room_whole, room_stays}
 use Rattle.vyrd_view.proofs.RoomLaws.{front_length, written_back}
@@ -120,7 +120,7 @@ invariant_of-self-2 g c =
     (omega (arith, c.make_room.new.words.ok.0)) (ap length front
     ∙ front_length (parts * width) words c.args.words.now c.args.changed.now all
     (omega (arith, grown.1.count, mul-le-mul_right width grown.1.few)) elsewhere) ∙ front in
-    let after : Kept = record {
+    let after : ComparedKept = record {
       pairs = pairs_by width places held (d.gives decoder) c.args.words.now;
       specified = c.make_room.new.parts.specified;
       refused = c.make_room.new.parts.refused;
@@ -171,7 +171,7 @@ returns-clause-ok g c =
     (omega (arith, c.make_room.new.words.ok.0)) (ap length front
     ∙ front_length (parts * width) words c.args.words.now c.args.changed.now all
     (omega (arith, grown.1.count, mul-le-mul_right width grown.1.few)) elsewhere) ∙ front in
-    let after : Kept = record {
+    let after : ComparedKept = record {
       pairs = pairs_by width places held (d.gives decoder) c.args.words.now;
       specified = c.make_room.new.parts.specified;
       refused = c.make_room.new.parts.refused;

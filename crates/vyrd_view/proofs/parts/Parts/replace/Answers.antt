@@ -1,13 +1,13 @@
 use Rattle.std.proofs.Common.{◌≡◌, ℕ, List, ap, sym, ◌∙◌, get_or, set}
 use Rattle.std.proofs.lemmas.List.{set-get_or}
-use Rattle.vyrd_view.specs.Kept.{Kept}
+use Rattle.vyrd_view.specs.Kept.{ComparedKept}
 use Rattle.vyrd_view.proofs.parts.Parts.replace.Goals as goal
 
 both_same : (x y : ℕ × ℕ) → x.0 ≡ y.0 → x.1 ≡ y.1 → x ≡ y
 both_same x y key amount = λ i. (key i, amount i)
 
 -- the same pair again
-same_pair : (kept : Kept) (pairs : List (ℕ × ℕ)) (place : ℕ) (before pair : ℕ × ℕ)
+same_pair : (kept : ComparedKept) (pairs : List (ℕ × ℕ)) (place : ℕ) (before pair : ℕ × ℕ)
     → pairs ≡ kept.pairs → before ≡ get_or pairs place before
     → before.0 ≡ pair.0 → before.1 ≡ pair.1
     → kept ≡ record {
