@@ -12,7 +12,7 @@ use Rattle.vyrd_log_check.proofs.SoFarLaws.{IsBad, so_far_bad}
 use Rattle.vyrd_check_command.specs.Inputs.{IsTaken, IsVerdictOf}
 use Rattle.vyrd_check_command.specs.Outputs.{status_of}
 use Rattle.vyrd_check_command.specs.Checks.{IsSettled}
-use Rattle.vyrd_check_command.specs.Progress.{IsReached}
+use Rattle.vyrd_check_command.specs.Inside.Progress.{IsReached}
 use Rattle.vyrd_check_command.proofs.TakenLaws.{no_more_bytes}
 
 same_bytes : (xs ys : List ℕ) → ◌≡◌ {A = Option (List ℕ)} (Some xs) (Some ys) → xs ≡ ys

@@ -11,7 +11,7 @@ use Rattle.vyrd_log_check.specs.Costs.{bytes_cost, finish_cost}
 use Rattle.vyrd_log_check.specs.Owed.{checker_debt}
 use Rattle.vyrd_check_command.specs.Inputs.{IsTaken}
 use Rattle.vyrd_check_command.specs.Checks.{IsCounted}
-use Rattle.vyrd_check_command.specs.Progress.{IsCounting}
+use Rattle.vyrd_check_command.specs.Inside.Progress.{IsCounting}
 use Rattle.vyrd_check_command.proofs.TakenLaws.{no_more_bytes, taken_more}
 use Rattle.vyrd_check_command.proofs.PieceLaws.{checking_starts, checking_goes_on}
 

@@ -12,7 +12,7 @@ use Rattle.vyrd_log_check.proofs.LogLasts.{log_verdict_lasts, nothing_yet}
 use Rattle.vyrd_log_check.proofs.LengthLaws.{undecided_is_short}
 use Rattle.vyrd_check_command.specs.Inputs.{longest_read, IsTaken}
 use Rattle.vyrd_check_command.specs.Checks.{has_verdict, IsReadNoFurther}
-use Rattle.vyrd_check_command.specs.Progress.{IsChecking, IsReached}
+use Rattle.vyrd_check_command.specs.Inside.Progress.{IsChecking, IsReached}
 use Rattle.vyrd_check_command.proofs.TakenLaws.{no_more_bytes, taken_more, taken_nothing}
 use Rattle.vyrd_check_command.proofs.TakenLaws.{begins_later}
 

@@ -1,8 +1,7 @@
 pub mod Inputs
 pub mod Outputs
-pub mod Progress
 pub mod Checks
-pub mod Words
+pub mod Inside
 -- what the clauses of public calls cite of crates below
 pub use Rattle.vyrd_base.specs.Devices
 pub use Rattle.vyrd_log_check.specs.Checking

@@ -8,7 +8,7 @@ ghost use Rattle.vyrd_log_check.specs.Checking.{most_lines};
 ghost use Rattle.vyrd_check_command.specs.Checks.{IsAnswered, IsAnsweredInPart, IsSettled};
 ghost use Rattle.vyrd_check_command.specs.Checks.{IsUnsettled, IsReadNoFurther, HasRoomForAnswer};
 ghost use Rattle.vyrd_check_command.specs.Outputs.{Appends, AppendsFront};
-ghost use Rattle.vyrd_check_command.specs.Words.{asks_check, usage_line};
+ghost use Rattle.vyrd_check_command.specs.Inside.Words.{asks_check, usage_line};
 
 use crate::deliver::give_usage;
 use crate::ended::Ended;

@@ -7,7 +7,7 @@ ghost use Rattle.vyrd_log_check.specs.Checking.{HasChecked, IsLimit, most_lines}
 ghost use Rattle.vyrd_log_check.specs.Owed.{checker_debt};
 ghost use Rattle.vyrd_check_command.specs.Inputs.{longest_read, is_failed};
 ghost use Rattle.vyrd_check_command.specs.Checks.{IsReadNoFurther, IsUnsettled, IsCounted};
-ghost use Rattle.vyrd_check_command.specs.Progress.{IsChecking, IsCounting, IsReached};
+ghost use Rattle.vyrd_check_command.specs.Inside.Progress.{IsChecking, IsCounting, IsReached};
 ghost use Rattle.vyrd_check_command.specs.declared.read_log.ReadFault.TheVariants.{Failed, Memory};
 
 use std::alloc::{AllocError, AllocFailed, Global};

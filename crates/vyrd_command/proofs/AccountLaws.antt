@@ -16,7 +16,7 @@ use Rattle.vyrd_mover.specs.HistoryText.{history_header_line, event_line}
 use Rattle.vyrd_mover.proofs.WrittenLaws.{whole_history}
 use Rattle.vyrd_command.specs.declared.show.Show.{Show}
 use Rattle.vyrd_command.specs.declared.show.Show.TheVariants as shown
-use Rattle.vyrd_command.specs.Accounts.{text_so_far}
+use Rattle.vyrd_command.specs.Inside.Accounts.{text_so_far}
 use Rattle.vyrd_command.specs.Steps.{run_text}
 
 -- one line more

@@ -17,8 +17,8 @@ use Rattle.vyrd_check_command.specs.declared.answer.Answer.{Answer}
 use Rattle.vyrd_check_command.proofs.TakenLaws.{taken_more}
 use Rattle.vyrd_command.specs.Inputs.{IsInputRead, IsMoreRead, IsFewTaken}
 use Rattle.vyrd_command.specs.Batches.{IsBatchAnswer, IsReading}
-use Rattle.vyrd_command.specs.BatchCosts.{round_bytes, IsSinceRound, IsPaidRound, IsReadFor}
-use Rattle.vyrd_command.specs.BatchCosts.{IsTakenFor}
+use Rattle.vyrd_command.specs.Inside.BatchCosts.{round_bytes, IsSinceRound, IsPaidRound, IsReadFor}
+use Rattle.vyrd_command.specs.Inside.BatchCosts.{IsTakenFor}
 use Rattle.vyrd_command.proofs.InputLaws.{whole_input, long_refused}
 
 pub logs_are_input : (before after : SourceKnown) (bytes : List ℕ)

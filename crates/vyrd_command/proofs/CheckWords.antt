@@ -5,7 +5,7 @@ use Rattle.std.specs.Option.{option_and_then}
 use Rattle.std.specs.Str.{bytes_eq}
 use Rattle.vyrd_base.specs.Lines.{number_of}
 use Rattle.vyrd_explain.specs.declared.about.About.TheVariants.{Fault, Changes}
-use Rattle.vyrd_check_command.specs.Words.{is_check}
+use Rattle.vyrd_check_command.specs.Inside.Words.{is_check}
 use Rattle.vyrd_command.specs.declared.show.Show.TheVariants.{Verdict, Log, History}
 use Rattle.vyrd_command.specs.declared.form.Form.{Form}
 use Rattle.vyrd_command.specs.declared.form.Form.TheVariants.{Check, Step, Run, Gen, Movers, Batch}

@@ -3,7 +3,7 @@ use Rattle.std.proofs.Common.{◌≡◌, ℕ, ◌≤◌, Bool, true, false, refl
 use Rattle.std.specs.Prelude.{◌⊎◌, ◌==◌, ◌+◌, ◌^◌, ◌-◌, if◌then◌else◌}
 use Rattle.std.proofs.lemmas.Bool.Decides.{nat_tests}
 use Rattle.vyrd_base.specs.Devices.{next_count}
-use Rattle.vyrd_command.specs.Counts.{HasRisen}
+use Rattle.vyrd_command.specs.Inside.Counts.{HasRisen}
 
 -- one more is greater, if the count doesn't stand at its last value
 next_rises : (n : ℕ) → HasRisen n (next_count n)

@@ -13,7 +13,7 @@ use Rattle.vyrd_work.specs.WorkScripts.{work_scripts}
 use Rattle.vyrd_live.specs.LiveRuns.{LeavesRun}
 use Rattle.vyrd_check_command.specs.Outputs.{status_of}
 use Rattle.vyrd_command.specs.declared.show.Show.{Show}
-use Rattle.vyrd_command.specs.Accounts.{AccountView, HasTaken}
+use Rattle.vyrd_command.specs.Inside.Accounts.{AccountView, HasTaken}
 use Rattle.vyrd_command.specs.Steps.{run_text, TellsRun}
 use Rattle.vyrd_command.specs.Runs.{TellsLive}
 use Rattle.vyrd_command.specs.Generated.{generated_line, CountsRun}

@@ -1,16 +1,14 @@
 pub mod Inputs
 pub mod Forms
-pub mod Accounts
 pub mod Steps
 pub mod Runs
 pub mod Generated
 pub mod CorrectInputs
 pub mod Moved
 pub mod Batches
-pub mod BatchCosts
 pub mod Explains
-pub mod Counts
 pub mod Commands
+pub mod Inside
 -- what the clauses of public calls cite of crates below
 pub use Rattle.vyrd_base.specs.Devices
 pub use Rattle.vyrd_log_check.specs.Checking

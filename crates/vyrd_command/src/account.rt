@@ -9,7 +9,7 @@ ghost use Rattle.vyrd_base.specs.Rules.{Charter, built_in, rules_by};
 ghost use Rattle.vyrd_base.specs.Subjects.{is_built_in};
 ghost use Rattle.vyrd_base.specs.Verdicts.{verdict};
 ghost use Rattle.vyrd_command.specs.declared.show.Show.{Show};
-ghost use Rattle.vyrd_command.specs.Accounts.{HasTaken, text_so_far};
+ghost use Rattle.vyrd_command.specs.Inside.Accounts.{HasTaken, text_so_far};
 ghost use Rattle.vyrd_command.specs.Steps.{run_text};
 
 use crate::show::Show;
@@ -41,7 +41,7 @@ pub struct Told {
 
 impl Model for Account {
     ghost use Rattle.std.specs.Prelude.{◌≤◌};
-    ghost use Rattle.vyrd_command.specs.Accounts.{AccountView};
+    ghost use Rattle.vyrd_command.specs.Inside.Accounts.{AccountView};
 
     ghost Value = { AccountView };
 

@@ -12,7 +12,8 @@ ghost use Rattle.vyrd_check_command.specs.Inputs.{is_failed};
 ghost use Rattle.vyrd_command.specs.Inputs.{IsInputTaken, IsFewTaken};
 ghost use Rattle.vyrd_command.specs.Batches.{AnswersBatch, IsBatchAnswer, IsBatchRead};
 ghost use Rattle.vyrd_command.specs.Batches.{IsBatchStatus};
-ghost use Rattle.vyrd_command.specs.BatchCosts.{IsSinceRound, IsPaidRound, IsReadFor, IsTakenFor};
+ghost use Rattle.vyrd_command.specs.Inside.BatchCosts.{IsSinceRound, IsPaidRound, IsReadFor};
+ghost use Rattle.vyrd_command.specs.Inside.BatchCosts.{IsTakenFor};
 
 use crate::read_input::{LONGEST_BATCH, read_more};
 use crate::status::{BATCH_REFUSED, MEMORY, READ_FAULT};

@@ -4,12 +4,12 @@ ghost use Rattle.std.specs.Prelude.{◌≡◌, ◌≤◌, ◌⊎◌, ℕ, Bool, 
 ghost use Rattle.std.specs.Prelude.{Some, None};
 ghost use Rattle.std.specs.Borrow.{Bor};
 ghost use Rattle.vyrd_base.specs.Devices.{SourceKnown, AfterReads, SinkKnown, AfterWrites};
-ghost use Rattle.vyrd_check_command.specs.Words.{asks_check};
+ghost use Rattle.vyrd_check_command.specs.Inside.Words.{asks_check};
 ghost use Rattle.vyrd_command.specs.declared.form.Form.{Form};
 ghost use Rattle.vyrd_command.specs.declared.form.Form.TheVariants.{Check};
 ghost use Rattle.vyrd_command.specs.Forms.{form_said};
 ghost use Rattle.vyrd_command.specs.Commands.{IsStatus, HasRoom};
-ghost use Rattle.vyrd_command.specs.Counts.{HasRisen};
+ghost use Rattle.vyrd_command.specs.Inside.Counts.{HasRisen};
 
 /// Status 3 comes only for words that are none of the forms.
 pub fn usage_is_of_no_form()

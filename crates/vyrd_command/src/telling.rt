@@ -8,7 +8,7 @@ ghost use Rattle.vyrd_base.specs.Verdicts.{verdict};
 ghost use Rattle.vyrd_base.specs.VerdictText.{verdict_text};
 ghost use Rattle.vyrd_work.specs.Refusals.{refusal_text};
 ghost use Rattle.vyrd_check_command.specs.Outputs.{status_of};
-ghost use Rattle.vyrd_command.specs.Accounts.{HasTaken};
+ghost use Rattle.vyrd_command.specs.Inside.Accounts.{HasTaken};
 ghost use Rattle.vyrd_command.specs.Steps.{run_text, stuck_line};
 ghost use Rattle.vyrd_command.specs.Runs.{spent_line};
 ghost use Rattle.vyrd_command.specs.Generated.{generated_line};

@@ -1,7 +1,7 @@
 use Rattle.std.proofs.Common.{◌≡◌, length, false}
 use Rattle.vyrd_base.specs.Devices.{AfterReads}
 use Rattle.vyrd_check_command.specs.Inputs.{longest_read}
-use Rattle.vyrd_check_command.specs.Progress.{IsCounting}
+use Rattle.vyrd_check_command.specs.Inside.Progress.{IsCounting}
 use Rattle.vyrd_check_command.proofs.read_log.read_on.Given as goal
 
 abbrev pub invariant-loop-round : goal.invariant-loop-round

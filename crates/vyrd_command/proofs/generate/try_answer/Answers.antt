@@ -5,7 +5,7 @@ use Rattle.vyrd_work.specs.Workloads.{workload_of}
 use Rattle.vyrd_work.specs.WorkScripts.{work_scripts}
 use Rattle.vyrd_work.proofs.BuiltIn.{work_built_in}
 use Rattle.vyrd_live.proofs.FreshWorkers.{both_ok}
-use Rattle.vyrd_command.specs.Accounts.{HasTaken}
+use Rattle.vyrd_command.specs.Inside.Accounts.{HasTaken}
 use Rattle.vyrd_command.specs.Generated.{CountsRun}
 use Rattle.vyrd_command.proofs.StepLaws.{of_match}
 use Rattle.vyrd_command.proofs.TellingLaws.{of_some, counts_run}

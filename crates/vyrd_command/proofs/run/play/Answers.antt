@@ -6,7 +6,7 @@ use Rattle.vyrd_work.specs.WorkScripts.{ops_of, work_scripts}
 use Rattle.vyrd_live.specs.LiveRuns.{LeavesRun}
 use Rattle.vyrd_work.proofs.BuiltIn.{work_built_in}
 use Rattle.vyrd_live.proofs.FreshWorkers.{both_ok}
-use Rattle.vyrd_command.specs.Accounts.{HasTaken}
+use Rattle.vyrd_command.specs.Inside.Accounts.{HasTaken}
 use Rattle.vyrd_command.proofs.TellingLaws.{tells_live}
 use Rattle.vyrd_command.proofs.run.play.Goals as goal
 

@@ -3,7 +3,7 @@ use Rattle.std.proofs.lemmas.Result.{on_ok_weaker}
 use Rattle.vyrd_base.specs.Rules.{rules_by}
 use Rattle.vyrd_base.specs.Histories.{log_of}
 use Rattle.vyrd_judge.specs.Following.{HasFollowed}
-use Rattle.vyrd_command.specs.Accounts.{HasTaken, text_so_far}
+use Rattle.vyrd_command.specs.Inside.Accounts.{HasTaken, text_so_far}
 use Rattle.vyrd_verifier.proofs.JudgeLaws.{log_with, log_without}
 use Rattle.vyrd_command.proofs.account.AccountEventSink.take.Goals.{in-Some+in_ok-feed, in_default}
 use Rattle.vyrd_command.proofs.account.AccountEventSink.take.Goals as goal
