@@ -24,12 +24,35 @@ impl<C: Compare> Words<C> {
 """
 
 
+DECLARED = """
+pub trait Marked {
+    /// Whether it is marked.
+    fn is_marked(self) -> bool
+        ensures { result ≡ is_marked self };
+}
+
+impl<V: Marked> Places<V> {
+    fn first(&self) -> Option<u64> {
+        for place in &self.places {
+            go(place);
+        }
+        None
+    }
+}
+"""
+
+
 def found_in(body):
     """What is without a count in a function `look` with this body."""
+    return found_in_file(SOURCE.replace("BODY", body))
+
+
+def found_in_file(source):
+    """What is without a count in a file."""
     with tempfile.TemporaryDirectory() as top:
         file = Path(top) / "crates" / "made_up" / "src" / "words.rt"
         file.parent.mkdir(parents=True)
-        file.write_text(SOURCE.replace("BODY", body), encoding="utf-8")
+        file.write_text(source, encoding="utf-8")
         return [(row.function, row.what) for row in uncounted.rows(Path(top), ("made_up",))]
 
 
@@ -52,6 +75,11 @@ class Loops(unittest.TestCase):
 
     def test_a_count_in_a_comment_is_none(self):
         self.assertEqual(found_in("loop {\n            go(); // steps.tick()\n        }"), [(LOOK, "loop")])
+
+
+class Declarations(unittest.TestCase):
+    def test_a_function_without_a_body_has_no_loop_of_the_next(self):
+        self.assertEqual(found_in_file(DECLARED), [("made_up/words: Places::first", "for")])
 
 
 class Calls(unittest.TestCase):
