@@ -3,8 +3,11 @@
 -- begins or ends a batch. For a log there are five more at most: one as it is weighed, two as its
 -- verdict is copied, and two for the part of the logs in which it may be alone.
 use Rattle.std.specs.Prelude.{◌≡◌, ◌≤◌, ◌+◌, ◌*◌, ◌-◌, ℕ, zero, suc, List, ◌++◌, length}
+use Rattle.std.specs.Prelude.{sum_by}
 use Rattle.std.specs.Prelude.{Option, None, Some}
 use Rattle.vyrd_base.specs.Spelling.{ended_line}
+use Rattle.vyrd_log_check.specs.Checking.{most_lines}
+use Rattle.vyrd_log_check.specs.Costs.{log_cost}
 use Rattle.vyrd_batch.specs.Batches.{first_line, first_word}
 use Rattle.vyrd_batch.specs.Rounds.{IsNoLog}
 
@@ -45,3 +48,7 @@ IsBegun (Some before) place first bytes = (first ≡ 0) × (before ≡ place)
 -- constant: its line has 13 bytes at most, and its bytes aren't moved. The rest is for words.
 abbrev pub round_cost : (fresh : ℕ) → ℕ
 round_cost fresh = 3 * fresh + 32
+
+-- what it costs to judge logs one after the other, in steps of their judges
+abbrev pub logs_cost : List (List ℕ) → ℕ
+logs_cost logs = sum_by (λ log. log_cost most_lines log) logs

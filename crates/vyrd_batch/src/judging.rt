@@ -1,11 +1,13 @@
 //! Judging the logs of a batch side by side.
 
-ghost use Rattle.std.specs.Prelude.{◌≡◌, ◌≤◌, ◌<◌, ◌+◌, ◌*◌, length, map, flat_map, IfOk};
+ghost use Rattle.std.specs.Prelude.{◌≡◌, ◌≤◌, ◌<◌, ◌+◌, ◌*◌, length, map, flat_map, IfOk, OnOk};
 ghost use Rattle.std.specs.List.{AllByRecursion};
 ghost use Rattle.vyrd_base.specs.LogVerdicts.{log_verdict};
 ghost use Rattle.vyrd_batch.specs.Batches.{LiesWithin, bytes_of};
 ghost use Rattle.vyrd_batch.specs.BatchAnswers.{verdicts_of};
+ghost use Rattle.vyrd_batch.specs.Costs.{logs_cost};
 ghost use Rattle.vyrd_log_check.specs.Checking.{most_lines};
+ghost use Rattle.vyrd_log_check.specs.Costs.{log_cost};
 
 use crate::parts::{part_weight, parts_of};
 use crate::span::Span;
@@ -16,7 +18,7 @@ use std::marker::Brand;
 use std::sync::ledger::{Blank, Ledger};
 use std::thread::Threads;
 use vyrd_base::{Steps, Verdict};
-use vyrd_log_check::log_verdict_of;
+use vyrd_log_check::log_verdict_of_counted;
 
 /// How many lines a log may have.
 const MOST_LINES: u64 = 268_435_456;
@@ -100,31 +102,65 @@ fn judge_parts<R: Threads + Sync>(
                 requires { AllByRecursion (LiesWithin (length bytes.now)) part.now.now }
                 ensures { IfOk result (λ verdicts. verdicts.items
                     ≡ verdicts_of (map (bytes_of bytes.entry.now) part.now.now)) }
-            { judge_part(alloc, bytes, part) },
+            { judge_part_alone::<Brand>(Blank::new(1), alloc, bytes, part) },
         )
         .collect(rt, alloc)?;
     judged
 }
 
-/// The verdicts about the spans of a part, one after the other.
-fn judge_part(alloc: Global, bytes: &[u8], spans: &[Span]) -> Result<Vec<Verdict>, AllocError>
-    requires { AllByRecursion (LiesWithin (length bytes.now)) spans.now }
+/// The verdicts about the spans of a part, with a count of its own, as each thread has.
+fn judge_part_alone<L: Ledger>(
+    blank: Blank,
+    alloc: Global,
+    bytes: &[u8],
+    spans: &[Span],
+) -> Result<Vec<Verdict>, AllocError>
+    requires name { blank.name ≡ L.name }
+    requires parts { blank.parts ≡ L.parts }
+    requires some { 0 < blank.parts }
+    requires inside { AllByRecursion (LiesWithin (length bytes.now)) spans.now }
     ensures { IfOk result
         (λ verdicts. verdicts.items ≡ verdicts_of (map (bytes_of bytes.now) spans.now)) }
 {
+    let mut steps = Steps::<L>::new(blank);
+    judge_part_counted(alloc, bytes, spans, &mut steps)
+}
+
+/// The verdicts about the spans of a part, one after the other, with the steps of their judges
+/// counted: no more than each log costs by itself.
+pub fn judge_part_counted<L: Ledger>(
+    alloc: Global,
+    bytes: &[u8],
+    spans: &[Span],
+    steps: &mut Steps<L>,
+) -> Result<Vec<Verdict>, AllocError>
+    requires { AllByRecursion (LiesWithin (length bytes.now)) spans.now }
+    ensures verdicts { IfOk result
+        (λ verdicts. verdicts.items ≡ verdicts_of (map (bytes_of bytes.now) spans.now)) }
+    ensures steps { OnOk result
+        (steps.new ≤ steps.old + logs_cost (map (bytes_of bytes.now) spans.now)) }
+{
     let mut verdicts = Vec::new(alloc);
     for span in spans {
-        verdicts.push(judge_span(alloc, bytes, *span)?)?;
+        verdicts.push(judge_span(alloc, bytes, *span, steps)?)?;
     }
     Ok(verdicts)
 }
 
 /// The verdict about the bytes of a span.
-fn judge_span(alloc: Global, bytes: &[u8], span: Span) -> Result<Verdict, AllocError>
+fn judge_span<L: Ledger>(
+    alloc: Global,
+    bytes: &[u8],
+    span: Span,
+    steps: &mut Steps<L>,
+) -> Result<Verdict, AllocError>
     requires { LiesWithin (length bytes.now) span }
-    ensures { IfOk result (λ verdict. verdict ≡ log_verdict most_lines (bytes_of bytes.now span)) }
+    ensures verdict { IfOk result
+        (λ verdict. verdict ≡ log_verdict most_lines (bytes_of bytes.now span)) }
+    ensures steps { OnOk result
+        (steps.new ≤ steps.old + log_cost most_lines (bytes_of bytes.now span)) }
 {
-    log_verdict_of(alloc, MOST_LINES, &bytes[span.first..span.past])
+    log_verdict_of_counted(alloc, MOST_LINES, &bytes[span.first..span.past], steps)
 }
 
 /// The verdicts of all parts, in their order. A step is counted for each part and each verdict.

@@ -20,7 +20,7 @@ pub mod worked;
 
 pub use answer::{status_of, write_refusal, write_verdicts};
 pub use fault::BatchFault;
-pub use judging::{judge_batch, judge_batch_counted};
+pub use judging::{judge_batch, judge_batch_counted, judge_part_counted};
 pub use reader::{read_batch, read_batch_counted};
 pub use rounds::BatchJudge;
 pub use span::Span;
