@@ -1,7 +1,6 @@
 pub mod DecodedLaws
 pub mod ChainLaws
 pub mod ApartLaws
-pub mod RestLaws
 pub mod PairLaws
 pub mod PlacedLaws
 pub mod NodeLaws
@@ -12,10 +11,7 @@ pub mod CurrentLaws
 pub mod DifferingLaws
 pub mod PriceLaws
 pub mod ReadyLaws
-pub mod HomeLaws
 pub mod SidedLaws
-pub mod FreshLaws
 pub mod SummedLaws
 pub mod RoomLaws
 pub mod OutcomeLaws
-pub mod MoveLaws

@@ -3,14 +3,12 @@ use Rattle.std.proofs.Common.{◌≡◌, ◌≢◌, ℕ, ◌+◌, ◌-◌, ◌*�
 use Rattle.std.proofs.Common.{false, cond, [], Option, Some, None, refl, ap, ◌∙◌, sym, subst, arith}
 use Rattle.std.specs.Prelude.{◌==◌, nat_le}
 use Rattle.vyrd_base.specs.Amounts.{Amounts, amount_of, with_amount}
-use Rattle.vyrd_base.proofs.AmountLaws.{amount_of-with_amount}
 use Rattle.vyrd_base.proofs.TestLaws.{same_of, at_most_of, above_of}
-use Rattle.vyrd_view.specs.declared.rest.Rest.{Rest}
 use Rattle.vyrd_view.specs.declared.sides.Sides.{Sides}
 use Rattle.vyrd_view.specs.declared.sums.Sums.{Sums}
 use Rattle.vyrd_view.specs.Apart.{IsLeastApart}
 use Rattle.vyrd_view.specs.Sided as sided
-use Rattle.vyrd_view.specs.Sided.{shown_at}
+use Rattle.vyrd_view.specs.Sided.{shown_at, specified_of}
 use Rattle.vyrd_view.specs.Summed.{AreSettled, IsSettled, sum_at}
 
 pub settled_sums : (s : Sums) → IsSettled s → AreSettled s
@@ -22,14 +20,15 @@ unfolding IsSettled
 sums_settled s settled = settled
 
 pub sum_is : (s : Sums) (q : ℕ)
-    → sum_at s q ≡ shown_at s.sides q + 2 ^ 64 * amount_of s.carries.shown q
+    → sum_at s q ≡ shown_at s.sides q + 2 ^ 64 * shown_at s.carries q
 unfolding sum_at
 sum_is s q = refl
 
 -- where there is nothing on either side
-pub fresh_sum : (s : Sums) → ((q : ℕ) → shown_at s.sides q ≡ 0) → s.carries.shown ≡ [] → (q : ℕ)
+pub fresh_sum : (s : Sums) → ((q : ℕ) → shown_at s.sides q ≡ 0)
+    → ((q : ℕ) → shown_at s.carries q ≡ 0) → (q : ℕ)
     → sum_at s q ≡ 0
-fresh_sum s none bare q = omega (arith, sum_is s q, none q, ap (λ a. amount_of a q) bare)
+fresh_sum s none bare q = omega (arith, sum_is s q, none q, bare q)
 
 -- where the carries stay, the sums are in order if the sides are
 pub sides_settle : (s : Sums) (sides : Sides) → IsSettled s → sided.IsSettled sides
@@ -45,7 +44,7 @@ sides_settle s sides settled now =
 pub sum_stays : (s : Sums) (sides : Sides) → ((q : ℕ) → shown_at sides q ≡ shown_at s.sides q)
     → (q : ℕ) → sum_at (record { sides = sides; carries = s.carries }) q ≡ sum_at s q
 unfolding sum_at
-sum_stays s sides now q = ap (λ n. n + 2 ^ 64 * amount_of s.carries.shown q) (now q)
+sum_stays s sides now q = ap (λ n. n + 2 ^ 64 * shown_at s.carries q) (now q)
 
 -- nothing is specified of carries still
 pub bare_stays : (s t : Amounts) (k : ℕ) → s ≡ [] → t ≡ with_amount s k 0 → t ≡ []
@@ -53,10 +52,10 @@ bare_stays s t k bare is = is ∙ ap (λ a. with_amount a k 0) bare
 
 -- the carries are against nothing
 pub against_none : (s : Sums) → AreSettled s → (o : Option ℕ)
-    → IsLeastApart (amount_of s.carries.shown) (amount_of s.carries.specified) o
-    → IsLeastApart (amount_of s.carries.shown) (λ q. 0) o
+    → IsLeastApart (shown_at s.carries) (amount_of (specified_of s.carries)) o
+    → IsLeastApart (shown_at s.carries) (λ q. 0) o
 against_none s settled o is =
-    subst (λ a. IsLeastApart (amount_of s.carries.shown) (amount_of a) o) settled.alone is
+    subst (λ a. IsLeastApart (shown_at s.carries) (amount_of a) o) settled.alone is
 
 -- what is left of a key's sum changes, and its carries stay
 pub sum_moves : (s : Sums) (sides : Sides) (k less more low : ℕ) → less ≤ shown_at s.sides k
@@ -66,30 +65,30 @@ pub sum_moves : (s : Sums) (sides : Sides) (k less more low : ℕ) → less ≤ 
     ≡ cond (q == k) (sum_at s k - less + more) (sum_at s q)
 unfolding sum_at
 sum_moves s sides k less more low enough is now q =
-    ap (λ n. n + 2 ^ 64 * amount_of s.carries.shown q) (now q) ∙ by_key (q == k) refl
+    ap (λ n. n + 2 ^ 64 * shown_at s.carries q) (now q) ∙ by_key (q == k) refl
   where
     by_key : (b : Bool) → (q == k) ≡ b
-        → cond b low (shown_at s.sides q) + 2 ^ 64 * amount_of s.carries.shown q
-        ≡ cond b (shown_at s.sides k + 2 ^ 64 * amount_of s.carries.shown k - less + more)
-        (shown_at s.sides q + 2 ^ 64 * amount_of s.carries.shown q)
-    by_key true e = omega (arith, is, enough, ap (amount_of s.carries.shown) (same_of q k e))
+        → cond b low (shown_at s.sides q) + 2 ^ 64 * shown_at s.carries q
+        ≡ cond b (shown_at s.sides k + 2 ^ 64 * shown_at s.carries k - less + more)
+        (shown_at s.sides q + 2 ^ 64 * shown_at s.carries q)
+    by_key true e = omega (arith, is, enough, ap (shown_at s.carries) (same_of q k e))
     by_key false e = refl
 
 -- and both change
-pub sum_carries : (s : Sums) (sides : Sides) (carries : Rest) (k sum : ℕ)
-    → carries.shown ≡ with_amount s.carries.shown k (sum / 2 ^ 64)
+pub sum_carries : (s : Sums) (sides : Sides) (carries : Sides) (k sum : ℕ)
+    → ((q : ℕ) → shown_at carries q ≡ cond (q == k) (sum / 2 ^ 64) (shown_at s.carries q))
     → ((q : ℕ) → shown_at sides q ≡ cond (q == k) (sum % 2 ^ 64) (shown_at s.sides q)) → (q : ℕ)
     → sum_at (record { sides = sides; carries = carries }) q ≡ cond (q == k) sum (sum_at s q)
 unfolding sum_at
 sum_carries s sides carries k sum is now q =
-    ap (λ n. n + 2 ^ 64 * amount_of carries.shown q) (now q)
+    ap (λ n. n + 2 ^ 64 * shown_at carries q) (now q)
     ∙ ap (λ n. cond (q == k) (sum % 2 ^ 64) (shown_at s.sides q) + 2 ^ 64 * n)
-    (ap (λ c. amount_of c q) is ∙ amount_of-with_amount s.carries.shown k (sum / 2 ^ 64) q)
+    (is q)
     ∙ by_key (q == k)
   where
     by_key : (b : Bool) → cond b (sum % 2 ^ 64) (shown_at s.sides q)
-        + 2 ^ 64 * cond b (sum / 2 ^ 64) (amount_of s.carries.shown q)
-        ≡ cond b sum (shown_at s.sides q + 2 ^ 64 * amount_of s.carries.shown q)
+        + 2 ^ 64 * cond b (sum / 2 ^ 64) (shown_at s.carries q)
+        ≡ cond b sum (shown_at s.sides q + 2 ^ 64 * shown_at s.carries q)
     by_key true = omega arith
     by_key false = refl
 
@@ -97,7 +96,7 @@ sum_carries s sides carries k sum is now q =
 
 module _ (s : Sums) (g : ℕ → ℕ) where
   -- where no key has a carry
-  pub apart_uncarried : (o : Option ℕ) → ((q : ℕ) → amount_of s.carries.shown q ≡ 0)
+  pub apart_uncarried : (o : Option ℕ) → ((q : ℕ) → shown_at s.carries q ≡ 0)
       → IsLeastApart (shown_at s.sides) g o → IsLeastApart (sum_at s) g o
   apart_uncarried None none is = λ q. omega (arith, sum_is s q, none q, is q)
   apart_uncarried (Some k) none is = (
@@ -106,11 +105,11 @@ module _ (s : Sums) (g : ℕ → ℕ) where
   )
 
   -- a key with a carry differs from what is below 2^64
-  carry_differs : (k : ℕ) → amount_of s.carries.shown k ≢ 0 → g k < 2 ^ 64 → sum_at s k ≢ g k
+  carry_differs : (k : ℕ) → shown_at s.carries k ≢ 0 → g k < 2 ^ 64 → sum_at s k ≢ g k
   carry_differs k some small same = some (omega (arith, sum_is s k, same, small))
 
   -- where the least of those with a carry is the only one that differs
-  pub apart_carried : (k : ℕ) → IsLeastApart (amount_of s.carries.shown) (λ q. 0) (Some k)
+  pub apart_carried : (k : ℕ) → IsLeastApart (shown_at s.carries) (λ q. 0) (Some k)
       → g k < 2 ^ 64 → IsLeastApart (shown_at s.sides) g None → IsLeastApart (sum_at s) g (Some k)
   apart_carried k carried small is = (
     carry_differs k carried.0 small,
@@ -119,7 +118,7 @@ module _ (s : Sums) (g : ℕ → ℕ) where
 
   -- and where there are both
   pub apart_either : (m k l : ℕ) → IsLeastApart (shown_at s.sides) g (Some m)
-      → IsLeastApart (amount_of s.carries.shown) (λ q. 0) (Some k) → g k < 2 ^ 64 → l ≡ min m k
+      → IsLeastApart (shown_at s.carries) (λ q. 0) (Some k) → g k < 2 ^ 64 → l ≡ min m k
       → IsLeastApart (sum_at s) g (Some l)
   apart_either m k l is carried small least = (
     by_order (nat_le k m) refl,

@@ -4,7 +4,8 @@ use Rattle.std.specs.Prelude.{slice_index, if◌then◌else◌}
 use Rattle.std.specs.List.{list_any}
 use Rattle.vyrd_base.specs.declared.header.Header.{Header}
 use Rattle.vyrd_base.specs.declared.subject.Subject.{Subject}
-use Rattle.vyrd_base.specs.declared.subject.Subject.TheVariants.{Multiset, Cache, Tree, Buffers, Own}
+use Rattle.vyrd_base.specs.declared.subject.Subject.TheVariants.{Multiset, Cache, Tree, Buffers}
+use Rattle.vyrd_base.specs.declared.subject.Subject.TheVariants.{Own}
 use Rattle.vyrd_base.specs.Amounts.{Amounts}
 use Rattle.vyrd_base.specs.Layout.{plain_words}
 use Rattle.vyrd_base.specs.Rules.{built_in, own}
@@ -53,7 +54,8 @@ differing before words changed =
 abbrev pub nodes_looked_at : ℕ → List ℕ → ℕ
 nodes_looked_at size words = length words + (if has_link words then size else 0)
 
--- how many parts are looked at at most: one for each changed word; the words of a tree count only if
+-- how many parts are looked at at most: one for each changed word; the words of a tree count only
+-- if
 -- they hold another value than before
 abbrev pub parts_looked_at : Subject → ℕ → List ℕ → List ℕ → List ℕ → ℕ
 parts_looked_at Tree size before words changed =

@@ -1,5 +1,5 @@
 pub mod Apart
-pub mod Rests
+pub mod TwoAmounts
 pub mod Sided
 pub mod Summed
 pub mod Kept
@@ -8,8 +8,6 @@ pub mod Pairs
 pub mod Chains
 pub mod Chained
 pub mod Comparing
-pub mod Homes
 pub mod Known
 pub mod Subjects
 pub mod Laws
-pub mod Moved

@@ -57,11 +57,11 @@ impl<D: Decode> Model for ByParts<D> {
 
 impl<D: Decode> ByParts<D> {
     /// Zeroed words against an empty specification. It takes memory for 64 parts at most: 8 bytes
-    /// for each word, 16 for each place, and 24 for each of 67 places of a table. Later calls take
-    /// as much for each word and each place up to the last part that a changed word is in, or up to
-    /// twice that; for a table that grows with the keys, up to 48 to 96 bytes for each place of the
-    /// parts, or of 4,096 parts if there are more; and what the ordered maps take of each key that
-    /// finds no place in the table.
+    /// for each word, 16 for each place, and 24 for each of 78 places of two tables. Later calls
+    /// take as much for each word and each place up to the last part that a changed word is in, or
+    /// up to twice that; for the table that grows with the keys, up to 48 to 96 bytes for each place
+    /// of the parts, or of 4,096 parts if there are more; and what the ordered maps of the tables
+    /// take of each key that finds no place there.
     pub fn new(alloc: Global, decoder: D) -> Result<ByParts<D>, AllocError>
         ensures { IfOk result (λ c. c ≡ record {
           shows = D.shows decoder;

@@ -16,10 +16,16 @@
 //! changes, and `view_of` collects it from scratch, as a whole view. The nodes of a tree are
 //! decoded apart, since a node counts only while it is on the chain of leaves.
 //!
+//! What the words show of each key and what the specification has of it stand side by side in a
+//! hash table of `vyrd_table` (`sides`), with the number of keys at which they differ, so that it
+//! takes constant time to see that there are none. What is shown of a key is the sum of its pairs;
+//! if it passes 64 bits, what is beyond them stands in a second such table (`sums`).
+//!
 //! `first_difference` compares two whole views.
 #![tactic(auto)]
 
 mod any_parts;
+mod both;
 mod buffers;
 mod by_parts;
 mod chain;
@@ -31,11 +37,9 @@ mod compared;
 mod decode;
 mod decoded;
 mod difference;
-mod homes;
 mod leaves;
 mod no_parts;
 mod parts;
-mod rest;
 mod room;
 mod shown;
 mod sides;

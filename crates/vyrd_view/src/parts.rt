@@ -10,12 +10,6 @@ use std::marker::Model;
 use std::sync::ledger::Ledger;
 use vyrd_base::Steps;
 
-/// A table is made for 2^3 places at least.
-const LEAST_BITS: u32 = 3;
-
-/// A table has 2^20 places at most. It is made for 16,384 keys at most, so it has 2^16.
-const MOST_BITS: u32 = 20;
-
 /// The pairs of a key and an amount that the parts of the words give, each in a place of its own,
 /// beside the specification's amounts. A pair whose amount is 0 gives nothing.
 #[derive(Drop)]
@@ -58,10 +52,9 @@ impl Parts {
         ensures { IfOk result
             (λ p. p ≡ record { pairs = pairs.items; specified = []; refused = false }) }
     {
-        let bits = table_bits(keys);
         Ok(Parts {
             pairs,
-            sums: Sums::new(alloc, bits)?,
+            sums: Sums::new(alloc, keys)?,
             refused: false,
         })
     }
@@ -174,13 +167,4 @@ impl Parts {
     {
         self.refused
     }
-}
-
-/// The table for this many pairs grows up to 2^bits places: two to four for each pair.
-fn table_bits(pairs: usize) -> u32
-    ensures { (1 ≤ result) × (result ≤ 20) }
-{
-    (usize::BITS + 1 - pairs.leading_zeros())
-        .max(LEAST_BITS)
-        .min(MOST_BITS)
 }

@@ -4,42 +4,45 @@ ghost use Rattle.std.specs.Prelude.{◌≡◌, ℕ, ◌+◌, ◌-◌, ◌*◌, �
 ghost use Rattle.std.specs.Prelude.{[], true, OnOk, IfOk, IfSome, if◌then◌else◌};
 ghost use Rattle.vyrd_base.specs.Amounts.{amount_of, with_amount, part_given};
 
-use crate::rest::{Both, Rest};
-use crate::sides::{Found, Sides};
+use crate::both::Both;
+use crate::sides::Sides;
 use std::alloc::{AllocError, Global};
 use std::sync::ledger::Ledger;
 use vyrd_base::Steps;
+use vyrd_table::Slot;
 
 /// What the carries of a key count: 2^64.
 const WHOLE: u128 = 1 << 64;
 
+/// The table of the carries is made for no key: almost no sum ever has one.
+const CARRIED_KEYS: usize = 0;
+
 /// The sum of what the words show of each key, however great it is, beside the specification's
 /// amount. A sum below 2^64, as almost each one is, stands in `sides`, and costs nothing more. Of
-/// any other, `sides` has what is left modulo 2^64, and `carries`, in ordered maps, how often 2^64
-/// was left out. A key with a carry differs from the specification, whose amounts are below 2^64.
+/// any other, `sides` has what is left modulo 2^64, and `carries`, in a small table of its own, how
+/// often 2^64 was left out. A key with a carry differs from the specification, whose amounts are
+/// below 2^64.
 #[derive(Drop)]
 pub(crate) struct Sums {
     pub(crate) sides: Sides,
     /// The carries of each key against none.
-    pub(crate) carries: Rest,
+    pub(crate) carries: Sides,
 }
 
 impl Sums {
     ghost use Rattle.vyrd_view.specs.Apart.{IsLeastApart};
-    ghost use Rattle.vyrd_view.specs.Homes.{IsFoundAt};
-    ghost use Rattle.vyrd_view.specs.Sided.{shown_at, specified_of};
+    ghost use Rattle.vyrd_view.specs.Sided.{IsAt, shown_at, specified_of};
     ghost use Rattle.vyrd_view.specs.Summed.{IsSettled, sum_at};
 
-    /// All sums are 0, and nothing is specified. The table grows up to 2^bits places.
-    pub(crate) fn new(alloc: Global, bits: u32) -> Result<Sums, AllocError>
-        requires { (1 ≤ bits) × (bits ≤ 20) }
+    /// All sums are 0, and nothing is specified. The table is made for that many keys.
+    pub(crate) fn new(alloc: Global, keys: usize) -> Result<Sums, AllocError>
         ensures settled { IfOk result (λ sums. IsSettled sums) }
         ensures shown { IfOk result (λ sums. (q : ℕ) → sum_at sums q ≡ 0) }
         ensures specified { IfOk result (λ sums. specified_of sums.sides ≡ []) }
     {
         Ok(Sums {
-            sides: Sides::new(alloc, bits)?,
-            carries: Rest::new(alloc),
+            sides: Sides::new(alloc, keys)?,
+            carries: Sides::new(alloc, CARRIED_KEYS)?,
         })
     }
 
@@ -63,15 +66,15 @@ impl Sums {
             (specified_of self.new.sides ≡ specified_of self.old.sides) }
         ensures steps { steps.new ≤ steps.old + 1 }
     {
-        let found = self.sides.at(key);
-        if !stays_below(found.both.shown, less, more) {
-            return self.carry(key, found, less, more, steps);
+        let slot = self.sides.at(key);
+        if !stays_below(slot.value.shown, less, more) {
+            return self.carry(key, slot, less, more, steps);
         }
         let both = Both {
-            shown: found.both.shown - less + more,
-            specified: found.both.specified,
+            shown: slot.value.shown - less + more,
+            specified: slot.value.specified,
         };
-        self.sides.put(key, found.place, both, steps)
+        self.sides.put(key, slot, both, steps)
     }
 
     /// The same for a sum that has carries, or gets one.
@@ -79,16 +82,15 @@ impl Sums {
     fn carry<L: Ledger>(
         &mut self,
         key: u64,
-        found: Found,
+        slot: Slot<Both>,
         less: u64,
         more: u64,
         steps: &mut Steps<L>,
     ) -> Result<(), AllocError>
         requires settled { IsSettled self.old }
-        requires shown { found.both.shown ≡ shown_at self.old.sides key }
-        requires specified { found.both.specified ≡ amount_of (specified_of self.old.sides) key }
-        requires place { IsFoundAt self.old.sides.homes.shift self.old.sides.homes.places.items key
-            found.place }
+        requires shown { slot.value.shown ≡ shown_at self.old.sides key }
+        requires specified { slot.value.specified ≡ amount_of (specified_of self.old.sides) key }
+        requires slot { IsAt self.old.sides key slot }
         requires enough { less ≤ sum_at self.old key }
         requires fits { less < more → sum_at self.old key - less + more < 2 ^ 128 }
         ensures settled { OnOk result (IsSettled self.new) }
@@ -98,18 +100,18 @@ impl Sums {
             (specified_of self.new.sides ≡ specified_of self.old.sides) }
         ensures steps { steps.new ≤ steps.old + 1 }
     {
-        let carries = self.carries.at(key).shown;
-        let sum = exchanged(carries, found.both.shown, less, more);
+        let before = self.carries.at(key);
+        let sum = exchanged(before.value.shown, slot.value.shown, less, more);
         let carried = Both {
             shown: sum.carries,
             specified: 0,
         };
         let both = Both {
             shown: sum.left,
-            specified: found.both.specified,
+            specified: slot.value.specified,
         };
-        self.carries.put(key, carried)?;
-        self.sides.put(key, found.place, both, steps)
+        self.carries.put_uncounted(key, before, carried)?;
+        self.sides.put(key, slot, both, steps)
     }
 
     /// The words show one pair no more, and show another.
@@ -177,14 +179,14 @@ impl Sums {
     #[inline(always)]
     fn first_carried(&self) -> Option<u64>
         requires { IsSettled self.now }
-        ensures least { IsLeastApart (amount_of self.now.carries.shown) (λ q. 0) result }
+        ensures least { IsLeastApart (shown_at self.now.carries) (λ q. 0) result }
         ensures small { IfSome result
             (λ key. amount_of (specified_of self.now.sides) key < 2 ^ 64) }
     {
-        match self.carries.first_apart() {
+        match self.carries.first_difference() {
             None => None,
             Some(key) => {
-                let _specified = self.sides.at(key).both.specified;
+                let _specified = self.sides.at(key).value.specified;
                 Some(key)
             }
         }

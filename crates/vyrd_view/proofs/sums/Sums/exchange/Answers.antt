@@ -8,8 +8,8 @@ use Rattle.vyrd_view.proofs.SidedLaws.{settled_of, with_same_amount}
 use Rattle.vyrd_view.proofs.SummedLaws.{settled_sums, sides_settle, sum_moves}
 use Rattle.vyrd_view.proofs.sums.Sums.exchange.Goals as goal
 
-pub at-found-requires : goal.at-found-requires
-at-found-requires g c = (settled_sums c.args.self.now c.requires.settled).sides
+pub at-slot-requires : goal.at-slot-requires
+at-slot-requires g c = (settled_sums c.args.self.now c.requires.settled).sides
 
 pub put-requires-clause-settled : goal.put-requires-clause-settled
 put-requires-clause-settled g c = (settled_sums c.args.self.now c.requires.settled).sides
@@ -25,7 +25,7 @@ pub returns-clause-shown : goal.returns-clause-shown
 returns-clause-shown g c =
     let s = c.args.self.now in
     let k = c.args.key in
-    let left = c.at-found.result.both.shown in
+    let left = c.at-slot.result.value.shown in
     let now = c.put.new.self in
     let low : ℕ = left - c.args.less + c.args.more in
     on_ok_weaker
@@ -38,18 +38,18 @@ returns-clause-shown g c =
       arith,
       c.stays_below.ensures.enough
           c.if-not-stays_below.false,
-      c.at-found.ensures.shown,
+      c.at-slot.ensures.shown,
     ))
-    (ap (λ n. n - c.args.less + c.args.more) c.at-found.ensures.shown))
+    (ap (λ n. n - c.args.less + c.args.more) c.at-slot.ensures.shown))
     c.put.ensures.shown
 
 pub returns-clause-specified : goal.returns-clause-specified
 returns-clause-specified g c =
     let s = c.args.self.now in
-    let kept = c.at-found.result.both.specified in
+    let kept = c.at-slot.result.value.specified in
     on_ok_weaker
     {P = specified_of c.put.new.self ≡ with_amount (specified_of s.sides) c.args.key kept}
     {Q = specified_of c.put.new.self ≡ specified_of s.sides} c.put.result
     (λ now. now ∙ with_same_amount s.sides c.args.key kept
-    (settled_of s.sides (settled_sums s c.requires.settled).sides) c.at-found.ensures.specified)
+    (settled_of s.sides (settled_sums s c.requires.settled).sides) c.at-slot.ensures.specified)
     c.put.ensures.specified

@@ -2,8 +2,8 @@ use Rattle.std.proofs.Common.{Some, None}
 use Rattle.vyrd_view.proofs.SummedLaws.{settled_sums, against_none}
 use Rattle.vyrd_view.proofs.sums.Sums.first_carried.Goals as goal
 
-pub first_apart-requires : goal.first_apart-requires
-first_apart-requires c = (settled_sums c.args.self.now c.requires).carries
+pub first_difference-requires : goal.first_difference-requires
+first_difference-requires c = (settled_sums c.args.self.now c.requires).carries
 
 pub at-specified-requires : goal.at-specified-requires
 at-specified-requires c = (settled_sums c.args.self.now c.requires).sides

@@ -14,7 +14,7 @@ pub returns-in_default-None : goal.returns-in_default-None
 returns-in_default-None c =
     let s = c.args.self.now in
     apart_uncarried s (amount_of (specified_of s.sides)) c.first_difference-one.result
-    (subst (IsLeastApart (amount_of s.carries.shown) (λ q. 0)) c.in_default-None.is-1
+    (subst (IsLeastApart (shown_at s.carries) (λ q. 0)) c.in_default-None.is-1
     c.first_carried.ensures.least)
     c.first_difference-one.ensures
 
@@ -23,7 +23,7 @@ returns-in-None-Some c =
     let s = c.args.self.now in
     let specified = amount_of (specified_of s.sides) in
     apart_carried s specified c.in-None-Some.key
-    (subst (IsLeastApart (amount_of s.carries.shown) (λ q. 0)) c.in-None-Some.is-1
+    (subst (IsLeastApart (shown_at s.carries) (λ q. 0)) c.in-None-Some.is-1
     c.first_carried.ensures.least)
     (subst (λ o. IfSome o (λ key. specified key < 2 ^ 64)) c.in-None-Some.is-1
     c.first_carried.ensures.small)
@@ -37,7 +37,7 @@ returns-in-Some-Some c =
     apart_either s specified c.in-Some-Some.one c.in-Some-Some.other c.min.result
     (subst (IsLeastApart (shown_at s.sides) specified) c.in-Some-Some.is-0
     c.first_difference-one.ensures)
-    (subst (IsLeastApart (amount_of s.carries.shown) (λ q. 0)) c.in-Some-Some.is-1
+    (subst (IsLeastApart (shown_at s.carries) (λ q. 0)) c.in-Some-Some.is-1
     c.first_carried.ensures.least)
     (subst (λ o. IfSome o (λ key. specified key < 2 ^ 64)) c.in-Some-Some.is-1
     c.first_carried.ensures.small)

@@ -1,7 +1,0 @@
-use Rattle.std.proofs.Common.{refl}
-use Rattle.vyrd_base.specs.Tables.{first_place}
-use Rattle.vyrd_view.proofs.homes.Homes.first_of.Goals as goal
-
-pub returns : goal.returns
-unfolding first_place
-returns c = refl
