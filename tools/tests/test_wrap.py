@@ -39,8 +39,14 @@ class Lines(unittest.TestCase):
             self.assertTrue(line.startswith("use Rattle.made_up.specs.Names.{") and line.endswith("}"))
         self.assertEqual([line[32:-1].split(", ") for line in (first, second)], [names[:7], names[7:]])
 
-    def test_a_comment_is_filled_up(self):
-        self.assertEqual(wrap.broken("-- " + "word " * 25 + "end"), ["-- " + " ".join(["word"] * 19), "-- " + "word " * 6 + "end"])
+    def test_a_comment_is_filled_up_from_its_long_line_to_its_end(self):
+        text = "-- short\n-- " + "word " * 25 + "end\n-- and more\nf x = x\n-- other"
+        lines = ["-- short", "-- " + " ".join(["word"] * 19), "-- " + "word " * 6 + "end and more", "f x = x", "-- other"]
+        self.assertEqual(wrap.broken_once(text), ("\n".join(lines), []))
+
+    def test_a_comment_of_one_long_word_stays(self):
+        line = "-- " + "a" * 120
+        self.assertEqual(wrap.broken_once(line), (line, [line]))
 
     def test_a_name_can_not_be_broken(self):
         self.assertIsNone(wrap.broken("    " + "a" * 120))

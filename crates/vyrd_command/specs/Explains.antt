@@ -39,8 +39,7 @@ pub record IsExplainTaken (max : ℕ) (before after : SourceKnown) : Type 0 wher
   pub enough : IsAtEnd after ⊎ (is_settled max taken ≡ true)
 
 -- What was taken of a source is at most one read more than its shortest beginning with which
--- nothing
--- further changes the answer, and in all no more than is read at most.
+-- nothing further changes the answer, and in all no more than is read at most.
 pub record IsExplainNoFurther (max : ℕ) (before after : SourceKnown) : Type 0 where
   pub taken : List ℕ
   pub told : IsTaken before.rest taken after.rest

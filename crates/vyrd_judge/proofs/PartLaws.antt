@@ -482,8 +482,7 @@ ends_alone h earlier e wf kept ends = by_kind e.kind kept ends
     by_kind BlockOpen kept' ends' = cc
 
 -- One more entry that keeps the rules. Its effects, as if blocks took effect at their end, come in
--- the part that `parts_behind`
--- tells.
+-- the part that `parts_behind` tells.
 pub parts_more : (h : Header) (before : List (ℕ × ℕ)) (earlier later : List Entry) (e : Entry)
     → WellFormed h (newest_first_onto earlier later)
     → broken_rule h (newest_first_onto earlier later) e ≡ None

@@ -1,54 +1,38 @@
 -- What the entries that wait tell of the one that comes: its caller, how many wait, and where a
 -- reply goes.
-use Rattle.std.proofs.Common.{◌≡◌, ℕ, zero, suc, ◌+◌, ◌-◌, ◌<◌, ◌≤◌, ◌^◌, Bool, true, false, cond}
-use Rattle.std.proofs.Common.{List, [], ◌∷◌, ◌++◌, map, length, set, get_or, ◌&&◌, Option, Some}
+use Rattle.std.proofs.Common.{◌≡◌, ℕ, zero, suc, ◌+◌, ◌-◌, ◌<◌, ◌^◌, Bool, true, false}
+use Rattle.std.proofs.Common.{List, [], ◌∷◌, ◌++◌, length, set, get_or, ◌&&◌, Option, Some}
 use Rattle.std.proofs.Common.{None, Result, Ok, Err, slice_get, refl, ap, subst, ◌∙◌, sym, arith}
-use Rattle.std.proofs.Common.{length-append, length-set}
-use Rattle.std.specs.Prelude.{◌==◌, ◌≢◌, not, option_map, OnOk, IfOk}
-use Rattle.std.specs.Option.{option_or, option_flatten}
-use Rattle.std.specs.Bool.{then_some}
+use Rattle.std.specs.Prelude.{◌==◌, ◌≢◌, not, OnOk, IfOk}
 use Rattle.std.specs.List.{cons_option}
-use Rattle.std.proofs.lemmas.Option.{slice_get_within, get_or_from_slice_get, none-some}
+use Rattle.std.proofs.lemmas.Option.{slice_get_within, get_or_from_slice_get}
 use Rattle.std.proofs.Math.Logic.{∥∥₁_elim}
 use Rattle.std.proofs.Math.Bool.{Bool-set}
-use Rattle.std.proofs.lemmas.Option.{same_Some}
-use Rattle.std.proofs.lemmas.List.{append-nil}
 use Rattle.vyrd_base.specs.declared.header.Header.{Header}
 use Rattle.vyrd_base.specs.declared.subject.Method.{Method}
 use Rattle.vyrd_base.specs.declared.subject.Args.{Args}
 use Rattle.vyrd_base.specs.declared.log.Kind.{Kind}
-use Rattle.vyrd_base.specs.declared.log.Kind.TheVariants.{Call, Return, Write, Commit, BlockOpen}
-use Rattle.vyrd_base.specs.declared.log.Kind.TheVariants.{BlockClose, BlockCommit}
+use Rattle.vyrd_base.specs.declared.log.Kind.TheVariants.{Return}
 use Rattle.vyrd_base.specs.declared.log.Entry.{Entry}
-use Rattle.vyrd_base.specs.Places.{first_answer}
-use Rattle.vyrd_base.specs.Callers.{Called, by_caller, open_call, call_or_return, has_committed}
-use Rattle.vyrd_base.specs.Callers.{commit_or_call}
-use Rattle.vyrd_base.specs.Subjects.{is_observer, must_commit}
-use Rattle.vyrd_base.specs.Shape.{checks_at}
+use Rattle.vyrd_base.specs.Callers.{Called, open_call, has_committed}
+use Rattle.vyrd_base.specs.Subjects.{is_observer}
 use Rattle.vyrd_base.specs.Verdicts.{is_return}
-use Rattle.vyrd_base.specs.Commits.{returned}
-use Rattle.vyrd_base.proofs.BlockLaws.{entry, by_same, own_answer, open_call-quiet}
-use Rattle.vyrd_base.proofs.ShadowLaws.{all_kept, caller_kept}
-use Rattle.vyrd_base.proofs.TestLaws.{below_of, is_below, same_of, is_same, isnt_same, apart_of}
+use Rattle.vyrd_base.proofs.BlockLaws.{entry}
+use Rattle.vyrd_base.proofs.ShadowLaws.{caller_kept}
+use Rattle.vyrd_base.proofs.TestLaws.{below_of, is_below, is_same, isnt_same}
 use Rattle.vyrd_words.proofs.WordsLaws.{keeps_as}
 use Rattle.vyrd_judge.specs.declared.caller.Caller.{Caller}
 use Rattle.vyrd_judge.specs.declared.waiting.Event.{Event}
 use Rattle.vyrd_judge.specs.declared.waiting.Event.TheVariants.{Begins, Commits, Returns}
 use Rattle.vyrd_judge.specs.declared.waiting.Waiting.{Waiting}
 use Rattle.vyrd_words.specs.HasWords.{Keeps}
-use Rattle.vyrd_judge.proofs.AnswerLaws.{call_is_free}
-use Rattle.vyrd_base.specs.Entries.{place_of}
-use Rattle.vyrd_judge.specs.Queued.{IsCaller, IsPending, IsUnreturned, HasQueued, HasTakenUp}
-use Rattle.vyrd_judge.specs.Queued.{MayQueue, CanLeave, AwaitsReturn}
+use Rattle.vyrd_judge.specs.Queued.{IsCaller, IsPending, HasQueued, HasTakenUp}
+use Rattle.vyrd_judge.specs.Queued.{MayQueue, AwaitsReturn}
 use Rattle.vyrd_judge.specs.WaitingView.{is_unreturned}
-use Rattle.vyrd_judge.specs.Waiting.{commit_of, waiting_of, waiting_at, replied_event, replied}
-use Rattle.vyrd_base.proofs.StateLaws.{open_call-other}
-use Rattle.vyrd_base.proofs.CommitLaws.{Commits as Committing, alone, with_block, commits_called}
-use Rattle.vyrd_base.proofs.CommitLaws.{commits_inside, commits_unreturned}
-use Rattle.vyrd_base.proofs.KeptLaws.{commit_kept, block_commit_runs, return_kept}
-use Rattle.vyrd_base.proofs.CommittedLaws.{committed-other, committed-quiet, committed-own}
-use Rattle.vyrd_base.proofs.ListLaws.{slice_get-set_same, slice_get-set_other, slice_get-last}
-use Rattle.vyrd_judge.proofs.QueueLaws.{apart, commit_opened, uncommitted_up, found_commit, committed_up}
+use Rattle.vyrd_base.proofs.CommitLaws.{Commits as Committing}
+use Rattle.vyrd_base.proofs.KeptLaws.{return_kept}
+use Rattle.vyrd_judge.proofs.QueueLaws.{apart, commit_opened, uncommitted_up, found_commit}
+use Rattle.vyrd_judge.proofs.QueueLaws.{committed_up}
 
 -- what may follow: its caller, how many entries wait, and where a reply goes
 pub queue_caller : {h : Header} {waiting : List Waiting} {taken : ℕ} {callers : List Caller}

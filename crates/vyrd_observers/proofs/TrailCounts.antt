@@ -212,8 +212,7 @@ one_more_open watches c seen closed is_open =
     omega (arith, out, one)
 
 -- If one more trail is made only where all are asked, there are no more than before, or no more
--- than
--- open observers.
+-- than open observers.
 pub made_few : (old new : List Asked) (watches : List (Option Watch)) (c : ℕ) (seen : Seen)
     → slice_get watches c ≡ Some None → seen.is_open ≡ true
     → AreUsed old watches

@@ -1,14 +1,12 @@
 -- Trails of answers that open observers share.
 use Rattle.std.proofs.Common.{◌≡◌, ℕ, zero, suc, ◌+◌, ◌-◌, ◌*◌, ◌<◌, ◌≤◌, Bool, true, false, cond}
-use Rattle.std.proofs.Common.{◌&&◌, ◌||◌, ◌≢◌, ◌⊎◌, inl, inr, ⊎_elim, List, [], ◌∷◌, ◌++◌, length}
-use Rattle.std.proofs.Common.{drop, map, set, get_or, Option, Some, None, slice_get, refl, ap}
-use Rattle.std.proofs.Common.{subst, ◌∙◌, sym, arith, length-drop, length-append}
-use Rattle.std.specs.Prelude.{◌==◌, option_map, unwrap_or, replicate}
-use Rattle.std.specs.List.{list_any}
-use Rattle.std.proofs.lemmas.List.{drop-append-le, drop-drop, length-map, map-set, set-get_or}
-use Rattle.std.proofs.lemmas.List.Folds.{list_any-append}
-use Rattle.std.proofs.lemmas.Option.{slice_get_within, slice_get_past, slice_get-map}
-use Rattle.std.proofs.lemmas.Option.{unwrap_or-slice_get, none-some}
+use Rattle.std.proofs.Common.{◌&&◌, ◌≢◌, ◌⊎◌, inl, inr, ⊎_elim, List, [], ◌∷◌, ◌++◌, length}
+use Rattle.std.proofs.Common.{drop, map, set, Option, Some, None, slice_get, refl, ap}
+use Rattle.std.proofs.Common.{subst, ◌∙◌, sym, arith, length-drop}
+use Rattle.std.specs.Prelude.{◌==◌, option_map}
+use Rattle.std.proofs.lemmas.List.{drop-drop}
+use Rattle.std.proofs.lemmas.Option.{slice_get_within, slice_get-map}
+use Rattle.std.proofs.lemmas.Option.{none-some}
 use Rattle.std.proofs.lemmas.Option.{same_Some}
 use Rattle.std.proofs.Math.Seq.{drop-length}
 use Rattle.vyrd_base.specs.declared.header.Header.{Header}
@@ -23,10 +21,9 @@ use Rattle.vyrd_observers.specs.Trails.{Asked, with_answer, after_state, seen_fr
 use Rattle.vyrd_observers.specs.Trails.{AreOn, AreAsking, KeepsAsked, IsTrailOf, IsUsed, AreUsed}
 use Rattle.vyrd_observers.specs.Trails.{OthersAreUsed, AreOldExcept, StaysOrEnds, StayOrEnd, moved}
 use Rattle.vyrd_observers.specs.Order.{AreCounted, AreFreeFrom, AreInOrder}
-use Rattle.vyrd_observers.specs.Watching.{Seen, unwatched, has_answer, SeesAnswer, SeesState}
+use Rattle.vyrd_observers.specs.Watching.{Seen}
 use Rattle.vyrd_base.proofs.ChangedLists.{changed_below}
-use Rattle.vyrd_observers.proofs.SeeingLaws.{SeenBelow, knows_already}
-use Rattle.vyrd_base.proofs.ListLaws.{slice_get-set_same, slice_get-set_other, slice_get-is}
+use Rattle.vyrd_base.proofs.ListLaws.{slice_get-set_same, slice_get-set_other}
 
 pub false_true : {b : Bool} → b ≡ false → b ≡ true → ⊥
 false_true is_false is_true = cc
@@ -456,8 +453,7 @@ on_moved trails watches i n t here low on = λ c w there.
         (by_test w (w.trail == i) refl (low c w there) (on c w there))
 
 -- an open observer that asks this question, and of which the last state that it saw answers this,
--- is
--- on a trail of it
+-- is on a trail of it
 first_same : {a b : ℕ} {xs ys : List ℕ} → a ∷ xs ≡ b ∷ ys → a ≡ b
 first_same e = cc
 

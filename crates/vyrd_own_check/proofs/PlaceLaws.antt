@@ -1,6 +1,5 @@
 -- A verdict names the line of a starting word, an entry or `end` that was read, and so does each
--- that is
--- told by the lines of the text.
+-- that is told by the lines of the text.
 use Rattle.std.proofs.Common.{◌≡◌, ℕ, suc, ◌+◌, ◌-◌, ◌<◌, ◌≤◌, Bool, true, false, List, [], ◌∷◌}
 use Rattle.std.proofs.Common.{◌++◌, length, Option, Some, None, refl, ap, ◌∙◌, sym, subst, arith}
 use Rattle.std.specs.Prelude.{is_none}

@@ -40,8 +40,7 @@ ends true = 1
 ends false = 0
 
 -- Starting words, entries and `end` have their lines, which are no more than there may be, none
--- comes
--- without a header, and the starting words keep both rules.
+-- comes without a header, and the starting words keep both rules.
 pub record IsFormed (max : ℕ) (read : OwnReading) : Type 0 where
   pub numbered : length read.numbers
       ≡ length read.starting + length read.entries + ends read.ended

@@ -1,6 +1,5 @@
 -- What stands at the front of a text, by a specification, for the scan that reads whole entries
--- where
--- they lie.
+-- where they lie.
 use Rattle.std.specs.Prelude.{◌≡◌, ℕ, ◌==◌, ◌||◌, Bool, true, false, List, [], ◌∷◌, ◌++◌, Some}
 use Rattle.vyrd_base.specs.declared.own.method.OwnMethod.{OwnMethod}
 use Rattle.vyrd_base.specs.declared.subject.Args.{Args}

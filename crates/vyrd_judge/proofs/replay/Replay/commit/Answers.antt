@@ -16,8 +16,7 @@ use Rattle.vyrd_words.proofs.FewLaws.{few_answered}
 use Rattle.vyrd_judge.proofs.replay.Replay.commit.Goals as goal
 
 -- What the comparison knows goes on to the next state. Rules that are the same have two names:
--- those
--- of the specification before its step and after it.
+-- those of the specification before its step and after it.
 known_on : (r q : Rules) (keys : List ℕ) (before after : State) (known : Amounts) → q ≡ r
     → known ≡ r.shown before
     → with_touched keys (r.shown after) (r.shown before) ≡ r.shown after
