@@ -5,5 +5,7 @@ pub mod ChangeLaws
 pub mod MarkLaws
 pub mod SetLaws
 pub mod ApartLaws
+pub mod LookedLaws
+pub mod PriceLaws
 pub mod QueueLaws
 pub mod ReadLaws

@@ -6,3 +6,4 @@ pub mod Sets
 pub mod Samples
 pub mod Marks
 pub mod Reads
+pub mod Prices

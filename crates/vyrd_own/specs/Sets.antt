@@ -20,7 +20,8 @@ is_set pairs key = list_any (λ pair. key == pair.0) pairs
 abbrev pub is_among : List ℕ → ℕ → Bool
 is_among keys key = list_any (λ k. key == k) keys
 
--- Some keys were added that had no amount. What the pairs make of all amounts is the same as before.
+-- Some keys were added that had no amount. What the pairs make of all amounts is the same as
+-- before.
 pub record AreAdded (before after : Amounts) (added : List ℕ) (pairs : List (ℕ × ℕ)) : Type 0 where
   pub formed : IsAmounts after
   pub others : (q : ℕ) → is_among added q ≡ false → amount_of after q ≡ amount_of before q
@@ -36,7 +37,8 @@ HasKeys amounts pairs = (q : ℕ) → amount_after pairs q 0 ≢ 0 → amount_of
 -- `clear` doesn't count
 abbrev pub shown_after : List (ℕ × ℕ) → List Effect → List (ℕ × ℕ)
 shown_after pairs [] = pairs
-shown_after pairs (SetShown key amount ∷ effects) = shown_after (pairs ++ (key, amount) ∷ []) effects
+shown_after pairs (SetShown key amount ∷ effects) = shown_after (pairs ++ (key, amount) ∷ [])
+    effects
 shown_after pairs (EmptyShown ∷ effects) = shown_after [] effects
 shown_after pairs (_ ∷ effects) = shown_after pairs effects
 

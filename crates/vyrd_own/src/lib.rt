@@ -8,6 +8,10 @@
 //! is evaluated over a list of nodes, without memory; how the nodes make the expression is a matter
 //! of the layout (`specs/Layout`), of which the definitions know nothing.
 //!
+//! What a step and an answer cost is counted, and bounded by the specification as it is written:
+//! `step_counted`, `find_effects_counted` and `answer_counted` say it in steps (`specs/Prices`).
+//! The calls of the same names without `counted` do the same, and count for themselves alone.
+//!
 //! `put_worths` says what counts for whether a call may have a reply: what the expressions are
 //! worth by which that is decided, and which amounts of the state they read (`specs/Reads`).
 #![tactic(auto)]
@@ -30,12 +34,14 @@ mod words;
 pub mod worked;
 
 pub use code::Code;
-pub use few::answer_of_few;
+pub use few::{answer_of_few, answer_of_few_counted};
 pub use node::Node;
 pub use program::{Case, Change, Method, Program, Show};
 pub use reads::{Reads, Worth, put_worths};
 pub use shown::ShownAmounts;
 pub use state::StateOf;
-pub use steps::{Room, answer, find_effects, step};
+pub use steps::{
+    Room, answer, answer_counted, find_effects, find_effects_counted, step, step_counted,
+};
 pub use vyrd_base::{Effect, Op};
 pub use words::{part_pairs, put_parts};

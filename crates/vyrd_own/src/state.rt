@@ -7,6 +7,7 @@ ghost use Rattle.vyrd_base.specs.States.{State};
 ghost use Rattle.vyrd_base.specs.Own.Expressions.{list_at, first_of, last_of};
 ghost use Rattle.vyrd_own.specs.Layout.{written};
 ghost use Rattle.vyrd_base.specs.Own.Steps.{with_effects, start_of, hidden_with, blank};
+ghost use Rattle.vyrd_own.specs.Prices.{sets_price, put_price};
 ghost use Rattle.vyrd_own.specs.Queues.{queue_at, puts_in, HaveRoom};
 ghost use Rattle.vyrd_own.specs.Apart.{registers_with, registers_after, lists_after, lists_with};
 
@@ -15,8 +16,9 @@ use crate::queue::Queue;
 use crate::shown::ShownAmounts;
 use crate::updates::Updates;
 use std::alloc::{AllocError, Global};
-use std::marker::Model;
-use vyrd_base::Effect;
+use std::marker::{Brand, Model};
+use std::sync::ledger::{Blank, Ledger};
+use vyrd_base::{Effect, Steps};
 use vyrd_table::AmountTable;
 
 /// A state: what it shows, what it hides, its registers and its lists.
@@ -151,6 +153,7 @@ impl StateOf {
     }
 
     /// Does all of this, one after the other. If memory runs out, all is as it was.
+    #[inline(always)]
     pub fn put_all(
         &mut self,
         alloc: Global,
@@ -160,8 +163,23 @@ impl StateOf {
         ensures ok { OnOk result (self.new ≡ with_effects self.old effects.now) }
         ensures err { OnErr result (self.new ≡ self.old) }
     {
-        let clears = updates.gather(effects)?;
-        reserve(&mut self.lists, effects)?;
+        put_alone::<Brand>(Blank::new(1), self, alloc, effects, updates)
+    }
+
+    /// Does all of this, as `put_all` does, with its steps counted. What is cleared isn't counted.
+    pub fn put_all_counted<L: Ledger>(
+        &mut self,
+        alloc: Global,
+        effects: &[Effect],
+        updates: &mut Updates,
+        steps: &mut Steps<L>,
+    ) -> Result<(), AllocError>
+        ensures ok { OnOk result (self.new ≡ with_effects self.old effects.now) }
+        ensures err { OnErr result (self.new ≡ self.old) }
+        ensures steps { steps.new ≤ steps.old + put_price (length effects.now) }
+    {
+        let clears = updates.gather(effects, steps)?;
+        reserve(&mut self.lists, effects, steps)?;
         put_amounts(
             alloc,
             self.keys,
@@ -169,18 +187,40 @@ impl StateOf {
             &mut self.shown,
             &mut self.hidden,
             updates,
+            steps,
         )?;
-        set_registers(&mut self.registers, effects);
-        change_lists(&mut self.lists, effects);
+        set_registers(&mut self.registers, effects, steps);
+        change_lists(&mut self.lists, effects, steps);
         Ok(())
     }
 }
 
+/// Does all of this with a count of its own.
+#[inline(always)]
+fn put_alone<L: Ledger>(
+    blank: Blank,
+    state: &mut StateOf,
+    alloc: Global,
+    effects: &[Effect],
+    updates: &mut Updates,
+) -> Result<(), AllocError>
+    requires name { blank.name ≡ L.name }
+    requires parts { blank.parts ≡ L.parts }
+    requires some { 0 < blank.parts }
+    ensures ok { OnOk result (state.new ≡ with_effects state.old effects.now) }
+    ensures err { OnErr result (state.new ≡ state.old) }
+{
+    let mut steps = Steps::<L>::new(blank);
+    state.put_all_counted(alloc, effects, updates, &mut steps)
+}
+
 /// Sets the registers.
-fn set_registers(registers: &mut Vec<u64>, effects: &[Effect])
-    ensures { registers.new.items ≡ registers_after registers.old.items effects.now }
+fn set_registers<L: Ledger>(registers: &mut Vec<u64>, effects: &[Effect], steps: &mut Steps<L>)
+    ensures registers { registers.new.items ≡ registers_after registers.old.items effects.now }
+    ensures steps { steps.new ≡ steps.old + length effects.now }
 {
     for effect in effects {
+        steps.tick();
         set_register(registers, *effect);
     }
 }
@@ -198,11 +238,17 @@ fn set_register(registers: &mut Vec<u64>, effect: Effect)
 }
 
 /// Makes room in the lists that get something, for as much as there are effects.
-fn reserve(lists: &mut Vec<Queue>, effects: &[Effect]) -> Result<(), AllocError>
+fn reserve<L: Ledger>(
+    lists: &mut Vec<Queue>,
+    effects: &[Effect],
+    steps: &mut Steps<L>,
+) -> Result<(), AllocError>
     ensures items { map (λ q. q.items) lists.new.items ≡ map (λ q. q.items) lists.old.items }
     ensures room { OnOk result (HaveRoom lists.new.items effects.now (length effects.now)) }
+    ensures steps { steps.new ≤ steps.old + length effects.now }
 {
     for effect in effects {
+        steps.tick();
         reserve_for(lists, *effect, effects.len())?;
     }
     Ok(())
@@ -239,12 +285,14 @@ fn reserve_in(lists: &mut Vec<Queue>, i: usize, more: usize) -> Result<(), Alloc
 }
 
 /// Changes the lists, in which there is room.
-fn change_lists(lists: &mut Vec<Queue>, effects: &[Effect])
+fn change_lists<L: Ledger>(lists: &mut Vec<Queue>, effects: &[Effect], steps: &mut Steps<L>)
     requires { HaveRoom lists.old.items effects.now (length effects.now) }
-    ensures { map (λ q. q.items) lists.new.items
+    ensures lists { map (λ q. q.items) lists.new.items
         ≡ lists_after (map (λ q. q.items) lists.old.items) effects.now }
+    ensures steps { steps.new ≡ steps.old + length effects.now }
 {
     for effect in effects {
+        steps.tick();
         change_list(lists, *effect);
     }
 }
@@ -272,13 +320,14 @@ fn change_list(lists: &mut Vec<Queue>, effect: Effect)
 
 /// Changes the shown and the hidden amounts, all of them or none. What is shown is cleared first, if
 /// that is asked for.
-fn put_amounts(
+fn put_amounts<L: Ledger>(
     alloc: Global,
     keys: usize,
     clears: bool,
     shown: &mut ShownAmounts,
     hidden: &mut AmountTable,
     updates: &mut Updates,
+    steps: &mut Steps<L>,
 ) -> Result<(), AllocError>
     requires shown { IsAmounts shown.old }
     requires hidden { IsAmounts hidden.old }
@@ -287,12 +336,14 @@ fn put_amounts(
     ensures hidden { OnOk result (hidden.new ≡ hidden_with hidden.old updates.old.hidden.items) }
     ensures shown_same { OnErr result (shown.new ≡ shown.old) }
     ensures hidden_same { OnErr result (hidden.new ≡ hidden.old) }
+    ensures steps { steps.new ≤ steps.old + sets_price (length updates.old.shown.items)
+        + sets_price (length updates.old.hidden.items) }
 {
     if !clears {
-        return updates.put(shown, hidden);
+        return updates.put(shown, hidden, steps);
     }
     let mut fresh = ShownAmounts::new(alloc, keys)?;
-    updates.put(&mut fresh, hidden)?;
+    updates.put(&mut fresh, hidden, steps)?;
     *shown = fresh;
     Ok(())
 }

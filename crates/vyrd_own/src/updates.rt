@@ -1,15 +1,17 @@
 //! The amounts that a step sets.
 
-ghost use Rattle.std.specs.Prelude.{◌≡◌, [], ◌∷◌, OnOk, OnErr, IfOk};
+ghost use Rattle.std.specs.Prelude.{◌≡◌, ◌+◌, ◌<◌, ◌≤◌, [], ◌∷◌, length, OnOk, OnErr, IfOk};
 ghost use Rattle.std.specs.List.{list_any};
 ghost use Rattle.vyrd_base.specs.Amounts.{IsAmounts};
 ghost use Rattle.vyrd_base.specs.Own.Steps.{hidden_with, is_clearing};
+ghost use Rattle.vyrd_own.specs.Prices.{sets_price};
 ghost use Rattle.vyrd_own.specs.Sets.{shown_after, hidden_after};
 
 use crate::shown::ShownAmounts;
 use crate::store::{add_all, put, take_back};
 use std::alloc::{AllocError, Global};
-use vyrd_base::Effect;
+use std::sync::ledger::Ledger;
+use vyrd_base::{Effect, Steps};
 use vyrd_table::AmountTable;
 
 /// The amounts that a step sets, and room for what it does on the way.
@@ -33,15 +35,21 @@ impl Updates {
     }
 
     /// Takes those of the effects, and says whether all that is shown is cleared before.
-    pub(crate) fn gather(&mut self, effects: &[Effect]) -> Result<bool, AllocError>
+    pub(crate) fn gather<L: Ledger>(
+        &mut self,
+        effects: &[Effect],
+        steps: &mut Steps<L>,
+    ) -> Result<bool, AllocError>
         ensures clears { IfOk result (λ clears. clears ≡ list_any is_clearing effects.now) }
         ensures shown { OnOk result (self.new.shown.items ≡ shown_after [] effects.now) }
         ensures hidden { OnOk result (self.new.hidden.items ≡ hidden_after [] effects.now) }
+        ensures steps { steps.new ≤ steps.old + length effects.now }
     {
         self.shown.clear();
         self.hidden.clear();
         let mut clears = false;
         for effect in effects {
+            steps.tick();
             clears = self.gather_one(*effect)? || clears;
         }
         Ok(clears)
@@ -69,10 +77,11 @@ impl Updates {
     }
 
     /// Sets the shown and the hidden amounts, all of them or none.
-    pub(crate) fn put(
+    pub(crate) fn put<L: Ledger>(
         &mut self,
         shown: &mut ShownAmounts,
         hidden: &mut AmountTable,
+        steps: &mut Steps<L>,
     ) -> Result<(), AllocError>
         requires shown { IsAmounts shown.old }
         requires hidden { IsAmounts hidden.old }
@@ -80,17 +89,19 @@ impl Updates {
         ensures hidden { OnOk result (hidden.new ≡ hidden_with hidden.old self.old.hidden.items) }
         ensures shown_same { OnErr result (shown.new ≡ shown.old) }
         ensures hidden_same { OnErr result (hidden.new ≡ hidden.old) }
+        ensures steps { steps.new ≤ steps.old + sets_price (length self.old.shown.items)
+            + sets_price (length self.old.hidden.items) }
     {
-        add_all(shown, &self.shown, &mut self.added)?;
-        match add_all(hidden, &self.hidden, &mut self.also_added) {
+        add_all(shown, &self.shown, &mut self.added, steps)?;
+        match add_all(hidden, &self.hidden, &mut self.also_added, steps) {
             Ok(()) => {}
             Err(error) => {
-                take_back(shown, &self.added);
+                take_back(shown, &self.added, steps);
                 return Err(error);
             }
         }
-        put(shown, &self.shown);
-        put(hidden, &self.hidden);
+        put(shown, &self.shown, steps);
+        put(hidden, &self.hidden, steps);
         Ok(())
     }
 }

@@ -3,10 +3,12 @@
 
 ghost use Rattle.std.specs.Prelude.{◌≡◌, [], ◌∷◌, Some, None};
 ghost use Rattle.vyrd_base.specs.Own.Expressions.{value, least, greatest, number, most};
-ghost use Rattle.vyrd_base.specs.Own.Expressions.{infix_of, choice, at, first, size};
+ghost use Rattle.vyrd_base.specs.Own.Expressions.{infix_of, choice, at, first, size, shown};
 ghost use Rattle.vyrd_base.specs.declared.own.op.Op.TheVariants.{Plus, Minus, Over};
 ghost use Rattle.vyrd_base.specs.Own.Steps.{next_of, answer_of, start_of, part_gives, view_of};
 ghost use Rattle.vyrd_base.specs.Own.Samples.{queue, enqueue, dequeue, queued};
+ghost use Rattle.vyrd_own.specs.Prices.{nodes_of, looked_at, effects_price, answer_price};
+ghost use Rattle.vyrd_own.specs.Prices.{step_price};
 ghost use Rattle.vyrd_own.specs.Reads.{counted, worths};
 ghost use Rattle.vyrd_own.specs.Samples.{compare_and_set, clear_all, no_amount, shown_of};
 ghost use Rattle.vyrd_base.specs.States.{showing};
@@ -78,4 +80,21 @@ pub fn what_counts()
         ≡ at 0 ∷ size 0 ∷ choice (at 0) (size 0) (first 0) ∷ [] }
     ensures third { counted (showing []) (0 ∷ []) (choice (at 0) (size 0) (first 0))
         ≡ at 0 ∷ first 0 ∷ choice (at 0) (size 0) (first 0) ∷ [] }
+{}
+
+/// What calls of a queue cost at most, however many elements it has. To take one out, a `let` of
+/// one node and the reply are put at hand, 3 steps. The case is gone through with a condition of 9
+/// nodes, and two lines with 5 nodes, 17 steps. Then two effects are done, 28 steps.
+#[tactic(auto, unfolding(vyrd_base::proofs::OpenedOwn::opened_steps))]
+pub fn prices()
+    ensures nodes { nodes_of (infix_of Plus (number 1) (choice (at 0) (size 0) (first 0))) ≡ 6 }
+    ensures second { looked_at (showing []) (1 ∷ []) (choice (at 0) (shown (at 0)) (number 0)) ≡ 4 }
+    ensures third { looked_at (showing []) (0 ∷ []) (choice (at 0) (shown (at 0)) (number 0)) ≡ 3 }
+    ensures both { nodes_of (choice (at 0) (shown (at 0)) (number 0)) ≡ 5 }
+    ensures enqueue_is_found { effects_price queue enqueue (queued [] []) (5 ∷ []) ≡ 14 }
+    ensures enqueued { step_price queue enqueue (queued [] []) (5 ∷ []) ≡ 42 }
+    ensures dequeue_is_found { effects_price queue dequeue (queued ((5, 1) ∷ []) (5 ∷ [])) [] ≡ 20 }
+    ensures dequeued { step_price queue dequeue (queued ((5, 1) ∷ []) (5 ∷ [])) [] ≡ 48 }
+    ensures found_nothing { answer_price queue dequeue (queued [] []) [] ≡ 8 }
+    ensures no_answer { answer_price queue enqueue (queued [] []) (5 ∷ []) ≡ 0 }
 {}

@@ -1,13 +1,16 @@
-use Rattle.std.proofs.Common.{◌≡◌, ◌+◌, drop, length, take}
+use Rattle.std.proofs.Common.{◌≡◌, ◌≤◌, ◌+◌, drop, length, take}
 use Rattle.std.specs.Prelude.{map}
 use Rattle.vyrd_own.specs.Layout.{expr_in}
+use Rattle.vyrd_own.specs.Prices.{lets_price}
 use Rattle.vyrd_base.specs.Own.Steps.{with_lets}
 use Rattle.vyrd_own.proofs.few.put_few_lets.Given as goal
 
 abbrev pub invariant-loop-code : goal.invariant-loop-code
-invariant-loop-code l = record {
+invariant-loop-code g l = record {
   count : l.count ≡ l.initial.count + l.code-index;
   len : length l.room ≡ length l.initial.room;
   items : with_lets l.state (take l.count l.room) (map expr_in (drop l.code-index l.lets))
       ≡ with_lets l.state (take l.initial.count l.initial.room) (map expr_in l.lets);
+  steps : l.steps + lets_price (map expr_in (drop l.code-index l.lets))
+      ≤ l.initial.steps + lets_price (map expr_in l.lets);
 }

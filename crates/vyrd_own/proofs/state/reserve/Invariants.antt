@@ -1,9 +1,11 @@
-use Rattle.std.proofs.Common.{◌≡◌, take, length}
+use Rattle.std.proofs.Common.{◌≡◌, ◌≤◌, ◌+◌, take, length}
 use Rattle.std.specs.Prelude.{map}
 use Rattle.vyrd_own.specs.Queues.{HaveRoom}
 use Rattle.vyrd_own.proofs.state.reserve.Given as goal
 
 abbrev pub invariant-loop-effect : goal.invariant-loop-effect
-invariant-loop-effect l =
-    (map (λ q. q.items) l.lists.items ≡ map (λ q. q.items) l.fn.lists.items)
-    × HaveRoom l.lists.items (take l.effect-index l.effects) (length l.effects)
+invariant-loop-effect g l = record {
+  items : map (λ q. q.items) l.lists.items ≡ map (λ q. q.items) l.fn.lists.items;
+  room : HaveRoom l.lists.items (take l.effect-index l.effects) (length l.effects);
+  steps : l.steps ≤ l.fn.steps + l.effect-index;
+}

@@ -1,10 +1,14 @@
-use Rattle.std.proofs.Common.{◌≡◌, drop}
+use Rattle.std.proofs.Common.{◌≡◌, ◌≤◌, ◌+◌, drop}
 use Rattle.std.specs.Prelude.{map}
 use Rattle.vyrd_own.specs.Layout.{expr_in}
+use Rattle.vyrd_own.specs.Prices.{lets_price}
 use Rattle.vyrd_base.specs.Own.Steps.{with_lets}
 use Rattle.vyrd_own.proofs.steps.put_lets.Given as goal
 
 abbrev pub invariant-loop-code : goal.invariant-loop-code
-invariant-loop-code l =
-    with_lets l.state l.values.items (map expr_in (drop l.code-index l.lets))
-    ≡ with_lets l.state l.fn.values.items (map expr_in l.lets)
+invariant-loop-code g l = record {
+  values : with_lets l.state l.values.items (map expr_in (drop l.code-index l.lets))
+      ≡ with_lets l.state l.fn.values.items (map expr_in l.lets);
+  steps : l.steps + lets_price (map expr_in (drop l.code-index l.lets))
+      ≤ l.fn.steps + lets_price (map expr_in l.lets);
+}

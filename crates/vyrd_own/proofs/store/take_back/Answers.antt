@@ -4,9 +4,9 @@ use Rattle.vyrd_base.specs.Own.Steps.{hidden_with}
 use Rattle.vyrd_own.proofs.SetLaws.{all_back, zeros}
 use Rattle.vyrd_own.proofs.store.take_back.Goals as goal
 
-pub returns : goal.returns
-returns g c = λ before pairs is added.
+pub returns-clause-same : goal.returns-clause-same
+returns-clause-same g c = λ before pairs is added.
     ap (λ (ks : List ℕ). hidden_with (g.S.Store.amounts c.loop-key.store) (zeros ks))
     (sym (drop_of_length-le c.args.added.now c.loop-key-test.false))
-    ∙ c.loop-key.invariant
+    ∙ c.loop-key.invariant.amounts
     ∙ all_back before (g.S.Store.amounts c.args.store.now) c.args.added.now pairs is added

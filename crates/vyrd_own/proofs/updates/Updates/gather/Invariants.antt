@@ -1,4 +1,4 @@
-use Rattle.std.proofs.Common.{◌≡◌, drop, []}
+use Rattle.std.proofs.Common.{◌≡◌, ◌≤◌, ◌+◌, drop, []}
 use Rattle.std.specs.Prelude.{◌||◌}
 use Rattle.std.specs.List.{list_any}
 use Rattle.vyrd_base.specs.Own.Steps.{is_clearing}
@@ -6,8 +6,12 @@ use Rattle.vyrd_own.specs.Sets.{shown_after, hidden_after}
 use Rattle.vyrd_own.proofs.updates.Updates.gather.Given as goal
 
 abbrev pub invariant-loop-effect : goal.invariant-loop-effect
-invariant-loop-effect l =
-    ((l.clears || list_any is_clearing (drop l.effect-index l.effects))
-    ≡ list_any is_clearing l.effects)
-    × (shown_after l.self.shown.items (drop l.effect-index l.effects) ≡ shown_after [] l.effects)
-    × (hidden_after l.self.hidden.items (drop l.effect-index l.effects) ≡ hidden_after [] l.effects)
+invariant-loop-effect g l = record {
+  clears : (l.clears || list_any is_clearing (drop l.effect-index l.effects))
+      ≡ list_any is_clearing l.effects;
+  shown : shown_after l.self.shown.items (drop l.effect-index l.effects)
+      ≡ shown_after [] l.effects;
+  hidden : hidden_after l.self.hidden.items (drop l.effect-index l.effects)
+      ≡ hidden_after [] l.effects;
+  steps : l.steps ≤ l.fn.steps + l.effect-index;
+}

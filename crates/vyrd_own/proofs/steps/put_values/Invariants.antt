@@ -1,0 +1,4 @@
+use Rattle.vyrd_own.proofs.steps.put_values.Given as goal
+
+abbrev pub ghosts-put_alone : goal.ghosts-put_alone
+ghosts-put_alone a = record { name = a.blank.name; parts = a.blank.parts }
