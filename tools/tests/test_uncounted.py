@@ -117,7 +117,7 @@ class Script(ScriptTest):
     def test_all_that_the_judge_does_without_a_count_has_a_reason(self):
         said = self.run_script("uncounted")
         self.assertEqual((said.error, said.status), ("", 0))
-        self.assertIn("    vyrd_view/homes: Homes::find, for\n", said.out)
+        self.assertIn("    vyrd_view/tree: walk, for\n", said.out)
 
     def test_a_word_is_refused(self):
         said = self.run_script("uncounted", "vyrd_judge")
