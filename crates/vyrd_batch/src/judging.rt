@@ -102,13 +102,22 @@ fn judge_parts<R: Threads + Sync>(
                 requires { AllByRecursion (LiesWithin (length bytes.now)) part.now.now }
                 ensures { IfOk result (λ verdicts. verdicts.items
                     ≡ verdicts_of (map (bytes_of bytes.entry.now) part.now.now)) }
-            { judge_part_alone::<Brand>(Blank::new(1), alloc, bytes, part) },
+            { judge_part(alloc, bytes, part) },
         )
         .collect(rt, alloc)?;
     judged
 }
 
-/// The verdicts about the spans of a part, with a count of its own, as each thread has.
+/// The verdicts about the spans of a part.
+fn judge_part(alloc: Global, bytes: &[u8], spans: &[Span]) -> Result<Vec<Verdict>, AllocError>
+    requires { AllByRecursion (LiesWithin (length bytes.now)) spans.now }
+    ensures { IfOk result
+        (λ verdicts. verdicts.items ≡ verdicts_of (map (bytes_of bytes.now) spans.now)) }
+{
+    judge_part_alone::<Brand>(Blank::new(1), alloc, bytes, spans)
+}
+
+/// The same with a count of its own, as each thread has.
 fn judge_part_alone<L: Ledger>(
     blank: Blank,
     alloc: Global,
