@@ -8,9 +8,8 @@ use std::io;
 use std::io::Cursor;
 use std::test::Fail;
 use vyrd_base::{
-    AmountMap, Args, BuffersMethod, CacheMethod, Failed, Gate, Header, MemorySink,
-    MemorySource, Method, MultisetMethod, OpenGate, Sink, Source, StdSink, StdSource, Subject,
-    TreeMethod, View,
+    AmountMap, Args, BuffersMethod, CacheMethod, Failed, Gate, Header, MemorySink, MemorySource,
+    Method, MultisetMethod, OpenGate, Sink, Source, StdSink, StdSource, Subject, TreeMethod, View,
 };
 
 /// A header's version, size and callers, and whether there is such a header of a tree.
