@@ -7,10 +7,10 @@ use Rattle.std.proofs.lemmas.List.{map-append, length-append, length-map, take-a
 use Rattle.std.proofs.lemmas.Grind.{flat_map-append}
 use Rattle.vyrd_base.specs.declared.verdict.Verdict.{Verdict}
 use Rattle.vyrd_base.specs.LogVerdicts.{log_verdict}
+use Rattle.vyrd_base.specs.Limits.{most_lines}
 use Rattle.vyrd_batch.specs.declared.span.Span.{Span}
 use Rattle.vyrd_batch.specs.Batches.{bytes_of}
 use Rattle.vyrd_batch.specs.BatchAnswers.{verdicts_of}
-use Rattle.vyrd_log_check.specs.Checking.{most_lines}
 
 -- where each answer shows what it should if it is one, and all are, they all show it
 all_right : {X Y Z : Type 0} (E : Type 0) (show : Y → Z) (f : X → Z) (xs : List X) (ys : List Y)

@@ -8,7 +8,7 @@ use Rattle.vyrd_base.specs.declared.verdict.Verdict.TheVariants.{Violation, Malf
 use Rattle.vyrd_base.specs.Spelling.{ended_line}
 use Rattle.vyrd_base.specs.LogVerdicts.{log_verdict}
 use Rattle.vyrd_base.specs.VerdictText.{verdict_text}
-use Rattle.vyrd_log_check.specs.Checking.{most_lines}
+use Rattle.vyrd_base.specs.Limits.{most_lines}
 
 -- the verdicts about logs, each as a whole input
 abbrev pub verdicts_of : List (List ℕ) → List Verdict

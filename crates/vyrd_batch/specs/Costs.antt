@@ -6,7 +6,7 @@ use Rattle.std.specs.Prelude.{◌≡◌, ◌≤◌, ◌+◌, ◌*◌, ◌-◌, �
 use Rattle.std.specs.Prelude.{sum_by}
 use Rattle.std.specs.Prelude.{Option, None, Some}
 use Rattle.vyrd_base.specs.Spelling.{ended_line}
-use Rattle.vyrd_log_check.specs.Checking.{most_lines}
+use Rattle.vyrd_base.specs.Limits.{most_lines}
 use Rattle.vyrd_log_check.specs.Costs.{log_cost}
 use Rattle.vyrd_batch.specs.Batches.{first_line, first_word}
 use Rattle.vyrd_batch.specs.Rounds.{IsNoLog}

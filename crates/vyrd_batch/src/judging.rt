@@ -3,10 +3,10 @@
 ghost use Rattle.std.specs.Prelude.{◌≡◌, ◌≤◌, ◌<◌, ◌+◌, ◌*◌, length, map, flat_map, IfOk, OnOk};
 ghost use Rattle.std.specs.List.{AllByRecursion};
 ghost use Rattle.vyrd_base.specs.LogVerdicts.{log_verdict};
+ghost use Rattle.vyrd_base.specs.Limits.{most_lines};
 ghost use Rattle.vyrd_batch.specs.Batches.{LiesWithin, bytes_of};
 ghost use Rattle.vyrd_batch.specs.BatchAnswers.{verdicts_of};
 ghost use Rattle.vyrd_batch.specs.Costs.{logs_cost};
-ghost use Rattle.vyrd_log_check.specs.Checking.{most_lines};
 ghost use Rattle.vyrd_log_check.specs.Costs.{log_cost};
 
 use crate::parts::{part_weight, parts_of};

@@ -6,7 +6,8 @@ use Rattle.std.proofs.lemmas.Bool.Decides.{nat_tests}
 use Rattle.vyrd_base.specs.declared.verdict.Verdict.{Verdict}
 use Rattle.vyrd_base.specs.TextVerdicts.{text_verdict, text_verdict_so_far}
 use Rattle.vyrd_base.proofs.TextLasts.{text_verdict_lasts, text_verdict_stands}
-use Rattle.vyrd_check.specs.Checking.{IsLimit, CheckerState, FollowsBy, HasChecked}
+use Rattle.vyrd_base.specs.Limits.{IsLimit}
+use Rattle.vyrd_check.specs.Checking.{CheckerState, FollowsBy, HasChecked}
 
 -- the verdict that is kept is that of the bytes so far
 pub so_far_is : (c : CheckerState) (bytes : List ℕ) → HasChecked c bytes → c.so_far

@@ -19,13 +19,14 @@ use Rattle.vyrd_base.specs.TextVerdicts.{text_verdict_so_far}
 use Rattle.vyrd_base.proofs.ReadingGrows.{TextGrown, reading_grows, input_of}
 use Rattle.vyrd_base.proofs.ReadingSound.{reading_writable}
 use Rattle.vyrd_base.proofs.TestLaws.{at_most_of, is_at_most}
+use Rattle.vyrd_base.specs.Limits.{IsLimit}
 use Rattle.vyrd_text.specs.Readers.{ReaderState, HasRead}
 use Rattle.vyrd_text.specs.Answered.{IsGrownBy}
 use Rattle.vyrd_view.specs.Comparing.{price_by}
 use Rattle.vyrd_judge.specs.Costs.{judge_debt}
 use Rattle.vyrd_judge.specs.Following.{JudgeView, HasFollowed}
 use Rattle.vyrd_check.specs.LogReadings.{read_so_far}
-use Rattle.vyrd_check.specs.Checking.{IsLimit, IsJudging, IsReady, IsBegun, HasRoom, CheckerKept}
+use Rattle.vyrd_check.specs.Checking.{IsJudging, IsReady, IsBegun, HasRoom, CheckerKept}
 use Rattle.vyrd_check.specs.Checking.{IsUndecided, IsSomewhere, wrong_in}
 use Rattle.vyrd_check.specs.Checking.{has_begun}
 use Rattle.vyrd_check.specs.Costs.{starting_cost, bytes_cost}

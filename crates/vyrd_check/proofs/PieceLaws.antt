@@ -21,6 +21,7 @@ use Rattle.vyrd_base.specs.Verdicts.{is_call_open, end_verdict}
 use Rattle.vyrd_base.specs.TextVerdicts.{entries_verdict, text_verdict_so_far}
 use Rattle.vyrd_base.proofs.ReadingGrows.{TextGrown}
 use Rattle.vyrd_base.proofs.TextLasts.{nothing_so_far}
+use Rattle.vyrd_base.specs.Limits.{most_lines}
 use Rattle.vyrd_text.specs.Readers.{ReaderState, HasRead}
 use Rattle.vyrd_view.specs.Comparing.{price_by}
 use Rattle.vyrd_view.specs.Known.{by_rules}
@@ -149,7 +150,7 @@ judge_before None after old new more judging g none headed all begun =
 -- there is room for the entries of a log that keeps the limit of lines
 pub has_room : (judge : Option JudgeView) (read : Reading) (log entries : List Entry)
     → IsBefore judge read log
-    → length (log ++ entries) ≤ 268435456 → HasRoom judge entries
+    → length (log ++ entries) ≤ most_lines → HasRoom judge entries
 has_room None read log entries before few = tt
 has_room (Some j) read log entries before few =
     let kept = counted j read.starting log before.so_far before.followed in

@@ -9,21 +9,13 @@ use Rattle.vyrd_base.specs.Starts.{state_at_start}
 use Rattle.vyrd_base.specs.Reading.{Reading, has_any}
 use Rattle.vyrd_base.specs.Rules.{built_in, rules_of}
 use Rattle.vyrd_base.specs.TextVerdicts.{entries_verdict, text_verdict_so_far}
+use Rattle.vyrd_base.specs.Limits.{IsLimit}
 use Rattle.vyrd_text.specs.Readers.{ReaderState, HasRead}
 use Rattle.vyrd_view.specs.Comparing.{price_by, word_price}
 use Rattle.vyrd_view.specs.Known.{by_rules}
 use Rattle.vyrd_judge.specs.Costs.{judge_debt, start_cost}
 use Rattle.vyrd_judge.specs.Following.{JudgeView, HasFollowed}
 use Rattle.vyrd_check.specs.LogReadings.{read_so_far}
-
--- how many lines a log may have
-abbrev pub most_lines : ℕ
-most_lines = 268435456
-
--- how many lines a log may have at most, given as the reader's limit
-pub record IsLimit (max : ℕ) : Type 0 where
-  pub low : 1 ≤ max
-  pub high : max ≤ most_lines
 
 -- what is wrong with the starting words and entries that were read, and with their end if `end` was
 -- read

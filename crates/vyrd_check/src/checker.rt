@@ -4,7 +4,8 @@ ghost use Rattle.std.specs.Prelude.{◌≡◌, ◌++◌, ◌≤◌, ◌<◌, ◌
 ghost use Rattle.std.specs.Prelude.{IfOk, OnOk};
 ghost use Rattle.std.specs.Result.{is_err};
 ghost use Rattle.vyrd_base.specs.TextVerdicts.{text_verdict, text_verdict_so_far};
-ghost use Rattle.vyrd_check.specs.Checking.{HasChecked, most_lines};
+ghost use Rattle.vyrd_base.specs.Limits.{most_lines};
+ghost use Rattle.vyrd_check.specs.Checking.{HasChecked};
 ghost use Rattle.vyrd_check.specs.Costs.{bytes_cost, finish_cost};
 ghost use Rattle.vyrd_check.specs.Owed.{checker_debt};
 

@@ -6,7 +6,7 @@ use Rattle.vyrd_base.specs.declared.verdict.Verdict.{Verdict}
 use Rattle.vyrd_base.specs.declared.verdict.Verdict.TheVariants.{Accepted, Violation, Malformed}
 use Rattle.vyrd_base.specs.Devices.{SourceKnown, IsAtEnd}
 use Rattle.vyrd_base.specs.LogVerdicts.{log_verdict, log_verdict_so_far}
-use Rattle.vyrd_log_check.specs.Checking.{IsLimit}
+use Rattle.vyrd_base.specs.Limits.{IsLimit}
 use Rattle.vyrd_log_check.proofs.LogLasts.{log_verdict_stands}
 use Rattle.vyrd_log_check.proofs.SoFarLaws.{IsBad, so_far_bad}
 use Rattle.vyrd_check_command.specs.Inputs.{IsTaken, IsVerdictOf}

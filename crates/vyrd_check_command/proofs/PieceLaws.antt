@@ -7,7 +7,8 @@ use Rattle.std.proofs.lemmas.List.{length-take}
 use Rattle.vyrd_base.specs.declared.verdict.Verdict.{Verdict}
 use Rattle.vyrd_base.specs.Devices.{SourceKnown, Gives}
 use Rattle.vyrd_base.specs.LogVerdicts.{log_verdict, log_verdict_so_far}
-use Rattle.vyrd_log_check.specs.Checking.{LogCheckerState, HasChecked, IsLimit, most_lines}
+use Rattle.vyrd_base.specs.Limits.{most_lines, IsLimit}
+use Rattle.vyrd_log_check.specs.Checking.{LogCheckerState, HasChecked}
 use Rattle.vyrd_log_check.proofs.LogLasts.{log_verdict_lasts, nothing_yet}
 use Rattle.vyrd_log_check.proofs.LengthLaws.{undecided_is_short}
 use Rattle.vyrd_check_command.specs.Inputs.{longest_read, IsTaken}

@@ -3,7 +3,7 @@
 ghost use Rattle.std.specs.Prelude.{◌≡◌, ◌≤◌, ◌<◌, ◌⊎◌, ◌==◌, false, [], IfOk};
 ghost use Rattle.vyrd_base.specs.Devices.{IsAtEnd, AfterReads};
 ghost use Rattle.vyrd_base.specs.VerdictText.{verdict_text};
-ghost use Rattle.vyrd_log_check.specs.Checking.{most_lines};
+ghost use Rattle.vyrd_base.specs.Limits.{most_lines};
 ghost use Rattle.vyrd_check_command.specs.Outputs.{status_of};
 ghost use Rattle.vyrd_check_command.specs.Checks.{IsJudged, IsSettled, IsUnsettled, IsReadNoFurther};
 ghost use Rattle.vyrd_check_command.specs.Checks.{IsCounted};

@@ -2,7 +2,7 @@
 
 ghost use Rattle.std.specs.Prelude.{◌≡◌, ◌≤◌, ◌⊎◌, ◌==◌, false};
 ghost use Rattle.vyrd_base.specs.Devices.{IsAtEnd, AfterReads, AfterWrites};
-ghost use Rattle.vyrd_log_check.specs.Checking.{most_lines};
+ghost use Rattle.vyrd_base.specs.Limits.{most_lines};
 ghost use Rattle.vyrd_check_command.specs.Checks.{IsAnswered, IsAnsweredInPart, IsSettled, IsUnsettled};
 ghost use Rattle.vyrd_check_command.specs.Checks.{IsReadNoFurther, HasRoomForAnswer};
 

@@ -4,7 +4,7 @@ ghost use Rattle.std.specs.Prelude.{◌≡◌, ◌≤◌, ◌⊎◌, ◌==◌, t
 ghost use Rattle.std.specs.Str.{bytes_eq};
 ghost use Rattle.std.specs.Prelude.{codes};
 ghost use Rattle.vyrd_base.specs.Devices.{IsAtEnd, AfterReads, AfterWrites};
-ghost use Rattle.vyrd_log_check.specs.Checking.{most_lines};
+ghost use Rattle.vyrd_base.specs.Limits.{most_lines};
 ghost use Rattle.vyrd_check_command.specs.Checks.{IsAnswered, IsAnsweredInPart, IsSettled};
 ghost use Rattle.vyrd_check_command.specs.Checks.{IsUnsettled, IsReadNoFurther, HasRoomForAnswer};
 ghost use Rattle.vyrd_check_command.specs.Outputs.{Appends, AppendsFront};

@@ -3,7 +3,8 @@
 ghost use Rattle.std.specs.Prelude.{◌≡◌, ◌≤◌, ◌<◌, ◌+◌, ℕ, false, [], length, vec_len};
 ghost use Rattle.std.specs.Prelude.{IfOk, OnOk, IfSome, IfNone, Err};
 ghost use Rattle.vyrd_base.specs.Devices.{SourceKnown, AfterReads};
-ghost use Rattle.vyrd_log_check.specs.Checking.{HasChecked, IsLimit, most_lines};
+ghost use Rattle.vyrd_base.specs.Limits.{most_lines, IsLimit};
+ghost use Rattle.vyrd_log_check.specs.Checking.{HasChecked};
 ghost use Rattle.vyrd_log_check.specs.Owed.{checker_debt};
 ghost use Rattle.vyrd_check_command.specs.Inputs.{longest_read, is_failed};
 ghost use Rattle.vyrd_check_command.specs.Checks.{IsReadNoFurther, IsUnsettled, IsCounted};

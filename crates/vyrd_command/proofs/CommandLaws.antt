@@ -4,7 +4,7 @@ use Rattle.std.proofs.Common.{◌≡◌, ℕ, ◌≤◌, List, [], length, true,
 use Rattle.std.proofs.Common.{ap, ◌∙◌, sym, subst, arith, inl, inr}
 use Rattle.std.specs.Prelude.{◌≢◌, ◌⊎◌}
 use Rattle.vyrd_base.specs.Devices.{SourceKnown}
-use Rattle.vyrd_log_check.specs.Checking.{most_lines}
+use Rattle.vyrd_base.specs.Limits.{most_lines}
 use Rattle.vyrd_check_command.specs.Outputs.{Appends, AppendsFront}
 use Rattle.vyrd_check_command.specs.Checks.{IsAnswered, IsAnsweredInPart, IsSettled}
 use Rattle.vyrd_check_command.specs.Checks.{HasRoomForAnswer}

@@ -6,7 +6,7 @@ use Rattle.std.specs.Prelude.{◌⊎◌, IfSome, option_map}
 use Rattle.vyrd_base.specs.declared.verdict.Verdict.{Verdict}
 use Rattle.vyrd_base.specs.Devices.{SourceKnown, IsAtEnd}
 use Rattle.vyrd_base.specs.LogVerdicts.{log_verdict}
-use Rattle.vyrd_log_check.specs.Checking.{IsLimit}
+use Rattle.vyrd_base.specs.Limits.{IsLimit}
 use Rattle.vyrd_explain.specs.declared.about.About.{About}
 use Rattle.vyrd_explain.specs.Explained.{explained, is_settled}
 use Rattle.vyrd_explain.specs.Explaining.{ExplainerState, HasTaken, limit_of}

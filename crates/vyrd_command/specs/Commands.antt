@@ -3,7 +3,7 @@
 use Rattle.std.specs.Prelude.{◌≡◌, ◌≤◌, ◌⊎◌, ⊤, ℕ, Bool, true, false, List, length, Option, Some}
 use Rattle.std.specs.Prelude.{None, is_some}
 use Rattle.vyrd_base.specs.Devices.{SourceKnown}
-use Rattle.vyrd_log_check.specs.Checking.{most_lines}
+use Rattle.vyrd_base.specs.Limits.{most_lines}
 use Rattle.vyrd_work.specs.LongInputs.{longest_input}
 use Rattle.vyrd_mover.specs.LongHistories.{longest_history}
 use Rattle.vyrd_batch.specs.LongBatches.{longest_batch_input}

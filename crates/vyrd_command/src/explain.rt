@@ -2,8 +2,8 @@
 
 ghost use Rattle.std.specs.Prelude.{◌≡◌, ◌≤◌, ◌⊎◌, ◌==◌, false, [], OnOk};
 ghost use Rattle.vyrd_base.specs.Devices.{AfterReads};
+ghost use Rattle.vyrd_base.specs.Limits.{most_lines};
 ghost use Rattle.vyrd_explain.specs.Explaining.{HasTaken, limit_of};
-ghost use Rattle.vyrd_log_check.specs.Checking.{most_lines};
 ghost use Rattle.vyrd_check_command.specs.Inputs.{is_failed};
 ghost use Rattle.vyrd_command.specs.Explains.{AnswersExplain, IsExplainTaken, IsExplainNoFurther};
 ghost use Rattle.vyrd_command.specs.Explains.{IsLogTaken, longest_explained};

@@ -3,7 +3,7 @@
 ghost use Rattle.std.specs.Prelude.{◌≡◌, ◌≢◌, ◌⊎◌, ◌==◌, false, ℕ};
 ghost use Rattle.std.specs.Prelude.{Some};
 ghost use Rattle.vyrd_base.specs.Devices.{IsAtEnd, AfterReads, AfterWrites};
-ghost use Rattle.vyrd_log_check.specs.Checking.{most_lines};
+ghost use Rattle.vyrd_base.specs.Limits.{most_lines};
 ghost use Rattle.vyrd_check_command.specs.Checks.{IsUnsettled};
 ghost use Rattle.vyrd_command.specs.declared.show.Show.{Show};
 ghost use Rattle.vyrd_command.specs.declared.form.Form.TheVariants.{Check, Step, Run, Gen};

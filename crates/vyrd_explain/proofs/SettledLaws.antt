@@ -7,6 +7,7 @@ use Rattle.vyrd_base.specs.LogVerdicts.{log_verdict, log_verdict_so_far}
 use Rattle.vyrd_base.specs.Reading.{TextFault}
 use Rattle.vyrd_base.proofs.ReadingGrows.{reading_grows}
 use Rattle.vyrd_base.proofs.TestLaws.{first_true, second_true}
+use Rattle.vyrd_base.specs.Limits.{most_lines}
 use Rattle.vyrd_own_log.proofs.GrownLaws.{reading_grown}
 use Rattle.vyrd_log_check.proofs.LengthFacts.{bytes_short}
 use Rattle.vyrd_log_check.proofs.LengthLaws.{undecided_is_short}
@@ -47,7 +48,7 @@ module _ (max : ℕ) (bytes : List ℕ) where
         own_stops = g.1;
       }
 
-pub verdict_lasts : (max : ℕ) (bytes more : List ℕ) → 1 ≤ max → max ≤ 268435456
+pub verdict_lasts : (max : ℕ) (bytes more : List ℕ) → 1 ≤ max → max ≤ most_lines
     → is_settled max bytes ≡ true → log_verdict max (bytes ++ more) ≡ log_verdict max bytes
 verdict_lasts max bytes more low high e =
     let s = settled max bytes e in
@@ -55,7 +56,7 @@ verdict_lasts max bytes more low high e =
     ∙ sym (ap (log_verdict max) (sym (append-nil bytes))
     ∙ log_verdict_stands max bytes [] s.verdict low high s.stands)
 
-pub text_lasts : (about : About) (max : ℕ) (bytes more : List ℕ) → 1 ≤ max → max ≤ 268435456
+pub text_lasts : (about : About) (max : ℕ) (bytes more : List ℕ) → 1 ≤ max → max ≤ most_lines
     → is_settled max bytes ≡ true
     → explained about max (bytes ++ more) ≡ explained about max bytes
 unfolding explained
@@ -69,7 +70,7 @@ text_lasts about max bytes more low high e =
 
 pub ruleset lasting = (verdict_lasts, text_lasts)
 
-pub settled_stays : (max : ℕ) (bytes more : List ℕ) → 1 ≤ max → max ≤ 268435456
+pub settled_stays : (max : ℕ) (bytes more : List ℕ) → 1 ≤ max → max ≤ most_lines
     → is_settled max bytes ≡ true → is_settled max (bytes ++ more) ≡ true
 unfolding is_settled
 settled_stays max bytes more low high e =

@@ -17,6 +17,7 @@ use Rattle.vyrd_base.specs.Subjects.{is_built_in}
 use Rattle.vyrd_base.proofs.ReadingGrows.{input_of}
 use Rattle.vyrd_base.proofs.ReadingSound.{reading_writable}
 use Rattle.vyrd_base.proofs.TestLaws.{at_most_of, is_at_most}
+use Rattle.vyrd_base.specs.Limits.{most_lines}
 use Rattle.vyrd_check.proofs.BuiltInLaws.{reading_built_in}
 use Rattle.vyrd_check.proofs.ReadingFacts.{entries_few}
 use Rattle.vyrd_text.specs.Readers.{HasRead}
@@ -86,7 +87,7 @@ kept_may_start e somewhere h has = ∥∥₁_elim somewhere (Bool-set _ _) (λ s
 
 -- there are no more entries than lines
 pub kept_few : (e : ExplainerState) → ∥ ((bytes : List ℕ) × HasTaken e bytes) ∥₁
-    → 1 ≤ e.reader.max_lines → e.reader.max_lines ≤ 268435456 → length e.entries < 2 ^ 62
+    → 1 ≤ e.reader.max_lines → e.reader.max_lines ≤ most_lines → length e.entries < 2 ^ 62
 kept_few e somewhere low high =
     let few : length e.entries ≤ e.reader.max_lines =
     at_most_of _ _ (∥∥₁_elim somewhere (Bool-set _ _) (λ s. is_at_most _ _
@@ -102,7 +103,7 @@ own_of Tree e = cc
 own_of Buffers e = cc
 
 module _ (e : ExplainerState) (somewhere : ∥ ((bytes : List ℕ) × HasTaken e bytes) ∥₁)
-    (low : 1 ≤ own_limit e.own) (high : own_limit e.own ≤ 268435456) where
+    (low : 1 ≤ own_limit e.own) (high : own_limit e.own ≤ most_lines) where
   -- what was read of the bytes that were taken in
   formed : (bytes : List ℕ) → IsFormed (own_limit e.own) (own_read_as (own_limit e.own) bytes)
   formed bytes = reading_formed (own_limit e.own) bytes low high

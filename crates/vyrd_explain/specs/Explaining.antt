@@ -2,11 +2,12 @@
 -- for.
 use Rattle.std.specs.Prelude.{◌≡◌, ◌≤◌, ℕ, Bool, false, List}
 use Rattle.vyrd_base.specs.declared.log.Entry.{Entry}
+use Rattle.vyrd_base.specs.Limits.{most_lines}
 use Rattle.vyrd_text.specs.Readers.{ReaderState, HasRead}
 use Rattle.vyrd_own_log.specs.declared.reader.OwnLogReader.{OwnLogReader}
 use Rattle.vyrd_own_log.specs.Readers as own_readers
 use Rattle.vyrd_own_log.specs.ReaderView.{state_in}
-use Rattle.vyrd_log_check.specs.Checking.{LogCheckerState, HasChecked, most_lines}
+use Rattle.vyrd_log_check.specs.Checking.{LogCheckerState, HasChecked}
 use Rattle.vyrd_explain.specs.Explained.{read_as, own_read_as}
 
 -- The checker that knows the verdict; the reader of a log of versions 1 and 2, and the entries that

@@ -4,7 +4,7 @@ ghost use Rattle.std.specs.Prelude.{◌≡◌, ◌++◌, ◌≤◌, ℕ, List, [
 ghost use Rattle.std.specs.Result.{is_err};
 ghost use Rattle.vyrd_base.specs.LogVerdicts.{log_verdict};
 ghost use Rattle.vyrd_base.specs.VerdictText.{verdict_text};
-ghost use Rattle.vyrd_log_check.specs.Checking.{most_lines};
+ghost use Rattle.vyrd_base.specs.Limits.{most_lines};
 ghost use Rattle.vyrd_explain.specs.Explained.{explained, is_settled};
 ghost use Rattle.vyrd_explain.specs.Explaining.{HasTaken, limit_of};
 

@@ -3,7 +3,7 @@
 
 ghost use Rattle.std.specs.Prelude.{◌≡◌, ◌≤◌, ◌*◌, ◌++◌, ℕ, List, length, true, false};
 ghost use Rattle.vyrd_base.specs.LogVerdicts.{log_verdict};
-ghost use Rattle.vyrd_log_check.specs.Checking.{most_lines};
+ghost use Rattle.vyrd_base.specs.Limits.{most_lines};
 ghost use Rattle.vyrd_explain.specs.declared.about.About.{About};
 ghost use Rattle.vyrd_explain.specs.Explained.{explained, is_settled};
 

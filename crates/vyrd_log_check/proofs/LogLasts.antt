@@ -16,6 +16,7 @@ use Rattle.vyrd_base.specs.LogVerdicts.{own_beginning, is_own_text, log_verdict,
 use Rattle.vyrd_base.proofs.TestLaws.{both_true, first_true, second_true}
 use Rattle.vyrd_base.proofs.SplitLaws.{lacks, split_whole}
 use Rattle.vyrd_base.proofs.TextLasts.{text_verdict_lasts, text_verdict_stands}
+use Rattle.vyrd_base.specs.Limits.{most_lines}
 use Rattle.vyrd_own_check.proofs.LastLaws.{own_verdict_lasts, own_verdict_stands}
 use Rattle.vyrd_log_check.proofs.BeginningLaws.{begins_longer, part_of}
 
@@ -89,7 +90,7 @@ never max bytes more v low isnt later found =
     none_is_some e = cc
 
 -- a verdict about bytes that stands stands for all longer bytes
-pub log_verdict_lasts : (max : ℕ) (bytes more : List ℕ) (v : Verdict) → 1 ≤ max → max ≤ 268435456
+pub log_verdict_lasts : (max : ℕ) (bytes more : List ℕ) (v : Verdict) → 1 ≤ max → max ≤ most_lines
     → log_verdict_so_far max bytes ≡ Some v → log_verdict_so_far max (bytes ++ more) ≡ Some v
 log_verdict_lasts max bytes more v low high found =
     by_kind (is_own_text bytes) (is_own_text (bytes ++ more)) refl refl
@@ -106,7 +107,7 @@ log_verdict_lasts max bytes more v low high found =
         first_so_far max (bytes ++ more) later
         ∙ text_verdict_lasts max bytes more v low (sym (first_so_far max bytes is) ∙ found)
 
-pub log_verdict_stands : (max : ℕ) (bytes more : List ℕ) (v : Verdict) → 1 ≤ max → max ≤ 268435456
+pub log_verdict_stands : (max : ℕ) (bytes more : List ℕ) (v : Verdict) → 1 ≤ max → max ≤ most_lines
     → log_verdict_so_far max bytes ≡ Some v → log_verdict max (bytes ++ more) ≡ v
 log_verdict_stands max bytes more v low high found =
     by_kind (is_own_text bytes) (is_own_text (bytes ++ more)) refl refl

@@ -2,20 +2,12 @@
 use Rattle.std.specs.Prelude.{◌≡◌, ℕ, ◌≤◌, ◌<◌, Bool, true, List, Option, Some, None, IfSome}
 use Rattle.vyrd_base.specs.declared.verdict.Verdict.{Verdict}
 use Rattle.vyrd_base.specs.LogVerdicts.{is_own_text}
+use Rattle.vyrd_base.specs.Limits.{IsLimit}
 use Rattle.vyrd_check.specs.Checking as first_checking
 use Rattle.vyrd_own_check.specs.declared.checker.OwnChecker.{OwnChecker}
 use Rattle.vyrd_own_check.specs.Checking as own_checking
 use Rattle.vyrd_own_check.specs.CheckerView.{checker_in}
 use Rattle.vyrd_log_check.specs.Beginnings.{Matches}
-
--- how many lines a log may have
-abbrev pub most_lines : ℕ
-most_lines = 268435456
-
--- how many lines a log may have at most, given as the reader's limit
-pub record IsLimit (max : ℕ) : Type 0 where
-  pub low : 1 ≤ max
-  pub high : max ≤ most_lines
 
 -- The limit of lines, how many bytes of the beginning have come, the checkers of both kinds of log,
 -- the verdict that stands, and whether memory was refused.

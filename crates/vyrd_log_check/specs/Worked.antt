@@ -1,6 +1,7 @@
 -- Specifications of the worked cases, as lines, and what stands behind them in a log.
 use Rattle.std.specs.Prelude.{ℕ, List, [], ◌∷◌, ◌++◌, codes, replicate}
 use Rattle.vyrd_base.specs.LogVerdicts.{log_answer}
+use Rattle.vyrd_base.specs.Limits.{most_lines}
 
 -- the text of these lines
 abbrev pub text_of : List (List ℕ) → List ℕ
@@ -9,7 +10,7 @@ text_of (line ∷ lines) = line ++ 10 ∷ text_of lines
 
 -- what is answered about these lines
 abbrev pub answer_about : List (List ℕ) → List ℕ
-answer_about lines = log_answer 268435456 (text_of lines)
+answer_about lines = log_answer most_lines (text_of lines)
 
 -- A queue whose elements stand in slots: the first word of a slot says whether it counts, and the
 -- second is its element. What is logged behind it begins on line 15.

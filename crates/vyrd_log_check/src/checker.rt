@@ -5,12 +5,13 @@ ghost use Rattle.std.specs.Prelude.{IfOk, OnOk};
 ghost use Rattle.std.specs.Result.{is_err};
 ghost use Rattle.vyrd_base.specs.LogVerdicts.{own_beginning, log_verdict, log_verdict_so_far};
 ghost use Rattle.vyrd_base.specs.Own.LogVerdicts.{own_text_verdict_so_far};
+ghost use Rattle.vyrd_base.specs.Limits.{most_lines};
 ghost use Rattle.vyrd_own_check.specs.Checking.{limit_of};
 ghost use Rattle.vyrd_own_check.specs.Checking as own_checking;
 ghost use Rattle.vyrd_own_check.specs.CheckerView.{checker_in};
 ghost use Rattle.vyrd_own_check.specs.Costs as own_costs;
 ghost use Rattle.vyrd_own_check.specs.Owed as own_owed;
-ghost use Rattle.vyrd_log_check.specs.Checking.{HasChecked, most_lines};
+ghost use Rattle.vyrd_log_check.specs.Checking.{HasChecked};
 ghost use Rattle.vyrd_log_check.specs.Costs.{bytes_cost, finish_cost, log_cost};
 ghost use Rattle.vyrd_log_check.specs.Owed.{checker_debt};
 

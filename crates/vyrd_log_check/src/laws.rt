@@ -5,6 +5,7 @@ ghost use Rattle.std.specs.Prelude.{◌≡◌, ◌≢◌, ◌≤◌, ◌*◌, �
 ghost use Rattle.vyrd_base.specs.declared.verdict.Verdict.{Verdict};
 ghost use Rattle.vyrd_base.specs.declared.verdict.Verdict.TheVariants.{Accepted};
 ghost use Rattle.vyrd_base.specs.LogVerdicts.{log_verdict, log_verdict_so_far};
+ghost use Rattle.vyrd_base.specs.Limits.{most_lines};
 ghost use Rattle.vyrd_judge.specs.Following.{JudgeView};
 ghost use Rattle.vyrd_judge.specs.LittleKept.{KeepsLittle};
 ghost use Rattle.vyrd_check.specs.LogReadings as first_readings;
@@ -12,7 +13,7 @@ ghost use Rattle.vyrd_own_check.specs.declared.checker.OwnChecker.{OwnChecker};
 ghost use Rattle.vyrd_own_check.specs.CheckerView.{checker_in};
 ghost use Rattle.vyrd_own_check.specs.Checking.{limit_of};
 ghost use Rattle.vyrd_own_check.specs.LogReadings as own_readings;
-ghost use Rattle.vyrd_log_check.specs.Checking.{LogCheckerState, HasChecked, most_lines};
+ghost use Rattle.vyrd_log_check.specs.Checking.{LogCheckerState, HasChecked};
 
 /// A verdict about bytes that stands stands for all longer bytes, and is their verdict as a whole.
 #[tactic(auto, using(crate::proofs::LogLasts::lasting))]

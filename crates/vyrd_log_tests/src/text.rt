@@ -3,6 +3,7 @@
 ghost use Rattle.std.specs.Prelude.{◌≡◌, ◌≤◌, true, length};
 ghost use Rattle.std.specs.List.{AllByRecursion};
 ghost use Rattle.vyrd_base.specs.declared.log.Kind.TheVariants.{Call};
+ghost use Rattle.vyrd_base.specs.Limits.{most_lines};
 ghost use Rattle.vyrd_text.specs.Written.{is_padded, is_writable};
 
 use std::alloc::{AllocError, Global};
@@ -100,7 +101,7 @@ fn too_many_lines(rt: HostRuntime) {
 
 /// Asserts the answer in every cutting of the text into two pieces, and byte by byte.
 fn assert_read(rt: &impl Abort, alloc: Global, max_lines: u64, case: &Case, row: usize)
-    requires { (1 ≤ max_lines) × (max_lines ≤ 268435456) }
+    requires { (1 ≤ max_lines) × (max_lines ≤ most_lines) }
 {
     let (text, fault, count) = *case;
     let answer = (answer_of(fault), count);
@@ -125,7 +126,7 @@ type Answer = (Result<(), TextFault>, usize);
 
 /// Reads the text in two pieces.
 fn read_in_two(alloc: Global, max_lines: u64, text: &[u8], cut: usize) -> Answer
-    requires lines { (1 ≤ max_lines) × (max_lines ≤ 268435456) }
+    requires lines { (1 ≤ max_lines) × (max_lines ≤ most_lines) }
     requires cut { cut ≤ length text.now }
 {
     let mut reader = LogReader::new(alloc, max_lines);
@@ -142,7 +143,7 @@ fn read_in_two(alloc: Global, max_lines: u64, text: &[u8], cut: usize) -> Answer
 
 /// Reads the text byte by byte.
 fn read_bytes(alloc: Global, max_lines: u64, text: &[u8]) -> Answer
-    requires { (1 ≤ max_lines) × (max_lines ≤ 268435456) }
+    requires { (1 ≤ max_lines) × (max_lines ≤ most_lines) }
 {
     let mut reader = LogReader::new(alloc, max_lines);
     let mut entries = Vec::new(alloc);

@@ -5,8 +5,9 @@ use Rattle.std.specs.Prelude.{◌==◌, is_some}
 use Rattle.std.proofs.lemmas.Bool.Decides.{nat_tests}
 use Rattle.vyrd_base.specs.declared.verdict.Verdict.{Verdict}
 use Rattle.vyrd_base.specs.Own.LogVerdicts.{own_text_verdict, own_text_verdict_so_far}
+use Rattle.vyrd_base.specs.Limits.{IsLimit}
 use Rattle.vyrd_own_check.proofs.LastLaws.{own_verdict_lasts, own_verdict_stands}
-use Rattle.vyrd_own_check.specs.Checking.{IsLimit, limit_of, CheckerState, FollowsBy, HasChecked}
+use Rattle.vyrd_own_check.specs.Checking.{limit_of, CheckerState, FollowsBy, HasChecked}
 
 -- the verdict that is kept is that of the bytes so far
 pub so_far_is : (c : CheckerState) (bytes : List ℕ) → HasChecked c bytes → c.so_far

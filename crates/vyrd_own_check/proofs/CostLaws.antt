@@ -12,6 +12,7 @@ use Rattle.vyrd_base.specs.declared.verdict.Verdict.{Verdict}
 use Rattle.vyrd_base.specs.Reading.{has_any}
 use Rattle.vyrd_base.specs.Rules.{Charter, own, rules_by}
 use Rattle.vyrd_base.specs.Own.Log.{OwnReading, own_reading}
+use Rattle.vyrd_base.specs.Limits.{IsLimit}
 use Rattle.vyrd_own_log.specs.Grown.{has_begun, IsGrown}
 use Rattle.vyrd_own_log.proofs.GrownLaws.{reading_grown}
 use Rattle.vyrd_words.specs.Costs.{entry_price}
@@ -21,7 +22,7 @@ use Rattle.vyrd_own_spec.specs.Effects.{most_touched}
 use Rattle.vyrd_own_check.specs.LogReadings.{read_so_far}
 use Rattle.vyrd_own_check.specs.Costs.{word_price, entry_cost, starting_cost, headed_cost}
 use Rattle.vyrd_own_check.specs.Costs.{reading_cost, bytes_cost, end_cost}
-use Rattle.vyrd_own_check.specs.Checking.{IsLimit, IsAt, IsJudging, IsReady, IsBegun}
+use Rattle.vyrd_own_check.specs.Checking.{IsAt, IsJudging, IsReady, IsBegun}
 use Rattle.vyrd_own_check.specs.Checking.{OwnCheckerKept}
 use Rattle.vyrd_own_check.specs.Checking.{CheckerState, limit_of}
 use Rattle.vyrd_own_check.specs.Owed.{price_by, judge_owes, following_cost, kept_debt, debt_after}

@@ -12,6 +12,7 @@ use Rattle.vyrd_base.specs.Rules.{own, rules_by}
 use Rattle.vyrd_base.specs.Verdicts.{verdict_so_far, end_verdict}
 use Rattle.vyrd_base.specs.Own.Log.{OwnReading}
 use Rattle.vyrd_base.specs.Own.LogVerdicts.{own_text_verdict_so_far}
+use Rattle.vyrd_base.specs.Limits.{IsLimit}
 use Rattle.vyrd_own_log.specs.Grown.{has_begun, IsGrown}
 use Rattle.vyrd_own_log.specs.Readers.{ReaderState, HasRead, IsGrownBy}
 use Rattle.vyrd_own_log.specs.States.{has_ended}
@@ -20,7 +21,7 @@ use Rattle.vyrd_judge.specs.Following.{JudgeView, HasFollowed}
 use Rattle.vyrd_own_check.specs.LogReadings.{read_so_far}
 use Rattle.vyrd_own_check.specs.Costs.{bytes_cost}
 use Rattle.vyrd_own_check.specs.Owed.{judge_owes, kept_debt}
-use Rattle.vyrd_own_check.specs.Checking.{IsLimit, limit_of, IsJudging, OwnCheckerKept, IsUndecided}
+use Rattle.vyrd_own_check.specs.Checking.{limit_of, IsJudging, OwnCheckerKept, IsUndecided}
 use Rattle.vyrd_own_check.specs.Checking.{untold_in}
 use Rattle.vyrd_own_check.proofs.ReadingFacts.{known_so_far, untold_right}
 use Rattle.vyrd_own_check.proofs.CostLaws.{bytes_more}

@@ -17,12 +17,13 @@ use Rattle.vyrd_base.specs.Subjects.{is_built_in}
 use Rattle.vyrd_base.specs.Reading.{has_any}
 use Rattle.vyrd_base.specs.Own.LogVerdicts.{told_in_text, own_text_verdict_so_far}
 use Rattle.vyrd_base.proofs.TestLaws.{at_most_of, is_at_most}
+use Rattle.vyrd_base.specs.Limits.{IsLimit}
 use Rattle.vyrd_own_log.specs.States.{header_at, has_ended}
 use Rattle.vyrd_own_log.specs.Readers.{ReaderState, HasRead, IsGrownBy}
 use Rattle.vyrd_own_log.proofs.GrownLaws.{reading_grown, reading_formed}
 use Rattle.vyrd_judge.specs.Following.{JudgeView}
 use Rattle.vyrd_own_check.specs.LogReadings.{read_so_far}
-use Rattle.vyrd_own_check.specs.Checking.{IsLimit, IsJudging, IsReady, IsBegun, HasRoom}
+use Rattle.vyrd_own_check.specs.Checking.{IsJudging, IsReady, IsBegun, HasRoom}
 use Rattle.vyrd_own_check.specs.Checking.{OwnCheckerKept}
 use Rattle.vyrd_own_check.specs.Checking.{limit_of, IsUndecided, IsSomewhere, untold_in}
 use Rattle.vyrd_own_check.specs.Costs.{bytes_cost}

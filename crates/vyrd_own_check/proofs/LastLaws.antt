@@ -14,9 +14,10 @@ use Rattle.vyrd_base.specs.Own.Log.{OwnReading, own_reading}
 use Rattle.vyrd_base.specs.Own.LogVerdicts.{told_in_text, own_entries_verdict, known_own_verdict}
 use Rattle.vyrd_base.specs.Own.LogVerdicts.{own_text_verdict, own_text_verdict_so_far}
 use Rattle.vyrd_base.proofs.VerdictLaws.{verdict_lasts}
+use Rattle.vyrd_base.specs.Limits.{IsLimit}
 use Rattle.vyrd_own_log.specs.Grown.{to_go_on, input_of, has_begun, IsGrown, ends, IsFormed}
 use Rattle.vyrd_own_log.proofs.GrownLaws.{reading_grown, reading_formed}
-use Rattle.vyrd_own_check.specs.Checking.{IsLimit, charter_in, untold_by, untold_in}
+use Rattle.vyrd_own_check.specs.Checking.{charter_in, untold_by, untold_in}
 use Rattle.vyrd_own_check.proofs.PlaceLaws.{IsWithin, within_more, told_stays, nothing_so_far}
 use Rattle.vyrd_own_check.proofs.PlaceLaws.{so_far_within, end_within}
 

@@ -20,6 +20,7 @@ use Rattle.vyrd_base.specs.Verdicts.{line_of, first_fault, shape_verdict, verdic
 use Rattle.vyrd_base.specs.Verdicts.{is_call_open, end_verdict}
 use Rattle.vyrd_base.specs.Own.Log.{OwnReading, own_reading}
 use Rattle.vyrd_base.specs.Own.LogVerdicts.{own_text_verdict_so_far}
+use Rattle.vyrd_base.specs.Limits.{most_lines}
 use Rattle.vyrd_own_log.specs.Grown.{has_begun, IsGrown}
 use Rattle.vyrd_own_log.specs.Readers.{ReaderState, HasRead}
 use Rattle.vyrd_judge.specs.Following.{JudgeView, HasFollowed}
@@ -107,7 +108,7 @@ judge_before None after old new more judging g headed all begun =
 -- there is room for the entries of a log that keeps the limit of lines
 pub has_room : (judge : Option JudgeView) (read : OwnReading) (log entries : List Entry)
     → IsBefore judge read log
-    → length (log ++ entries) ≤ 268435456 → HasRoom judge entries
+    → length (log ++ entries) ≤ most_lines → HasRoom judge entries
 has_room None read log entries before few = tt
 has_room (Some j) read log entries before few =
     let kept = counted j read.starting log before.so_far before.followed in

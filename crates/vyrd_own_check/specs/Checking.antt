@@ -12,6 +12,7 @@ use Rattle.vyrd_base.specs.Rules.{Charter, own, rules_by}
 use Rattle.vyrd_base.specs.Verdicts.{verdict_so_far, end_verdict}
 use Rattle.vyrd_base.specs.Own.Log.{OwnReading}
 use Rattle.vyrd_base.specs.Own.LogVerdicts.{own_text_verdict_so_far}
+use Rattle.vyrd_base.specs.Limits.{IsLimit}
 use Rattle.vyrd_own_log.specs.Grown.{has_begun}
 use Rattle.vyrd_own_log.specs.Readers.{ReaderState, HasRead}
 use Rattle.vyrd_judge.specs.Costs.{judge_debt}
@@ -19,15 +20,6 @@ use Rattle.vyrd_judge.specs.Following.{JudgeView, HasFollowed}
 use Rattle.vyrd_own_spec.specs.Effects.{most_touched}
 use Rattle.vyrd_own_check.specs.Costs.{word_price, starting_cost}
 use Rattle.vyrd_own_check.specs.LogReadings.{read_so_far}
-
--- how many lines a log may have
-abbrev pub most_lines : ℕ
-most_lines = 268435456
-
--- how many lines a log may have at most, given as the reader's limit
-pub record IsLimit (max : ℕ) : Type 0 where
-  pub low : 1 ≤ max
-  pub high : max ≤ most_lines
 
 -- the name of the rules that the specification in front of what was read gives, once there is a
 -- header

@@ -4,7 +4,8 @@ ghost use Rattle.std.specs.Prelude.{◌≡◌, ◌++◌, ◌≤◌, ◌<◌, ◌
 ghost use Rattle.std.specs.Prelude.{IfOk, OnOk};
 ghost use Rattle.std.specs.Result.{is_err};
 ghost use Rattle.vyrd_base.specs.Own.LogVerdicts.{own_text_verdict, own_text_verdict_so_far};
-ghost use Rattle.vyrd_own_check.specs.Checking.{HasChecked, limit_of, most_lines, IsSound};
+ghost use Rattle.vyrd_base.specs.Limits.{most_lines};
+ghost use Rattle.vyrd_own_check.specs.Checking.{HasChecked, limit_of, IsSound};
 ghost use Rattle.vyrd_own_check.specs.Costs.{bytes_cost, finish_cost};
 ghost use Rattle.vyrd_own_check.specs.KeptView.{kept_in};
 ghost use Rattle.vyrd_own_check.specs.Owed.{checker_debt};

@@ -15,6 +15,7 @@ ghost use Rattle.vyrd_base.specs.Reading.{has_any};
 ghost use Rattle.vyrd_base.specs.Verdicts.{verdict_so_far, end_verdict};
 ghost use Rattle.vyrd_base.specs.Own.Log.{OwnReading};
 ghost use Rattle.vyrd_base.specs.Own.LogVerdicts.{own_text_verdict_so_far, own_text_verdict};
+ghost use Rattle.vyrd_base.specs.Limits.{IsLimit};
 ghost use Rattle.vyrd_own_log.specs.States.{header_at, has_ended};
 ghost use Rattle.vyrd_own_log.specs.Readers.{HasRead, IsGrownBy};
 ghost use Rattle.vyrd_own_log.specs.ReaderView.{state_in};
@@ -24,7 +25,7 @@ ghost use Rattle.vyrd_own_check.specs.LogReadings.{read_so_far};
 ghost use Rattle.vyrd_own_check.specs.KeptView.{kept_in};
 ghost use Rattle.vyrd_own_check.specs.Costs.{bytes_cost, finish_cost};
 ghost use Rattle.vyrd_own_check.specs.Owed.{kept_debt, judge_owes, following_cost};
-ghost use Rattle.vyrd_own_check.specs.Checking.{IsLimit, IsReady, IsJudging, IsBegun, HasRoom};
+ghost use Rattle.vyrd_own_check.specs.Checking.{IsReady, IsJudging, IsBegun, HasRoom};
 ghost use Rattle.vyrd_own_check.specs.Checking.{IsUndecided, IsSomewhere, limit_of, untold_in};
 
 use crate::lines::told;

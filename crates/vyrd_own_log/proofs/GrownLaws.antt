@@ -11,6 +11,7 @@ use Rattle.vyrd_base.specs.Own.Reader.{written_in}
 use Rattle.vyrd_base.specs.Own.Log.{OwnReading, own_reading}
 use Rattle.vyrd_base.proofs.SplitLaws.{cut, lacks, lacks-append}
 use Rattle.vyrd_base.proofs.TestLaws.{both_true, same_of}
+use Rattle.vyrd_base.specs.Limits.{most_lines}
 use Rattle.vyrd_own_log.specs.declared.stage.Stage.{Stage}
 use Rattle.vyrd_own_log.specs.declared.stage.Stage.TheVariants as stages
 use Rattle.vyrd_own_log.specs.Callable.{are_callable}
@@ -121,7 +122,7 @@ all_more max before (x ∷ bytes) at =
     subst (Reached max) (append_assoc before (x ∷ []) bytes)
     (all_more max (before ++ x ∷ []) bytes (one_more max before at x))
 
-reached_all : (max : ℕ) (bytes : List ℕ) → 1 ≤ max → max ≤ 268435456 → Reached max bytes
+reached_all : (max : ℕ) (bytes : List ℕ) → 1 ≤ max → max ≤ most_lines → Reached max bytes
 unfolding own_reading
 reached_all max bytes low high = all_more max [] bytes (record {
   kept = fresh_kept max;
@@ -232,7 +233,7 @@ module _ (k : OwnReaderKept) (w : Bool) (more : List ℕ) where
       ap (unless_faulty k.lines (input_to k.lines w) (cut (k.unfinished ++ more))) is
       ∙ ap (known k.lines) (sym is)
 
-pub reading_grown : (max : ℕ) (w : Bool) (bytes more : List ℕ) → 1 ≤ max → max ≤ 268435456
+pub reading_grown : (max : ℕ) (w : Bool) (bytes more : List ℕ) → 1 ≤ max → max ≤ most_lines
     → IsGrown (own_reading (to_go_on max) bytes) (own_reading (input_of max w) (bytes ++ more))
 reading_grown max w bytes more low high = record {
   header = λ h e. ap (λ read. read.header) new
@@ -301,7 +302,7 @@ reading_grown max w bytes more low high = record {
     new = ap (λ m. own_reading (input_of m w) (bytes ++ more)) (sym at.limit)
         ∙ at.reached.follows w more
 
-pub reading_callable : (max : ℕ) (bytes : List ℕ) → 1 ≤ max → max ≤ 268435456
+pub reading_callable : (max : ℕ) (bytes : List ℕ) → 1 ≤ max → max ≤ most_lines
     → are_callable (written_in (own_reading (to_go_on max) bytes).lines).methods ≡ true
 reading_callable max bytes low high =
     let at = reached_all max bytes low high in
@@ -313,7 +314,7 @@ reading_callable max bytes low high =
     ∙ at.sound.steady.callable
 
 -- what is true of all that is read
-pub reading_formed : (max : ℕ) (bytes : List ℕ) → 1 ≤ max → max ≤ 268435456
+pub reading_formed : (max : ℕ) (bytes : List ℕ) → 1 ≤ max → max ≤ most_lines
     → IsFormed max (own_reading (to_go_on max) bytes)
 reading_formed max bytes low high = record {
   numbered = by_parts (ap (λ (read : OwnReading). read.numbers) old ∙ append-nil b.numbers)

@@ -16,6 +16,7 @@ use Rattle.vyrd_base.specs.Reading.{TextFault, has_any}
 use Rattle.vyrd_base.specs.Own.Reader.{nothing_read, read_lines}
 use Rattle.vyrd_base.specs.Own.Log.{own_reading}
 use Rattle.vyrd_base.proofs.SplitLaws.{cut, split_whole}
+use Rattle.vyrd_base.specs.Limits.{most_lines}
 use Rattle.vyrd_text.specs.declared.fault.TextFault as fault
 use Rattle.vyrd_text.specs.declared.fault.TextFault.TheVariants.{Malformed, Memory}
 use Rattle.vyrd_text.specs.Answered.{IsAnswer, UnlessMemory}
@@ -243,7 +244,7 @@ has_read r b bytes works sound has specified start =
       reached = subst (λ x. HasReached r.kept.lines r.kept.unfinished x bytes) is has;
     }
 
-pub fresh_read : (max : ℕ) (r : ReaderState) → 1 ≤ max → max ≤ 268435456 → r.has_failed ≡ false
+pub fresh_read : (max : ℕ) (r : ReaderState) → 1 ≤ max → max ≤ most_lines → r.has_failed ≡ false
     → r.kept ≡ fresh_kept max → HasRead r []
 unfolding own_reading
 fresh_read max r low high works is =

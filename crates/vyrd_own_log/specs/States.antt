@@ -6,6 +6,7 @@ use Rattle.vyrd_base.specs.Reading.{TextFault, Input, after_end_rule}
 use Rattle.vyrd_base.specs.Own.Reader.{SoFar, nothing_read}
 use Rattle.vyrd_base.specs.Own.Log.{OwnReading, own_stopped, entries_read, own_starts_read}
 use Rattle.vyrd_base.specs.Own.Log.{specification_read, own_text_read}
+use Rattle.vyrd_base.specs.Limits.{most_lines}
 use Rattle.vyrd_own_log.specs.declared.stage.Stage.{Stage}
 use Rattle.vyrd_own_log.specs.declared.stage.Stage.TheVariants.{Header, Specification, Starts}
 use Rattle.vyrd_own_log.specs.declared.stage.Stage.TheVariants.{Entries, End}
@@ -96,6 +97,6 @@ IsFirst (End h) r = Unit {0}
 -- past them, and entries can call the methods that were read.
 pub record IsSteady (r : LineState) : Type 0 where
   pub low : 1 ≤ r.max_lines
-  pub high : r.max_lines ≤ 268435456
+  pub high : r.max_lines ≤ most_lines
   pub counted : r.line ≤ r.max_lines + 1
   pub callable : are_callable r.said.specification.methods ≡ true

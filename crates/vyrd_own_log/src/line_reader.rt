@@ -5,6 +5,7 @@ ghost use Rattle.std.specs.Str.{bytes_eq};
 ghost use Rattle.vyrd_base.specs.Own.Log.{is_note, own_header_in};
 ghost use Rattle.vyrd_base.specs.Spelling.{end_line};
 ghost use Rattle.vyrd_base.specs.Own.Reader.{nothing_read, read_next};
+ghost use Rattle.vyrd_base.specs.Limits.{most_lines};
 ghost use Rattle.vyrd_own_text.specs.Meaning.{so_far};
 ghost use Rattle.vyrd_text.specs.Answered.{IsAnswer};
 ghost use Rattle.vyrd_own_log.specs.States.{fresh, header_at, has_ended, IsSteady};
@@ -157,7 +158,7 @@ impl LineReader {
 
     /// Reads the first line.
     fn take_header(&mut self, line: &[u8]) -> Found
-        requires { self.old.line ≤ 268435456 }
+        requires { self.old.line ≤ most_lines }
         ensures step { (state_of self.new, result)
             ≡ header_step (state_of self.old) (own_header_in line.now) }
         ensures limit { self.new.max_lines ≡ self.old.max_lines }
@@ -173,7 +174,7 @@ impl LineReader {
 
     /// Reads a line of the specification.
     fn take_specification(&mut self, header: Header, line: &[u8]) -> Result<Found, AllocError>
-        requires few { self.old.line ≤ 268435456 }
+        requires few { self.old.line ≤ most_lines }
         requires callable { can_call self.old ≡ true }
         ensures step { IfOk result (λ found. (state_of self.new, found)
             ≡ specification_step (state_of self.old) header
@@ -204,7 +205,7 @@ impl LineReader {
 
     /// Reads a line where starting words may stand, after the last of those before.
     fn take_start(&mut self, header: Header, last: Option<StartWord>, line: &[u8]) -> Found
-        requires few { self.old.line ≤ 268435456 }
+        requires few { self.old.line ≤ most_lines }
         requires callable { can_call self.old ≡ true }
         ensures step { (state_of self.new, result)
             ≡ starts_step (state_of self.old) header last line.now }
@@ -229,7 +230,7 @@ impl LineReader {
     /// Reads a line where entries stand.
     #[inline(always)]
     fn take_entry(&mut self, header: Header, line: &[u8]) -> Found
-        requires few { self.old.line ≤ 268435456 }
+        requires few { self.old.line ≤ most_lines }
         requires callable { can_call self.old ≡ true }
         ensures step { (state_of self.new, result)
             ≡ entry_step (state_of self.old) header line.now }
@@ -255,7 +256,7 @@ impl LineReader {
     /// Goes to the next line.
     #[inline(always)]
     fn go_on(&mut self, stage: Stage)
-        requires { self.old.line ≤ 268435456 }
+        requires { self.old.line ≤ most_lines }
         ensures { state_of self.new ≡ next (state_of self.old) stage }
     {
         self.line += 1;

@@ -3,6 +3,7 @@
 ghost use Rattle.std.specs.Prelude.{◌≡◌, ◌≤◌, ℕ, List, [], ◌++◌, true, false, Err, OnOk, IsSome};
 ghost use Rattle.vyrd_base.specs.Own.Log.{own_reading};
 ghost use Rattle.vyrd_base.specs.Own.Reader.{written_in};
+ghost use Rattle.vyrd_base.specs.Limits.{most_lines};
 ghost use Rattle.vyrd_own.specs.Layout.{texts, written};
 ghost use Rattle.vyrd_text.specs.Answered.{IsAnswer, UnlessMemory};
 ghost use Rattle.vyrd_own_log.specs.States.{header_at, has_ended};
@@ -32,7 +33,7 @@ impl OwnLogReader {
     /// `max_lines` is from 1 to 268,435,456. It takes no memory yet.
     pub fn new(alloc: Global, max_lines: u64) -> OwnLogReader
         requires low { 1 ≤ max_lines }
-        requires high { max_lines ≤ 268435456 }
+        requires high { max_lines ≤ most_lines }
         ensures read { HasRead (state_in result) [] }
         ensures limit { (state_in result).kept.lines.max_lines ≡ max_lines }
     {

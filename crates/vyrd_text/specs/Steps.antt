@@ -6,6 +6,7 @@ use Rattle.vyrd_base.specs.declared.log.Entry.{Entry}
 use Rattle.vyrd_base.specs.declared.log.StartWord.{StartWord}
 use Rattle.vyrd_base.specs.declared.verdict.Rule.{Rule}
 use Rattle.vyrd_base.specs.Reading.{fault_on}
+use Rattle.vyrd_base.specs.Limits.{most_lines}
 use Rattle.vyrd_text.specs.declared.line_reader.Found.{Found}
 use Rattle.vyrd_text.specs.declared.line_reader.Found.TheVariants as brought
 use Rattle.vyrd_text.specs.Readers.{LineState, known, goes_on, Follows}
@@ -59,7 +60,7 @@ is_one_line bytes = list_all (λ b. not (b == 10)) bytes
 -- header that is line 1, and neither a starting word nor `end` was read
 pub record IsSteady (r : LineState) : Type 0 where
   pub low : 1 ≤ r.max_lines
-  pub high : r.max_lines ≤ 268435456
+  pub high : r.max_lines ≤ most_lines
   pub counted : r.line ≤ r.max_lines + 1
   pub short : length r.unfinished ≤ 64
   pub one_line : is_one_line r.unfinished ≡ true

@@ -6,6 +6,7 @@ ghost use Rattle.std.specs.Prelude.{true, length, count_by, vec_len, vec_capacit
 ghost use Rattle.std.specs.Prelude.{IsSome, is_some, if◌then◌else◌};
 ghost use Rattle.vyrd_base.specs.declared.log.Entry.{Entry};
 ghost use Rattle.vyrd_base.specs.Lines.{start_in};
+ghost use Rattle.vyrd_base.specs.Limits.{most_lines};
 ghost use Rattle.vyrd_text.specs.Readers.{fresh, goes_on};
 ghost use Rattle.vyrd_text.specs.Ahead.{starts_ahead};
 ghost use Rattle.vyrd_text.specs.Steps.{IsNoticed, IsFed, IsFedFront, IsTaken, IsLineTaken};
@@ -70,7 +71,7 @@ impl LineReader {
     /// A reader that has taken in nothing.
     pub(crate) fn new(max_lines: u64) -> LineReader
         requires low { 1 ≤ max_lines }
-        requires high { max_lines ≤ 268435456 }
+        requires high { max_lines ≤ most_lines }
         ensures { result ≡ fresh max_lines }
     {
         LineReader {

@@ -2,6 +2,7 @@
 
 ghost use Rattle.std.specs.Prelude.{◌≡◌, ◌≤◌, ℕ, List, [], ◌++◌, true, Err, OnOk, IsSome};
 ghost use Rattle.vyrd_base.specs.Reading.{reading};
+ghost use Rattle.vyrd_base.specs.Limits.{most_lines};
 ghost use Rattle.vyrd_text.specs.Readers.{HasRead, so_far, whole};
 ghost use Rattle.vyrd_text.specs.Answered.{IsAnswer, UnlessMemory, IsGrownBy};
 
@@ -35,7 +36,7 @@ impl LogReader {
     /// `max_lines` is from 1 to 268,435,456. It takes no memory yet.
     pub fn new(alloc: Global, max_lines: u64) -> LogReader
         requires low { 1 ≤ max_lines }
-        requires high { max_lines ≤ 268435456 }
+        requires high { max_lines ≤ most_lines }
         ensures read { HasRead result [] }
         ensures limit { result.max_lines ≡ max_lines }
     {

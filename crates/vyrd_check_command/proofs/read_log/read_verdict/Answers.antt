@@ -1,6 +1,6 @@
 use Rattle.std.proofs.Common.{◌≡◌, sym, subst}
 use Rattle.std.specs.Prelude.{IfOk, OnOk, Err}
-use Rattle.vyrd_log_check.specs.Checking.{IsLimit}
+use Rattle.vyrd_base.specs.Limits.{IsLimit}
 use Rattle.vyrd_check_command.specs.Inside.Progress.{IsReached}
 use Rattle.vyrd_check_command.specs.Checks.{IsReadNoFurther, IsUnsettled, IsCounted}
 use Rattle.vyrd_check_command.specs.declared.read_log.ReadFault.TheVariants.{Failed}

@@ -1,7 +1,7 @@
 -- What the call does under the form that the words have is what it does for the words.
 use Rattle.std.proofs.Common.{◌≡◌, ◌≤◌, ap, ◌∙◌, sym, subst, Some, false, inl, length}
 use Rattle.std.specs.Prelude.{◌==◌}
-use Rattle.vyrd_log_check.specs.Checking.{most_lines}
+use Rattle.vyrd_base.specs.Limits.{most_lines}
 use Rattle.vyrd_check_command.specs.Checks.{HasRoomForAnswer}
 use Rattle.vyrd_check_command.proofs.StatusLaws.{reads_told, writes_within}
 use Rattle.vyrd_command.specs.Forms.{form_said, usage_line}

@@ -1,7 +1,8 @@
 use Rattle.std.proofs.Common.{◌+◌, ◌≤◌, ◌++◌, ap, subst, sym, ◌∙◌}
 use Rattle.vyrd_base.specs.TextVerdicts.{text_verdict_so_far}
+use Rattle.vyrd_base.specs.Limits.{IsLimit}
 use Rattle.vyrd_check.specs.LogReadings.{read_so_far}
-use Rattle.vyrd_check.specs.Checking.{CheckerKept, IsLimit, IsUndecided, IsSomewhere}
+use Rattle.vyrd_check.specs.Checking.{CheckerKept, IsUndecided, IsSomewhere}
 use Rattle.vyrd_check.specs.Costs.{bytes_cost}
 use Rattle.vyrd_check.specs.Owed.{kept_debt, judge_owes, following_cost}
 use Rattle.vyrd_check.proofs.ReadingFacts.{first_none}

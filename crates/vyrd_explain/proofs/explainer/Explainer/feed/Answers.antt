@@ -1,6 +1,7 @@
 use Rattle.std.proofs.Common.{◌≡◌, ◌≤◌, false, ◌++◌, ap, subst, sym, ◌∙◌}
 use Rattle.std.specs.Prelude.{◌&&◌, is_some}
 use Rattle.std.proofs.Math.Logic.{∥∥₁_map}
+use Rattle.vyrd_base.specs.Limits.{most_lines}
 use Rattle.vyrd_explain.specs.ExplainerView.{explainer_in}
 use Rattle.vyrd_explain.specs.Explained.{is_settled}
 use Rattle.vyrd_explain.specs.Explaining.{ExplainerState, HasTaken, own_limit}
@@ -37,7 +38,7 @@ invariant_of-self-2 c =
       own = c.in_ok-own_stops.ensures.limit ∙ c.self.invariant.own
           ∙ sym c.in_ok-verdict.ensures.limit;
       low = subst (λ m. 1 ≤ m) (sym c.in_ok-verdict.ensures.limit) c.self.invariant.low;
-      high = subst (λ m. m ≤ 268435456) (sym c.in_ok-verdict.ensures.limit)
+      high = subst (λ m. m ≤ most_lines) (sym c.in_ok-verdict.ensures.limit)
           c.self.invariant.high;
       somewhere = λ works. ∥∥₁_map (c.self.invariant.somewhere c.if-self.false)
           (λ s. (s.0 ++ c.args.piece.now, fed_taken old new c.args.piece.now fed s.0 s.1));

@@ -1,5 +1,6 @@
 use Rattle.std.proofs.Common.{◌<◌, ◌≤◌, ◌^◌, ◌++◌, length, ap, subst, sym, ◌∙◌}
 use Rattle.vyrd_base.specs.VerdictText.{verdict_text}
+use Rattle.vyrd_base.specs.Limits.{most_lines}
 use Rattle.vyrd_explain.specs.ExplainerView.{explainer_in}
 use Rattle.vyrd_explain.specs.Explained.{explained}
 use Rattle.vyrd_explain.specs.Explaining.{ExplainerState, HasTaken, own_limit}
@@ -18,7 +19,7 @@ said_about-requires c =
       few = subst (λ entries. length entries < 2 ^ 62) (sym c.deref.ensures.value)
           (kept_few e somewhere
           (subst (λ m. 1 ≤ m) (sym limit) c.self.invariant.low)
-          (subst (λ m. m ≤ 268435456) (sym limit) c.self.invariant.high));
+          (subst (λ m. m ≤ most_lines) (sym limit) c.self.invariant.high));
     }
 
 pub own_said_about-requires : goal.own_said_about-requires
@@ -27,7 +28,7 @@ own_said_about-requires c =
     let somewhere = c.self.invariant.somewhere c.if-self.false in
     let limit = c.self.invariant.own in
     let low = subst (λ m. 1 ≤ m) (sym limit) c.self.invariant.low in
-    let high = subst (λ m. m ≤ 268435456) (sym limit) c.self.invariant.high in
+    let high = subst (λ m. m ≤ most_lines) (sym limit) c.self.invariant.high in
     record {
       own = kept_own e somewhere low high;
       few = subst (λ entries. length entries < 2 ^ 62) (sym c.deref-2.ensures.value)

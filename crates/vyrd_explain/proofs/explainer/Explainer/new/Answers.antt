@@ -1,4 +1,5 @@
 use Rattle.std.proofs.Common.{[], ◌≤◌, subst, sym, ◌∙◌}
+use Rattle.vyrd_base.specs.Limits.{most_lines}
 use Rattle.vyrd_explain.specs.Explaining.{own_limit}
 use Rattle.vyrd_explain.proofs.TakenLaws.{nothing_read, nothing_own_read, nothing_numbered}
 use Rattle.vyrd_explain.proofs.explainer.Explainer.new.Goals as goal
@@ -18,7 +19,7 @@ invariant_of-result c = record {
   limit = c.new-2.ensures.limit ∙ sym c.new.ensures.limit;
   own = c.new-4.ensures.limit ∙ sym c.new.ensures.limit;
   low = subst (λ m. 1 ≤ m) (sym c.new.ensures.limit) c.requires.low;
-  high = subst (λ m. m ≤ 268435456) (sym c.new.ensures.limit) c.requires.high;
+  high = subst (λ m. m ≤ most_lines) (sym c.new.ensures.limit) c.requires.high;
   somewhere = λ works. ∣ (
     [],
     record {

@@ -1,6 +1,7 @@
 use Rattle.std.proofs.Common.{◌++◌, subst, sym}
 use Rattle.std.proofs.Math.Logic.{∥∥₁_map}
-use Rattle.vyrd_own_check.specs.Checking.{IsLimit, FollowsBy}
+use Rattle.vyrd_base.specs.Limits.{IsLimit}
+use Rattle.vyrd_own_check.specs.Checking.{FollowsBy}
 use Rattle.vyrd_own_check.specs.CheckerView.{checker_in}
 use Rattle.vyrd_own_check.specs.KeptView.{kept_in}
 use Rattle.vyrd_own_check.proofs.CostLaws.{part_paid}
